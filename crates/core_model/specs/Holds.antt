@@ -1,0 +1,121 @@
+-- What packets in flight hold, and which of them stands against a revocation.
+use Rattle.std.specs.Prelude.{ℕ, ◌+◌, ◌==◌, ◌&&◌, ◌||◌, Bool, true, false, not, nat_lt, List, [], ◌∷◌, ◌++◌, map, filter, fold, Option, Some, None, if◌then◌else◌}
+use Rattle.std.specs.List.{list_any}
+use Rattle.aql_packet.specs.declared.ids.ClientId.{ClientId}
+use Rattle.aql_packet.specs.declared.ids.QueueId.{QueueId}
+use Rattle.aql_packet.specs.declared.ids.PacketId.{PacketId}
+use Rattle.aql_packet.specs.declared.ids.AgentHandle.{AgentHandle}
+use Rattle.aql_packet.specs.declared.ids.SignalHandle.{SignalHandle}
+use Rattle.aql_packet.specs.declared.packet.Packet.{Packet}
+use Rattle.aql_packet.specs.declared.packet.Packet.TheVariants as packet
+use Rattle.aql_packet.specs.Reading.{decoded}
+use Rattle.regions.specs.Memory.{region_of}
+use Rattle.policy.specs.declared.object.Object.{Object}
+use Rattle.policy.specs.declared.object.Object.TheVariants as object
+use Rattle.policy.specs.declared.rights.Right.{Right}
+use Rattle.policy.specs.declared.rights.Right.TheVariants as right
+use Rattle.policy.specs.declared.rights.Rights.{Rights}
+use Rattle.policy.specs.Object.{same_object}
+use Rattle.policy.specs.Rights.{has}
+use Rattle.core_model.specs.declared.event.Event.{Event}
+use Rattle.core_model.specs.declared.event.Event.TheVariants.{Grant, Revoke, OpenQueue, Stop, Take, RunNext, Poll, Finish, HostWrite, ChangeSignal}
+use Rattle.core_model.specs.declared.outcome.Outcome.{Outcome}
+use Rattle.core_model.specs.declared.outcome.Outcome.TheVariants as outcome
+use Rattle.core_model.specs.declared.outcome.Taken.TheVariants.{Launched}
+use Rattle.core_model.specs.declared.entry.Entry.{Entry}
+use Rattle.core_model.specs.declared.flight.InFlight.{InFlight}
+use Rattle.core_model.specs.History.{Start}
+use Rattle.core_model.specs.Queues.{Opening, owner}
+use Rattle.core_model.specs.Flight.{flight}
+use Rattle.core_model.specs.LaunchRules.{reach, Reach, dependencies, completion}
+
+-- one right on one object
+abbrev pub Held : Type 0
+Held = Object × Right
+
+-- a right on a signal that isn't null
+abbrev pub held_signal : Right → SignalHandle → List Held
+held_signal needed signal = if signal.0 == 0 then [] else (object.Signal signal, needed) ∷ []
+
+-- the rights on all signals that aren't null among some
+abbrev pub held_signals : Right → List SignalHandle → List Held
+held_signals needed [] = []
+held_signals needed (signal ∷ others) = held_signal needed signal ++ held_signals needed others
+
+-- a right on the region of a range
+abbrev pub held_range : Reach → Held
+held_range r = (object.Region (record { 0 = region_of r.address }), r.right)
+
+-- what a packet holds beside its agent and its completion signal: an agent dispatch the regions that it reaches,
+-- a barrier packet its dependencies (own)
+abbrev pub held_by_kind : Packet → List Held
+held_by_kind (packet.Agent dispatch) = map held_range (reach dispatch)
+held_by_kind (packet.Kernel _) = []
+held_by_kind (packet.BarrierAnd barrier) = held_signals right.Wait barrier.dependencies
+held_by_kind (packet.BarrierOr barrier) = held_signals right.Wait barrier.dependencies
+
+-- what a packet holds from its launch on: its agent's USE, CHANGE on its completion signal, and what its kind needs (own)
+abbrev pub held_at_launch : Start → List Entry → Opening → Packet → List Held
+held_at_launch start before opening p = (object.Agent opening.agent, right.Use) ∷ held_signal right.Change (completion p) ++ held_by_kind p
+
+-- what a launch in a queue with this opening holds, if there are both
+abbrev pub held_if : Start → List Entry → Option Opening → Option Packet → List Held
+held_if start before (Some opening) (Some p) = held_at_launch start before opening p
+held_if start before _ _ = []
+
+-- whether an entry launches the packet with this queue and id
+abbrev pub launches : QueueId → PacketId → Event → Outcome → Bool
+launches queue id (Take q i bytes) (outcome.Taken Launched) = q.0 == queue.0 && i.0 == id.0
+launches queue id _ _ = false
+
+-- the bytes of a packet that is handed over
+abbrev pub bytes_taken : Event → List ℕ
+bytes_taken (Take q i bytes) = bytes
+bytes_taken _ = []
+
+-- what a packet holds, by the part of the history before its launch: `before` comes before the entries
+abbrev pub held_from : Start → List Entry → List Entry → QueueId → PacketId → List Held
+held_from start before [] queue id = []
+held_from start before (entry ∷ entries) queue id =
+    if launches queue id entry.event entry.outcome
+    then held_if start before (owner start before queue) (decoded (bytes_taken entry.event))
+    else held_from start (before ++ entry ∷ []) entries queue id
+
+-- what a packet that was launched holds
+abbrev pub held : Start → List Entry → QueueId → PacketId → List Held
+held start entries queue id = held_from start [] entries queue id
+
+-- a packet by its queue and id
+pub record Holder : Type 0 where
+  pub queue : QueueId
+  pub packet : PacketId
+
+-- whether a packet in flight holds one of these rights on the object
+abbrev pub holds_one_of : Start → List Entry → Object → Rights → InFlight → Bool
+holds_one_of start entries on rights f = list_any (λ h. same_object h.0 on && has rights h.1) (held start entries f.queue f.id)
+
+-- whether a queue is the client's
+abbrev pub is_owned : Start → List Entry → ClientId → QueueId → Bool
+is_owned start entries client queue = elim (owner start entries queue) [ None ↦ false | Some opening ↦ opening.client.0 == client.0 ]
+
+-- the packets in flight, of the client's queues, that hold one of these rights on the object
+abbrev pub holders : Start → List Entry → ClientId → Object → Rights → List InFlight
+holders start entries client on rights =
+    filter (λ f. is_owned start entries client f.queue && holds_one_of start entries on rights f) (flight start entries)
+
+-- whether a packet comes before another: by its queue, then by its id
+abbrev pub comes_before : InFlight → Holder → Bool
+comes_before f h = nat_lt f.queue.0 h.queue.0 || (f.queue.0 == h.queue.0 && nat_lt f.id.0 h.packet.0)
+
+-- a packet's name
+abbrev pub name_of : InFlight → Holder
+name_of f = record { queue = f.queue; packet = f.id }
+
+-- the lesser of what was found and one packet more
+abbrev pub least_of : Option Holder → InFlight → Option Holder
+least_of None f = Some (name_of f)
+least_of (Some h) f = if comes_before f h then Some (name_of f) else Some h
+
+-- of all packets that hold one of these rights, the one with the least queue, then the least id
+abbrev pub holder : Start → List Entry → ClientId → Object → Rights → Option Holder
+holder start entries client on rights = fold least_of None (holders start entries client on rights)

@@ -1,0 +1,12 @@
+pub mod Effects
+pub mod History
+pub mod Grants
+pub mod Memory
+pub mod Queues
+pub mod Flight
+pub mod LaunchRules
+pub mod Work
+pub mod Holds
+pub mod Owed
+pub mod Queries
+pub mod Legal

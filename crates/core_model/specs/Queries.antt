@@ -1,0 +1,81 @@
+-- What each query is answered: a function of the history alone.
+use Rattle.std.specs.Prelude.{ℕ, ◌+◌, ◌==◌, ◌&&◌, Bool, not, List, [], ◌∷◌, ◌++◌, map, filter, length, Option, Some, None, Result, Ok, Err, if◌then◌else◌, nat_lt}
+use Rattle.std.specs.List.{range_with_len, list_any}
+use Rattle.aql_packet.specs.declared.ids.ClientId.{ClientId}
+use Rattle.aql_packet.specs.declared.ids.AgentHandle.{AgentHandle}
+use Rattle.aql_packet.specs.declared.ids.RegionHandle.{RegionHandle}
+use Rattle.aql_packet.specs.declared.ids.SignalHandle.{SignalHandle}
+use Rattle.aql_packet.specs.declared.ids.KernelObject.{KernelObject}
+use Rattle.regions.specs.Memory.{is_within, region_of}
+use Rattle.signals.specs.Meaning.{meets}
+use Rattle.policy.specs.declared.object.Object.{Object}
+use Rattle.policy.specs.declared.object.Object.TheVariants as object
+use Rattle.policy.specs.declared.rights.Right.TheVariants as right
+use Rattle.policy.specs.declared.rights.Rights.{Rights}
+use Rattle.policy.specs.Rights.{has, all_rights}
+use Rattle.policy.specs.Policy.{Declared, declares_client, numbered}
+use Rattle.core_model.specs.declared.event.Query.{Query}
+use Rattle.core_model.specs.declared.event.Query.TheVariants as query
+use Rattle.core_model.specs.declared.answer.Answer.{Answer}
+use Rattle.core_model.specs.declared.answer.Answer.TheVariants as answer
+use Rattle.core_model.specs.declared.entry.Entry.{Entry}
+use Rattle.core_model.specs.declared.refusal.Refusal.{Refusal}
+use Rattle.core_model.specs.declared.refusal.Refusal.TheVariants as refusal
+use Rattle.core_model.specs.History.{Start}
+use Rattle.core_model.specs.Grants.{in_force, rights_in_force}
+use Rattle.core_model.specs.Memory.{memory_from, region_lengths, signals}
+use Rattle.core_model.specs.Queues.{owner, errors}
+use Rattle.core_model.specs.Owed.{is_host_size}
+
+-- the reply to a query: an answer, or why it is refused
+abbrev pub Replied : Type 0
+Replied = Result Answer Refusal
+
+-- a refusal where the test holds, else the rest
+abbrev pub refuse_query_if : Bool → Refusal → Replied → Replied
+refuse_query_if test why rest = if test then Err why else rest
+
+-- a refusal where there is nothing, else the rest for what there is
+abbrev pub answer_some : {X : Type 0} → Option X → Refusal → (X → Replied) → Replied
+answer_some None why rest = Err why
+answer_some (Some x) why rest = rest x
+
+-- all objects that a policy declares: agents, regions, signals and kernels, each kind by number (own)
+abbrev pub all_objects : Declared → List Object
+all_objects policy =
+    map (λ n. object.Agent (record { 0 = n })) (range_with_len 1 (length policy.agents))
+    ++ map (λ n. object.Region (record { 0 = n })) (range_with_len 1 (length policy.regions))
+    ++ map (λ n. object.Signal (record { 0 = n })) (range_with_len 1 (length policy.signals))
+    ++ map (λ n. object.Kernel (record { 0 = n })) (range_with_len 1 (length policy.kernels))
+
+-- whether a client has some right in force on an object
+abbrev pub has_some : Start → List Entry → ClientId → Object → Bool
+has_some start entries client on = list_any (in_force start entries client on) all_rights
+
+-- the listing of a client: each object on which it has a right in force, with those rights, by kind and number (own)
+abbrev pub listing : Start → List Entry → ClientId → List (Object × Rights)
+listing start entries client =
+    map (λ on. (on, rights_in_force start entries client on)) (filter (has_some start entries client) (all_objects start.policy))
+
+-- what a query is answered after these entries: its refusals in order, then its answer
+unfoldable pub replied : Start → List Entry → Query → Replied
+replied start entries (query.HostRead client address size) =
+    refuse_query_if (not (declares_client start.policy client)) refusal.UnknownClient
+    (refuse_query_if (not (is_host_size size)) refusal.BadSize
+    (refuse_query_if (not (is_within (region_lengths start) address.0 size && in_force start entries client (object.Region (record { 0 = region_of address.0 })) right.Read))
+      (refusal.Denied right.Read)
+    (Ok (answer.Bytes (memory_from start entries address.0 size)))))
+replied start entries (query.LoadSignal client signal) =
+    refuse_query_if (not (declares_client start.policy client)) refusal.UnknownClient
+    (refuse_query_if (not (in_force start entries client (object.Signal signal) right.Wait)) (refusal.Denied right.Wait)
+    (answer_some (numbered (signals start entries) signal.0) (refusal.Denied right.Wait) (λ value. Ok (answer.Value value))))
+replied start entries (query.TestSignal client signal condition than) =
+    refuse_query_if (not (declares_client start.policy client)) refusal.UnknownClient
+    (refuse_query_if (not (in_force start entries client (object.Signal signal) right.Wait)) (refusal.Denied right.Wait)
+    (answer_some (numbered (signals start entries) signal.0) (refusal.Denied right.Wait) (λ value. Ok (answer.Test (meets condition value than)))))
+replied start entries (query.List client) =
+    refuse_query_if (not (declares_client start.policy client)) refusal.UnknownClient
+    (Ok (answer.Listing (listing start entries client)))
+replied start entries (query.Errors queue) =
+    answer_some (owner start entries queue) refusal.UnknownQueue (λ opening. Ok (answer.Errors (errors start entries queue)))
+replied start entries query.Audit = Ok (answer.Audit entries)

@@ -1,0 +1,103 @@
+-- Queues: who opened them, what was handed over, and whether they launch anything more.
+use Rattle.std.specs.Prelude.{ℕ, ◌==◌, ◌||◌, Bool, true, false, not, List, count_by, filter, Option, Some, None, nat_lt, length}
+use Rattle.std.specs.List.{filter_map, list_any}
+use Rattle.aql_packet.specs.declared.ids.QueueId.{QueueId}
+use Rattle.queue_error.specs.declared.error.QueueError.{QueueError}
+use Rattle.aql_packet.specs.declared.ids.ClientId.{ClientId}
+use Rattle.aql_packet.specs.declared.ids.AgentHandle.{AgentHandle}
+use Rattle.policy.specs.Policy.{numbered}
+use Rattle.core_model.specs.declared.event.Event.{Event}
+use Rattle.core_model.specs.declared.event.Event.TheVariants.{Grant, Revoke, OpenQueue, Stop, Take, RunNext, Poll, Finish, HostWrite, ChangeSignal}
+use Rattle.core_model.specs.declared.outcome.Outcome.{Outcome}
+use Rattle.core_model.specs.declared.outcome.Outcome.TheVariants as outcome
+use Rattle.core_model.specs.declared.outcome.Taken.{Taken}
+use Rattle.core_model.specs.declared.outcome.Taken.TheVariants.{Launched, Denied, Waiting}
+use Rattle.core_model.specs.declared.outcome.Worked.{Worked}
+use Rattle.core_model.specs.declared.outcome.Worked.TheVariants.{Ran, Faulted, Done}
+use Rattle.core_model.specs.declared.outcome.Polled.{Polled}
+use Rattle.core_model.specs.declared.outcome.Polled.TheVariants.{Pending, Ready, Failed}
+use Rattle.core_model.specs.declared.entry.Entry.{Entry}
+use Rattle.core_model.specs.History.{Start}
+
+-- a queue's opening: whose it is, and which agent runs its packets (own)
+pub record Opening : Type 0 where
+  pub client : ClientId
+  pub agent : AgentHandle
+
+-- the opening that an event made (own)
+abbrev pub opening_of : Event → Option Opening
+opening_of (OpenQueue client agent size) = Some (record { client = client; agent = agent })
+opening_of (Grant _ _ _) = None
+opening_of (Revoke _ _ _) = None
+opening_of (Stop _) = None
+opening_of (Take _ _ _) = None
+opening_of (RunNext _ _) = None
+opening_of (Poll _ _) = None
+opening_of (Finish _ _) = None
+opening_of (HostWrite _ _ _) = None
+opening_of (ChangeSignal _ _ _) = None
+
+-- all openings, in order: the first is queue 1 (own)
+abbrev pub openings : Start → List Entry → List Opening
+openings start entries = filter_map (λ entry. opening_of entry.event) entries
+
+-- the opening of a queue, if it was opened (own)
+abbrev pub owner : Start → List Entry → QueueId → Option Opening
+owner start entries queue = numbered (openings start entries) queue.0
+
+-- whether an event hands over a packet of a queue (own)
+abbrev pub takes_of : QueueId → Event → Bool
+takes_of queue (Take q _ _) = q.0 == queue.0
+takes_of queue (Grant _ _ _) = false
+takes_of queue (Revoke _ _ _) = false
+takes_of queue (OpenQueue _ _ _) = false
+takes_of queue (Stop _) = false
+takes_of queue (RunNext _ _) = false
+takes_of queue (Poll _ _) = false
+takes_of queue (Finish _ _) = false
+takes_of queue (HostWrite _ _ _) = false
+takes_of queue (ChangeSignal _ _ _) = false
+
+-- the id of a queue's next packet: how many of its packets were launched or denied (PSA, User Mode Queuing: packets are processed in order)
+abbrev pub next : Start → List Entry → QueueId → ℕ
+next start entries queue = count_by (λ entry. takes_of queue entry.event) entries
+
+-- the error that an outcome tells (own)
+abbrev pub error_of : Outcome → Option QueueError
+error_of outcome.Accepted = None
+error_of (outcome.Opened _) = None
+error_of (outcome.Taken Launched) = None
+error_of (outcome.Taken (Denied error)) = Some error
+error_of (outcome.Taken (Waiting _)) = None
+error_of (outcome.Worked (Ran _ _)) = None
+error_of (outcome.Worked (Faulted error)) = Some error
+error_of (outcome.Worked Done) = None
+error_of (outcome.Polled (Pending _)) = None
+error_of (outcome.Polled (Ready _)) = None
+error_of (outcome.Polled (Failed error)) = Some error
+error_of (outcome.Changed _) = None
+
+-- a queue's errors, in order (own)
+abbrev pub errors : Start → List Entry → QueueId → List QueueError
+errors start entries queue = filter (λ error. error.queue.0 == queue.0) (filter_map (λ entry. error_of entry.outcome) entries)
+
+-- whether an event stops a queue (own)
+abbrev pub stops : QueueId → Event → Bool
+stops queue (Stop q) = q.0 == queue.0
+stops queue (Grant _ _ _) = false
+stops queue (Revoke _ _ _) = false
+stops queue (OpenQueue _ _ _) = false
+stops queue (Take _ _ _) = false
+stops queue (RunNext _ _) = false
+stops queue (Poll _ _) = false
+stops queue (Finish _ _) = false
+stops queue (HostWrite _ _ _) = false
+stops queue (ChangeSignal _ _ _) = false
+
+-- whether a queue was stopped (own)
+abbrev pub is_stopped : Start → List Entry → QueueId → Bool
+is_stopped start entries queue = list_any (λ entry. stops queue entry.event) entries
+
+-- whether a queue launches nothing more: it has an error, or was stopped (own)
+abbrev pub is_down : Start → List Entry → QueueId → Bool
+is_down start entries queue = nat_lt 0 (length (errors start entries queue)) || is_stopped start entries queue

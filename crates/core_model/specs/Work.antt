@@ -1,0 +1,93 @@
+-- What a dispatch's groups write, and what a poll of a barrier packet finds.
+use Rattle.std.specs.Prelude.{ℕ, ℤ, pos, int_lt, ◌+◌, ◌-◌, ◌*◌, ◌/◌, ◌%◌, ◌^◌, ◌==◌, ◌&&◌, ◌||◌, Bool, true, false, not, nat_lt, nat_le, List, [], ◌∷◌, ◌++◌, map, length, replicate, slice_index, Option, Some, None, if◌then◌else◌}
+use Rattle.std.specs.List.{list_all, list_any, zip}
+use Rattle.std.specs.Int.{w64, to_le_bytes, from_le_bytes}
+use Rattle.std.specs.Option.{unwrap_or}
+use Rattle.std.specs.Ordering.{int_eq}
+use Rattle.aql_packet.specs.declared.ids.Address.{Address}
+use Rattle.aql_packet.specs.declared.ids.SignalHandle.{SignalHandle}
+use Rattle.aql_packet.specs.declared.packet.AgentDispatch.{AgentDispatch}
+use Rattle.aql_packet.specs.declared.packet.Packet.{Packet}
+use Rattle.aql_packet.specs.declared.packet.Packet.TheVariants as packet
+use Rattle.policy.specs.Policy.{numbered}
+use Rattle.core_model.specs.declared.entry.Effect.{Effect}
+use Rattle.core_model.specs.declared.entry.Effect.TheVariants.{Write, Signal, Release}
+use Rattle.core_model.specs.declared.entry.Entry.{Entry}
+use Rattle.core_model.specs.declared.outcome.Seen.{Seen}
+use Rattle.core_model.specs.History.{Start}
+use Rattle.core_model.specs.Memory.{memory_from, signals}
+use Rattle.core_model.specs.LaunchRules.{FILL, COPY, ADD64, argument, dependencies}
+
+-- a change of memory: none for no bytes (own)
+abbrev pub written : ℕ → List ℕ → List Effect
+written address bytes = if length bytes == 0 then [] else Write (record { 0 = address }) bytes ∷ []
+
+-- the 64-bit number in memory at an address, the lowest byte first
+abbrev pub number_in_memory : Start → List Entry → ℕ → ℕ
+number_in_memory start entries address = from_le_bytes w64 (memory_from start entries address 8)
+
+-- what an agent's function writes: FILL the low byte of its third argument, COPY its source as it was before, ADD64 the wrapped sum (own)
+abbrev pub function_writes : Start → List Entry → AgentDispatch → List Effect
+function_writes start entries dispatch =
+    if dispatch.function == FILL then written (argument dispatch 0) (replicate (argument dispatch 1) (argument dispatch 2 % 256))
+    else if dispatch.function == COPY then written (argument dispatch 1) (memory_from start entries (argument dispatch 0) (argument dispatch 2))
+    else if dispatch.function == ADD64 then
+      written (argument dispatch 0) (to_le_bytes w64 ((number_in_memory start entries (argument dispatch 0) + argument dispatch 1) % 2 ^ 64))
+    else []
+
+-- an agent's function's result: ADD64's is the old number, the others' is 0 (own)
+abbrev pub function_result : Start → List Entry → AgentDispatch → ℕ
+function_result start entries dispatch = if dispatch.function == ADD64 then number_in_memory start entries (argument dispatch 0) else 0
+
+-- the result's 8 bytes go to the return address, unless that is 0 (own)
+abbrev pub result_writes : Start → List Entry → AgentDispatch → List Effect
+result_writes start entries dispatch =
+    if dispatch.return_address.0 == 0 then []
+    else written dispatch.return_address.0 (to_le_bytes w64 (function_result start entries dispatch))
+
+-- what the one group of an agent dispatch writes: its function's target, then its result (own)
+abbrev pub agent_writes : Start → List Entry → AgentDispatch → List Effect
+agent_writes start entries dispatch = function_writes start entries dispatch ++ result_writes start entries dispatch
+
+-- how many groups a packet has: an agent dispatch has one; barrier packets have no work (own)
+abbrev pub groups_of : Packet → ℕ
+groups_of (packet.Agent _) = 1
+groups_of (packet.Kernel _) = 0
+groups_of (packet.BarrierAnd _) = 0
+groups_of (packet.BarrierOr _) = 0
+
+-- a dependency with whether it was seen as 0 before
+abbrev pub Awaited : Type 0
+Awaited = SignalHandle × Bool
+
+-- a barrier packet's dependencies, each with whether it was seen as 0
+abbrev pub awaited : Packet → Seen → List Awaited
+awaited p seen = zip (dependencies p) seen.0
+
+-- a barrier-AND is ready when each of its dependencies that isn't null was seen as 0, a barrier-OR when one was
+-- (PSA, Architected Queuing Language; that a barrier-OR of nulls is never ready is own)
+abbrev pub is_ready : Packet → Seen → Bool
+is_ready (packet.BarrierAnd barrier) seen = list_all (λ a. a.0.0 == 0 || a.1) (zip barrier.dependencies seen.0)
+is_ready (packet.BarrierOr barrier) seen = list_any (λ a. not (a.0.0 == 0) && a.1) (zip barrier.dependencies seen.0)
+is_ready (packet.Kernel _) seen = false
+is_ready (packet.Agent _) seen = false
+
+-- whether a dependency is still looked at: it isn't null, and wasn't seen as 0
+abbrev pub is_awaited : Awaited → Bool
+is_awaited a = not (a.0.0 == 0) && not a.1
+
+-- a signal's value, 0 for a number that no signal has
+abbrev pub signal_value : List ℤ → SignalHandle → ℤ
+signal_value values signal = unwrap_or (numbered values signal.0) (pos 0)
+
+-- whether a dependency that is still looked at is negative (own)
+abbrev pub is_negative : List ℤ → Awaited → Bool
+is_negative values a = is_awaited a && int_lt (signal_value values a.0) (pos 0)
+
+-- whether a dependency that is still looked at is 0
+abbrev pub is_zero : List ℤ → Awaited → Bool
+is_zero values a = is_awaited a && int_eq (signal_value values a.0) (pos 0)
+
+-- the positions that a poll is the first to see as 0
+abbrev pub newly_seen : List ℤ → Packet → Seen → Seen
+newly_seen values p seen = record { 0 = map (is_zero values) (awaited p seen) }

@@ -1,0 +1,81 @@
+//! The changes of an entry, kept in place where they are few.
+
+ghost use Rattle.std.specs.Prelude.{◌≡◌, ◌∷◌, []};
+
+use crate::entry::Effect;
+use std::marker::Model;
+
+/// The changes that an event made, in order. Up to two take no memory, so that a completion, which
+/// may not fail, can be told. A contract sees the list.
+#[derive(Drop, Debug)]
+pub struct Effects {
+    kept: Kept,
+}
+
+/// Where the changes are kept.
+#[derive(Drop, Debug)]
+enum Kept {
+    Few0,
+    Few1([Effect; 1]),
+    Few2([Effect; 2]),
+    Many(Vec<Effect>),
+}
+
+impl Model for Effects {
+    ghost use Rattle.std.specs.Prelude.{List};
+    ghost use Rattle.core_model.specs.declared.entry.Effect.{Effect};
+
+    ghost Value = { List Effect };
+
+    ghost use Rattle.core_model.specs.Effects.{listed};
+
+    ghost view = { λ e. listed e.kept };
+}
+
+impl Effects {
+    /// No change.
+    pub fn none() -> Effects
+        ensures { result ≡ [] }
+    {
+        Effects { kept: Kept::Few0 }
+    }
+
+    /// One change.
+    pub fn one(only: Effect) -> Effects
+        ensures { result ≡ only ∷ [] }
+    {
+        Effects {
+            kept: Kept::Few1([only]),
+        }
+    }
+
+    /// Two changes, in this order.
+    pub fn two(first: Effect, second: Effect) -> Effects
+        ensures { result ≡ first ∷ second ∷ [] }
+    {
+        Effects {
+            kept: Kept::Few2([first, second]),
+        }
+    }
+
+    /// Any number of changes, in order.
+    pub fn many(all: Vec<Effect>) -> Effects
+        ensures { result ≡ all.items }
+    {
+        Effects {
+            kept: Kept::Many(all),
+        }
+    }
+
+    /// The changes, in order.
+    pub fn as_slice(&self) -> &[Effect]
+        ensures { result.now ≡ self.now }
+    {
+        match &self.kept {
+            Kept::Few0 => &[],
+            Kept::Few1(few) => few,
+            Kept::Few2(few) => few,
+            Kept::Many(many) => many.as_slice(),
+        }
+    }
+}

@@ -1,0 +1,60 @@
+//! Why the core refuses a call.
+
+use aql_packet::{PacketId, QueueId};
+use policy::Right;
+
+/// Why a call was refused. After every refusal all is as before (own).
+#[derive(Clone, Copy, Debug, PartialEq, Eq)]
+pub enum Refusal {
+    /// Memory was wanted and not to be had.
+    OutOfMemory,
+    /// No client has this number.
+    UnknownClient,
+    /// No queue has this number.
+    UnknownQueue,
+    /// The client lacks this right on the object, or there is no such object.
+    Denied(Right),
+    /// A right to be taken is held by this packet in flight: of all such, the one with the least
+    /// queue, then the least id.
+    Busy { queue: QueueId, packet: PacketId },
+    /// The policy doesn't allow the rights to this client.
+    NotAllowed,
+    /// The packet handed over isn't the queue's next, which has this id.
+    OutOfStep(u64),
+    /// The queue launches nothing more, or was stopped before.
+    QueueDown,
+    /// No packet in flight has this id and is of a kind that the call takes.
+    NotInFlight,
+    /// The packet's work isn't done.
+    NotFinished,
+    /// The audit has no room for the entry beside those that packets in flight still need.
+    AuditFull,
+    /// A queue's size is no power of two from 2 to 4,096, or a range isn't 1 to 65,536 bytes long.
+    BadSize,
+    /// As many queues as there may be were opened.
+    TooMany,
+    /// No object of its kind has this number.
+    UnknownObject,
+}
+
+impl Refusal {
+    /// The refusal's number.
+    pub fn number(&self) -> u8 {
+        match self {
+            Refusal::OutOfMemory => 0,
+            Refusal::UnknownClient => 1,
+            Refusal::UnknownQueue => 2,
+            Refusal::Denied(_) => 3,
+            Refusal::Busy { .. } => 4,
+            Refusal::NotAllowed => 5,
+            Refusal::OutOfStep(_) => 6,
+            Refusal::QueueDown => 7,
+            Refusal::NotInFlight => 8,
+            Refusal::NotFinished => 9,
+            Refusal::AuditFull => 10,
+            Refusal::BadSize => 11,
+            Refusal::TooMany => 12,
+            Refusal::UnknownObject => 13,
+        }
+    }
+}

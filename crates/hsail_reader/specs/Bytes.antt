@@ -1,0 +1,107 @@
+-- What stands at the front of some bytes.
+use Rattle.std.specs.Prelude.{◌≡◌, ℕ, ◌+◌, ◌*◌, ◌^◌, List, [], ◌∷◌, Bool, true, false, ◌&&◌, ◌||◌, not, ◌==◌, nat_lt, if◌then◌else◌, Option, Some, None, codes, length, drop}
+use Rattle.std.specs.Char.{is_ascii_alphabetic, is_ascii_alphanumeric, is_digit, digit_value}
+use Rattle.std.specs.Option.{is_some, option_map}
+use Rattle.hsail_reader.specs.declared.token.Numeral.{Numeral}
+use Rattle.hsail_reader.specs.declared.token.SpelledWidth.{SpelledWidth}
+use Rattle.hsail_reader.specs.declared.types.Width.{Width}
+use Rattle.hsail_reader.specs.declared.types.Width.TheVariants.{Number, All, WaveSize}
+
+-- a letter or `_`
+abbrev pub is_name_start : ℕ → Bool
+is_name_start b = is_ascii_alphabetic b || b == 95
+
+-- a letter, a digit or `_`
+abbrev pub is_name_byte : ℕ → Bool
+is_name_byte b = is_ascii_alphanumeric b || b == 95
+
+-- any byte but the line feed
+abbrev pub is_not_line_feed : ℕ → Bool
+is_not_line_feed b = not (b == 10)
+
+-- the first byte begins a name
+abbrev pub begins_name : List ℕ → Bool
+begins_name [] = false
+begins_name (b ∷ bytes) = is_name_start b
+
+-- the bytes behind this front, where it is their front
+abbrev pub behind : List ℕ → List ℕ → Option (List ℕ)
+behind [] bytes = Some bytes
+behind (f ∷ front) [] = None
+behind (f ∷ front) (b ∷ bytes) = if b == f then behind front bytes else None
+
+abbrev pub begins_with : ℕ → List ℕ → Bool
+begins_with f [] = false
+begins_with f (b ∷ bytes) = b == f
+
+-- how many bytes there are up to the first `*/` and with it, behind `before` others
+abbrev pub closing_at : ℕ → List ℕ → Option ℕ
+closing_at before [] = None
+closing_at before (b ∷ bytes) =
+    if b == 42 && begins_with 47 bytes then Some (before + 2) else closing_at (before + 1) bytes
+
+abbrev pub numeral : ℕ → ℕ → Numeral
+numeral value length = record { value = value; length = length }
+
+-- the number that the digits at the front spell, behind `length` digits that spell `value`;
+-- nothing where it passes 64 bits
+abbrev pub digits_at : ℕ → ℕ → ℕ → List ℕ → Option Numeral
+digits_at radix value length [] = Some (numeral value length)
+digits_at radix value length (b ∷ bytes) =
+    if is_digit b radix
+    then (if nat_lt (value * radix + digit_value b) (2 ^ 64)
+    then digits_at radix (value * radix + digit_value b) (length + 1) bytes
+    else None)
+    else Some (numeral value length)
+
+abbrev pub begins_digit : ℕ → List ℕ → Bool
+begins_digit radix [] = false
+begins_digit radix (b ∷ bytes) = is_digit b radix
+
+-- the decimal number at the front: 0, or digits without a leading zero
+abbrev pub decimal_at : List ℕ → Option Numeral
+decimal_at [] = None
+decimal_at (b ∷ bytes) =
+    if b == 48 then Some (numeral 0 1)
+    else if is_digit b 10 then digits_at 10 0 0 (b ∷ bytes)
+    else None
+
+-- where `0x` stands before these bytes, and otherwise
+abbrev pub numeral_behind : Option (List ℕ) → List ℕ → Option Numeral
+numeral_behind None bytes = decimal_at bytes
+numeral_behind (Some rest) bytes = if begins_digit 16 rest then digits_at 16 0 2 rest else decimal_at bytes
+
+-- the number at the front: `0x` and hexadecimal digits, or decimal
+abbrev pub numeral_at : List ℕ → Option Numeral
+numeral_at bytes = numeral_behind (behind (codes "0x") bytes) bytes
+
+infixl 10 ◌>>=◌
+abbrev pub ◌>>=◌ : {A B : Type 0} → Option A → (A → Option B) → Option B
+None >>= f = None
+(Some x) >>= f = f x
+
+-- align(n)
+abbrev pub align_at : List ℕ → Option Numeral
+align_at bytes = do
+  inside ← behind (codes "align(") bytes
+  n ← numeral_at inside
+  rest ← behind (codes ")") (drop n.length inside)
+  Some (numeral n.value (n.length + 7))
+
+abbrev pub spelled_width : Width → ℕ → SpelledWidth
+spelled_width w length = record { width = w; length = length }
+
+-- a number, `all` or `WAVESIZE`
+abbrev pub width_value_at : List ℕ → Option SpelledWidth
+width_value_at bytes =
+    if is_some (behind (codes "all") bytes) then Some (spelled_width All 3)
+    else if is_some (behind (codes "WAVESIZE") bytes) then Some (spelled_width WaveSize 8)
+    else option_map (λ (n : Numeral). spelled_width (Number n.value) n.length) (numeral_at bytes)
+
+-- width(w)
+abbrev pub width_at : List ℕ → Option SpelledWidth
+width_at bytes = do
+  inside ← behind (codes "width(") bytes
+  w ← width_value_at inside
+  rest ← behind (codes ")") (drop w.length inside)
+  Some (spelled_width w.width (w.length + 7))

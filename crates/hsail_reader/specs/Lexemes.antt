@@ -1,0 +1,143 @@
+-- The lexemes of kernel text (PRM, Lexical Elements; blanks, comments and modifiers are (own)).
+use Rattle.std.specs.Prelude.{◌≡◌, ℕ, ◌+◌, ◌-◌, List, [], ◌∷◌, ◌++◌, Bool, true, false, ◌||◌, ◌==◌, if◌then◌else◌, Option, Some, None, codes, length, take, drop, Result, Ok, Err}
+use Rattle.std.specs.List.{prefix_len, list_any, count_by}
+use Rattle.std.specs.Option.{is_some, option_map}
+use Rattle.hsail_reader.specs.Bytes.{is_name_byte, is_name_start, is_not_line_feed, begins_name, begins_with, begins_digit, behind, closing_at, decimal_at, numeral_at, align_at, width_at, ◌>>=◌}
+use Rattle.hsail_reader.specs.declared.token.Header.{Header}
+use Rattle.hsail_reader.specs.declared.token.Header.TheVariants.{Base, Full, Large, Default, Zero, Near}
+use Rattle.hsail_reader.specs.declared.token.HeaderName.{HeaderName}
+use Rattle.hsail_reader.specs.declared.token.Lexeme.{Lexeme}
+use Rattle.hsail_reader.specs.declared.token.LexemeKind.{LexemeKind}
+use Rattle.hsail_reader.specs.declared.token.LexemeKind.TheVariants.{Blank, Comment, Token}
+use Rattle.hsail_reader.specs.declared.token.Numeral.{Numeral}
+use Rattle.hsail_reader.specs.declared.token.SpelledWidth.{SpelledWidth}
+use Rattle.hsail_reader.specs.declared.token.TokenKind.{TokenKind}
+use Rattle.hsail_reader.specs.declared.token.TokenKind.TheVariants as token
+use Rattle.hsail_reader.specs.declared.types.RegisterClass.{RegisterClass}
+use Rattle.hsail_reader.specs.declared.types.RegisterClass.TheVariants.{Control, Single, Double}
+
+abbrev pub lexed : LexemeKind → ℕ → Lexeme
+lexed kind length = record { kind = kind; length = length }
+
+-- a space, a tab, a line feed or a carriage return
+abbrev pub is_blank : ℕ → Bool
+is_blank b = b == 32 || b == 9 || b == 10 || b == 13
+
+-- one of ( ) { } [ ] , ; : + -
+abbrev pub is_mark : ℕ → Bool
+is_mark b = list_any (λ m. m == b) (codes "(){}[],;:+-")
+
+-- a comment, behind its first slash: another and the rest of the line, or a star and all up to `*/`
+abbrev pub comment_at : List ℕ → Option Lexeme
+comment_at [] = None
+comment_at (b ∷ bytes) =
+    if b == 47 then Some (lexed Comment (prefix_len is_not_line_feed bytes + 2))
+    else if b == 42 then option_map (λ length. lexed Comment (length + 2)) (closing_at 0 bytes)
+    else None
+
+-- a name behind its first byte `&`, `%` or `@`
+abbrev pub name_at : TokenKind → List ℕ → Option Lexeme
+name_at kind bytes =
+    if begins_name bytes then Some (lexed (Token kind) (prefix_len is_name_byte bytes + 1)) else None
+
+-- the letter of a register's class
+abbrev pub class_at : List ℕ → Option RegisterClass
+class_at [] = None
+class_at (b ∷ bytes) =
+    if b == 99 then Some Control else if b == 115 then Some Single else if b == 100 then Some Double else None
+
+abbrev pub register : RegisterClass → Numeral → Lexeme
+register class n =
+    lexed (Token (token.Register (record { class = class; number = n.value }))) (n.length + 2)
+
+-- a register behind its dollar: the letter of its class, and a decimal number
+abbrev pub register_at : List ℕ → Option Lexeme
+register_at bytes = do
+  class ← class_at bytes
+  n ← decimal_at (drop 1 bytes)
+  Some (register class n)
+
+-- a word of the header, with its spelling
+pub record HeaderWord : Type 0 where
+  pub name : List ℕ
+  pub header : Header
+
+abbrev pub word : List ℕ → Header → HeaderWord
+word name header = record { name = name; header = header }
+
+-- the words of the header (PRM, Module Header)
+abbrev pub header_words : List HeaderWord
+header_words =
+    word (codes "base") Base ∷ word (codes "full") Full ∷ word (codes "large") Large
+    ∷ word (codes "default") Default ∷ word (codes "zero") Zero ∷ word (codes "near") Near ∷ []
+
+-- a word of the code's table
+abbrev pub header_view : HeaderName → HeaderWord
+header_view h = word h.0.now h.1
+
+-- the first of these words of the header that stands behind the dollar
+abbrev pub header_among : List HeaderWord → List ℕ → Option Lexeme
+header_among [] bytes = None
+header_among (h ∷ words) bytes =
+    if is_some (behind h.name bytes)
+    then Some (lexed (Token (token.Header h.header)) (length h.name + 1))
+    else header_among words bytes
+
+abbrev pub or_else : Option Lexeme → Option Lexeme → Option Lexeme
+or_else None other = other
+or_else (Some found) other = Some found
+
+-- behind a dollar: a register, or a word of the header
+abbrev pub dollar_at : List ℕ → Option Lexeme
+dollar_at bytes = or_else (register_at bytes) (header_among header_words bytes)
+
+abbrev pub number_at : List ℕ → Option Lexeme
+number_at bytes = option_map (λ (n : Numeral). lexed (Token (token.Number n.value)) n.length) (numeral_at bytes)
+
+abbrev pub length_of : Option Numeral → Option SpelledWidth → ℕ
+length_of None None = 0
+length_of None (Some w) = w.length + 1
+length_of (Some n) w = n.length + 1
+
+-- how many bytes a modifier takes, `_align(n)` or `_width(w)`; 0 where none stands at the front
+abbrev pub modifier_length : List ℕ → ℕ
+modifier_length [] = 0
+modifier_length (b ∷ bytes) = if b == 95 then length_of (align_at bytes) (width_at bytes) else 0
+
+-- how many bytes the next piece of a word takes: a modifier, or one byte of a name; 0 at its end
+abbrev pub piece_length : List ℕ → ℕ
+piece_length [] = 0
+piece_length (b ∷ bytes) =
+    if 0 == modifier_length (b ∷ bytes)
+    then (if is_name_byte b then 1 else 0)
+    else modifier_length (b ∷ bytes)
+
+-- how many bytes the pieces of a word take, `skip` bytes on, with `length` before them
+abbrev pub pieces_length : ℕ → ℕ → List ℕ → ℕ
+pieces_length skip length [] = length
+pieces_length (suc skip) length (b ∷ bytes) = pieces_length skip length bytes
+pieces_length zero length (b ∷ bytes) =
+    if 0 == piece_length (b ∷ bytes) then length
+    else pieces_length (piece_length (b ∷ bytes) - 1) (length + piece_length (b ∷ bytes)) bytes
+
+abbrev pub word_of : Option Numeral → List ℕ → Lexeme
+word_of (Some n) bytes = lexed (Token token.Word) n.length
+word_of None bytes = lexed (Token token.Word) (pieces_length 0 1 (drop 1 bytes))
+
+-- a word: align(n), or the first byte of a name and all pieces behind it
+abbrev pub word_at : List ℕ → Lexeme
+word_at bytes = word_of (align_at bytes) bytes
+
+-- the lexeme at the front, by its first byte
+abbrev pub lexeme_at : List ℕ → Option Lexeme
+lexeme_at [] = None
+lexeme_at (b ∷ bytes) =
+    if is_blank b then Some (lexed Blank 1)
+    else if b == 47 then comment_at bytes
+    else if b == 38 then name_at token.Global bytes
+    else if b == 37 then name_at token.Variable bytes
+    else if b == 64 then name_at token.Label bytes
+    else if b == 36 then dollar_at bytes
+    else if is_mark b then Some (lexed (Token (token.Mark b)) 1)
+    else if is_name_start b then Some (word_at (b ∷ bytes))
+    else number_at (b ∷ bytes)

@@ -1,0 +1,40 @@
+-- Data types, registers and alignments (PRM, Data Types; Registers).
+use Rattle.std.specs.Prelude.{ℕ, List, [], ◌∷◌, codes}
+use Rattle.hsail_reader.specs.declared.types.DataType.{DataType}
+use Rattle.hsail_reader.specs.declared.types.DataType.TheVariants.{B1, B8, B16, B32, B64, U8, U16, U32, U64, S8, S16, S32, S64}
+use Rattle.hsail_reader.specs.declared.types.RegisterClass.{RegisterClass}
+use Rattle.hsail_reader.specs.declared.types.RegisterClass.TheVariants.{Control, Single, Double}
+use Rattle.hsail_reader.specs.declared.types.Alignment.{Alignment}
+use Rattle.hsail_reader.specs.declared.types.Alignment.TheVariants.{One, Two, Four, Eight, Sixteen}
+
+-- the bits of a value of a type (PRM, Data Types)
+abbrev pub type_bits : DataType → ℕ
+type_bits B1 = 1
+type_bits B8 = 8
+type_bits B16 = 16
+type_bits B32 = 32
+type_bits B64 = 64
+type_bits U8 = 8
+type_bits U16 = 16
+type_bits U32 = 32
+type_bits U64 = 64
+type_bits S8 = 8
+type_bits S16 = 16
+type_bits S32 = 32
+type_bits S64 = 64
+
+-- the registers for a type: $c for 1 bit, $s for 8, 16 and 32, $d for 64 (PRM, Registers)
+abbrev pub type_class : DataType → RegisterClass
+type_class B1 = Control
+type_class B64 = Double
+type_class U64 = Double
+type_class S64 = Double
+type_class _ = Single
+
+-- the bytes of an align(n) (PRM, Declaring and Defining Identifiers)
+abbrev pub alignment_bytes : Alignment → ℕ
+alignment_bytes One = 1
+alignment_bytes Two = 2
+alignment_bytes Four = 4
+alignment_bytes Eight = 8
+alignment_bytes Sixteen = 16

@@ -1,0 +1,228 @@
+//! The lexeme at the front of some bytes, the longest of its kind.
+
+ghost use Rattle.std.specs.Prelude.{◌≡◌, ◌+◌, ◌<◌, ◌≤◌, length, map, IfSome, Some};
+ghost use Rattle.hsail_reader.specs.Lexemes.{is_blank, is_mark, comment_at, name_at, class_at, register_at, header_words, header_view, header_among, dollar_at, number_at, modifier_length, piece_length, pieces_length, word_at, lexeme_at};
+
+use crate::scan::{
+    align, closing, continues_name, decimal, has_name, line_run, name_run, number, starts_name,
+    strip, width,
+};
+use crate::token::{Header, HeaderName, Lexeme, LexemeKind, TokenKind};
+use crate::types::{Register, RegisterClass};
+
+const HEADER_NAMES: [HeaderName; 6] = [
+    HeaderName("base", Header::Base),
+    HeaderName("full", Header::Full),
+    HeaderName("large", Header::Large),
+    HeaderName("default", Header::Default),
+    HeaderName("zero", Header::Zero),
+    HeaderName("near", Header::Near),
+];
+
+fn header_names() -> &'static [HeaderName]
+    ensures { map header_view result.now ≡ header_words }
+{
+    &HEADER_NAMES
+}
+
+fn blank(byte: u8) -> bool
+    ensures { result ≡ is_blank byte }
+{
+    byte == b' ' || byte == b'\t' || byte == b'\n' || byte == b'\r'
+}
+
+fn mark(byte: u8) -> bool
+    ensures { result ≡ is_mark byte }
+{
+    b"(){}[],;:+-".contains(&byte)
+}
+
+/// A comment, behind its first slash.
+fn comment(bytes: &[u8]) -> Option<Lexeme>
+    ensures value { result ≡ comment_at bytes.now }
+    ensures bound { IfSome result (λ lexeme. lexeme.length ≤ length bytes.now + 1) }
+{
+    let length = match bytes {
+        [b'/', line @ ..] => line_run(line),
+        [b'*', inside @ ..] => closing(inside)?,
+        _ => return None,
+    };
+    Some(Lexeme {
+        kind: LexemeKind::Comment,
+        length: length + 2,
+    })
+}
+
+/// A name behind its first byte `&`, `%` or `@`.
+fn name(kind: TokenKind, bytes: &[u8]) -> Option<Lexeme>
+    ensures value { result ≡ name_at kind bytes.now }
+    ensures bound { IfSome result (λ lexeme. lexeme.length ≤ length bytes.now + 1) }
+{
+    if !has_name(bytes) {
+        return None;
+    }
+    Some(Lexeme {
+        kind: LexemeKind::Token(kind),
+        length: name_run(bytes) + 1,
+    })
+}
+
+/// The class whose letter stands at the front.
+fn class(bytes: &[u8]) -> Option<RegisterClass>
+    ensures { result ≡ class_at bytes.now }
+{
+    match bytes {
+        [b'c', ..] => Some(RegisterClass::Control),
+        [b's', ..] => Some(RegisterClass::Single),
+        [b'd', ..] => Some(RegisterClass::Double),
+        _ => None,
+    }
+}
+
+/// A register behind its dollar.
+fn register(bytes: &[u8]) -> Option<Lexeme>
+    ensures value { result ≡ register_at bytes.now }
+    ensures bound { IfSome result (λ lexeme. lexeme.length ≤ length bytes.now + 1) }
+{
+    let class = class(bytes)?;
+    let (_, digits) = bytes.split_first()?;
+    let number = decimal(digits)?;
+    let register = Register {
+        class,
+        number: number.value,
+    };
+    Some(Lexeme {
+        kind: LexemeKind::Token(TokenKind::Register(register)),
+        length: number.length + 2,
+    })
+}
+
+/// A word of the header behind its dollar.
+fn header(bytes: &[u8]) -> Option<Lexeme>
+    ensures value { result ≡ header_among header_words bytes.now }
+    ensures bound { IfSome result (λ lexeme. lexeme.length ≤ length bytes.now + 1) }
+{
+    for HeaderName(name, header) in header_names() {
+        if strip(name.as_bytes(), bytes).is_some() {
+            return Some(Lexeme {
+                kind: LexemeKind::Token(TokenKind::Header(*header)),
+                length: name.len() + 1,
+            });
+        }
+    }
+    None
+}
+
+/// What stands behind a dollar.
+fn dollar(bytes: &[u8]) -> Option<Lexeme>
+    ensures value { result ≡ dollar_at bytes.now }
+    ensures bound { IfSome result (λ lexeme. lexeme.length ≤ length bytes.now + 1) }
+{
+    match register(bytes) {
+        Some(found) => Some(found),
+        None => header(bytes),
+    }
+}
+
+fn numeral(bytes: &[u8]) -> Option<Lexeme>
+    ensures value { result ≡ number_at bytes.now }
+    ensures bound { IfSome result (λ lexeme. lexeme.length ≤ length bytes.now) }
+{
+    let number = number(bytes)?;
+    Some(Lexeme {
+        kind: LexemeKind::Token(TokenKind::Number(number.value)),
+        length: number.length,
+    })
+}
+
+/// How many bytes the modifier at the front takes, or 0.
+fn modifier(bytes: &[u8]) -> usize
+    ensures value { result ≡ modifier_length bytes.now }
+    ensures bound { result ≤ length bytes.now }
+{
+    let [b'_', inside @ ..] = bytes else {
+        return 0;
+    };
+    match align(inside) {
+        Some(align) => align.length + 1,
+        None => match width(inside) {
+            Some(width) => width.length + 1,
+            None => 0,
+        },
+    }
+}
+
+/// How many bytes the next piece of a word takes, or 0 at its end.
+fn piece(bytes: &[u8]) -> usize
+    ensures value { result ≡ piece_length bytes.now }
+    ensures bound { result ≤ length bytes.now }
+{
+    let [first, ..] = bytes else {
+        return 0;
+    };
+    match modifier(bytes) {
+        0 => usize::from(continues_name(*first)),
+        length => length,
+    }
+}
+
+/// How many bytes a word takes whose first byte stands before these.
+fn pieces(bytes: &[u8]) -> usize
+    ensures value { result ≡ pieces_length 0 1 bytes.now }
+    ensures bound { result ≤ length bytes.now + 1 }
+{
+    let mut rest = bytes;
+    let mut length = 1;
+    loop {
+        let step = piece(rest);
+        if step == 0 {
+            return length;
+        }
+        length += step;
+        rest = rest.split_at(step).1;
+    }
+}
+
+/// The word at the front, whose first byte begins a name.
+fn word(bytes: &[u8]) -> Lexeme
+    requires { 0 < length bytes.now }
+    ensures value { result ≡ word_at bytes.now }
+    ensures bound { result.length ≤ length bytes.now }
+{
+    let length = match align(bytes) {
+        Some(align) => align.length,
+        None => pieces(bytes.split_at(1).1),
+    };
+    Lexeme {
+        kind: LexemeKind::Token(TokenKind::Word),
+        length,
+    }
+}
+
+/// The lexeme at the front, if there is one; it takes at least one byte.
+pub fn lexeme(bytes: &[u8]) -> Option<Lexeme>
+    ensures value { result ≡ lexeme_at bytes.now }
+    ensures some { IfSome result (λ lexeme. 0 < lexeme.length) }
+    ensures bound { IfSome result (λ lexeme. lexeme.length ≤ length bytes.now) }
+{
+    let [first, rest @ ..] = bytes else {
+        return None;
+    };
+    match *first {
+        b if blank(b) => Some(Lexeme {
+            kind: LexemeKind::Blank,
+            length: 1,
+        }),
+        b'/' => comment(rest),
+        b'&' => name(TokenKind::Global, rest),
+        b'%' => name(TokenKind::Variable, rest),
+        b'@' => name(TokenKind::Label, rest),
+        b'$' => dollar(rest),
+        b if mark(b) => Some(Lexeme {
+            kind: LexemeKind::Token(TokenKind::Mark(b)),
+            length: 1,
+        }),
+        b if starts_name(b) => Some(word(bytes)),
+        _ => numeral(bytes),
+    }
+}

@@ -1,0 +1,200 @@
+//! What stands at the front of some bytes.
+
+ghost use Rattle.std.specs.Prelude.{◌≡◌, ◌+◌, ◌≤◌, length, IfSome};
+ghost use Rattle.std.specs.List.{prefix_len};
+ghost use Rattle.std.specs.Option.{option_copied};
+ghost use Rattle.hsail_reader.specs.Bytes.{is_name_byte, is_name_start, is_not_line_feed, begins_name, begins_digit, behind, closing_at, digits_at, decimal_at, numeral_at, align_at, width_value_at, width_at};
+
+use crate::token::{Numeral, SpelledWidth};
+use crate::types::Width;
+
+/// Whether a byte may begin a name: a letter or `_`.
+pub fn starts_name(byte: u8) -> bool
+    ensures { result ≡ is_name_start byte }
+{
+    byte.is_ascii_alphabetic() || byte == b'_'
+}
+
+/// Whether a byte may stand in a name: a letter, a digit or `_`.
+pub fn continues_name(byte: u8) -> bool
+    ensures { result ≡ is_name_byte byte }
+{
+    byte.is_ascii_alphanumeric() || byte == b'_'
+}
+
+/// Whether the bytes begin with a name.
+pub fn has_name(bytes: &[u8]) -> bool
+    ensures { result ≡ begins_name bytes.now }
+{
+    match bytes {
+        [] => false,
+        [first, ..] => starts_name(*first),
+    }
+}
+
+/// How many bytes from the front may stand in a name.
+pub fn name_run(bytes: &[u8]) -> usize
+    ensures { result ≡ prefix_len is_name_byte bytes.now }
+{
+    bytes
+        .iter()
+        .take_while(|byte| continues_name(**byte))
+        .count()
+}
+
+/// How many bytes there are before the end of the line.
+pub fn line_run(bytes: &[u8]) -> usize
+    ensures { result ≡ prefix_len is_not_line_feed bytes.now }
+{
+    bytes.iter().take_while(|byte| **byte != b'\n').count()
+}
+
+/// The bytes behind a front, if that is the front.
+pub fn strip<'a>(front: &[u8], bytes: &'a [u8]) -> Option<&'a [u8]>
+    ensures rest { option_copied result ≡ behind front.now bytes.now }
+    ensures bound { IfSome result (λ rest. length rest.now + length front.now ≡ length bytes.now) }
+{
+    let mut wanted = front;
+    let mut rest = bytes;
+    while let [first, others @ ..] = wanted {
+        match rest {
+            [byte, tail @ ..] if *byte == *first => {
+                wanted = others;
+                rest = tail;
+            }
+            _ => return None,
+        }
+    }
+    Some(rest)
+}
+
+/// How many bytes there are up to the first `*/` and with it, if there is one.
+pub fn closing(bytes: &[u8]) -> Option<usize>
+    ensures { result ≡ closing_at 0 bytes.now }
+{
+    let mut rest = bytes;
+    let mut length = 0;
+    while let [first, tail @ ..] = rest {
+        if *first == b'*' && matches!(tail, [b'/', ..]) {
+            return Some(length + 2);
+        }
+        length += 1;
+        rest = tail;
+    }
+    None
+}
+
+/// Whether the bytes begin with a digit.
+fn has_digit(radix: u32, bytes: &[u8]) -> bool
+    requires low { 2 ≤ radix }
+    requires high { radix ≤ 16 }
+    ensures { result ≡ begins_digit radix bytes.now }
+{
+    match bytes {
+        [] => false,
+        [first, ..] => char::from(*first).is_digit(radix),
+    }
+}
+
+/// The number that the digits at the front spell, with the length of what stands `before` them;
+/// nothing where the number passes 64 bits.
+fn digits(radix: u32, before: usize, bytes: &[u8]) -> Option<Numeral>
+    requires low { 2 ≤ radix }
+    requires high { radix ≤ 16 }
+    requires short { before ≤ 2 }
+    ensures value { result ≡ digits_at radix 0 before bytes.now }
+    ensures bound { IfSome result (λ n. n.length ≤ before + length bytes.now) }
+{
+    let mut rest = bytes;
+    let mut value = 0u64;
+    let mut length = before;
+    while let [first, tail @ ..] = rest {
+        let Some(digit) = char::from(*first).to_digit(radix) else {
+            break;
+        };
+        value = value
+            .checked_mul(u64::from(radix))?
+            .checked_add(u64::from(digit))?;
+        length += 1;
+        rest = tail;
+    }
+    Some(Numeral { value, length })
+}
+
+/// The decimal number at the front: 0, or digits without a leading zero.
+pub fn decimal(bytes: &[u8]) -> Option<Numeral>
+    ensures value { result ≡ decimal_at bytes.now }
+    ensures bound { IfSome result (λ n. n.length ≤ length bytes.now) }
+{
+    match bytes {
+        [b'0', ..] => Some(Numeral {
+            value: 0,
+            length: 1,
+        }),
+        [b'1'..=b'9', ..] => digits(10, 0, bytes),
+        _ => None,
+    }
+}
+
+/// The number at the front: `0x` and hexadecimal digits, or decimal.
+pub fn number(bytes: &[u8]) -> Option<Numeral>
+    ensures value { result ≡ numeral_at bytes.now }
+    ensures bound { IfSome result (λ n. n.length ≤ length bytes.now) }
+{
+    match strip(b"0x", bytes) {
+        Some(rest) if has_digit(16, rest) => digits(16, 2, rest),
+        _ => decimal(bytes),
+    }
+}
+
+/// `align(n)` at the front.
+pub fn align(bytes: &[u8]) -> Option<Numeral>
+    ensures value { result ≡ align_at bytes.now }
+    ensures bound { IfSome result (λ n. n.length ≤ length bytes.now) }
+{
+    let inside = strip(b"align(", bytes)?;
+    let number = number(inside)?;
+    strip(b")", inside.split_at(number.length).1)?;
+    Some(Numeral {
+        value: number.value,
+        length: number.length + 7,
+    })
+}
+
+/// A number, `all` or `WAVESIZE` at the front.
+fn width_value(bytes: &[u8]) -> Option<SpelledWidth>
+    ensures value { result ≡ width_value_at bytes.now }
+    ensures bound { IfSome result (λ w. w.length ≤ length bytes.now) }
+{
+    if strip(b"all", bytes).is_some() {
+        return Some(SpelledWidth {
+            width: Width::All,
+            length: 3,
+        });
+    }
+    if strip(b"WAVESIZE", bytes).is_some() {
+        return Some(SpelledWidth {
+            width: Width::WaveSize,
+            length: 8,
+        });
+    }
+    let number = number(bytes)?;
+    Some(SpelledWidth {
+        width: Width::Number(number.value),
+        length: number.length,
+    })
+}
+
+/// `width(n)`, `width(all)` or `width(WAVESIZE)` at the front.
+pub fn width(bytes: &[u8]) -> Option<SpelledWidth>
+    ensures value { result ≡ width_at bytes.now }
+    ensures bound { IfSome result (λ w. w.length ≤ length bytes.now) }
+{
+    let inside = strip(b"width(", bytes)?;
+    let value = width_value(inside)?;
+    strip(b")", inside.split_at(value.length).1)?;
+    Some(SpelledWidth {
+        width: value.width,
+        length: value.length + 7,
+    })
+}

@@ -1,0 +1,124 @@
+//! Rights, and sets of them.
+
+ghost use Rattle.std.specs.Prelude.{◌≡◌, ⊤, [], ◌∷◌, codes, Some};
+ghost use Rattle.policy.specs.RightNames.{name_of_right};
+
+use bitflags::{Flag, Flags, bitflag_items};
+use std::fmt;
+
+/// One right. Each belongs to one kind of object (own).
+#[derive(Clone, Copy, Debug, PartialEq, Eq)]
+pub enum Right {
+    /// To open queues on an agent and have it run packets.
+    Use,
+    /// To read a region.
+    Read,
+    /// To write a region.
+    Write,
+    /// To wait on a signal, to load and to test it.
+    Wait,
+    /// To change a signal.
+    Change,
+    /// To launch a kernel.
+    Launch,
+}
+
+impl Right {
+    /// The six rights, in the order in which they are listed.
+    pub const ALL: [Right; 6] = [
+        Right::Use,
+        Right::Read,
+        Right::Write,
+        Right::Wait,
+        Right::Change,
+        Right::Launch,
+    ];
+
+    /// The right's name in policies, scripts and audits.
+    pub fn name(self) -> &'static str
+        ensures { result.now ≡ name_of_right self }
+    {
+        match self {
+            Right::Use => "USE",
+            Right::Read => "READ",
+            Right::Write => "WRITE",
+            Right::Wait => "WAIT",
+            Right::Change => "CHANGE",
+            Right::Launch => "LAUNCH",
+        }
+    }
+}
+
+impl fmt::Display for Right {
+    ghost output = { λ right. Some (name_of_right right) };
+
+    fn fmt<W: fmt::Write>(&self, f: &mut fmt::Formatter<W>) -> fmt::Result {
+        f.write_str(self.name())
+    }
+}
+
+/// A set of rights, a bit each.
+#[derive(Clone, Copy, Debug, PartialEq, Eq)]
+pub struct Rights(u8);
+
+bitflag_items! {
+    impl Rights: u8 {
+        const USE = 1;
+        const READ = 2;
+        const WRITE = 4;
+        const WAIT = 8;
+        const CHANGE = 16;
+        const LAUNCH = 32;
+    }
+}
+
+impl Flags for Rights {
+    type Bits = u8;
+
+    ghost exact = { ⊤ };
+
+    ghost table = { (codes "USE", 1) ∷ (codes "READ", 2) ∷ (codes "WRITE", 4) ∷ (codes "WAIT", 8) ∷ (codes "CHANGE", 16) ∷ (codes "LAUNCH", 32) ∷ [] };
+
+    ghost set_of = { λ rights. rights.0 };
+
+    fn flags<'a>() -> &'a [Flag<Rights>] {
+        Rights::FLAGS
+    }
+
+    fn bits(&self) -> u8 {
+        self.0
+    }
+
+    fn from_bits_retain(bits: u8) -> Rights {
+        Rights(bits)
+    }
+}
+
+impl Rights {
+    ghost use Rattle.std.specs.Prelude.{◌||◌, ◌&&◌, not};
+    ghost use Rattle.policy.specs.Rights.{has, bit_of};
+
+    /// No right.
+    pub const NONE: Rights = Rights(0);
+
+    /// The set of one right.
+    pub fn of(right: Right) -> Rights
+        ensures { result.0 ≡ bit_of right }
+    {
+        match right {
+            Right::Use => Rights::USE,
+            Right::Read => Rights::READ,
+            Right::Write => Rights::WRITE,
+            Right::Wait => Rights::WAIT,
+            Right::Change => Rights::CHANGE,
+            Right::Launch => Rights::LAUNCH,
+        }
+    }
+
+    /// Whether a right is in the set.
+    pub fn has(self, right: Right) -> bool
+        ensures { result ≡ has self right }
+    {
+        self.contains(Rights::of(right))
+    }
+}

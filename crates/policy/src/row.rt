@@ -1,0 +1,43 @@
+//! Rows of a policy.
+
+use crate::object::{Kind, Object};
+use crate::rights::Rights;
+use aql_packet::ClientId;
+
+/// Whom an allow row covers.
+#[derive(Clone, Copy, Debug, PartialEq, Eq)]
+pub enum Subject {
+    /// Every client.
+    Any,
+    /// One client.
+    One(ClientId),
+}
+
+/// What an allow row covers.
+#[derive(Clone, Copy, Debug, PartialEq, Eq)]
+pub enum Target {
+    /// Every object of a kind.
+    Any(Kind),
+    /// One object.
+    One(Object),
+}
+
+/// An allow row: the rights that may be granted to some clients on some objects.
+#[derive(Clone, Copy, Debug, PartialEq, Eq)]
+pub struct AllowRow {
+    /// Whom it covers.
+    pub subject: Subject,
+    /// What it covers.
+    pub target: Target,
+    /// The rights that it allows.
+    pub rights: Rights,
+}
+
+/// Which kinds of dispatch packets an agent takes. Barrier packets are taken by all (own).
+#[derive(Clone, Copy, Debug, PartialEq, Eq)]
+pub struct Takes {
+    /// It takes kernel dispatches.
+    pub kernel: bool,
+    /// It takes agent dispatches.
+    pub agent: bool,
+}

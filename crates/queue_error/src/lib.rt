@@ -1,0 +1,14 @@
+//! Queue errors: which packet of which queue broke which rule, and where.
+
+// The check tries its tactics on what is left of each proof.
+#![tactic(auto)]
+
+mod error;
+mod rule;
+
+#[cfg(test)]
+mod tests;
+
+pub use error::Place;
+pub use error::QueueError;
+pub use rule::Rule;

@@ -1,0 +1,5 @@
+pub mod Lookups
+pub mod Invariant
+pub mod Written
+pub mod Parts
+pub mod Laws

@@ -1,0 +1,15 @@
+-- When a range of addresses is refused. This project's own.
+use Rattle.std.specs.Prelude.{ℕ, List, Option, Some, None, if◌then◌else◌}
+use Rattle.std.specs.Option.{option_or}
+use Rattle.regions.specs.declared.fault.RegionFault.{RegionFault}
+use Rattle.regions.specs.declared.fault.RegionFault.TheVariants.{NoRegion, PastEnd}
+use Rattle.regions.specs.Memory.{lies_in_region, is_within}
+
+-- the refusal of a range: its address lies in no region, or else its bytes leave that region (own)
+abbrev pub range_fault : List ℕ → ℕ → ℕ → Option RegionFault
+range_fault lengths address size =
+    if lies_in_region lengths address then (if is_within lengths address size then None else Some PastEnd) else Some NoRegion
+
+-- the refusal of a copy: that of its source, or else that of its target (own)
+abbrev pub copy_fault : List ℕ → ℕ → ℕ → ℕ → Option RegionFault
+copy_fault lengths source target size = option_or (range_fault lengths source size) (range_fault lengths target size)

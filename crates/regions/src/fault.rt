@@ -1,0 +1,24 @@
+//! Why an access to the memory is refused.
+
+use std::error::Error;
+use std::fmt;
+
+/// Why a range of addresses is refused. The memory is then as before.
+#[derive(Clone, Copy, Debug, PartialEq, Eq)]
+pub enum RegionFault {
+    /// The range's first address lies in no region.
+    NoRegion = 1,
+    /// The range begins in a region, and its bytes leave that region.
+    PastEnd = 2,
+}
+
+impl fmt::Display for RegionFault {
+    fn fmt<W: fmt::Write>(&self, f: &mut fmt::Formatter<W>) -> fmt::Result {
+        match self {
+            RegionFault::NoRegion => write!(f, "no region at this address"),
+            RegionFault::PastEnd => write!(f, "past the end of the region"),
+        }
+    }
+}
+
+impl Error for RegionFault {}

@@ -1,0 +1,188 @@
+//! All regions, found by address.
+ghost use Rattle.std.specs.Prelude.{◌≡◌, ◌+◌, ◌≢◌, ◌<◌, ◌≤◌, [], IfOk, OnOk, OnErr, IsTrue, length, replicate, slice_get, slice_index_or, slice_set, take, drop};
+ghost use Rattle.std.specs.Result.{result_err};
+ghost use Rattle.regions.specs.Memory.{are_region_lengths, bytes_from, IsMemory, IsWritten, lengths_of, overlaid, region_length, zeros};
+ghost use Rattle.regions.specs.Faults.{range_fault, copy_fault};
+ghost use Rattle.regions.specs.Place.{IsPlaceOf, handle_at, laid_at, length_of_region};
+
+use std::alloc::{AllocError, Global};
+use std::marker::Model;
+
+use aql_packet::{Address, RegionHandle};
+
+use crate::fault::RegionFault;
+use crate::region::Region;
+
+/// How many addresses lie between the first of one region and the first of the next.
+const SPAN: u64 = 1 << 32;
+
+/// The byte memory. Region number `h`, from 1, is the item `h - 1` of the list that a contract sees,
+/// and covers addresses from `h * 2^32`, as many as its length. There are at most 64 regions, each
+/// of 1 to 2^24 bytes. No call but `new` takes memory.
+#[derive(Drop, Debug)]
+pub struct Regions {
+    regions: Vec<Region>,
+}
+
+impl Model for Regions {
+    ghost use Rattle.std.specs.Prelude.{List, ℕ};
+    ghost use Rattle.regions.specs.Memory.{IsMemory};
+
+    ghost Value = { List (List ℕ) };
+
+    ghost view = { λ r. r.regions.items };
+
+    ghost invariant = { λ r. IsMemory r.regions.items };
+}
+
+/// Where a range lies: the index of its region, and the offset of its first byte there.
+#[derive(Clone, Copy)]
+struct Place {
+    index: usize,
+    offset: usize,
+}
+
+impl Regions {
+    /// Regions of these lengths in bytes, numbered from 1 in this order, all zeros.
+    pub fn new(alloc: Global, lengths: &[u32]) -> Result<Regions, AllocError>
+        requires { IsTrue (are_region_lengths lengths.now) }
+        ensures { IfOk result (λ regions. regions ≡ zeros lengths.now) }
+    {
+        let mut regions = Vec::with_capacity(alloc, lengths.len())?;
+        for length in lengths {
+            regions.push(Region::zeroed(alloc, *length as usize)?)?;
+        }
+        Ok(Regions { regions })
+    }
+
+    /// The region in which an address lies, if it lies in one.
+    pub fn find(&self, address: Address) -> Option<RegionHandle>
+        ensures found { result ≡ handle_at (lengths_of self.now) address.0 }
+        ensures memory { IsMemory self.now }
+    {
+        let region = RegionHandle((address.0 / SPAN) as u32);
+        if address.0 % SPAN < self.room(region) {
+            Some(region)
+        } else {
+            None
+        }
+    }
+
+    /// How many bytes a region has, if there is one of this number.
+    pub fn length(&self, region: RegionHandle) -> Option<u64>
+        ensures length { result ≡ length_of_region (lengths_of self.now) region.0 }
+        ensures memory { IsMemory self.now }
+    {
+        let regions = self.regions.as_slice();
+        if region.0 == 0 {
+            return None;
+        }
+        regions
+            .get(region.0 as usize - 1)
+            .map(|region| region.len() as u64)
+    }
+
+    /// How many bytes a region has: 0 where there is none of this number.
+    fn room(&self, region: RegionHandle) -> u64
+        ensures room { result ≡ region_length (lengths_of self.now) region.0 }
+        ensures memory { IsMemory self.now }
+    {
+        self.length(region).unwrap_or(0)
+    }
+
+    /// The `length` bytes from an address on.
+    pub fn read(&self, address: Address, length: u64) -> Result<&[u8], RegionFault>
+        ensures fault { result_err result ≡ range_fault (lengths_of self.now) address.0 length }
+        ensures bytes { IfOk result (λ bytes. bytes.now ≡ bytes_from self.now address.0 length) }
+        ensures memory { IsMemory self.now }
+    {
+        let place = self.locate(address, length)?;
+        Ok(self.regions[place.index].part(place.offset, length as usize))
+    }
+
+    /// Lays `bytes` over the memory from an address on.
+    pub fn write(&mut self, address: Address, bytes: &[u8]) -> Result<(), RegionFault>
+        ensures fault { result_err result ≡ range_fault (lengths_of self.old) address.0 (length bytes.now) }
+        ensures bytes { OnOk result (IsWritten self.old address.0 bytes.now self.new) }
+        ensures lengths { lengths_of self.new ≡ lengths_of self.old }
+        ensures err { OnErr result (self.new ≡ self.old) }
+        ensures memory { IsMemory self.new }
+    {
+        let place = self.locate(address, bytes.len() as u64)?;
+        self.regions[place.index].put(place.offset, bytes);
+        Ok(())
+    }
+
+    /// Makes each of `length` bytes from an address on the byte `byte`.
+    pub fn fill(&mut self, address: Address, length: u64, byte: u8) -> Result<(), RegionFault>
+        ensures fault { result_err result ≡ range_fault (lengths_of self.old) address.0 length }
+        ensures bytes { OnOk result (IsWritten self.old address.0 (replicate length byte) self.new) }
+        ensures lengths { lengths_of self.new ≡ lengths_of self.old }
+        ensures err { OnErr result (self.new ≡ self.old) }
+        ensures memory { IsMemory self.new }
+    {
+        let place = self.locate(address, length)?;
+        self.regions[place.index].fill(place.offset, length as usize, byte);
+        Ok(())
+    }
+
+    /// Lays the `length` bytes from `source` on over those from `target` on, as if by a copy aside:
+    /// the two ranges may overlap. Where both are refused, the fault is that of `source`.
+    pub fn copy_within(
+        &mut self,
+        source: Address,
+        target: Address,
+        length: u64,
+    ) -> Result<(), RegionFault>
+        ensures fault { result_err result ≡ copy_fault (lengths_of self.old) source.0 target.0 length }
+        ensures bytes { OnOk result (IsWritten self.old target.0 (bytes_from self.old source.0 length) self.new) }
+        ensures lengths { lengths_of self.new ≡ lengths_of self.old }
+        ensures err { OnErr result (self.new ≡ self.old) }
+        ensures memory { IsMemory self.new }
+    {
+        let from = self.locate(source, length)?;
+        let to = self.locate(target, length)?;
+        copy_part(self.regions.as_mut_slice(), from, to, length as usize);
+        Ok(())
+    }
+
+    /// Where a range of `length` bytes from an address on lies.
+    fn locate(&self, address: Address, length: u64) -> Result<Place, RegionFault>
+        ensures fault { result_err result ≡ range_fault (lengths_of self.now) address.0 length }
+        ensures place { IfOk result (λ place. IsPlaceOf self.now address.0 length place) }
+        ensures memory { IsMemory self.now }
+    {
+        let region = address.0 / SPAN;
+        let offset = address.0 % SPAN;
+        let room = self.room(RegionHandle(region as u32));
+        if offset >= room {
+            return Err(RegionFault::NoRegion);
+        }
+        if length > room - offset {
+            return Err(RegionFault::PastEnd);
+        }
+        Ok(Place {
+            index: region as usize - 1,
+            offset: offset as usize,
+        })
+    }
+}
+
+/// Lays `size` bytes at one place over those at another, as if by a copy aside.
+fn copy_part(regions: &mut [Region], source: Place, target: Place, size: usize)
+    requires source_known { source.index < length regions.old }
+    requires source_fits { source.offset + size ≤ length (slice_index_or regions.old source.index []) }
+    requires target_known { target.index < length regions.old }
+    requires target_fits { target.offset + size ≤ length (slice_index_or regions.old target.index []) }
+    ensures { regions.new ≡ laid_at regions.old target (take size (drop source.offset (slice_index_or regions.old source.index []))) }
+{
+    if source.index == target.index {
+        regions[target.index].copy_within(source.offset, target.offset, size);
+    } else if source.index < target.index {
+        let (low, high) = regions.split_at_mut(target.index);
+        high[0].put(target.offset, low[source.index].part(source.offset, size));
+    } else {
+        let (low, high) = regions.split_at_mut(source.index);
+        low[target.index].put(target.offset, high[0].part(source.offset, size));
+    }
+}
