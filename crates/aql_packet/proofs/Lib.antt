@@ -1,3 +1,5 @@
 pub mod NumberLemmas
 pub mod ReadingLemmas
 pub mod WritingLemmas
+pub mod LaidLemmas
+pub mod SpellingLemmas

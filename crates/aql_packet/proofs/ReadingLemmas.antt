@@ -1,7 +1,7 @@
 -- The reading of bytes as functions agrees with the layout.
-use Rattle.std.proofs.Common.{◌≡◌, ℕ, zero, suc, ◌+◌, ◌*◌, ◌/◌, ◌%◌, ◌^◌, ◌<◌, ◌≤◌, List, [], ◌∷◌, length, Bool, true, false, cond, not, ◌&&◌, ◌||◌, ◌==◌, ◌⊎◌, inl, inr, Option, Some, None, refl, sym, ap, subst, ◌∙◌, arith}
+use Rattle.std.proofs.Common.{◌≡◌, ℕ, zero, suc, ◌/◌, ◌^◌, ◌<◌, ◌≤◌, List, Bool, true, false, cond, not, ◌&&◌, ◌||◌, ◌==◌, ◌⊎◌, inl, inr, Option, Some, None, is_none, IsTrue, refl, arith}
 use Rattle.std.proofs.Math.Nat.{mod-lt}
-use Rattle.std.proofs.lemmas.Bool.{eqb-true}
+use Rattle.std.proofs.lemmas.Bool.{eqb-true, le-leb}
 use Rattle.aql_packet.specs.declared.packet.Scope.{Scope}
 use Rattle.aql_packet.specs.declared.packet.Scope.TheVariants as scopes
 use Rattle.aql_packet.specs.declared.packet.Header.{Header}
@@ -13,8 +13,8 @@ use Rattle.aql_packet.specs.declared.packet.Packet.TheVariants.{Kernel, Agent, B
 use Rattle.aql_packet.specs.declared.packet.CodecRule.{CodecRule}
 use Rattle.aql_packet.specs.declared.packet.CodecRule.TheVariants.{L1, L2, L3}
 use Rattle.aql_packet.specs.Numbers.{number_at, bits, bit_of}
-use Rattle.aql_packet.specs.Layout.{Are64Bytes, LaysHeader, LaysKernel, LaysAgent, LaysBarrier, Lays, PacketOf, scope_number, arguments_at, signals_at, signal_at}
-use Rattle.aql_packet.specs.Reading.{packet_type, barrier_bit, acquire_bits, release_bits, is_known, is_plain_header, kernel_reserved_is_zero, agent_reserved_is_zero, barrier_reserved_is_zero, reserved_is_zero, passes, refusal, scope_of, header_at, kernel_at, agent_at, barrier_at, packet_at, decoded}
+use Rattle.aql_packet.specs.Layout.{Are64Bytes, IsHeader, LaysKernel, LaysAgent, LaysBarrier, Lays, PacketOf, is_well_formed, scope_number}
+use Rattle.aql_packet.specs.Reading.{packet_type, acquire_bits, release_bits, is_known, is_plain_header, kernel_reserved_is_zero, agent_reserved_is_zero, barrier_reserved_is_zero, reserved_is_zero, passes, refusal, scope_of, header_at, kernel_at, agent_at, barrier_at, packet_at, decoded}
 
 -- ---- scopes and flags
 
@@ -46,12 +46,12 @@ scope_back (suc (suc (suc (suc number)))) lt plain = absurd (omega arith)
 
 -- ---- what is laid out is read
 
-header_read : (bytes : List ℕ) (type : ℕ) (header : Header) → LaysHeader bytes type header → header_at bytes ≡ header
+header_read : (bytes : List ℕ) (type : ℕ) (header : Header) → IsHeader (number_at bytes 0 2) type header → header_at bytes ≡ header
 unfolding header_at
 header_read bytes type header lays =
     rw (lays.barrier, lays.acquire, lays.release, flag_again header.barrier, scope_again header.acquire, scope_again header.release) refl
 
-header_is_plain : (bytes : List ℕ) (type : ℕ) (header : Header) → LaysHeader bytes type header → is_plain_header bytes ≡ true
+header_is_plain : (bytes : List ℕ) (type : ℕ) (header : Header) → IsHeader (number_at bytes 0 2) type header → is_plain_header bytes ≡ true
 header_is_plain bytes type header lays =
     rw (lays.reserved, lays.acquire, lays.release, scope_is_plain header.acquire, scope_is_plain header.release) refl
 
@@ -71,15 +71,12 @@ barrier_read bytes type packet lays =
     rw (header_read bytes type packet.header lays.header, lays.dependencies, lays.completion_signal) refl
 
 kernel_passes : (bytes : List ℕ) (packet : KernelDispatch) → LaysKernel bytes packet → kernel_reserved_is_zero bytes ≡ true
-unfolding kernel_reserved_is_zero
 kernel_passes bytes packet lays = rw (lays.setup_reserved, lays.reserved_10, lays.reserved_48) refl
 
 agent_passes : (bytes : List ℕ) (packet : AgentDispatch) → LaysAgent bytes packet → agent_reserved_is_zero bytes ≡ true
-unfolding agent_reserved_is_zero
 agent_passes bytes packet lays = rw (lays.reserved_4, lays.reserved_48) refl
 
 barrier_passes : (bytes : List ℕ) (type : ℕ) (packet : Barrier) → LaysBarrier bytes type packet → barrier_reserved_is_zero bytes ≡ true
-unfolding barrier_reserved_is_zero
 barrier_passes bytes type packet lays = rw (lays.reserved_2, lays.reserved_48) refl
 
 -- What is laid out breaks no rule, and is the packet that is read.
@@ -104,7 +101,7 @@ and_holds false second holds = absurd cc
 zero_holds : (number : ℕ) → (number == 0) ≡ true → number ≡ 0
 zero_holds number holds = eqb-true number 0 holds
 
-header_laid : (bytes : List ℕ) (type : ℕ) → packet_type bytes ≡ type → is_plain_header bytes ≡ true → LaysHeader bytes type (header_at bytes)
+header_laid : (bytes : List ℕ) (type : ℕ) → packet_type bytes ≡ type → is_plain_header bytes ≡ true → IsHeader (number_at bytes 0 2) type (header_at bytes)
 unfolding header_at
 header_laid bytes type kind plain =
     let scopes_plain = and_holds (bits (number_at bytes 0 2) 15 13 == 0 && not (acquire_bits bytes == 3)) (not (release_bits bytes == 3)) plain in
@@ -118,7 +115,7 @@ header_laid bytes type kind plain =
     }
 
 kernel_laid : (bytes : List ℕ) → packet_type bytes ≡ 2 → is_plain_header bytes ≡ true → kernel_reserved_is_zero bytes ≡ true → LaysKernel bytes (kernel_at bytes)
-unfolding kernel_at kernel_reserved_is_zero
+unfolding kernel_at
 kernel_laid bytes kind plain zero_parts =
     let last = and_holds (bits (number_at bytes 2 2) 15 2 == 0 && number_at bytes 10 2 == 0) (number_at bytes 48 8 == 0) zero_parts in
     let first = and_holds (bits (number_at bytes 2 2) 15 2 == 0) (number_at bytes 10 2 == 0) last.0 in
@@ -142,7 +139,7 @@ kernel_laid bytes kind plain zero_parts =
     }
 
 agent_laid : (bytes : List ℕ) → packet_type bytes ≡ 4 → is_plain_header bytes ≡ true → agent_reserved_is_zero bytes ≡ true → LaysAgent bytes (agent_at bytes)
-unfolding agent_at agent_reserved_is_zero
+unfolding agent_at
 agent_laid bytes kind plain zero_parts =
     let both = and_holds (number_at bytes 4 4 == 0) (number_at bytes 48 8 == 0) zero_parts in
     record {
@@ -156,7 +153,7 @@ agent_laid bytes kind plain zero_parts =
     }
 
 barrier_laid : (bytes : List ℕ) (type : ℕ) → packet_type bytes ≡ type → is_plain_header bytes ≡ true → barrier_reserved_is_zero bytes ≡ true → LaysBarrier bytes type (barrier_at bytes)
-unfolding barrier_at barrier_reserved_is_zero
+unfolding barrier_at
 barrier_laid bytes type kind plain zero_parts =
     let both = and_holds (number_at bytes 2 6 == 0) (number_at bytes 48 8 == 0) zero_parts in
     record {
@@ -214,3 +211,29 @@ pub refused_not_laid : (bytes : List ℕ) (rule : CodecRule) (packet : Packet) �
 refused_not_laid bytes rule packet refused lays =
     let none = (laid_is_read bytes packet lays).0 in
     absurd cc
+
+-- What the bytes are decoded to is laid out.
+pub decoded_is_laid : (bytes : List ℕ) (packet : Packet) → Are64Bytes bytes → decoded bytes ≡ Some packet → PacketOf bytes packet
+unfolding decoded
+decoded_is_laid bytes packet are found =
+    let chosen = some_where (is_none (refusal bytes)) (packet_at (packet_type bytes) bytes) packet found in
+    let none : refusal bytes ≡ None = none_is (refusal bytes) chosen.0 in
+    let lays = read_is_laid bytes none in
+    record { are_bytes = are; layout = rw chosen.1 at lays }
+  where
+    some_where : (test : Bool) (one two : Packet) → cond test (Some one) None ≡ Some two → (test ≡ true) × (one ≡ two)
+    some_where true one two same = (refl, cc)
+    some_where false one two same = absurd cc
+
+    none_is : (rule : Option CodecRule) → is_none rule ≡ true → rule ≡ None
+    none_is None holds = refl
+    none_is (Some rule) holds = absurd cc
+
+-- What is laid out can be spelled.
+pub laid_is_well_formed : (bytes : List ℕ) (packet : Packet) → Lays bytes packet → IsTrue (is_well_formed packet)
+laid_is_well_formed bytes (Kernel packet) lays =
+    let few : packet.dimensions ≤ 3 = omega (arith, lays.setup_dimensions) in
+    le-leb packet.dimensions 3 few
+laid_is_well_formed bytes (Agent packet) lays = refl
+laid_is_well_formed bytes (BarrierAnd packet) lays = refl
+laid_is_well_formed bytes (BarrierOr packet) lays = refl

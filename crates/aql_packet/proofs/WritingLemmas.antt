@@ -1,5 +1,5 @@
 -- Numbers put one after the other into zeros, and read again.
-use Rattle.std.proofs.Common.{◌≡◌, ℕ, zero, suc, ◌+◌, ◌-◌, ◌*◌, ◌/◌, ◌%◌, ◌^◌, ◌<◌, ◌≤◌, List, [], ◌∷◌, ◌++◌, length, take, drop, replicate, slice_index, get_or, Bool, true, false, cond, ◌&&◌, ◌||◌, ◌==◌, nat_le, Option, Some, None, refl, sym, ap, ◌∙◌, arith, inl, inr, ◌⊎◌}
+use Rattle.std.proofs.Common.{◌≡◌, ℕ, zero, suc, ◌+◌, ◌-◌, ◌^◌, ◌<◌, ◌≤◌, List, [], ◌∷◌, ◌++◌, length, take, drop, replicate, slice_index, Bool, true, false, cond, ◌&&◌, ◌||◌, ◌==◌, nat_le, Option, Some, None, refl, sym, ap, ◌∙◌, arith, inl, inr, ◌⊎◌}
 use Rattle.std.proofs.lemmas.List.{drop_at, get_or_append_left, get_or-append-add, get_or-drop, get_or-replicate, get_or-take, get_or_past, length-append, length-drop, length-replicate, length-take-le}
 use Rattle.std.proofs.lemmas.Bool.{cases_lt, eqb-true, leb-true}
 use Rattle.byteorder.specs.Endian.{little_bytes}
@@ -21,18 +21,23 @@ abbrev pub after : List Put → List ℕ
 after [] = replicate 64 0
 after (newest ∷ earlier) = written (after earlier) newest.place newest.size newest.number
 
--- Each number fits its bytes, and each lies in the 64.
+-- Each number fits its bytes.
 abbrev pub AllFit : List Put → Type 0
 AllFit [] = Unit {0}
-AllFit (newest ∷ earlier) = (newest.number < 256 ^ newest.size) × (newest.place + newest.size ≤ 64) × AllFit earlier
+AllFit (newest ∷ earlier) = (newest.number < 256 ^ newest.size) × AllFit earlier
+
+-- Each lies in the 64 bytes.
+abbrev pub all_in : List Put → Bool
+all_in [] = true
+all_in (newest ∷ earlier) = nat_le (newest.place + newest.size) 64 && all_in earlier
 
 -- The number last put at a place, where no other was put into a part of its bytes.
 abbrev pub last_put : List Put → ℕ → ℕ → Option ℕ
 last_put [] place size = Some 0
 last_put (newest ∷ earlier) place size =
     cond (newest.place == place && newest.size == size)
-      (Some newest.number)
-      (cond (nat_le (place + size) newest.place || nat_le (newest.place + newest.size) place) (last_put earlier place size) None)
+    (Some newest.number)
+    (cond (nat_le (place + size) newest.place || nat_le (newest.place + newest.size) place) (last_put earlier place size) None)
 
 length-written : (bytes : List ℕ) (place size number : ℕ) → place + size ≤ length bytes → length (written bytes place size number) ≡ length bytes
 unfolding written
@@ -90,12 +95,6 @@ unfolding number_at
 number_at-zeros place zero = refl
 number_at-zeros place (suc size) = rw (index-zeros place, number_at-zeros (suc place) size) refl
 
-length-after : (puts : List Put) → AllFit puts → length (after puts) ≡ 64
-length-after [] fit = refl
-length-after (newest ∷ earlier) fit =
-    let before = length-after earlier fit.2 in
-    length-written (after earlier) newest.place newest.size newest.number (omega (arith, before, fit.1)) ∙ before
-
 -- ---- a number read after many were put
 
 both_hold : (first second : Bool) → (first && second) ≡ true → (first ≡ true) × (second ≡ true)
@@ -106,15 +105,27 @@ one_holds : (first second : Bool) → (first || second) ≡ true → (first ≡ 
 one_holds true second holds = inl refl
 one_holds false second holds = inr holds
 
+length-after : (puts : List Put) → all_in puts ≡ true → length (after puts) ≡ 64
+length-after [] inside = refl
+length-after (newest ∷ earlier) inside =
+    let both = both_hold (nat_le (newest.place + newest.size) 64) (all_in earlier) inside in
+    let before = length-after earlier both.1 in
+    length-written (after earlier) newest.place newest.size newest.number (omega (arith, before, leb-true (newest.place + newest.size) 64 both.0)) ∙ before
+
+-- There is room for the newest.
+has_room : (newest : Put) (earlier : List Put) → all_in (newest ∷ earlier) ≡ true → newest.place + newest.size ≤ length (after earlier)
+has_room newest earlier inside =
+    let both = both_hold (nat_le (newest.place + newest.size) 64) (all_in earlier) inside in
+    omega (arith, length-after earlier both.1, leb-true (newest.place + newest.size) 64 both.0)
+
 -- The number at a place after a put there, or elsewhere.
-reads_newest : (newest : Put) (earlier : List Put) (place size number : ℕ) → AllFit (newest ∷ earlier)
+reads_newest : (newest : Put) (earlier : List Put) (place size number : ℕ) → AllFit (newest ∷ earlier) → all_in (newest ∷ earlier) ≡ true
     → (newest.place == place && newest.size == size) ≡ true → newest.number ≡ number → number_at (after (newest ∷ earlier)) place size ≡ number
-reads_newest newest earlier place size number fit here is =
+reads_newest newest earlier place size number fit inside here is =
     let both = both_hold (newest.place == place) (newest.size == size) here in
     let same_place : newest.place ≡ place = eqb-true newest.place place both.0 in
     let same_size : newest.size ≡ size = eqb-true newest.size size both.1 in
-    let before = length-after earlier fit.2 in
-    rw (← same_place, ← same_size) (number_at-written (after earlier) newest.place newest.size newest.number (omega (arith, before, fit.1)) fit.0 ∙ is)
+    rw (← same_place, ← same_size) (number_at-written (after earlier) newest.place newest.size newest.number (has_room newest earlier inside) fit.0 ∙ is)
 
 apart : (newest : Put) (place size : ℕ) → (nat_le (place + size) newest.place || nat_le (newest.place + newest.size) place) ≡ true
     → (at : ℕ) → place ≤ at → at < place + size → (at < newest.place) ⊎ (newest.place + newest.size ≤ at)
@@ -123,13 +134,12 @@ apart newest place size beside at low high = elim (one_holds (nat_le (place + si
   | inr past ↦ inr (omega (arith, leb-true (newest.place + newest.size) place past, low))
 ]
 
-reads_earlier : (newest : Put) (earlier : List Put) (place size : ℕ) → AllFit (newest ∷ earlier)
+reads_earlier : (newest : Put) (earlier : List Put) (place size : ℕ) → all_in (newest ∷ earlier) ≡ true
     → (nat_le (place + size) newest.place || nat_le (newest.place + newest.size) place) ≡ true
     → number_at (after (newest ∷ earlier)) place size ≡ number_at (after earlier) place size
-reads_earlier newest earlier place size fit beside =
-    let before = length-after earlier fit.2 in
+reads_earlier newest earlier place size inside beside =
     number_at-same (after (newest ∷ earlier)) (after earlier) place size (λ at low high.
-      index-written (after earlier) newest.place newest.size newest.number at (omega (arith, before, fit.1)) (apart newest place size beside at low high))
+    index-written (after earlier) newest.place newest.size newest.number at (has_room newest earlier inside) (apart newest place size beside at low high))
 
 -- One choice after the other.
 chosen : (here beside : Bool) (one two : Option ℕ) (number : ℕ) → cond here one (cond beside two None) ≡ Some number
@@ -142,12 +152,12 @@ some_is : (one two : ℕ) → Some one ≡ Some two → one ≡ two
 some_is one two same = cc
 
 -- What the number at a place is after many puts.
-pub reads_back : (puts : List Put) (place size number : ℕ) → AllFit puts → last_put puts place size ≡ Some number → number_at (after puts) place size ≡ number
-reads_back [] place size number fit found = number_at-zeros place size ∙ some_is 0 number found
-reads_back (newest ∷ earlier) place size number fit found =
+pub reads_back : (puts : List Put) (place size number : ℕ) → AllFit puts → all_in puts ≡ true → last_put puts place size ≡ Some number → number_at (after puts) place size ≡ number
+reads_back [] place size number fit inside found = number_at-zeros place size ∙ some_is 0 number found
+reads_back (newest ∷ earlier) place size number fit inside found =
     let here = newest.place == place && newest.size == size in
     let beside = nat_le (place + size) newest.place || nat_le (newest.place + newest.size) place in
     elim (chosen here beside (Some newest.number) (last_put earlier place size) number found) [
-      | inl at ↦ reads_newest newest earlier place size number fit at.0 (some_is newest.number number at.1)
-      | inr off ↦ reads_earlier newest earlier place size fit off.0 ∙ reads_back earlier place size number fit.2 off.1
+      | inl at ↦ reads_newest newest earlier place size number fit inside at.0 (some_is newest.number number at.1)
+      | inr off ↦ reads_earlier newest earlier place size inside off.0 ∙ reads_back earlier place size number fit.1 (both_hold (nat_le (newest.place + newest.size) 64) (all_in earlier) inside).1 off.1
     ]

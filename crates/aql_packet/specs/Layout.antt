@@ -1,9 +1,7 @@
 -- Which 64 bytes lay out which packet (PSA, Architected Queuing Language): one clause a field, and one a
 -- reserved part. Nothing is encoded or decoded here.
 use Rattle.std.specs.Prelude.{◌≡◌, ◌<◌, ℕ, List, [], ◌∷◌, length, slice_index, Bool, true, nat_le}
-use Rattle.aql_packet.specs.declared.ids.Address.{Address}
 use Rattle.aql_packet.specs.declared.ids.SignalHandle.{SignalHandle}
-use Rattle.aql_packet.specs.declared.ids.KernelObject.{KernelObject}
 use Rattle.aql_packet.specs.declared.packet.Scope.{Scope}
 use Rattle.aql_packet.specs.declared.packet.Scope.TheVariants as scopes
 use Rattle.aql_packet.specs.declared.packet.Header.{Header}
@@ -27,7 +25,8 @@ scope_number scopes.System = 2
 
 -- The four 64-bit numbers in bytes 16 to 47.
 abbrev pub arguments_at : List ℕ → List ℕ
-arguments_at bytes = number_at bytes 16 8 ∷ number_at bytes 24 8 ∷ number_at bytes 32 8 ∷ number_at bytes 40 8 ∷ []
+arguments_at bytes =
+    number_at bytes 16 8 ∷ number_at bytes 24 8 ∷ number_at bytes 32 8 ∷ number_at bytes 40 8 ∷ []
 
 -- The signal that the 64-bit number at a place names.
 abbrev pub signal_at : List ℕ → ℕ → SignalHandle
@@ -35,19 +34,20 @@ signal_at bytes place = record { 0 = number_at bytes place 8 }
 
 -- The five signals in bytes 8 to 47.
 abbrev pub signals_at : List ℕ → List SignalHandle
-signals_at bytes = signal_at bytes 8 ∷ signal_at bytes 16 ∷ signal_at bytes 24 ∷ signal_at bytes 32 ∷ signal_at bytes 40 ∷ []
+signals_at bytes =
+    signal_at bytes 8 ∷ signal_at bytes 16 ∷ signal_at bytes 24 ∷ signal_at bytes 32 ∷ signal_at bytes 40 ∷ []
 
--- The 16-bit header, bytes 0 and 1, of a packet of a type.
-pub record LaysHeader (bytes : List ℕ) (type : ℕ) (header : Header) : Type 0 where
-  pub packet_type : bits (number_at bytes 0 2) 7 0 ≡ type
-  pub barrier : bits (number_at bytes 0 2) 8 8 ≡ bit_of header.barrier
-  pub acquire : bits (number_at bytes 0 2) 10 9 ≡ scope_number header.acquire
-  pub release : bits (number_at bytes 0 2) 12 11 ≡ scope_number header.release
-  pub reserved : bits (number_at bytes 0 2) 15 13 ≡ 0
+-- The 16-bit header of a packet of a type, as a number.
+pub record IsHeader (number type : ℕ) (header : Header) : Type 0 where
+  pub packet_type : bits number 7 0 ≡ type
+  pub barrier : bits number 8 8 ≡ bit_of header.barrier
+  pub acquire : bits number 10 9 ≡ scope_number header.acquire
+  pub release : bits number 12 11 ≡ scope_number header.release
+  pub reserved : bits number 15 13 ≡ 0
 
 -- A kernel dispatch packet.
 pub record LaysKernel (bytes : List ℕ) (packet : KernelDispatch) : Type 0 where
-  pub header : LaysHeader bytes 2 packet.header
+  pub header : IsHeader (number_at bytes 0 2) 2 packet.header
   pub setup_dimensions : bits (number_at bytes 2 2) 1 0 ≡ packet.dimensions
   pub setup_reserved : bits (number_at bytes 2 2) 15 2 ≡ 0
   pub workgroup_size_x : number_at bytes 4 2 ≡ packet.workgroup_size_x
@@ -66,7 +66,7 @@ pub record LaysKernel (bytes : List ℕ) (packet : KernelDispatch) : Type 0 wher
 
 -- An agent dispatch packet.
 pub record LaysAgent (bytes : List ℕ) (packet : AgentDispatch) : Type 0 where
-  pub header : LaysHeader bytes 4 packet.header
+  pub header : IsHeader (number_at bytes 0 2) 4 packet.header
   pub function : number_at bytes 2 2 ≡ packet.function
   pub reserved_4 : number_at bytes 4 4 ≡ 0
   pub return_address : number_at bytes 8 8 ≡ packet.return_address.0
@@ -76,7 +76,7 @@ pub record LaysAgent (bytes : List ℕ) (packet : AgentDispatch) : Type 0 where
 
 -- A barrier packet of either type, which is 3 or 5.
 pub record LaysBarrier (bytes : List ℕ) (type : ℕ) (packet : Barrier) : Type 0 where
-  pub header : LaysHeader bytes type packet.header
+  pub header : IsHeader (number_at bytes 0 2) type packet.header
   pub reserved_2 : number_at bytes 2 6 ≡ 0
   pub dependencies : signals_at bytes ≡ packet.dependencies
   pub reserved_48 : number_at bytes 48 8 ≡ 0

@@ -1,8 +1,5 @@
 -- What bytes say, as functions of them: the header's parts, the rules L1 to L3, and the packet.
-use Rattle.std.specs.Prelude.{ℕ, ◌+◌, List, Bool, true, false, ◌==◌, ◌&&◌, ◌||◌, not, if◌then◌else◌, Option, Some, None, is_none}
-use Rattle.aql_packet.specs.declared.ids.Address.{Address}
-use Rattle.aql_packet.specs.declared.ids.SignalHandle.{SignalHandle}
-use Rattle.aql_packet.specs.declared.ids.KernelObject.{KernelObject}
+use Rattle.std.specs.Prelude.{ℕ, List, Bool, ◌==◌, ◌&&◌, ◌||◌, not, if◌then◌else◌, Option, Some, None, is_none}
 use Rattle.aql_packet.specs.declared.packet.Scope.{Scope}
 use Rattle.aql_packet.specs.declared.packet.Scope.TheVariants as scopes
 use Rattle.aql_packet.specs.declared.packet.Header.{Header}
@@ -24,10 +21,11 @@ packet_type bytes = bits (number_at bytes 0 2) 7 0
 abbrev pub barrier_bit : List ℕ → Bool
 barrier_bit bytes = bits (number_at bytes 0 2) 8 8 == 1
 
--- The two fence scopes, as numbers: header bits 10:9 and 12:11.
+-- The acquire fence scope as a number: header bits 10:9.
 abbrev pub acquire_bits : List ℕ → ℕ
 acquire_bits bytes = bits (number_at bytes 0 2) 10 9
 
+-- The release fence scope as a number: header bits 12:11.
 abbrev pub release_bits : List ℕ → ℕ
 release_bits bytes = bits (number_at bytes 0 2) 12 11
 
@@ -37,16 +35,20 @@ is_known type = type == 2 || type == 3 || type == 4 || type == 5
 
 -- The header's reserved bits are zero, and no scope has the reserved number.
 abbrev pub is_plain_header : List ℕ → Bool
-is_plain_header bytes = bits (number_at bytes 0 2) 15 13 == 0 && not (acquire_bits bytes == 3) && not (release_bits bytes == 3)
+is_plain_header bytes =
+    bits (number_at bytes 0 2) 15 13 == 0 && not (acquire_bits bytes == 3) && not (release_bits bytes == 3)
 
--- The reserved parts of each kind of packet are zero.
-unfoldable pub kernel_reserved_is_zero : List ℕ → Bool
-kernel_reserved_is_zero bytes = bits (number_at bytes 2 2) 15 2 == 0 && number_at bytes 10 2 == 0 && number_at bytes 48 8 == 0
+-- A kernel dispatch's reserved parts are zero: setup bits 15:2, bytes 10 and 11, bytes 48 to 55.
+abbrev pub kernel_reserved_is_zero : List ℕ → Bool
+kernel_reserved_is_zero bytes =
+    bits (number_at bytes 2 2) 15 2 == 0 && number_at bytes 10 2 == 0 && number_at bytes 48 8 == 0
 
-unfoldable pub agent_reserved_is_zero : List ℕ → Bool
+-- An agent dispatch's: bytes 4 to 7 and 48 to 55.
+abbrev pub agent_reserved_is_zero : List ℕ → Bool
 agent_reserved_is_zero bytes = number_at bytes 4 4 == 0 && number_at bytes 48 8 == 0
 
-unfoldable pub barrier_reserved_is_zero : List ℕ → Bool
+-- A barrier packet's: bytes 2 to 7 and 48 to 55.
+abbrev pub barrier_reserved_is_zero : List ℕ → Bool
 barrier_reserved_is_zero bytes = number_at bytes 2 6 == 0 && number_at bytes 48 8 == 0
 
 -- The parts that a type reserves are zero.
@@ -82,7 +84,7 @@ header_at bytes = record {
   release = scope_of (release_bits bytes);
 }
 
--- The fields of each kind of packet, whatever the reserved parts hold.
+-- A kernel dispatch's fields, whatever its reserved parts hold.
 unfoldable pub kernel_at : List ℕ → KernelDispatch
 kernel_at bytes = record {
   header = header_at bytes;
@@ -100,6 +102,7 @@ kernel_at bytes = record {
   completion_signal = signal_at bytes 56;
 }
 
+-- An agent dispatch's fields.
 unfoldable pub agent_at : List ℕ → AgentDispatch
 agent_at bytes = record {
   header = header_at bytes;
@@ -109,6 +112,7 @@ agent_at bytes = record {
   completion_signal = signal_at bytes 56;
 }
 
+-- A barrier packet's fields.
 unfoldable pub barrier_at : List ℕ → Barrier
 barrier_at bytes = record {
   header = header_at bytes;

@@ -4,26 +4,20 @@
 #![tactic(auto)]
 
 mod ids;
+mod laws;
 mod numbers;
 mod packet;
 mod reading;
+#[cfg(test)]
+mod tests;
 mod writing;
 
-pub use ids::Address;
-pub use ids::AgentHandle;
-pub use ids::ClientId;
-pub use ids::KernelObject;
-pub use ids::PacketId;
-pub use ids::QueueId;
-pub use ids::RegionHandle;
-pub use ids::SignalHandle;
-pub use packet::AgentDispatch;
-pub use packet::Barrier;
-pub use packet::CodecRule;
-pub use packet::Header;
-pub use packet::KernelDispatch;
-pub use packet::Packet;
-pub use packet::RawHeader;
-pub use packet::Scope;
+pub use ids::{
+    Address, AgentHandle, ClientId, KernelObject, PacketId, QueueId, RegionHandle, SignalHandle,
+};
+pub use laws::{header_in_first_word, one_spelling, reading_is_layout};
+pub use packet::{
+    AgentDispatch, Barrier, CodecRule, Header, KernelDispatch, Packet, RawHeader, Scope,
+};
 pub use reading::{decode, header_of};
 pub use writing::encode;

@@ -110,7 +110,7 @@ impl Packet {
 }
 
 /// The rules of a packet's layout, in the order in which they are tried.
-#[derive(Clone, Copy, Debug, PartialEq, Eq, PartialOrd, Ord)]
+#[derive(Clone, Copy, Debug, PartialEq, Eq)]
 pub enum CodecRule {
     /// The type is 2, 3, 4 or 5.
     L1,

@@ -1,13 +1,15 @@
 //! Bytes to packets (PSA, Architected Queuing Language).
 
-ghost use Rattle.aql_packet.specs.Layout.{PacketOf};
+ghost use Rattle.aql_packet.specs.Layout.{PacketOf, is_well_formed};
 ghost use Rattle.aql_packet.specs.Numbers.{bits};
 ghost use Rattle.aql_packet.specs.Reading.{agent_at, barrier_at, decoded, header_at, is_known, is_plain_header, kernel_at, packet_at, packet_type, refusal, reserved_is_zero, scope_of};
-ghost use Rattle.std.specs.Prelude.{MatchResult, ◌==◌, ◌<◌, ◌^◌, ◌≡◌, IfOk};
+ghost use Rattle.std.specs.Prelude.{IsTrue, MatchResult, ◌==◌, ◌<◌, ◌^◌, ◌≡◌, IfOk};
 
 use crate::ids::{Address, KernelObject, SignalHandle};
 use crate::numbers::{is_zero_at, u16_at, u32_at, u64_at};
-use crate::packet::{AgentDispatch, Barrier, CodecRule, Header, KernelDispatch, Packet, RawHeader, Scope};
+use crate::packet::{
+    AgentDispatch, Barrier, CodecRule, Header, KernelDispatch, Packet, RawHeader, Scope,
+};
 
 /// The packet that the bytes lay out, or the first of the rules L1 to L3 that they break
 /// (PSA, Architected Queuing Language). It takes no memory.
@@ -15,6 +17,7 @@ pub fn decode(bytes: &[u8; 64]) -> Result<Packet, CodecRule>
     // What is answered Ok is laid out so, and what is laid out is answered Ok.
     ensures found { IfOk result (λ packet. PacketOf bytes.now packet) }
     ensures only { (packet : Packet) → PacketOf bytes.now packet → result ≡ Ok packet }
+    ensures spelled { IfOk result (λ packet. IsTrue (is_well_formed packet)) }
     // Which packet, and which rule, as functions of the bytes.
     ensures exact { MatchResult result (λ packet. decoded bytes.now ≡ Some packet)
         (λ rule. refusal bytes.now ≡ Some rule) }
@@ -80,7 +83,6 @@ fn has_plain_header(bytes: &[u8; 64]) -> bool
 }
 
 // The fields that the type reserves are zero.
-#[tactic(auto, unfolding(crate::specs::Reading::kernel_reserved_is_zero, crate::specs::Reading::agent_reserved_is_zero, crate::specs::Reading::barrier_reserved_is_zero))]
 fn has_zero_reserved(kind: u16, bytes: &[u8; 64]) -> bool
     ensures { result ≡ reserved_is_zero kind bytes.now }
 {

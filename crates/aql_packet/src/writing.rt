@@ -1,11 +1,10 @@
 //! Packets to bytes (PSA, Architected Queuing Language).
 
-ghost use Rattle.aql_packet.specs.Layout.{Lays, LaysAgent, LaysBarrier, LaysKernel, PacketOf, is_well_formed, scope_number};
-ghost use Rattle.aql_packet.specs.Numbers.{bit_of, bits, written};
+ghost use Rattle.aql_packet.specs.Layout.{IsHeader, Lays, LaysAgent, LaysBarrier, LaysKernel, PacketOf, is_well_formed, scope_number};
+ghost use Rattle.aql_packet.specs.Numbers.{bit_of, bits};
 ghost use Rattle.aql_packet.specs.Reading.{decoded};
 ghost use Rattle.std.specs.Prelude.{IsTrue, List, length, Some, ℕ, ◌<◌, ◌≡◌, ◌≤◌};
 
-use crate::ids::SignalHandle;
 use crate::numbers::{put_u16, put_u32, put_u64};
 use crate::packet::{AgentDispatch, Barrier, Header, KernelDispatch, Packet, Scope};
 
@@ -20,24 +19,24 @@ pub fn encode(packet: &Packet) -> [u8; 64]
     // They are decoded to the packet.
     ensures back { decoded result ≡ Some packet.now }
 {
-    bytes_of(*packet)
+    bytes_of(packet)
 }
 
-fn bytes_of(packet: Packet) -> [u8; 64]
-    requires { IsTrue (is_well_formed packet) }
-    ensures { Lays result packet }
+fn bytes_of(packet: &Packet) -> [u8; 64]
+    requires { IsTrue (is_well_formed packet.now) }
+    ensures { Lays result packet.now }
 {
     match packet {
         Packet::Kernel(kernel) => kernel_bytes(kernel),
         Packet::Agent(agent) => agent_bytes(agent),
-        Packet::BarrierAnd(barrier) => barrier_bytes(3, &barrier),
-        Packet::BarrierOr(barrier) => barrier_bytes(5, &barrier),
+        Packet::BarrierAnd(barrier) => barrier_bytes(3, barrier),
+        Packet::BarrierOr(barrier) => barrier_bytes(5, barrier),
     }
 }
 
-fn kernel_bytes(packet: KernelDispatch) -> [u8; 64]
-    requires { packet.dimensions ≤ 3 }
-    ensures { LaysKernel result packet }
+fn kernel_bytes(packet: &KernelDispatch) -> [u8; 64]
+    requires { packet.now.dimensions ≤ 3 }
+    ensures { LaysKernel result packet.now }
 {
     let mut bytes = [0; 64];
     put_u16(&mut bytes, 0, header_number(2, packet.header));
@@ -56,37 +55,19 @@ fn kernel_bytes(packet: KernelDispatch) -> [u8; 64]
     bytes
 }
 
-fn agent_bytes(packet: AgentDispatch) -> [u8; 64]
-    ensures { LaysAgent result packet }
+fn agent_bytes(packet: &AgentDispatch) -> [u8; 64]
+    ensures { LaysAgent result packet.now }
 {
     let mut bytes = [0; 64];
     put_u16(&mut bytes, 0, header_number(4, packet.header));
     put_u16(&mut bytes, 2, packet.function);
     put_u64(&mut bytes, 8, packet.return_address.0);
-    put_arguments(&mut bytes, &packet.arguments);
+    put_u64(&mut bytes, 16, packet.arguments[0]);
+    put_u64(&mut bytes, 24, packet.arguments[1]);
+    put_u64(&mut bytes, 32, packet.arguments[2]);
+    put_u64(&mut bytes, 40, packet.arguments[3]);
     put_u64(&mut bytes, 56, packet.completion_signal.0);
     bytes
-}
-
-// Puts four arguments into bytes 16 to 47.
-fn put_arguments(bytes: &mut [u8; 64], arguments: &[u64; 4])
-    ensures { length arguments.now ≡ 4 }
-{
-    put_u64(bytes, 16, arguments[0]);
-    put_u64(bytes, 24, arguments[1]);
-    put_u64(bytes, 32, arguments[2]);
-    put_u64(bytes, 40, arguments[3]);
-}
-
-// Puts five signals into bytes 8 to 47.
-fn put_dependencies(bytes: &mut [u8; 64], signals: &[SignalHandle; 5])
-    ensures { length signals.now ≡ 4 }
-{
-    put_u64(bytes, 8, signals[0].0);
-    put_u64(bytes, 16, signals[1].0);
-    put_u64(bytes, 24, signals[2].0);
-    put_u64(bytes, 32, signals[3].0);
-    put_u64(bytes, 40, signals[4].0);
 }
 
 // The bytes of a barrier packet of either type, 3 or 5.
@@ -94,9 +75,9 @@ fn barrier_bytes(kind: u16, packet: &Barrier) -> [u8; 64]
     requires { kind < 256 }
     ensures { LaysBarrier result kind packet.now }
 {
+    let [first, second, third, fourth, fifth] = packet.dependencies;
     let mut bytes = [0; 64];
     put_u16(&mut bytes, 0, header_number(kind, packet.header));
-    let [first, second, third, fourth, fifth] = packet.dependencies;
     put_u64(&mut bytes, 8, first.0);
     put_u64(&mut bytes, 16, second.0);
     put_u64(&mut bytes, 24, third.0);
@@ -109,11 +90,7 @@ fn barrier_bytes(kind: u16, packet: &Barrier) -> [u8; 64]
 // The 16-bit header of a packet of a type.
 fn header_number(kind: u16, header: Header) -> u16
     requires { kind < 256 }
-    ensures packet_type { bits result 7 0 ≡ kind }
-    ensures barrier { bits result 8 8 ≡ bit_of header.barrier }
-    ensures acquire { bits result 10 9 ≡ scope_number header.acquire }
-    ensures release { bits result 12 11 ≡ scope_number header.release }
-    ensures reserved { bits result 15 13 ≡ 0 }
+    ensures { IsHeader result kind header }
 {
     let barrier = u16::from(header.barrier);
     let acquire = number_of(header.acquire);

@@ -62,8 +62,8 @@ begins_digit radix (b ∷ bytes) = is_digit b radix
 abbrev pub decimal_at : List ℕ → Option Numeral
 decimal_at [] = None
 decimal_at (b ∷ bytes) =
-    if b == 48 then Some (numeral 0 1)
-    else if is_digit b 10 then digits_at 10 0 0 (b ∷ bytes)
+    if is_digit b 10 then
+    (if b == 48 then Some (numeral 0 1) else digits_at 10 (digit_value b) 1 bytes)
     else None
 
 -- where `0x` stands before these bytes, and otherwise

@@ -1,5 +1,5 @@
 -- The lexemes of kernel text (PRM, Lexical Elements; blanks, comments and modifiers are (own)).
-use Rattle.std.specs.Prelude.{◌≡◌, ℕ, ◌+◌, ◌-◌, List, [], ◌∷◌, ◌++◌, Bool, true, false, ◌||◌, ◌==◌, if◌then◌else◌, Option, Some, None, codes, length, take, drop, Result, Ok, Err}
+use Rattle.std.specs.Prelude.{◌≡◌, ℕ, zero, suc, ◌+◌, ◌-◌, List, [], ◌∷◌, ◌++◌, Bool, true, false, ◌||◌, ◌==◌, if◌then◌else◌, Option, Some, None, codes, length, take, drop, Result, Ok, Err}
 use Rattle.std.specs.List.{prefix_len, list_any, count_by}
 use Rattle.std.specs.Option.{is_some, option_map}
 use Rattle.hsail_reader.specs.Bytes.{is_name_byte, is_name_start, is_not_line_feed, begins_name, begins_with, begins_digit, behind, closing_at, decimal_at, numeral_at, align_at, width_at, ◌>>=◌}
@@ -112,13 +112,13 @@ piece_length (b ∷ bytes) =
     then (if is_name_byte b then 1 else 0)
     else modifier_length (b ∷ bytes)
 
--- how many bytes the pieces of a word take, `skip` bytes on, with `length` before them
+-- how many bytes the pieces of a word take, `skip` bytes on, with `before` bytes before them
 abbrev pub pieces_length : ℕ → ℕ → List ℕ → ℕ
-pieces_length skip length [] = length
-pieces_length (suc skip) length (b ∷ bytes) = pieces_length skip length bytes
-pieces_length zero length (b ∷ bytes) =
-    if 0 == piece_length (b ∷ bytes) then length
-    else pieces_length (piece_length (b ∷ bytes) - 1) (length + piece_length (b ∷ bytes)) bytes
+pieces_length skip before [] = before
+pieces_length (suc skip) before (b ∷ bytes) = pieces_length skip before bytes
+pieces_length zero before (b ∷ bytes) =
+    if 0 == piece_length (b ∷ bytes) then before
+    else pieces_length (piece_length (b ∷ bytes) - 1) (before + piece_length (b ∷ bytes)) bytes
 
 abbrev pub word_of : Option Numeral → List ℕ → Lexeme
 word_of (Some n) bytes = lexed (Token token.Word) n.length

@@ -2,3 +2,9 @@ pub mod Types
 pub mod Rows
 pub mod Bytes
 pub mod Lexemes
+pub mod Faults
+pub mod Tokens
+pub mod Words
+pub mod Operands
+pub mod Instructions
+pub mod Syntax

@@ -41,22 +41,26 @@ fn mark(byte: u8) -> bool
 fn comment(bytes: &[u8]) -> Option<Lexeme>
     ensures value { result ≡ comment_at bytes.now }
     ensures bound { IfSome result (λ lexeme. lexeme.length ≤ length bytes.now + 1) }
+    ensures some { IfSome result (λ lexeme. 0 < lexeme.length) }
 {
-    let length = match bytes {
-        [b'/', line @ ..] => line_run(line),
-        [b'*', inside @ ..] => closing(inside)?,
-        _ => return None,
-    };
-    Some(Lexeme {
-        kind: LexemeKind::Comment,
-        length: length + 2,
-    })
+    match bytes {
+        [b'/', line @ ..] => Some(Lexeme {
+            kind: LexemeKind::Comment,
+            length: line_run(line) + 2,
+        }),
+        [b'*', inside @ ..] => Some(Lexeme {
+            kind: LexemeKind::Comment,
+            length: closing(inside)? + 2,
+        }),
+        _ => None,
+    }
 }
 
 /// A name behind its first byte `&`, `%` or `@`.
 fn name(kind: TokenKind, bytes: &[u8]) -> Option<Lexeme>
     ensures value { result ≡ name_at kind bytes.now }
     ensures bound { IfSome result (λ lexeme. lexeme.length ≤ length bytes.now + 1) }
+    ensures some { IfSome result (λ lexeme. 0 < lexeme.length) }
 {
     if !has_name(bytes) {
         return None;
@@ -83,6 +87,7 @@ fn class(bytes: &[u8]) -> Option<RegisterClass>
 fn register(bytes: &[u8]) -> Option<Lexeme>
     ensures value { result ≡ register_at bytes.now }
     ensures bound { IfSome result (λ lexeme. lexeme.length ≤ length bytes.now + 1) }
+    ensures some { IfSome result (λ lexeme. 0 < lexeme.length) }
 {
     let class = class(bytes)?;
     let (_, digits) = bytes.split_first()?;
@@ -101,14 +106,17 @@ fn register(bytes: &[u8]) -> Option<Lexeme>
 fn header(bytes: &[u8]) -> Option<Lexeme>
     ensures value { result ≡ header_among header_words bytes.now }
     ensures bound { IfSome result (λ lexeme. lexeme.length ≤ length bytes.now + 1) }
+    ensures some { IfSome result (λ lexeme. 0 < lexeme.length) }
 {
-    for HeaderName(name, header) in header_names() {
+    let mut names = header_names();
+    while let [HeaderName(name, header), others @ ..] = names {
         if strip(name.as_bytes(), bytes).is_some() {
             return Some(Lexeme {
                 kind: LexemeKind::Token(TokenKind::Header(*header)),
                 length: name.len() + 1,
             });
         }
+        names = others;
     }
     None
 }
@@ -117,6 +125,7 @@ fn header(bytes: &[u8]) -> Option<Lexeme>
 fn dollar(bytes: &[u8]) -> Option<Lexeme>
     ensures value { result ≡ dollar_at bytes.now }
     ensures bound { IfSome result (λ lexeme. lexeme.length ≤ length bytes.now + 1) }
+    ensures some { IfSome result (λ lexeme. 0 < lexeme.length) }
 {
     match register(bytes) {
         Some(found) => Some(found),
@@ -127,6 +136,7 @@ fn dollar(bytes: &[u8]) -> Option<Lexeme>
 fn numeral(bytes: &[u8]) -> Option<Lexeme>
     ensures value { result ≡ number_at bytes.now }
     ensures bound { IfSome result (λ lexeme. lexeme.length ≤ length bytes.now) }
+    ensures some { IfSome result (λ lexeme. 0 < lexeme.length) }
 {
     let number = number(bytes)?;
     Some(Lexeme {
@@ -167,9 +177,11 @@ fn piece(bytes: &[u8]) -> usize
 }
 
 /// How many bytes a word takes whose first byte stands before these.
+#[tactic(auto, using(crate::proofs::Pieces::pieces_length_step))]
 fn pieces(bytes: &[u8]) -> usize
     ensures value { result ≡ pieces_length 0 1 bytes.now }
     ensures bound { result ≤ length bytes.now + 1 }
+    ensures some { 0 < result }
 {
     let mut rest = bytes;
     let mut length = 1;
@@ -188,6 +200,7 @@ fn word(bytes: &[u8]) -> Lexeme
     requires { 0 < length bytes.now }
     ensures value { result ≡ word_at bytes.now }
     ensures bound { result.length ≤ length bytes.now }
+    ensures some { 0 < result.length }
 {
     let length = match align(bytes) {
         Some(align) => align.length,
@@ -202,8 +215,8 @@ fn word(bytes: &[u8]) -> Lexeme
 /// The lexeme at the front, if there is one; it takes at least one byte.
 pub fn lexeme(bytes: &[u8]) -> Option<Lexeme>
     ensures value { result ≡ lexeme_at bytes.now }
-    ensures some { IfSome result (λ lexeme. 0 < lexeme.length) }
     ensures bound { IfSome result (λ lexeme. lexeme.length ≤ length bytes.now) }
+    ensures some { IfSome result (λ lexeme. 0 < lexeme.length) }
 {
     let [first, rest @ ..] = bytes else {
         return None;

@@ -2,18 +2,30 @@
 //! The next line lets the check look for proofs by its tactics.
 #![tactic(auto)]
 
+mod fault;
+mod instructions;
+mod kernels;
 mod lexeme;
 mod module;
+mod operands;
+mod reading;
 mod rows;
 mod scan;
 mod token;
+mod tokens;
 mod types;
+mod words;
 
+pub use fault::{Cause, ReadError, ReadFault};
 pub use module::{
     Address, Argument, Binary, ConditionalBranch, Identify, Indexed, Instruction, Item, Kernel,
     Label, Load, Module, Operation, Place, Profile, Relative, Rounding, Store, Ternary, Unary,
 };
+pub use reading::read_module;
 pub use types::{
     Alignment, BinaryOperation, Comparison, Constant, DataType, Modifiers, Query, Register,
     RegisterClass, Segment, Source, TernaryOperation, UnaryOperation, Width,
 };
+
+#[cfg(test)]
+mod tests;

@@ -1,6 +1,6 @@
 //! What stands at the front of some bytes.
 
-ghost use Rattle.std.specs.Prelude.{◌≡◌, ◌+◌, ◌≤◌, length, IfSome};
+ghost use Rattle.std.specs.Prelude.{◌≡◌, ◌+◌, ◌<◌, ◌≤◌, length, IfSome};
 ghost use Rattle.std.specs.List.{prefix_len};
 ghost use Rattle.std.specs.Option.{option_copied};
 ghost use Rattle.hsail_reader.specs.Bytes.{is_name_byte, is_name_start, is_not_line_feed, begins_name, begins_digit, behind, closing_at, digits_at, decimal_at, numeral_at, align_at, width_value_at, width_at};
@@ -33,8 +33,10 @@ pub fn has_name(bytes: &[u8]) -> bool
 }
 
 /// How many bytes from the front may stand in a name.
+#[tactic(auto, using(crate::proofs::Pieces::prefix_bound))]
 pub fn name_run(bytes: &[u8]) -> usize
-    ensures { result ≡ prefix_len is_name_byte bytes.now }
+    ensures value { result ≡ prefix_len is_name_byte bytes.now }
+    ensures bound { result ≤ length bytes.now }
 {
     bytes
         .iter()
@@ -43,8 +45,10 @@ pub fn name_run(bytes: &[u8]) -> usize
 }
 
 /// How many bytes there are before the end of the line.
+#[tactic(auto, using(crate::proofs::Pieces::prefix_bound))]
 pub fn line_run(bytes: &[u8]) -> usize
-    ensures { result ≡ prefix_len is_not_line_feed bytes.now }
+    ensures value { result ≡ prefix_len is_not_line_feed bytes.now }
+    ensures bound { result ≤ length bytes.now }
 {
     bytes.iter().take_while(|byte| **byte != b'\n').count()
 }
@@ -70,7 +74,8 @@ pub fn strip<'a>(front: &[u8], bytes: &'a [u8]) -> Option<&'a [u8]>
 
 /// How many bytes there are up to the first `*/` and with it, if there is one.
 pub fn closing(bytes: &[u8]) -> Option<usize>
-    ensures { result ≡ closing_at 0 bytes.now }
+    ensures value { result ≡ closing_at 0 bytes.now }
+    ensures bound { IfSome result (λ n. n ≤ length bytes.now) }
 {
     let mut rest = bytes;
     let mut length = 0;
@@ -96,53 +101,62 @@ fn has_digit(radix: u32, bytes: &[u8]) -> bool
     }
 }
 
-/// The number that the digits at the front spell, with the length of what stands `before` them;
-/// nothing where the number passes 64 bits.
-fn digits(radix: u32, before: usize, bytes: &[u8]) -> Option<Numeral>
+/// The number that the digits at the front spell, behind `before` bytes that spell `value`; nothing
+/// where the number passes 64 bits.
+fn digits(radix: u32, value: u64, before: usize, bytes: &[u8]) -> Option<Numeral>
     requires low { 2 ≤ radix }
     requires high { radix ≤ 16 }
     requires short { before ≤ 2 }
-    ensures value { result ≡ digits_at radix 0 before bytes.now }
+    ensures value { result ≡ digits_at radix value before bytes.now }
     ensures bound { IfSome result (λ n. n.length ≤ before + length bytes.now) }
+    ensures some { IfSome result (λ n. before ≤ n.length) }
 {
     let mut rest = bytes;
-    let mut value = 0u64;
+    let mut total = value;
     let mut length = before;
     while let [first, tail @ ..] = rest {
         let Some(digit) = char::from(*first).to_digit(radix) else {
             break;
         };
-        value = value
+        total = total
             .checked_mul(u64::from(radix))?
             .checked_add(u64::from(digit))?;
         length += 1;
         rest = tail;
     }
-    Some(Numeral { value, length })
+    Some(Numeral {
+        value: total,
+        length,
+    })
 }
 
 /// The decimal number at the front: 0, or digits without a leading zero.
 pub fn decimal(bytes: &[u8]) -> Option<Numeral>
     ensures value { result ≡ decimal_at bytes.now }
     ensures bound { IfSome result (λ n. n.length ≤ length bytes.now) }
+    ensures some { IfSome result (λ n. 0 < n.length) }
 {
-    match bytes {
-        [b'0', ..] => Some(Numeral {
+    let [first, rest @ ..] = bytes else {
+        return None;
+    };
+    let digit = char::from(*first).to_digit(10)?;
+    if digit == 0 {
+        return Some(Numeral {
             value: 0,
             length: 1,
-        }),
-        [b'1'..=b'9', ..] => digits(10, 0, bytes),
-        _ => None,
+        });
     }
+    digits(10, u64::from(digit), 1, rest)
 }
 
 /// The number at the front: `0x` and hexadecimal digits, or decimal.
 pub fn number(bytes: &[u8]) -> Option<Numeral>
     ensures value { result ≡ numeral_at bytes.now }
     ensures bound { IfSome result (λ n. n.length ≤ length bytes.now) }
+    ensures some { IfSome result (λ n. 0 < n.length) }
 {
     match strip(b"0x", bytes) {
-        Some(rest) if has_digit(16, rest) => digits(16, 2, rest),
+        Some(rest) if has_digit(16, rest) => digits(16, 0, 2, rest),
         _ => decimal(bytes),
     }
 }
@@ -151,6 +165,7 @@ pub fn number(bytes: &[u8]) -> Option<Numeral>
 pub fn align(bytes: &[u8]) -> Option<Numeral>
     ensures value { result ≡ align_at bytes.now }
     ensures bound { IfSome result (λ n. n.length ≤ length bytes.now) }
+    ensures some { IfSome result (λ n. 0 < n.length) }
 {
     let inside = strip(b"align(", bytes)?;
     let number = number(inside)?;
@@ -189,6 +204,7 @@ fn width_value(bytes: &[u8]) -> Option<SpelledWidth>
 pub fn width(bytes: &[u8]) -> Option<SpelledWidth>
     ensures value { result ≡ width_at bytes.now }
     ensures bound { IfSome result (λ w. w.length ≤ length bytes.now) }
+    ensures some { IfSome result (λ w. 0 < w.length) }
 {
     let inside = strip(b"width(", bytes)?;
     let value = width_value(inside)?;

@@ -1,7 +1,12 @@
 pub mod RightNames
 pub mod Rights
+pub mod KindNames
+pub mod SectionNames
 pub mod Object
 pub mod Names
 pub mod Table
 pub mod Kernel
 pub mod Policy
+pub mod Reading
+pub mod Format
+pub mod Choice

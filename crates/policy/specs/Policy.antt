@@ -1,5 +1,5 @@
 -- What a policy declares, as plain lists, and what it allows.
-use Rattle.std.specs.Prelude.{ℕ, ◌+◌, ◌-◌, ◌≡◌, ◌≤◌, ◌<◌, ℤ, Bool, true, false, not, ◌&&◌, ◌||◌, ◌==◌, nat_lt, nat_le, List, [], ◌∷◌, map, length, slice_get, position, Option, Some, None, if◌then◌else◌}
+use Rattle.std.specs.Prelude.{ℕ, ◌+◌, ◌-◌, ◌≡◌, ◌≤◌, ◌<◌, ℤ, Bool, true, false, not, ◌&&◌, ◌||◌, ◌==◌, nat_lt, nat_le, List, [], ◌∷◌, map, length, slice_get, position, Option, Some, None, option_map, if◌then◌else◌}
 use Rattle.std.specs.List.{list_any, list_all}
 use Rattle.std.specs.Option.{option_map_or}
 use Rattle.std.specs.Str.{bytes_eq}
@@ -18,7 +18,7 @@ use Rattle.policy.specs.declared.row.Takes.{Takes}
 use Rattle.policy.specs.Object.{kind_of, number_of, same_kind, same_object}
 use Rattle.policy.specs.Rights.{has, each_right}
 pub use Rattle.policy.specs.Names.{Name, names, numbered, number_in}
-pub use Rattle.policy.specs.Kernel.{KernelSource}
+pub use Rattle.policy.specs.Kernel.{Source}
 
 -- What a policy declares: the rows of each array in order, with names resolved to numbers.
 pub record Declared : Type 0 where
@@ -31,7 +31,7 @@ pub record Declared : Type 0 where
   -- the signals' names and initial values
   pub signals : List (Name × ℤ)
   -- the kernels' names and sources
-  pub kernels : List (Name × KernelSource)
+  pub kernels : List (Name × Source)
   -- the allow rows
   pub allows : List AllowRow
 
@@ -48,6 +48,30 @@ count_of policy kind.Agent = length policy.agents
 count_of policy kind.Region = length policy.regions
 count_of policy kind.Signal = length policy.signals
 count_of policy kind.Kernel = length policy.kernels
+
+-- the name of an object
+abbrev pub name_in : Declared → Object → Option Name
+name_in policy object = numbered (names_of policy (kind_of object)) (number_of object)
+
+-- what the row with a number holds beside its name
+abbrev pub row_of : {X : Type 0} → List (Name × X) → ℕ → Option X
+row_of rows n = option_map (λ row. row.1) (numbered rows n)
+
+-- which dispatches the agent with a number takes
+abbrev pub takes_of : Declared → ℕ → Option Takes
+takes_of policy n = row_of policy.agents n
+
+-- the length of the region with a number
+abbrev pub length_of : Declared → ℕ → Option ℕ
+length_of policy n = row_of policy.regions n
+
+-- the value with which the signal with a number begins
+abbrev pub initial_of : Declared → ℕ → Option ℤ
+initial_of policy n = row_of policy.signals n
+
+-- the source of the kernel with a number
+abbrev pub source_of : Declared → ℕ → Option Source
+source_of policy n = row_of policy.kernels n
 
 -- the policy declares the client
 abbrev pub declares_client : Declared → ClientId → Bool

@@ -3,16 +3,18 @@
 // The check tries its tactics on what is left of each proof.
 #![tactic(auto)]
 
+mod fault;
+mod kernel_source;
 mod object;
+mod policy;
+mod read;
 mod rights;
 mod row;
 mod table;
 
-pub use object::Kind;
-pub use object::Object;
-pub use rights::Right;
-pub use rights::Rights;
-pub use row::AllowRow;
-pub use row::Subject;
-pub use row::Takes;
-pub use row::Target;
+pub use fault::{Cause, PolicyFault, ReadPolicyError, Section};
+pub use kernel_source::KernelSource;
+pub use object::{Kind, Object};
+pub use policy::Policy;
+pub use rights::{Right, Rights};
+pub use row::{AllowRow, Subject, Takes, Target};

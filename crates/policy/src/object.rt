@@ -1,6 +1,9 @@
 //! What rights are on.
 
+ghost use Rattle.std.specs.Prelude.{◌≡◌, Some};
+
 use aql_packet::{AgentHandle, KernelObject, RegionHandle, SignalHandle};
+use std::fmt;
 
 /// A kind of object.
 #[derive(Clone, Copy, Debug, PartialEq, Eq)]
@@ -15,6 +18,35 @@ pub enum Kind {
     Kernel,
 }
 
+impl Kind {
+    ghost use Rattle.policy.specs.KindNames.{name_of_kind};
+
+    /// The kinds, in the order in which objects are listed.
+    pub const ALL: [Kind; 4] = [Kind::Agent, Kind::Region, Kind::Signal, Kind::Kernel];
+
+    /// The kind's name in policies, scripts and audits.
+    pub fn name(self) -> &'static str
+        ensures { result.now ≡ name_of_kind self }
+    {
+        match self {
+            Kind::Agent => "agent",
+            Kind::Region => "region",
+            Kind::Signal => "signal",
+            Kind::Kernel => "kernel",
+        }
+    }
+}
+
+impl fmt::Display for Kind {
+    ghost use Rattle.policy.specs.KindNames.{name_of_kind};
+
+    ghost output = { λ kind. Some (name_of_kind kind) };
+
+    fn fmt<W: fmt::Write>(&self, f: &mut fmt::Formatter<W>) -> fmt::Result {
+        f.write_str(self.name())
+    }
+}
+
 /// One object: its kind and its number, from 1 in the order of the policy for each kind (own).
 #[derive(Clone, Copy, Debug, PartialEq, Eq)]
 pub enum Object {
@@ -26,4 +58,32 @@ pub enum Object {
     Signal(SignalHandle),
     /// A kernel.
     Kernel(KernelObject),
+}
+
+impl Object {
+    ghost use Rattle.policy.specs.Object.{kind_of, number_of};
+
+    /// The object's kind.
+    pub fn kind(self) -> Kind
+        ensures { result ≡ kind_of self }
+    {
+        match self {
+            Object::Agent(_) => Kind::Agent,
+            Object::Region(_) => Kind::Region,
+            Object::Signal(_) => Kind::Signal,
+            Object::Kernel(_) => Kind::Kernel,
+        }
+    }
+
+    /// The object's number, from 1 for each kind.
+    pub fn number(self) -> u64
+        ensures { result ≡ number_of self }
+    {
+        match self {
+            Object::Agent(AgentHandle(number)) => number as u64,
+            Object::Region(RegionHandle(number)) => number as u64,
+            Object::Signal(SignalHandle(number)) => number,
+            Object::Kernel(KernelObject(number)) => number,
+        }
+    }
 }

@@ -1,6 +1,6 @@
 //! Rights, and sets of them.
 
-ghost use Rattle.std.specs.Prelude.{◌≡◌, ⊤, [], ◌∷◌, codes, Some};
+ghost use Rattle.std.specs.Prelude.{◌≡◌, ⊤, [], ◌∷◌, codes, Some, if◌then◌else◌};
 ghost use Rattle.policy.specs.RightNames.{name_of_right};
 
 use bitflags::{Flag, Flags, bitflag_items};
@@ -96,7 +96,7 @@ impl Flags for Rights {
 
 impl Rights {
     ghost use Rattle.std.specs.Prelude.{◌||◌, ◌&&◌, not};
-    ghost use Rattle.policy.specs.Rights.{has, bit_of};
+    ghost use Rattle.policy.specs.Rights.{has, bit_of, each_right, rights_that, among};
 
     /// No right.
     pub const NONE: Rights = Rights(0);
@@ -121,4 +121,41 @@ impl Rights {
     {
         self.contains(Rights::of(right))
     }
+
+    /// Whether each right of another set is in this one.
+    pub fn includes(self, other: Rights) -> bool
+        ensures { result ≡ each_right other (has self) }
+    {
+        Right::ALL
+            .iter()
+            .all(|right| !other.has(*right) || self.has(*right))
+    }
+
+    /// The set of the rights of which it is said so, in the order of `ALL`.
+    pub fn from_each(
+        use_agent: bool,
+        read: bool,
+        write: bool,
+        wait: bool,
+        change: bool,
+        launch: bool,
+    ) -> Rights
+        ensures { result ≡ rights_that (among use_agent read write wait change launch) }
+    {
+        Rights(
+            bit(use_agent, 1)
+                + bit(read, 2)
+                + bit(write, 4)
+                + bit(wait, 8)
+                + bit(change, 16)
+                + bit(launch, 32),
+        )
+    }
+}
+
+// The bit, where it is set.
+fn bit(is_set: bool, bit: u8) -> u8
+    ensures { result ≡ (if is_set then bit else 0) }
+{
+    if is_set { bit } else { 0 }
 }

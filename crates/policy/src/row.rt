@@ -1,5 +1,7 @@
 //! Rows of a policy.
 
+ghost use Rattle.std.specs.Prelude.{◌≡◌, ◌&&◌};
+
 use crate::object::{Kind, Object};
 use crate::rights::Rights;
 use aql_packet::ClientId;
@@ -31,6 +33,25 @@ pub struct AllowRow {
     pub target: Target,
     /// The rights that it allows.
     pub rights: Rights,
+}
+
+impl AllowRow {
+    ghost use Rattle.policy.specs.Policy.{is_for, is_on};
+
+    /// Whether the row covers a client and an object.
+    pub fn covers(&self, client: ClientId, object: Object) -> bool
+        ensures { result ≡ (is_for self.now.subject client && is_on self.now.target object) }
+    {
+        let is_for = match self.subject {
+            Subject::Any => true,
+            Subject::One(named) => named == client,
+        };
+        let is_on = match self.target {
+            Target::Any(kind) => kind == object.kind(),
+            Target::One(named) => named == object,
+        };
+        is_for && is_on
+    }
 }
 
 /// Which kinds of dispatch packets an agent takes. Barrier packets are taken by all (own).

@@ -1,11 +1,13 @@
 //! A table of names: rows in order, each found by its name or by its number.
 
-ghost use Rattle.std.specs.Prelude.{◌≡◌, ◌+◌, ◌<◌, ◌≤◌, ◌++◌, [], ◌∷◌, length, option_map, string_bytes, IfOk, IfErr, OnErr};
+ghost use Rattle.std.specs.Prelude.{◌≡◌, ◌<◌, ◌≤◌, ◌++◌, [], ◌∷◌, length, position, option_map, string_bytes, sum_by, IfSome, OnOk, OnErr};
 ghost use Rattle.std.specs.Option.{option_copied};
+ghost use Rattle.std.specs.Str.{bytes_eq};
 ghost use Rattle.policy.specs.Names.{names, numbered, number_in};
+ghost use Rattle.policy.specs.Table.{named_row};
 
 use indexmap::IndexMap;
-use std::alloc::Global;
+use std::alloc::{AllocError, Global};
 use std::marker::Model;
 
 /// Rows in order, each with a name of its own. Numbers count from 1.
@@ -45,23 +47,60 @@ impl<V> Table<V> {
     }
 
     /// The number of a name, from 1, and 0 for a name that isn't there.
-    pub fn number(&self, name: &str) -> u32
-        ensures { result ≡ number_in (names self.now) name.now }
+    pub fn number(&self, name: &[u8]) -> u32
+        ensures value { result ≡ number_in (names self.now) name.now }
+        ensures back { 0 < result → numbered (names self.now) result ≡ Some name.now }
+        ensures bound { result ≤ length self.now }
     {
-        match self.rows.get_index_of(name) {
+        match self.index_of(name) {
             Some(index) => index as u32 + 1,
             None => 0,
         }
     }
 
+    /// Puts a row behind the others, with a name that is new. Without memory for it the rows stay.
+    pub fn insert(&mut self, name: String, row: V) -> Result<(), AllocError>
+    where
+        V: Drop,
+        requires new_name { number_in (names self.old) (string_bytes name) ≡ 0 }
+        requires room { length self.old < 1024 }
+        ensures ok { OnOk result (self.new ≡ self.old ++ (string_bytes name, row) ∷ []) }
+        ensures err { OnErr result (self.new ≡ self.old) }
+    {
+        self.rows.insert(name, row)?;
+        Ok(())
+    }
+
+    // The place of a name, from 0.
+    fn index_of(&self, name: &[u8]) -> Option<usize>
+        ensures place { result ≡ position (bytes_eq name.now) (names self.now) }
+        ensures bound { length self.now ≤ 1024 }
+    {
+        match std::str::from_utf8(name) {
+            Ok(text) => self.rows.get_index_of(text),
+            Err(_) => {
+                let _rows = &self.rows;
+                None
+            }
+        }
+    }
+
+    // The row with a number: its name, and what it holds.
+    fn row(&self, number: u64) -> Option<(&String, &V)>
+        ensures row { option_map named_row result ≡ numbered self.now number }
+    {
+        let index = number.checked_sub(1)?;
+        self.rows.get_index(index as usize)
+    }
+
     /// The name with a number, if there is one.
     pub fn name(&self, number: u64) -> Option<&str>
-        ensures { option_copied result ≡ numbered (names self.now) number }
+        ensures value { option_copied result ≡ numbered (names self.now) number }
+        ensures back { IfSome result (λ name. number_in (names self.now) name.now ≡ number) }
     {
-        if number == 0 {
-            return None;
-        }
-        match self.rows.get_index(number as usize - 1) {
+        // The call of `len` tells the proof that names are distinct.
+        let _count = self.rows.len();
+        match self.row(number) {
             Some((name, _)) => Some(name.as_str()),
             None => None,
         }
@@ -71,12 +110,18 @@ impl<V> Table<V> {
     pub fn get(&self, number: u64) -> Option<&V>
         ensures { option_copied result ≡ option_map (λ row. row.1) (numbered self.now number) }
     {
-        if number == 0 {
-            return None;
-        }
-        match self.rows.get_index(number as usize - 1) {
+        match self.row(number) {
             Some((_, row)) => Some(row),
             None => None,
         }
+    }
+}
+
+impl Table<u32> {
+    /// The sum of what the rows hold.
+    pub fn total(&self) -> u64
+        ensures { result ≡ sum_by (λ row. row.1) self.now }
+    {
+        self.rows.values().map(|length| *length as u64).sum()
     }
 }

@@ -32,7 +32,8 @@ text_of_rule B1 = codes "B1"
 -- `group G item I line L`
 abbrev pub text_of_place : Place → List ℕ
 text_of_place place =
-    codes "group " ++ decimal place.group ++ codes " item " ++ decimal place.item ++ codes " line " ++ decimal place.line
+    codes "group " ++ decimal place.group ++ codes " item " ++ decimal place.item
+    ++ codes " line " ++ decimal place.line
 
 -- The end of an error: where it has a place, a blank and the place.
 abbrev pub text_of_end : Option Place → List ℕ

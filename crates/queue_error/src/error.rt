@@ -33,7 +33,11 @@ impl fmt::Display for Place {
     ghost output = { λ place. Some (text_of_place place) };
 
     fn fmt<W: fmt::Write>(&self, f: &mut fmt::Formatter<W>) -> fmt::Result {
-        write!(f, "group {} item {} line {}", self.group, self.item, self.line)
+        write!(
+            f,
+            "group {} item {} line {}",
+            self.group, self.item, self.line
+        )
     }
 }
 
@@ -44,7 +48,11 @@ impl fmt::Display for QueueError {
     ghost output = { λ error. Some (text_of_error error) };
 
     fn fmt<W: fmt::Write>(&self, f: &mut fmt::Formatter<W>) -> fmt::Result {
-        write!(f, "queue {} packet {} rule {}", self.queue.0, self.packet.0, self.rule)?;
+        write!(
+            f,
+            "queue {} packet {} rule {}",
+            self.queue.0, self.packet.0, self.rule
+        )?;
         match self.place {
             None => Ok(()),
             Some(place) => write!(f, " {place}"),

@@ -5,10 +5,8 @@
 
 mod error;
 mod rule;
-
 #[cfg(test)]
 mod tests;
 
-pub use error::Place;
-pub use error::QueueError;
+pub use error::{Place, QueueError};
 pub use rule::Rule;

@@ -1,9 +1,12 @@
 -- A list of regions cut in two: what is read of a part, and what a change of a part is to the whole.
-use Rattle.std.proofs.Common.{◌≡◌, ℕ, ◌+◌, ◌-◌, ◌<◌, ◌≤◌, List, [], ◌++◌, length, get_or, set, take, drop, sym, ap, ◌∙◌, arith, length-append}
-use Rattle.std.proofs.lemmas.List.{get_or_read, get_or_append_left, get_or-append_right, set-append_left, set-append_right, take_at}
+use Rattle.std.proofs.Common.{◌≡◌, ℕ, ◌+◌, ◌-◌, ◌<◌, List, [], ◌++◌, length, get_or, set, sym, ap, ◌∙◌, arith, length-append}
+use Rattle.std.proofs.lemmas.List.{get_or_read, get_or_append_left, get_or-append_right, set-append_left, set-append_right}
 
 -- the first region of the second part
-pub read_second : (regions low high : List (List ℕ)) (cut : ℕ) (bytes : List ℕ) → regions ≡ low ++ high → length low ≡ cut → cut < length regions → bytes ≡ get_or high 0 bytes → bytes ≡ get_or regions cut []
+pub read_second :
+    (regions low high : List (List ℕ)) (cut : ℕ) (bytes : List ℕ) → regions ≡ low ++ high →
+    length low ≡ cut → cut < length regions → bytes ≡ get_or high 0 bytes →
+    bytes ≡ get_or regions cut []
 read_second regions low high cut bytes parts long known read =
     let whole : length regions ≡ length low + length high = ap length parts ∙ length-append low high in
     let some : 0 < length high = omega arith in
@@ -14,14 +17,18 @@ read_second regions low high cut bytes parts long known read =
     ∙ ap (λ (all : List (List ℕ)). get_or all cut []) (sym parts)
 
 -- a region of the first part
-pub read_first : (regions low high : List (List ℕ)) (index : ℕ) (bytes : List ℕ) → regions ≡ low ++ high → index < length low → bytes ≡ get_or low index bytes → bytes ≡ get_or regions index []
+pub read_first :
+    (regions low high : List (List ℕ)) (index : ℕ) (bytes : List ℕ) → regions ≡ low ++ high →
+    index < length low → bytes ≡ get_or low index bytes → bytes ≡ get_or regions index []
 read_first regions low high index bytes parts known read =
     get_or_read low index bytes known read []
     ∙ sym (get_or_append_left low high [] index known)
     ∙ ap (λ (all : List (List ℕ)). get_or all index []) (sym parts)
 
 -- a change of the first region of the second part
-pub set_second : (regions low high : List (List ℕ)) (cut : ℕ) (left : List ℕ) → regions ≡ low ++ high → length low ≡ cut → low ++ set high 0 left ≡ set regions cut left
+pub set_second :
+    (regions low high : List (List ℕ)) (cut : ℕ) (left : List ℕ) → regions ≡ low ++ high →
+    length low ≡ cut → low ++ set high 0 left ≡ set regions cut left
 set_second regions low high cut left parts long =
     let none : cut - cut ≡ 0 = omega arith in
     ap (λ (n : ℕ). low ++ set high n left) (sym none)
@@ -29,7 +36,9 @@ set_second regions low high cut left parts long =
     ∙ ap (λ (all : List (List ℕ)). set all cut left) (sym parts)
 
 -- a change of a region of the first part
-pub set_first : (regions low high : List (List ℕ)) (index : ℕ) (left : List ℕ) → regions ≡ low ++ high → index < length low → set low index left ++ high ≡ set regions index left
+pub set_first :
+    (regions low high : List (List ℕ)) (index : ℕ) (left : List ℕ) → regions ≡ low ++ high →
+    index < length low → set low index left ++ high ≡ set regions index left
 set_first regions low high index left parts known =
     sym (set-append_left low high index left known)
     ∙ ap (λ (all : List (List ℕ)). set all index left) (sym parts)

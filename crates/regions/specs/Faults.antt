@@ -1,5 +1,5 @@
 -- When a range of addresses is refused. This project's own.
-use Rattle.std.specs.Prelude.{ℕ, List, Option, Some, None, if◌then◌else◌}
+use Rattle.std.specs.Prelude.{ℕ, List, codes, Option, Some, None, if◌then◌else◌}
 use Rattle.std.specs.Option.{option_or}
 use Rattle.regions.specs.declared.fault.RegionFault.{RegionFault}
 use Rattle.regions.specs.declared.fault.RegionFault.TheVariants.{NoRegion, PastEnd}
@@ -13,3 +13,8 @@ range_fault lengths address size =
 -- the refusal of a copy: that of its source, or else that of its target (own)
 abbrev pub copy_fault : List ℕ → ℕ → ℕ → ℕ → Option RegionFault
 copy_fault lengths source target size = option_or (range_fault lengths source size) (range_fault lengths target size)
+
+-- what a refusal says of itself (own)
+abbrev pub fault_text : RegionFault → List ℕ
+fault_text NoRegion = codes "no region at this address"
+fault_text PastEnd = codes "past the end of the region"

@@ -1,5 +1,5 @@
 -- Which region has a number, and where a range lies in the list of regions. This project's own.
-use Rattle.std.specs.Prelude.{◌≡◌, ℕ, ◌+◌, ◌-◌, ◌<◌, ◌≤◌, List, [], length, slice_index_or, slice_set, slice_get, Option, Some, None, if◌then◌else◌, nat_lt}
+use Rattle.std.specs.Prelude.{◌≡◌, ℕ, ◌+◌, ◌-◌, ◌<◌, ◌≤◌, List, [], length, take, drop, slice_index_or, slice_set, slice_get, Option, Some, None, if◌then◌else◌, nat_lt}
 use Rattle.aql_packet.specs.declared.ids.RegionHandle.{RegionHandle}
 use Rattle.regions.specs.declared.regions.Place.{Place}
 use Rattle.regions.specs.Memory.{region_of, offset_of, lies_in_region, overlaid}
@@ -12,12 +12,20 @@ handle_at lengths address = if lies_in_region lengths address then Some (record 
 abbrev pub length_of_region : List ℕ → ℕ → Option ℕ
 length_of_region lengths number = if nat_lt 0 number then slice_get lengths (number - 1) else None
 
--- a range lies in the list at this index, from this offset on (own)
+-- as many bytes as this, from a place on, lie in one region of the list (own)
+pub record LiesInside (regions : List (List ℕ)) (place : Place) (size : ℕ) : Type 0 where
+  pub known : place.index < length regions
+  pub fits : place.offset + size ≤ length (slice_index_or regions place.index [])
+
+-- a range begins at this place, and lies inside that region (own)
 pub record IsPlaceOf (regions : List (List ℕ)) (address size : ℕ) (place : Place) : Type 0 where
   pub index : place.index + 1 ≡ region_of address
   pub offset : place.offset ≡ offset_of address
-  pub known : place.index < length regions
-  pub fits : place.offset + size ≤ length (slice_index_or regions place.index [])
+  pub inside : LiesInside regions place size
+
+-- as many bytes as this, from a place on (own)
+abbrev pub part_at : List (List ℕ) → Place → ℕ → List ℕ
+part_at regions place size = take size (drop place.offset (slice_index_or regions place.index []))
 
 -- the regions with these bytes laid over one of them at this place (own)
 abbrev pub laid_at : List (List ℕ) → Place → List ℕ → List (List ℕ)

@@ -3,7 +3,7 @@
 use std::error::Error;
 use std::fmt;
 
-/// Why a range of addresses is refused. The memory is then as before.
+/// Why a range of addresses is refused (own). The memory is then as before.
 #[derive(Clone, Copy, Debug, PartialEq, Eq)]
 pub enum RegionFault {
     /// The range's first address lies in no region.
@@ -13,6 +13,11 @@ pub enum RegionFault {
 }
 
 impl fmt::Display for RegionFault {
+    ghost use Rattle.std.specs.Prelude.{Some};
+    ghost use Rattle.regions.specs.Faults.{fault_text};
+
+    ghost output = { λ fault. Some (fault_text fault) };
+
     fn fmt<W: fmt::Write>(&self, f: &mut fmt::Formatter<W>) -> fmt::Result {
         match self {
             RegionFault::NoRegion => write!(f, "no region at this address"),

@@ -1,24 +1,29 @@
 //! All regions, found by address.
-ghost use Rattle.std.specs.Prelude.{◌≡◌, ◌+◌, ◌≢◌, ◌<◌, ◌≤◌, [], IfOk, OnOk, OnErr, IsTrue, length, replicate, slice_get, slice_index_or, slice_set, take, drop};
+ghost use Rattle.std.specs.Prelude.{◌≡◌, IfOk, OnOk, OnErr, IsTrue, length, replicate};
+ghost use Rattle.std.specs.List.{list_all};
 ghost use Rattle.std.specs.Result.{result_err};
-ghost use Rattle.regions.specs.Memory.{are_region_lengths, bytes_from, IsMemory, IsWritten, lengths_of, overlaid, region_length, zeros};
+ghost use Rattle.regions.specs.Memory.{are_region_lengths, bytes_from, is_region_length, IsMemory, IsWritten, lengths_of, region_length, zeros};
 ghost use Rattle.regions.specs.Faults.{range_fault, copy_fault};
-ghost use Rattle.regions.specs.Place.{IsPlaceOf, handle_at, laid_at, length_of_region};
-
-use std::alloc::{AllocError, Global};
-use std::marker::Model;
-
-use aql_packet::{Address, RegionHandle};
+ghost use Rattle.regions.specs.Place.{IsPlaceOf, LiesInside, handle_at, laid_at, length_of_region, part_at};
 
 use crate::fault::RegionFault;
 use crate::region::Region;
+use aql_packet::{Address, RegionHandle};
+use std::alloc::{AllocError, Global};
+use std::marker::Model;
 
-/// How many addresses lie between the first of one region and the first of the next.
+/// How many addresses lie between the first of one region and the first of the next (own).
 const SPAN: u64 = 1 << 32;
+
+/// How many regions a memory has at most (own).
+const MOST_REGIONS: usize = 64;
+
+/// How many bytes a region has at most (own).
+const MOST_BYTES: u32 = 1 << 24;
 
 /// The byte memory. Region number `h`, from 1, is the item `h - 1` of the list that a contract sees,
 /// and covers addresses from `h * 2^32`, as many as its length. There are at most 64 regions, each
-/// of 1 to 2^24 bytes. No call but `new` takes memory.
+/// of 1 to 2^24 bytes. No call but `new` takes memory; a refused call leaves all as before (own).
 #[derive(Drop, Debug)]
 pub struct Regions {
     regions: Vec<Region>,
@@ -43,6 +48,13 @@ struct Place {
 }
 
 impl Regions {
+    /// Whether `new` takes these lengths: at most 64, each from 1 to 2^24 bytes.
+    pub fn accepts(lengths: &[u32]) -> bool
+        ensures { result ≡ are_region_lengths lengths.now }
+    {
+        lengths.len() <= MOST_REGIONS && are_sized(lengths)
+    }
+
     /// Regions of these lengths in bytes, numbered from 1 in this order, all zeros.
     pub fn new(alloc: Global, lengths: &[u32]) -> Result<Regions, AllocError>
         requires { IsTrue (are_region_lengths lengths.now) }
@@ -90,7 +102,8 @@ impl Regions {
         self.length(region).unwrap_or(0)
     }
 
-    /// The `length` bytes from an address on.
+    /// The `length` bytes from an address on. Refused where the address lies in no region, and else
+    /// where the bytes leave that region.
     pub fn read(&self, address: Address, length: u64) -> Result<&[u8], RegionFault>
         ensures fault { result_err result ≡ range_fault (lengths_of self.now) address.0 length }
         ensures bytes { IfOk result (λ bytes. bytes.now ≡ bytes_from self.now address.0 length) }
@@ -100,9 +113,10 @@ impl Regions {
         Ok(self.regions[place.index].part(place.offset, length as usize))
     }
 
-    /// Lays `bytes` over the memory from an address on.
+    /// Lays `bytes` over the memory from an address on. Refused as a read of that range is.
     pub fn write(&mut self, address: Address, bytes: &[u8]) -> Result<(), RegionFault>
-        ensures fault { result_err result ≡ range_fault (lengths_of self.old) address.0 (length bytes.now) }
+        ensures fault { result_err result ≡
+            range_fault (lengths_of self.old) address.0 (length bytes.now) }
         ensures bytes { OnOk result (IsWritten self.old address.0 bytes.now self.new) }
         ensures lengths { lengths_of self.new ≡ lengths_of self.old }
         ensures err { OnErr result (self.new ≡ self.old) }
@@ -113,7 +127,8 @@ impl Regions {
         Ok(())
     }
 
-    /// Makes each of `length` bytes from an address on the byte `byte`.
+    /// Makes each of `length` bytes from an address on the byte `byte`. Refused as a read of that
+    /// range is.
     pub fn fill(&mut self, address: Address, length: u64, byte: u8) -> Result<(), RegionFault>
         ensures fault { result_err result ≡ range_fault (lengths_of self.old) address.0 length }
         ensures bytes { OnOk result (IsWritten self.old address.0 (replicate length byte) self.new) }
@@ -127,15 +142,18 @@ impl Regions {
     }
 
     /// Lays the `length` bytes from `source` on over those from `target` on, as if by a copy aside:
-    /// the two ranges may overlap. Where both are refused, the fault is that of `source`.
+    /// the two ranges may overlap, or lie in different regions. Each is refused as a read of it is;
+    /// where both are, the fault is that of `source`.
     pub fn copy_within(
         &mut self,
         source: Address,
         target: Address,
         length: u64,
     ) -> Result<(), RegionFault>
-        ensures fault { result_err result ≡ copy_fault (lengths_of self.old) source.0 target.0 length }
-        ensures bytes { OnOk result (IsWritten self.old target.0 (bytes_from self.old source.0 length) self.new) }
+        ensures fault { result_err result ≡
+            copy_fault (lengths_of self.old) source.0 target.0 length }
+        ensures bytes { OnOk result
+            (IsWritten self.old target.0 (bytes_from self.old source.0 length) self.new) }
         ensures lengths { lengths_of self.new ≡ lengths_of self.old }
         ensures err { OnErr result (self.new ≡ self.old) }
         ensures memory { IsMemory self.new }
@@ -168,13 +186,20 @@ impl Regions {
     }
 }
 
+/// Whether each length is one that a region may have: 1 to 2^24 bytes.
+fn are_sized(lengths: &[u32]) -> bool
+    ensures { result ≡ list_all is_region_length lengths.now }
+{
+    lengths
+        .iter()
+        .all(|length| 1 <= *length && *length <= MOST_BYTES)
+}
+
 /// Lays `size` bytes at one place over those at another, as if by a copy aside.
 fn copy_part(regions: &mut [Region], source: Place, target: Place, size: usize)
-    requires source_known { source.index < length regions.old }
-    requires source_fits { source.offset + size ≤ length (slice_index_or regions.old source.index []) }
-    requires target_known { target.index < length regions.old }
-    requires target_fits { target.offset + size ≤ length (slice_index_or regions.old target.index []) }
-    ensures { regions.new ≡ laid_at regions.old target (take size (drop source.offset (slice_index_or regions.old source.index []))) }
+    requires source { LiesInside regions.old source size }
+    requires target { LiesInside regions.old target size }
+    ensures { regions.new ≡ laid_at regions.old target (part_at regions.old source size) }
 {
     if source.index == target.index {
         regions[target.index].copy_within(source.offset, target.offset, size);

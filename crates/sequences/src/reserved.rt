@@ -21,6 +21,15 @@ impl<T> Model for Reserved<T> {
 }
 
 impl<T> Reserved<T> {
+    /// The empty list. It takes no memory.
+    pub fn new(alloc: Global) -> Reserved<T>
+        ensures { result.items ≡ [] }
+    {
+        Reserved {
+            items: Vec::new(alloc),
+        }
+    }
+
     /// The empty list, with room for this many items.
     pub fn with_room(alloc: Global, room: usize) -> Result<Reserved<T>, AllocError>
         ensures empty { IfOk result (λ list. list.items ≡ []) }

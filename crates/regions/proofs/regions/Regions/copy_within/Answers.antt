@@ -1,4 +1,4 @@
-use Rattle.std.proofs.Common.{◌≡◌, ◌++◌, length, take, drop, arith}
+use Rattle.std.proofs.Common.{◌++◌, length, take, drop, arith}
 use Rattle.regions.specs.Memory.{bytes_from}
 use Rattle.regions.proofs.Written.{Leaves, copy_leaves}
 use Rattle.regions.proofs.regions.Regions.copy_within.Goals as goal
@@ -9,8 +9,8 @@ left c =
     let lent = c.as_mut_slice.ensures.value in
     let copied = rw lent at c.copy_part.ensures in
     copy_leaves c.args.self.now c.self.inside.regions.items c.copy_part.new.regions c.self.inside.regions.len
-      c.args.source.0 c.args.target.0 c.args.length c.in_ok-from.from c.in_ok-to.to c.self.view_is (omega arith)
-      c.self.invariant c.in_ok-from.ensures.place c.in_ok-to.ensures.place copied
+    c.args.source.0 c.args.target.0 c.args.length c.in_ok-from.from c.in_ok-to.to c.self.view_is (omega arith)
+    c.self.invariant c.in_ok-from.ensures.place c.in_ok-to.ensures.place copied
 
 pub invariant_of-self : goal.invariant_of-self
 invariant_of-self c = (left ((goal.at.invariant_of-self c).After-copy_part)).memory

@@ -1,4 +1,4 @@
-use Rattle.std.proofs.Common.{◌≡◌, ℕ, length, set, sym, replicate}
+use Rattle.std.proofs.Common.{◌≡◌, length, set, replicate}
 use Rattle.std.proofs.lemmas.List.{length-replicate}
 use Rattle.regions.specs.Place.{IsPlaceOf}
 use Rattle.regions.proofs.Written.{Leaves, write_leaves, replicate_small}
@@ -9,10 +9,10 @@ left : (c : After-fill) → Leaves c.args.self.now c.args.address.0 (replicate c
 left c =
     let long : length (replicate c.args.length c.args.byte) ≡ c.args.length = length-replicate c.args.length c.args.byte in
     let at : IsPlaceOf c.args.self.now c.args.address.0 (length (replicate c.args.length c.args.byte)) c.in_ok-place.place =
-      rw long c.in_ok-place.ensures.place in
+    rw long c.in_ok-place.ensures.place in
     write_leaves c.args.self.now c.self.inside.regions.items c.args.address.0 c.in_ok-place.place (replicate c.args.length c.args.byte)
-      c.index_mut.result.now c.fill.new.self c.self.view_is c.self.invariant at
-      (replicate_small c.args.length c.args.byte c.ranges.byte.fits) c.index_mut.ensures.value c.fill.ensures
+    c.index_mut.result.now c.fill.new.self c.self.view_is c.self.invariant at
+    (replicate_small c.args.length c.args.byte c.ranges.byte.fits) c.index_mut.ensures.value c.fill.ensures
 
 pub invariant_of-self : goal.invariant_of-self
 invariant_of-self c = (left ((goal.at.invariant_of-self c).After-fill)).memory

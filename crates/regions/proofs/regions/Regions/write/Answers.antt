@@ -6,8 +6,8 @@ use Rattle.regions.proofs.regions.Regions.write.Goals.{After-put}
 left : (c : After-put) → Leaves c.args.self.now c.args.address.0 c.args.bytes.now (set c.self.inside.regions.items c.in_ok-place.place.index c.put.new.self)
 left c =
     write_leaves c.args.self.now c.self.inside.regions.items c.args.address.0 c.in_ok-place.place c.args.bytes.now
-      c.index_mut.result.now c.put.new.self c.self.view_is c.self.invariant c.in_ok-place.ensures.place
-      (bytes_small c.args.bytes.now c.type_inv.bytes) c.index_mut.ensures.value c.put.ensures
+    c.index_mut.result.now c.put.new.self c.self.view_is c.self.invariant c.in_ok-place.ensures.place
+    (bytes_small c.args.bytes.now c.type_inv.bytes) c.index_mut.ensures.value c.put.ensures
 
 pub invariant_of-self : goal.invariant_of-self
 invariant_of-self c = (left ((goal.at.invariant_of-self c).After-put)).memory

@@ -1,0 +1,31 @@
+//! Laws of the packet layout, proved as contracts of calls that do nothing.
+
+ghost use Rattle.aql_packet.specs.Layout.{Are64Bytes, PacketOf};
+ghost use Rattle.aql_packet.specs.Numbers.{bits, number_at};
+ghost use Rattle.aql_packet.specs.Reading.{barrier_bit, decoded, packet_type};
+ghost use Rattle.std.specs.Prelude.{List, Some, ℕ, ◌==◌, ◌≡◌};
+
+use crate::packet::Packet;
+
+/// Bytes that lay out the same packet are the same: a packet has one spelling.
+pub fn one_spelling()
+    ensures { (one two : List ℕ) (packet : Packet)
+        → PacketOf one packet → PacketOf two packet → one ≡ two }
+{}
+
+/// The reading of bytes as a function is the layout: it finds a packet exactly where they lay it
+/// out.
+pub fn reading_is_layout()
+    ensures laid { (bytes : List ℕ) (packet : Packet)
+        → PacketOf bytes packet → decoded bytes ≡ Some packet }
+    ensures read { (bytes : List ℕ) (packet : Packet)
+        → Are64Bytes bytes → decoded bytes ≡ Some packet → PacketOf bytes packet }
+{}
+
+/// The type and the barrier bit of a packet are those of its first word, its first eight bytes.
+pub fn header_in_first_word()
+    ensures kind { (bytes : List ℕ) → Are64Bytes bytes
+        → bits (number_at bytes 0 8) 7 0 ≡ packet_type bytes }
+    ensures barrier { (bytes : List ℕ) → Are64Bytes bytes
+        → (bits (number_at bytes 0 8) 8 8 == 1) ≡ barrier_bit bytes }
+{}

@@ -1,0 +1,4 @@
+pub mod Pieces
+pub mod Lexing
+pub mod Loop
+pub mod Located

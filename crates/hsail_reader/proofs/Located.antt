@@ -1,0 +1,37 @@
+-- A fault that was found in the text isn't that the text is too long.
+use Rattle.std.proofs.Common.{◌≡◌, ℕ, ◌+◌, List, [], ◌∷◌, ◌==◌, Bool, true, false, Result, Err, refl, ap, sym, ◌∙◌, if◌then◌else◌}
+use Rattle.hsail_reader.specs.Faults.{fault_at, fault_of, before_place, cause_of, too_long}
+use Rattle.hsail_reader.specs.declared.fault.Cause.{Cause}
+use Rattle.hsail_reader.specs.declared.fault.Cause.TheVariants.{TooLong}
+use Rattle.hsail_reader.specs.declared.fault.Flaw.{Flaw}
+use Rattle.hsail_reader.specs.declared.fault.Flaw.TheVariants as flaw
+use Rattle.hsail_reader.specs.declared.fault.ReadError.{ReadError}
+use Rattle.hsail_reader.specs.declared.fault.ReadError.TheVariants as error
+use Rattle.hsail_reader.specs.declared.fault.ReadFault.{ReadFault}
+use Rattle.hsail_reader.specs.declared.fault.Refusal.{Refusal}
+use Rattle.hsail_reader.specs.declared.module.Module.{Module}
+
+if_same : (b : Bool) (x y : ReadFault) (cause : Cause) → x.cause ≡ cause → y.cause ≡ cause →
+    (if b then x else y).cause ≡ cause
+if_same true x y cause p q = p
+if_same false x y cause p q = q
+
+fault_at_cause : (line column : ℕ) (before : List ℕ) (cause : Cause) → (fault_at line column before cause).cause ≡ cause
+fault_at_cause line column [] cause = refl
+fault_at_cause line column (b ∷ before) cause =
+    if_same (b == 10) (fault_at (line + 1) 1 before cause) (fault_at line (column + 1) before cause) cause
+    (fault_at_cause (line + 1) 1 before cause) (fault_at_cause line (column + 1) before cause)
+
+not_too_long : (f : Flaw) → cause_of f ≡ TooLong → ⊥
+not_too_long flaw.Lexeme e = cc
+not_too_long flaw.Syntax e = cc
+not_too_long flaw.NotInProfile e = cc
+
+pub never_too_long : (text : List ℕ) (r : Refusal) (f : ReadFault) → f ≡ fault_of text r → f ≡ too_long → ⊥
+never_too_long text r f is e =
+    not_too_long r.flaw
+    (sym (fault_at_cause 1 1 (before_place r.place text) (cause_of r.flaw))
+    ∙ ap (λ (g : ReadFault). g.cause) (sym is ∙ e))
+
+pub same_fault : (f g : ReadFault) (x y : Result Module ReadError) → x ≡ Err (error.Fault f) → y ≡ Err (error.Fault g) → x ≡ y → f ≡ g
+same_fault f g x y p q e = cc

@@ -1,0 +1,135 @@
+-- What a word is (PRM, HSAIL Instructions; the places of the modifiers are (own)).
+use Rattle.std.specs.Prelude.{ℕ, ◌+◌, List, [], ◌∷◌, Bool, true, false, ◌==◌, if◌then◌else◌, Option, Some, None, codes, drop, is_some}
+use Rattle.std.specs.Option.{option_map}
+use Rattle.hsail_reader.specs.Bytes.{behind, align_at, width_at, ◌>>=◌}
+use Rattle.hsail_reader.specs.Rows.{InstructionRow, rows, types_of, type_name}
+use Rattle.hsail_reader.specs.declared.rows.Form.{Form}
+use Rattle.hsail_reader.specs.declared.rows.Form.TheVariants as form
+use Rattle.hsail_reader.specs.declared.rows.TypeSet.{TypeSet}
+use Rattle.hsail_reader.specs.declared.rows.TypeSet.TheVariants.{Bit, Memory}
+use Rattle.hsail_reader.specs.declared.token.Numeral.{Numeral}
+use Rattle.hsail_reader.specs.declared.token.SpelledWidth.{SpelledWidth}
+use Rattle.hsail_reader.specs.declared.types.Alignment.{Alignment}
+use Rattle.hsail_reader.specs.declared.types.Alignment.TheVariants.{One, Two, Four, Eight, Sixteen}
+use Rattle.hsail_reader.specs.declared.types.DataType.{DataType}
+use Rattle.hsail_reader.specs.declared.types.Modifiers.{Modifiers}
+use Rattle.hsail_reader.specs.declared.types.Width.{Width}
+use Rattle.hsail_reader.specs.declared.words.Opcode.{Opcode}
+use Rattle.hsail_reader.specs.declared.words.Opcode.TheVariants as opcode
+use Rattle.hsail_reader.specs.declared.words.Word.{Word}
+use Rattle.hsail_reader.specs.declared.words.Word.TheVariants as word
+
+-- nothing stands behind
+abbrev pub is_end : Option (List ℕ) → Bool
+is_end None = false
+is_end (Some []) = true
+is_end (Some (b ∷ bytes)) = false
+
+abbrev pub is_spelled : List ℕ → List ℕ → Bool
+is_spelled spelling text = is_end (behind spelling text)
+
+-- the first of some types that is spelled so
+abbrev pub type_among : List DataType → List ℕ → Option DataType
+type_among [] text = None
+type_among (t ∷ types) text = if is_spelled (type_name t) text then Some t else type_among types text
+
+-- `_` and a type of the set, to the end of the word
+abbrev pub type_at : TypeSet → List ℕ → Option DataType
+type_at set bytes = behind (codes "_") bytes >>= type_among (types_of set)
+
+-- `_align(n)` at the front, if it stands there, and what stands behind it
+abbrev pub align_behind : Option Numeral → List ℕ → List ℕ → Option ℕ × List ℕ
+align_behind None inside bytes = (None, bytes)
+align_behind (Some n) inside bytes = (Some n.value, drop n.length inside)
+
+abbrev pub align_part : List ℕ → Option ℕ × List ℕ
+align_part [] = (None, [])
+align_part (b ∷ bytes) =
+    if b == 95 then align_behind (align_at bytes) bytes (b ∷ bytes) else (None, b ∷ bytes)
+
+-- `_width(w)` at the front, if it stands there, and what stands behind it
+abbrev pub width_behind : Option SpelledWidth → List ℕ → List ℕ → Option Width × List ℕ
+width_behind None inside bytes = (None, bytes)
+width_behind (Some w) inside bytes = (Some w.width, drop w.length inside)
+
+abbrev pub width_part : List ℕ → Option Width × List ℕ
+width_part [] = (None, [])
+width_part (b ∷ bytes) =
+    if b == 95 then width_behind (width_at bytes) bytes (b ∷ bytes) else (None, b ∷ bytes)
+
+abbrev pub modifiers : Option ℕ → Option Width → Modifiers
+modifiers align width = record { align = align; width = width }
+
+-- the modifiers at the front, each at most once and in either order, and what stands behind them
+abbrev pub modifiers_behind : Option ℕ × List ℕ → Option Width × List ℕ → Modifiers × List ℕ
+modifiers_behind a w =
+    if is_some a.0 then (modifiers a.0 w.0, w.1)
+    else (modifiers (align_part w.1).0 w.0, (align_part w.1).1)
+
+abbrev pub modifiers_at : List ℕ → Modifiers × List ℕ
+modifiers_at bytes = modifiers_behind (align_part bytes) (width_part (align_part bytes).1)
+
+abbrev pub at_end : Opcode → List ℕ → Option Opcode
+at_end code [] = Some code
+at_end code (b ∷ rest) = None
+
+-- the rest of a word behind the stem of a row: the modifiers that the row allows, and the type
+abbrev pub opcode_at : Form → List ℕ → Option Opcode
+opcode_at (form.Unary op set) rest = option_map (opcode.Unary op) (type_at set rest)
+opcode_at (form.Binary op set) rest = option_map (opcode.Binary op) (type_at set rest)
+opcode_at (form.Ternary op set) rest = option_map (opcode.Ternary op) (type_at set rest)
+opcode_at (form.Load segment) rest =
+    option_map (opcode.Load segment (modifiers_at rest).0) (type_at Memory (modifiers_at rest).1)
+opcode_at form.Store rest =
+    option_map (opcode.Store (align_part rest).0) (type_at Memory (align_part rest).1)
+opcode_at form.Branch rest = at_end opcode.Branch rest
+opcode_at form.ConditionalBranch rest =
+    option_map (λ _. opcode.ConditionalBranch (width_part rest).0) (type_at Bit (width_part rest).1)
+opcode_at form.Return rest = at_end opcode.Return rest
+opcode_at (form.Identify query set) rest = option_map (opcode.Identify query) (type_at set rest)
+
+abbrev pub or_else : Option Opcode → Option Opcode → Option Opcode
+or_else None other = other
+or_else (Some found) other = Some found
+
+-- the word of an instruction, by the first of some rows that spells it
+abbrev pub opcode_among : List InstructionRow → List ℕ → Option Opcode
+opcode_among [] text = None
+opcode_among (r ∷ others) text = or_else (behind r.stem text >>= opcode_at r.form) (opcode_among others text)
+
+-- the word of an instruction, by the first row of the table that spells it
+unfoldable pub instruction_at : List ℕ → Option Opcode
+instruction_at text = opcode_among rows text
+
+-- the n of align(n) before a variable
+abbrev pub alignment_of : ℕ → Option Alignment
+alignment_of n =
+    if n == 1 then Some One else if n == 2 then Some Two else if n == 4 then Some Four
+    else if n == 8 then Some Eight else if n == 16 then Some Sixteen else None
+
+abbrev pub argument_word : Option DataType → Word
+argument_word None = word.Outside
+argument_word (Some t) = word.Argument t
+
+abbrev pub instruction_word : Option Opcode → Word
+instruction_word None = word.Unknown
+instruction_word (Some code) = word.Instruction code
+
+-- a word that isn't align(n)
+abbrev pub other_word : Option (List ℕ) → List ℕ → Word
+other_word (Some rest) text = argument_word (type_among (types_of Memory) rest)
+other_word None text =
+    if is_some (behind (codes "group_") text) then word.Outside
+    else instruction_word (instruction_at text)
+
+abbrev pub named_word : Option Numeral → List ℕ → Word
+named_word (Some n) text = word.Align n.value
+named_word None text = other_word (behind (codes "kernarg_") text) text
+
+-- what a word is
+abbrev pub word_of : List ℕ → Word
+word_of text =
+    if is_spelled (codes "module") text then word.Module
+    else if is_spelled (codes "prog") text then word.Prog
+    else if is_spelled (codes "kernel") text then word.Kernel
+    else named_word (align_at text) text

@@ -1,0 +1,151 @@
+//! Why a text was not read.
+
+ghost use Rattle.std.specs.Prelude.{◌≡◌, ◌+◌, ◌≤◌, ◌^◌, length, take};
+ghost use Rattle.hsail_reader.specs.declared.fault.Stop.TheVariants as stop;
+ghost use Rattle.hsail_reader.specs.Faults.{fault_at, cause_number, cause_of, fault_of};
+
+use std::alloc::{AllocError, AllocFailed};
+use std::fmt;
+use thiserror::Error;
+
+/// What is wrong with a text.
+#[derive(Clone, Copy, Debug, PartialEq, Eq)]
+pub enum Cause {
+    /// The bytes from there on begin no lexeme.
+    Lexeme,
+    /// No module goes on with the token there.
+    Syntax,
+    /// The word there is in no row of the profile.
+    NotInProfile,
+    /// The text is over 65,536 bytes.
+    TooLong,
+}
+
+impl Cause {
+    /// The number of the cause: Lexeme 1, Syntax 2, NotInProfile 3, TooLong 4.
+    pub fn number(self) -> u8
+        ensures { result ≡ cause_number self }
+    {
+        match self {
+            Cause::Lexeme => 1,
+            Cause::Syntax => 2,
+            Cause::NotInProfile => 3,
+            Cause::TooLong => 4,
+        }
+    }
+}
+
+/// The fault of a text: the place, with lines and columns from 1 and columns in bytes, and the cause.
+#[derive(Clone, Copy, Debug, PartialEq, Eq)]
+pub struct ReadFault {
+    pub line: u32,
+    pub column: u32,
+    pub cause: Cause,
+}
+
+impl fmt::Display for ReadFault {
+    fn fmt<W: fmt::Write>(&self, f: &mut fmt::Formatter<W>) -> fmt::Result {
+        let line = self.line;
+        let column = self.column;
+        let cause = self.cause;
+        write!(f, "line {line}, column {column}: {cause:?}")
+    }
+}
+
+/// Why no module was read.
+#[derive(Clone, Copy, Debug, PartialEq, Eq, Error)]
+pub enum ReadError {
+    /// There was no memory for the tokens or the module.
+    #[error("out of memory")]
+    OutOfMemory,
+    /// The text is not one of a module.
+    #[error("{0}")]
+    Fault(ReadFault),
+}
+
+/// What is wrong with a text that isn't too long.
+#[derive(Clone, Copy, Debug)]
+pub enum Flaw {
+    Lexeme,
+    Syntax,
+    NotInProfile,
+}
+
+impl Flaw {
+    fn cause(self) -> Cause
+        ensures { result ≡ cause_of self }
+    {
+        match self {
+            Flaw::Lexeme => Cause::Lexeme,
+            Flaw::Syntax => Cause::Syntax,
+            Flaw::NotInProfile => Cause::NotInProfile,
+        }
+    }
+}
+
+/// A fault before its line and column are counted: how many bytes stand before it, or `None` at the
+/// end of the text.
+#[derive(Clone, Copy, Debug)]
+pub struct Refusal {
+    pub place: Option<usize>,
+    pub flaw: Flaw,
+}
+
+/// Why a part of the text was not read.
+#[derive(Clone, Copy, Debug)]
+pub enum Stop {
+    OutOfMemory,
+    Refused(Refusal),
+}
+
+impl From<AllocError> for Stop {
+    ghost from_gives = { λ _ e. e ≡ stop.OutOfMemory };
+
+    fn from(_e: AllocError) -> Stop {
+        Stop::OutOfMemory
+    }
+}
+
+impl<T: Drop> From<AllocFailed<T>> for Stop {
+    ghost from_gives = { λ _ e. e ≡ stop.OutOfMemory };
+
+    fn from(_e: AllocFailed<T>) -> Stop {
+        Stop::OutOfMemory
+    }
+}
+
+/// The fault behind the bytes that stand before it.
+fn fault_behind(before: &[u8], cause: Cause) -> ReadFault
+    requires { length before.now ≤ 65536 }
+    ensures { result ≡ fault_at 1 1 before.now cause }
+{
+    let mut rest = before;
+    let mut line = 1;
+    let mut column = 1;
+    while let [first, tail @ ..] = rest {
+        if *first == b'\n' {
+            line += 1;
+            column = 1;
+        } else {
+            column += 1;
+        }
+        rest = tail;
+    }
+    ReadFault {
+        line,
+        column,
+        cause,
+    }
+}
+
+/// The fault of a text, with its line and column.
+pub fn located(text: &[u8], refusal: Refusal) -> ReadFault
+    requires { length text.now ≤ 65536 }
+    ensures { result ≡ fault_of text.now refusal }
+{
+    let before = match refusal.place {
+        Some(place) if place <= text.len() => text.split_at(place).0,
+        _ => text,
+    };
+    fault_behind(before, refusal.flaw.cause())
+}

@@ -1,0 +1,224 @@
+//! The operands of each family of instructions.
+
+ghost use Rattle.std.specs.Prelude.{◌≡◌, ◌<◌, ◌≤◌, length, IfOk, Ok};
+ghost use Rattle.hsail_reader.specs.Faults.{Gives};
+ghost use Rattle.hsail_reader.specs.Tokens.{token_views};
+ghost use Rattle.hsail_reader.specs.Instructions.{next_source_at, unary_at, binary_at, ternary_at, load_at, store_at, branch_at, conditional_branch_at, identify_at, operation_at};
+
+use crate::fault::Stop;
+use crate::module::{Binary, ConditionalBranch, Identify, Load, Operation, Store, Ternary, Unary};
+use crate::operands::{address, label, mark, number, register, source};
+use crate::token::Token;
+use crate::types::{
+    BinaryOperation, DataType, Modifiers, Query, Segment, Source, TernaryOperation, UnaryOperation,
+    Width,
+};
+use crate::words::Opcode;
+use std::alloc::Global;
+
+/// A comma and a source.
+#[tactic(auto, unfolding(crate::specs::Instructions::next_source_at))]
+fn next_source<'a, 't>(tokens: &'a [Token<'t>]) -> Result<(Source, &'a [Token<'t>]), Stop>
+    ensures value { Gives (λ x. (x.0, token_views x.1.now)) result (next_source_at (token_views tokens.now)) }
+    ensures shorter { IfOk result (λ x. length x.1.now < length tokens.now) }
+{
+    let rest = mark(b',', tokens)?;
+    source(rest)
+}
+
+/// `d, a`
+#[tactic(auto, unfolding(crate::specs::Instructions::unary_at))]
+fn read_unary<'a, 't>(
+    operation: UnaryOperation,
+    kind: DataType,
+    tokens: &'a [Token<'t>],
+) -> Result<(Operation, &'a [Token<'t>]), Stop>
+    ensures value { Gives (λ x. (x.0, token_views x.1.now)) result (unary_at operation kind (token_views tokens.now)) }
+    ensures shorter { IfOk result (λ x. length x.1.now < length tokens.now) }
+{
+    let (target, rest) = register(tokens)?;
+    let (source, rest) = next_source(rest)?;
+    let unary = Unary {
+        operation,
+        kind,
+        target,
+        source,
+    };
+    Ok((Operation::Unary(unary), rest))
+}
+
+/// `d, a, b`
+#[tactic(auto, unfolding(crate::specs::Instructions::binary_at))]
+fn read_binary<'a, 't>(
+    operation: BinaryOperation,
+    kind: DataType,
+    tokens: &'a [Token<'t>],
+) -> Result<(Operation, &'a [Token<'t>]), Stop>
+    ensures value { Gives (λ x. (x.0, token_views x.1.now)) result (binary_at operation kind (token_views tokens.now)) }
+    ensures shorter { IfOk result (λ x. length x.1.now < length tokens.now) }
+{
+    let (target, rest) = register(tokens)?;
+    let (left, rest) = next_source(rest)?;
+    let (right, rest) = next_source(rest)?;
+    let binary = Binary {
+        operation,
+        kind,
+        target,
+        left,
+        right,
+    };
+    Ok((Operation::Binary(binary), rest))
+}
+
+/// `d, a, b, c`
+#[tactic(auto, unfolding(crate::specs::Instructions::ternary_at))]
+fn read_ternary<'a, 't>(
+    operation: TernaryOperation,
+    kind: DataType,
+    tokens: &'a [Token<'t>],
+) -> Result<(Operation, &'a [Token<'t>]), Stop>
+    ensures value { Gives (λ x. (x.0, token_views x.1.now)) result (ternary_at operation kind (token_views tokens.now)) }
+    ensures shorter { IfOk result (λ x. length x.1.now < length tokens.now) }
+{
+    let (target, rest) = register(tokens)?;
+    let (first, rest) = next_source(rest)?;
+    let (second, rest) = next_source(rest)?;
+    let (third, rest) = next_source(rest)?;
+    let ternary = Ternary {
+        operation,
+        kind,
+        target,
+        first,
+        second,
+        third,
+    };
+    Ok((Operation::Ternary(ternary), rest))
+}
+
+/// `d, [address]`
+#[tactic(auto, unfolding(crate::specs::Instructions::load_at))]
+fn read_load<'a, 't>(
+    alloc: Global,
+    segment: Segment,
+    modifiers: Modifiers,
+    kind: DataType,
+    tokens: &'a [Token<'t>],
+) -> Result<(Operation, &'a [Token<'t>]), Stop>
+    ensures value { Gives (λ x. (x.0, token_views x.1.now)) result (load_at segment modifiers kind (token_views tokens.now)) }
+    ensures shorter { IfOk result (λ x. length x.1.now < length tokens.now) }
+{
+    let (target, rest) = register(tokens)?;
+    let rest = mark(b',', rest)?;
+    let (address, rest) = address(alloc, rest)?;
+    let load = Load {
+        segment,
+        modifiers,
+        kind,
+        target,
+        address,
+    };
+    Ok((Operation::Load(load), rest))
+}
+
+/// `a, [address]`
+#[tactic(auto, unfolding(crate::specs::Instructions::store_at))]
+fn read_store<'a, 't>(
+    alloc: Global,
+    align: Option<u64>,
+    kind: DataType,
+    tokens: &'a [Token<'t>],
+) -> Result<(Operation, &'a [Token<'t>]), Stop>
+    ensures value { Gives (λ x. (x.0, token_views x.1.now)) result (store_at align kind (token_views tokens.now)) }
+    ensures shorter { IfOk result (λ x. length x.1.now < length tokens.now) }
+{
+    let (source, rest) = source(tokens)?;
+    let rest = mark(b',', rest)?;
+    let (address, rest) = address(alloc, rest)?;
+    let store = Store {
+        align,
+        kind,
+        source,
+        address,
+    };
+    Ok((Operation::Store(store), rest))
+}
+
+/// `@x`
+#[tactic(auto, unfolding(crate::specs::Instructions::branch_at))]
+fn read_branch<'a, 't>(
+    alloc: Global,
+    tokens: &'a [Token<'t>],
+) -> Result<(Operation, &'a [Token<'t>]), Stop>
+    ensures value { Gives (λ x. (x.0, token_views x.1.now)) result (branch_at (token_views tokens.now)) }
+    ensures shorter { IfOk result (λ x. length x.1.now < length tokens.now) }
+{
+    let (name, rest) = label(alloc, tokens)?;
+    Ok((Operation::Branch(name), rest))
+}
+
+/// `a, @x`
+#[tactic(auto, unfolding(crate::specs::Instructions::conditional_branch_at))]
+fn read_conditional_branch<'a, 't>(
+    alloc: Global,
+    width: Option<Width>,
+    tokens: &'a [Token<'t>],
+) -> Result<(Operation, &'a [Token<'t>]), Stop>
+    ensures value { Gives (λ x. (x.0, token_views x.1.now)) result (conditional_branch_at width (token_views tokens.now)) }
+    ensures shorter { IfOk result (λ x. length x.1.now < length tokens.now) }
+{
+    let (condition, rest) = source(tokens)?;
+    let rest = mark(b',', rest)?;
+    let (label, rest) = label(alloc, rest)?;
+    let branch = ConditionalBranch {
+        width,
+        condition,
+        label,
+    };
+    Ok((Operation::ConditionalBranch(branch), rest))
+}
+
+/// `d, k`
+#[tactic(auto, unfolding(crate::specs::Instructions::identify_at))]
+fn read_identify<'a, 't>(
+    query: Query,
+    kind: DataType,
+    tokens: &'a [Token<'t>],
+) -> Result<(Operation, &'a [Token<'t>]), Stop>
+    ensures value { Gives (λ x. (x.0, token_views x.1.now)) result (identify_at query kind (token_views tokens.now)) }
+    ensures shorter { IfOk result (λ x. length x.1.now < length tokens.now) }
+{
+    let (target, rest) = register(tokens)?;
+    let rest = mark(b',', rest)?;
+    let (dimension, rest) = number(rest)?;
+    let identify = Identify {
+        query,
+        kind,
+        target,
+        dimension,
+    };
+    Ok((Operation::Identify(identify), rest))
+}
+
+/// The operands behind the word of an instruction.
+pub fn operands<'a, 't>(
+    alloc: Global,
+    opcode: Opcode,
+    tokens: &'a [Token<'t>],
+) -> Result<(Operation, &'a [Token<'t>]), Stop>
+    ensures value { Gives (λ x. (x.0, token_views x.1.now)) result (operation_at opcode (token_views tokens.now)) }
+    ensures shorter { IfOk result (λ x. length x.1.now ≤ length tokens.now) }
+{
+    match opcode {
+        Opcode::Unary(operation, kind) => read_unary(operation, kind, tokens),
+        Opcode::Binary(operation, kind) => read_binary(operation, kind, tokens),
+        Opcode::Ternary(operation, kind) => read_ternary(operation, kind, tokens),
+        Opcode::Load(segment, modifiers, kind) => {
+            read_load(alloc, segment, modifiers, kind, tokens)
+        }
+        Opcode::Store(align, kind) => read_store(alloc, align, kind, tokens),
+        Opcode::Branch => read_branch(alloc, tokens),
+        Opcode::ConditionalBranch(width) => read_conditional_branch(alloc, width, tokens),
+        Opcode::Return => Ok((Operation::Return, tokens)),
+        Opcode::Identify(query, kind) => read_identify(query, kind, tokens),
+    }
+}

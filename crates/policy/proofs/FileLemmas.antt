@@ -1,0 +1,39 @@
+-- A file that is read, and a text that is refused for its file.
+use Rattle.std.proofs.Common.{◌≡◌, ℕ, ◌≤◌, ◌^◌, List, [], length, ℤ, Result, Ok, Err, IfErr}
+use Rattle.toml.specs.Data.{Members}
+use Rattle.policy.specs.declared.fault.ReadPolicyError.{ReadPolicyError}
+use Rattle.policy.specs.declared.fault.ReadPolicyError.TheVariants as error
+use Rattle.policy.specs.declared.fault.PolicyFault.{PolicyFault}
+use Rattle.policy.specs.declared.fault.Section.TheVariants.{Client, Agent, Signal, Kernel, Allow}
+use Rattle.policy.specs.declared.row.AllowRow.{AllowRow}
+use Rattle.policy.specs.declared.row.Takes.{Takes}
+use Rattle.policy.specs.Policy.{Declared, Name, Source, names}
+use Rattle.policy.specs.Reading.{◌>>=◌, FileGives, FileFails}
+use Rattle.policy.specs.Format.{file_head, regions_of, objects_of, declared_by, array_of, named_row, allow_row, client_keys, agent_keys, signal_keys, kernel_keys, nothing, takes, initial_value, kernel_source, IsFile, IsRefused, HasFault, in_file}
+
+-- a fault of the file is the text's
+pub refused_in_file : (text : List ℕ) (file : Members) → length text ≤ 2 ^ 20 → IsFile text file → (r : Result Declared ReadPolicyError) → FileGives r (declared_by file) → IfErr r (IsRefused text)
+refused_in_file text file short is_file (Ok p) gives = tt
+refused_in_file text file short is_file (Err error.OutOfMemory) gives = tt
+refused_in_file text file short is_file (Err (error.Fault fault)) gives = in_file short file is_file gives
+
+-- a fault in the last array is the file's
+pub fails_at_allows : (file : Members) (declared : Declared) (e : ReadPolicyError) → Ok tt ≡ file_head file → objects_of file ≡ Ok declared
+    → FileFails e (array_of Allow 4096 (λ _ row. allow_row declared row) file) → FileFails e (declared_by file)
+fails_at_allows file declared e head objects fails = rw (← head, objects) (after e (array_of Allow 4096 (λ _ row. allow_row declared row) file) fails)
+  where
+    after : (e : ReadPolicyError) (allows : Result (List AllowRow) PolicyFault) → FileFails e allows → FileFails e (allows >>= (λ rows. Ok (record declared { allows = rows })))
+    after error.OutOfMemory allows fails = tt
+    after (error.Fault fault) allows fails = rw fails
+
+-- a fault in the kernels is the objects'
+pub fails_at_kernels : (file : Members) (clients : List (Name × Unit {0})) (agents : List (Name × Takes)) (regions : List (Name × ℕ)) (signals : List (Name × ℤ)) (e : ReadPolicyError)
+    → array_of Client 64 (named_row client_keys nothing) file ≡ Ok clients → array_of Agent 16 (named_row agent_keys takes) file ≡ Ok agents
+    → regions_of file ≡ Ok regions → array_of Signal 1024 (named_row signal_keys initial_value) file ≡ Ok signals
+    → FileFails e (array_of Kernel 64 (named_row kernel_keys kernel_source) file) → FileFails e (objects_of file)
+fails_at_kernels file clients agents regions signals e c a r s fails = rw (c, a, r, s) (after e (array_of Kernel 64 (named_row kernel_keys kernel_source) file) fails)
+  where
+    after : (e : ReadPolicyError) (kernels : Result (List (Name × Source)) PolicyFault) → FileFails e kernels
+        → FileFails {B = Declared} e (kernels >>= (λ ks. Ok (record { clients = names clients; agents = agents; regions = regions; signals = signals; kernels = ks; allows = [] })))
+    after error.OutOfMemory kernels fails = tt
+    after (error.Fault fault) kernels fails = rw fails

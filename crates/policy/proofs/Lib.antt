@@ -1,0 +1,5 @@
+pub mod NameLemmas
+pub mod RightsLemmas
+pub mod CoverLemmas
+pub mod ValueLemmas
+pub mod FileLemmas

@@ -1,0 +1,8 @@
+use Rattle.std.proofs.Common.{◌≡◌, ◌∙◌, sym, subst, ap, ◌<◌, Some}
+use Rattle.std.specs.Option.{option_map_or}
+use Rattle.policy.specs.Names.{names, numbered, number_in}
+use Rattle.policy.proofs.NameLemmas.{numbered_place}
+use Rattle.policy.proofs.table.Table.number.Goals as goal
+
+pub returns-in-Some-clause-back : goal.returns-in-Some-clause-back
+returns-in-Some-clause-back g c = λ _. numbered_place (names c.args.self.now) c.args.name.now c.in-Some.index c.in-Some.ensures.place

@@ -1,0 +1,155 @@
+//! What is wrong with a policy file.
+
+ghost use Rattle.std.specs.Prelude.{◌≡◌, Some};
+ghost use Rattle.policy.specs.declared.fault.RowError.TheVariants as row;
+ghost use Rattle.policy.specs.declared.fault.ReadPolicyError.TheVariants as file;
+
+use std::alloc::{AllocError, AllocFailed};
+
+/// The array of a policy file in which a fault lies.
+#[derive(Clone, Copy, Debug, PartialEq, Eq)]
+pub enum Section {
+    /// The clients.
+    Client,
+    /// The agents.
+    Agent,
+    /// The regions.
+    Region,
+    /// The signals.
+    Signal,
+    /// The kernels.
+    Kernel,
+    /// The allow rows.
+    Allow,
+}
+
+impl Section {
+    ghost use Rattle.policy.specs.SectionNames.{name_of_section};
+    ghost use Rattle.policy.specs.Reading.{fault_in};
+
+    /// The array's key in the file.
+    pub fn name(self) -> &'static str
+        ensures { result.now ≡ name_of_section self }
+    {
+        match self {
+            Section::Client => "client",
+            Section::Agent => "agent",
+            Section::Region => "region",
+            Section::Signal => "signal",
+            Section::Kernel => "kernel",
+            Section::Allow => "allow",
+        }
+    }
+
+    // A fault in a row of the array, or of the whole of it, which is row 0.
+    pub(crate) fn fault(self, row: u32, cause: Cause) -> PolicyFault
+        ensures { result ≡ fault_in self row cause }
+    {
+        PolicyFault {
+            cause,
+            kind: Some(self),
+            row,
+        }
+    }
+}
+
+/// Why a policy file is refused.
+#[derive(Clone, Copy, Debug, PartialEq, Eq)]
+pub enum Cause {
+    /// The file isn't UTF-8 text in TOML.
+    NotToml,
+    /// A row lacks a key.
+    MissingKey,
+    /// A key that isn't known, or a value that isn't right for its key.
+    BadValue,
+    /// An allow row names a client or an object that isn't declared.
+    UnknownName,
+    /// A row has the name of an earlier row of its array.
+    DoubleName,
+    /// The file is too long, an array has too many rows, or the regions are too long together.
+    TooMany,
+}
+
+/// A fault of a policy file: the first, in the order in which the format looks for them.
+#[derive(Clone, Copy, Debug, PartialEq, Eq)]
+pub struct PolicyFault {
+    /// What is wrong.
+    pub cause: Cause,
+    /// The array in which it lies; none for a fault before the arrays.
+    pub kind: Option<Section>,
+    /// The row in which it lies, from 1; 0 for a fault of the array as a whole, or before the arrays.
+    pub row: u32,
+}
+
+impl PolicyFault {
+    ghost use Rattle.policy.specs.Reading.{fault_of_file};
+
+    // A fault before the arrays.
+    pub(crate) fn of_file(cause: Cause) -> PolicyFault
+        ensures { result ≡ fault_of_file cause }
+    {
+        PolicyFault {
+            cause,
+            kind: None,
+            row: 0,
+        }
+    }
+}
+
+/// Why a policy isn't read.
+#[derive(Clone, Copy, Debug, PartialEq, Eq)]
+pub enum ReadPolicyError {
+    /// There was no memory for it.
+    OutOfMemory,
+    /// The file has a fault.
+    Fault(PolicyFault),
+}
+
+// Why a row isn't read.
+#[derive(Clone, Copy, Debug, PartialEq, Eq)]
+pub enum RowError {
+    // There was no memory for it.
+    OutOfMemory,
+    // It has a fault.
+    Fault(Cause),
+}
+
+impl From<Cause> for RowError {
+    ghost from_gives = { λ cause error. error ≡ row.Fault cause };
+
+    fn from(cause: Cause) -> RowError {
+        RowError::Fault(cause)
+    }
+}
+
+impl From<AllocError> for RowError {
+    ghost from_gives = { λ _ error. error ≡ row.OutOfMemory };
+
+    fn from(_error: AllocError) -> RowError {
+        RowError::OutOfMemory
+    }
+}
+
+impl From<PolicyFault> for ReadPolicyError {
+    ghost from_gives = { λ fault error. error ≡ file.Fault fault };
+
+    fn from(fault: PolicyFault) -> ReadPolicyError {
+        ReadPolicyError::Fault(fault)
+    }
+}
+
+impl From<AllocError> for ReadPolicyError {
+    ghost from_gives = { λ _ error. error ≡ file.OutOfMemory };
+
+    fn from(_error: AllocError) -> ReadPolicyError {
+        ReadPolicyError::OutOfMemory
+    }
+}
+
+impl<T: Drop> From<AllocFailed<T>> for ReadPolicyError {
+    ghost from_gives = { λ _ error. error ≡ file.OutOfMemory };
+
+    fn from(_error: AllocFailed<T>) -> ReadPolicyError {
+        ReadPolicyError::OutOfMemory
+    }
+}

@@ -1,0 +1,215 @@
+//! A policy: what exists, and which rights may be granted to whom.
+
+ghost use Rattle.std.specs.Prelude.{◌≡◌, ◌<◌, [], length, Some, IfSome};
+ghost use Rattle.std.specs.Option.{option_copied};
+ghost use Rattle.policy.specs.declared.rights.Right.{Right};
+ghost use Rattle.policy.specs.Object.{kind_of, number_of};
+ghost use Rattle.policy.specs.Policy.{names, numbered, number_in, names_of, name_in, count_of, takes_of, length_of, initial_of, source_of, declares_client, declares, allowed, allows};
+ghost use Rattle.policy.specs.Rights.{has};
+
+use crate::kernel_source::KernelSource;
+use crate::object::{Kind, Object};
+use crate::rights::Rights;
+use crate::row::{AllowRow, Takes};
+use crate::table::Table;
+use aql_packet::{AgentHandle, ClientId, KernelObject, RegionHandle, SignalHandle};
+use bitflags::Flags;
+use sequences::Sequence;
+use std::alloc::Global;
+use std::marker::Model;
+
+/// What a policy declares, in the order of its rows. Clients and the objects of each kind are
+/// numbered from 1.
+#[derive(Drop)]
+pub struct Policy {
+    clients: Table<()>,
+    agents: Table<Takes>,
+    regions: Table<u32>,
+    signals: Table<i64>,
+    kernels: Table<KernelSource>,
+    allows: Sequence<AllowRow>,
+}
+
+impl Model for Policy {
+    ghost use Rattle.policy.specs.Policy.{Declared, names};
+
+    ghost Value = { Declared };
+
+    ghost view = { λ policy. record {
+      clients = names policy.clients;
+      agents = policy.agents;
+      regions = policy.regions;
+      signals = policy.signals;
+      kernels = policy.kernels;
+      allows = policy.allows;
+    } };
+}
+
+impl Policy {
+    // A policy with no allow rows. It takes no memory.
+    pub(crate) fn new(
+        alloc: Global,
+        clients: Table<()>,
+        agents: Table<Takes>,
+        regions: Table<u32>,
+        signals: Table<i64>,
+        kernels: Table<KernelSource>,
+    ) -> Policy
+        ensures { result ≡ record {
+          clients = names clients;
+          agents = agents;
+          regions = regions;
+          signals = signals;
+          kernels = kernels;
+          allows = [];
+        } }
+    {
+        Policy {
+            clients,
+            agents,
+            regions,
+            signals,
+            kernels,
+            allows: Sequence::new(alloc),
+        }
+    }
+
+    // Puts allow rows in the place of those before.
+    pub(crate) fn set_allow_rows(&mut self, allows: Sequence<AllowRow>)
+        ensures { self.new ≡ record self.old { allows = allows } }
+    {
+        self.allows = allows;
+    }
+
+    /// How many clients there are: at most 64.
+    pub fn client_count(&self) -> usize
+        ensures { result ≡ length self.now.clients }
+    {
+        self.clients.len()
+    }
+
+    /// How many objects of a kind there are: at most 16 agents, 64 regions, 1,024 signals and 64 kernels.
+    pub fn object_count(&self, kind: Kind) -> usize
+        ensures { result ≡ count_of self.now kind }
+    {
+        match kind {
+            Kind::Agent => self.agents.len(),
+            Kind::Region => self.regions.len(),
+            Kind::Signal => self.signals.len(),
+            Kind::Kernel => self.kernels.len(),
+        }
+    }
+
+    /// Whether a client is one of the policy's.
+    pub fn declares_client(&self, client: ClientId) -> bool
+        ensures { result ≡ declares_client self.now client }
+    {
+        1 <= client.0 && client.0 as usize <= self.clients.len()
+    }
+
+    /// Whether an object is one of the policy's.
+    pub fn declares(&self, object: Object) -> bool
+        ensures { result ≡ declares self.now object }
+    {
+        1 <= object.number() && object.number() <= self.object_count(object.kind()) as u64
+    }
+
+    /// The client of a name; a name that isn't there is number 0.
+    pub fn client_named(&self, name: &[u8]) -> ClientId
+        ensures number { result.0 ≡ number_in self.now.clients name.now }
+        ensures back { 0 < result.0 → numbered self.now.clients result.0 ≡ Some name.now }
+    {
+        ClientId(self.clients.number(name))
+    }
+
+    /// The name of a client, if it is one of the policy's.
+    pub fn client_name(&self, client: ClientId) -> Option<&str>
+        ensures name { option_copied result ≡ numbered self.now.clients client.0 }
+        ensures back { IfSome result (λ name. number_in self.now.clients name.now ≡ client.0) }
+    {
+        self.clients.name(client.0 as u64)
+    }
+
+    /// The object of a kind and a name; a name that isn't there is number 0.
+    pub fn object_named(&self, kind: Kind, name: &[u8]) -> Object
+        ensures kind { kind_of result ≡ kind }
+        ensures number { number_of result ≡ number_in (names_of self.now kind) name.now }
+        ensures back { 0 < number_of result → numbered (names_of self.now kind) (number_of result) ≡ Some name.now }
+    {
+        match kind {
+            Kind::Agent => Object::Agent(AgentHandle(self.agents.number(name))),
+            Kind::Region => Object::Region(RegionHandle(self.regions.number(name))),
+            Kind::Signal => Object::Signal(SignalHandle(self.signals.number(name) as u64)),
+            Kind::Kernel => Object::Kernel(KernelObject(self.kernels.number(name) as u64)),
+        }
+    }
+
+    /// The name of an object, if it is one of the policy's.
+    pub fn object_name(&self, object: Object) -> Option<&str>
+        ensures name { option_copied result ≡ name_in self.now object }
+        ensures back { IfSome result (λ name. number_in (names_of self.now (kind_of object)) name.now ≡ number_of object) }
+    {
+        match object {
+            Object::Agent(agent) => self.agents.name(agent.0 as u64),
+            Object::Region(region) => self.regions.name(region.0 as u64),
+            Object::Signal(signal) => self.signals.name(signal.0),
+            Object::Kernel(kernel) => self.kernels.name(kernel.0),
+        }
+    }
+
+    /// Which dispatches an agent takes, if it is one of the policy's.
+    pub fn takes(&self, agent: AgentHandle) -> Option<Takes>
+        ensures { result ≡ takes_of self.now agent.0 }
+    {
+        self.agents.get(agent.0 as u64).copied()
+    }
+
+    /// The length of a region in bytes, if it is one of the policy's.
+    pub fn region_length(&self, region: RegionHandle) -> Option<u32>
+        ensures { result ≡ length_of self.now region.0 }
+    {
+        self.regions.get(region.0 as u64).copied()
+    }
+
+    /// The value with which a signal begins, if it is one of the policy's.
+    pub fn signal_initial(&self, signal: SignalHandle) -> Option<i64>
+        ensures { result ≡ initial_of self.now signal.0 }
+    {
+        self.signals.get(signal.0).copied()
+    }
+
+    /// The source of a kernel, if it is one of the policy's.
+    pub fn kernel_source(&self, kernel: KernelObject) -> Option<&KernelSource>
+        ensures { option_copied result ≡ source_of self.now kernel.0 }
+    {
+        self.kernels.get(kernel.0)
+    }
+
+    /// The allow rows, in order.
+    pub fn allow_rows(&self) -> &[AllowRow]
+        ensures { result.now ≡ self.now.allows }
+    {
+        self.allows.as_slice()
+    }
+
+    /// Whether the policy allows each of some rights to a client on an object: for each of them
+    /// some allow row covers the client, the object and the right.
+    pub fn allows(&self, client: ClientId, object: Object, rights: Rights) -> bool
+        ensures { result ≡ allows self.now client object rights }
+    {
+        self.allowed(client, object).includes(rights)
+    }
+
+    // The rights that some row covers for the client and the object.
+    fn allowed(&self, client: ClientId, object: Object) -> Rights
+        ensures { (right : Right) → has result right ≡ allowed self.now client object right }
+    {
+        let mut covered = Rights::NONE;
+        for row in self.allows.as_slice() {
+            if row.covers(client, object) {
+                covered.insert(row.rights);
+            }
+        }
+        covered
+    }
+}

@@ -1,0 +1,137 @@
+//! The arrays of a policy file.
+
+ghost use Rattle.std.specs.Prelude.{◌≡◌, ◌≤◌, map, length, Some, IfOk, OnOk};
+ghost use Rattle.std.specs.List.{list_all};
+ghost use Rattle.toml.specs.Data.{get_member, as_table};
+ghost use Rattle.toml.specs.View.{view, table_view};
+ghost use Rattle.policy.specs.declared.fault.Cause.TheVariants.{BadValue};
+ghost use Rattle.policy.specs.declared.fault.Section.TheVariants.{Allow};
+ghost use Rattle.policy.specs.Table.{named};
+ghost use Rattle.policy.specs.SectionNames.{name_of_section};
+ghost use Rattle.policy.specs.Reading.{or_fault, seen, placed, RowGives, FileGives};
+ghost use Rattle.policy.specs.Format.{is_table, rows_in, tables_in, of_table, named_row, allow_row, array_of};
+
+use crate::fault::{Cause, PolicyFault, ReadPolicyError, RowError, Section};
+use crate::policy::Policy;
+use crate::read::rows::{self, NamedRow};
+use crate::read::values;
+use crate::row::AllowRow;
+use crate::table::Table as Rows;
+use sequences::Sequence;
+use std::alloc::Global;
+use toml::{Table, Value};
+
+// Whether all values are tables.
+fn are_tables(items: &[Value]) -> bool
+    ensures { result ≡ list_all (λ item. is_table (view item)) items.now }
+{
+    items.iter().all(|item| item.is_table())
+}
+
+// The rows of an array of tables, of at most so many.
+fn tables_in(section: Section, limit: usize, items: &[Value]) -> Result<(), PolicyFault>
+    ensures rows { seen (λ _. map view items.now) result ≡ tables_in section limit (Some (map view items.now)) }
+    ensures bound { OnOk result (length items.now ≤ limit) }
+{
+    if !are_tables(items) {
+        return Err(section.fault(0, Cause::BadValue));
+    }
+    if items.len() > limit {
+        return Err(section.fault(0, Cause::TooMany));
+    }
+    Ok(())
+}
+
+/// The rows of an array, of at most so many: none where the array is absent.
+pub fn rows_in(section: Section, limit: usize, file: &Table) -> Result<&[Value], PolicyFault>
+    ensures rows { seen (λ rows. map view rows.now) result ≡ rows_in section limit (get_member (name_of_section section) (table_view file.now)) }
+    ensures bound { IfOk result (λ rows. length rows.now ≤ limit) }
+{
+    let Some(array) = values::find(file, section.name()) else {
+        return Ok(&[]);
+    };
+    match values::items_in(array) {
+        Some(items) => {
+            tables_in(section, limit, items)?;
+            Ok(items)
+        }
+        None => Err(section.fault(0, Cause::BadValue)),
+    }
+}
+
+/// What a row's reading comes to in its place: a fault is one of that row.
+pub fn placed<T>(
+    section: Section,
+    row: u32,
+    read: Result<T, RowError>,
+) -> Result<T, ReadPolicyError>
+    ensures { result ≡ placed section row read }
+{
+    match read {
+        Ok(value) => Ok(value),
+        Err(RowError::OutOfMemory) => Err(ReadPolicyError::OutOfMemory),
+        Err(RowError::Fault(cause)) => Err(ReadPolicyError::Fault(section.fault(row, cause))),
+    }
+}
+
+// A row, which is a table.
+fn as_row(row: &Value) -> Result<&Table, RowError>
+    ensures { RowGives (λ t. table_view t.now) result (or_fault BadValue (as_table (view row.now))) }
+{
+    row.as_table().ok_or(RowError::Fault(Cause::BadValue))
+}
+
+// A row of an array of named rows, after those before it.
+fn named_row<V: NamedRow>(
+    alloc: Global,
+    before: &Rows<V>,
+    row: &Value,
+) -> Result<(String, V), RowError>
+    ensures { RowGives named result (of_table (named_row V.known V.reading before.now) (as_table (view row.now))) }
+{
+    rows::named_row(alloc, before, as_row(row)?)
+}
+
+/// An array of rows that each have a name of their own.
+pub fn named_array<V: NamedRow>(
+    alloc: Global,
+    section: Section,
+    limit: usize,
+    file: &Table,
+) -> Result<Rows<V>, ReadPolicyError>
+    requires { limit ≤ 1024 }
+    ensures { FileGives result (array_of section limit (named_row V.known V.reading) (table_view file.now)) }
+{
+    let rows = rows_in(section, limit, file)?;
+    let mut table = Rows::new(alloc);
+    for row in rows {
+        let number = table.len() as u32 + 1;
+        let (name, rest) = placed(section, number, named_row(alloc, &table, row))?;
+        table.insert(name, rest)?;
+    }
+    Ok(table)
+}
+
+// An allow row in its array.
+fn allow_row(policy: &Policy, row: &Value) -> Result<AllowRow, RowError>
+    ensures { RowGives (λ x. x) result (of_table (allow_row policy.now) (as_table (view row.now))) }
+{
+    rows::allow_row(policy, as_row(row)?)
+}
+
+/// The allow rows.
+pub fn allow_array(
+    alloc: Global,
+    policy: &Policy,
+    file: &Table,
+) -> Result<Sequence<AllowRow>, ReadPolicyError>
+    ensures { FileGives result (array_of Allow 4096 (λ _ row. allow_row policy.now row) (table_view file.now)) }
+{
+    let rows = rows_in(Section::Allow, 4096, file)?;
+    let mut allows = Sequence::new(alloc);
+    for row in rows {
+        let number = allows.len() as u32 + 1;
+        allows.push(placed(Section::Allow, number, allow_row(policy, row))?)?;
+    }
+    Ok(allows)
+}

@@ -1,0 +1,124 @@
+//! A policy file as a whole.
+
+ghost use Rattle.std.specs.Prelude.{◌≡◌, ◌^◌, nat_le, sum_by, option_map, IfOk, IfErr};
+ghost use Rattle.toml.specs.View.{view, table_view};
+ghost use Rattle.policy.specs.declared.fault.Cause.TheVariants.{TooMany};
+ghost use Rattle.policy.specs.declared.fault.Section.TheVariants.{Region};
+ghost use Rattle.policy.specs.Reading.{unless, fault_in, FileGives};
+ghost use Rattle.policy.specs.Format.{file_keys, file_head, is_version, regions_of, objects_of, declared_by, Declares, IsRefused};
+
+use crate::fault::{Cause, PolicyFault, ReadPolicyError, Section};
+use crate::policy::Policy;
+use crate::read::arrays::{allow_array, named_array};
+use crate::read::rows::{self, Keys};
+use crate::read::values;
+use crate::table::Table as Rows;
+use std::alloc::Global;
+use toml::{Table, Value};
+
+// The keys of a policy file.
+struct FileKeys;
+
+impl Keys for FileKeys {
+    ghost known = { file_keys };
+
+    fn knows(key: &str) -> bool {
+        key == "version"
+            || key == "client"
+            || key == "agent"
+            || key == "region"
+            || key == "signal"
+            || key == "kernel"
+            || key == "allow"
+    }
+}
+
+// Whether the version is 1, where it stands.
+fn is_version(version: Option<&Value>) -> bool
+    ensures { result ≡ is_version (option_map (λ v. view v.now) version.entry) }
+{
+    match version {
+        None => true,
+        Some(value) => value.as_integer() == Some(1),
+    }
+}
+
+// The file's keys and its version.
+fn check_keys(file: &Table) -> Result<(), PolicyFault>
+    ensures { result ≡ file_head (table_view file.now) }
+{
+    if !rows::has_only::<FileKeys>(file) {
+        return Err(PolicyFault::of_file(Cause::BadValue));
+    }
+    if !is_version(values::find(file, "version")) {
+        return Err(PolicyFault::of_file(Cause::BadValue));
+    }
+    Ok(())
+}
+
+// How long the regions are together.
+fn check_lengths(regions: &Rows<u32>) -> Result<(), PolicyFault>
+    ensures { result ≡ unless (nat_le (sum_by (λ region. region.1) regions.now) (2 ^ 26)) (fault_in Region 0 TooMany) }
+{
+    if regions.total() <= 1 << 26 {
+        Ok(())
+    } else {
+        Err(Section::Region.fault(0, Cause::TooMany))
+    }
+}
+
+// The regions, whose sum is at most 2^26 bytes.
+fn read_regions(alloc: Global, file: &Table) -> Result<Rows<u32>, ReadPolicyError>
+    ensures { FileGives result (regions_of (table_view file.now)) }
+{
+    let regions = named_array(alloc, Section::Region, 64, file)?;
+    check_lengths(&regions)?;
+    Ok(regions)
+}
+
+// The clients and the objects, with no allow rows yet.
+fn read_objects(alloc: Global, file: &Table) -> Result<Policy, ReadPolicyError>
+    ensures { FileGives result (objects_of (table_view file.now)) }
+{
+    let clients = named_array(alloc, Section::Client, 64, file)?;
+    let agents = named_array(alloc, Section::Agent, 16, file)?;
+    let regions = read_regions(alloc, file)?;
+    let signals = named_array(alloc, Section::Signal, 1024, file)?;
+    let kernels = named_array(alloc, Section::Kernel, 64, file)?;
+    Ok(Policy::new(alloc, clients, agents, regions, signals, kernels))
+}
+
+// What a file declares.
+fn read_file(alloc: Global, file: &Table) -> Result<Policy, ReadPolicyError>
+    ensures { FileGives result (declared_by (table_view file.now)) }
+{
+    check_keys(file)?;
+    let mut policy = read_objects(alloc, file)?;
+    let allows = allow_array(alloc, &policy, file)?;
+    policy.set_allow_rows(allows);
+    Ok(policy)
+}
+
+/// Reads a policy file: what it declares, or its first fault, in the order that the format states.
+/// It answers `OutOfMemory` only where an allocation was refused.
+pub fn read_policy(alloc: Global, text: &[u8]) -> Result<Policy, ReadPolicyError>
+    ensures declares { IfOk result (Declares text.now) }
+    ensures refused { IfErr result (IsRefused text.now) }
+{
+    if text.len() > 1 << 20 {
+        return Err(PolicyFault::of_file(Cause::TooMany).into());
+    }
+    let Ok(text) = std::str::from_utf8(text) else {
+        return Err(PolicyFault::of_file(Cause::NotToml).into());
+    };
+    match toml::table_from_str(alloc, text) {
+        Ok(file) => read_file(alloc, &file),
+        Err(error) => {
+            if error.is_memory() {
+                Err(ReadPolicyError::OutOfMemory)
+            } else {
+                Err(PolicyFault::of_file(Cause::NotToml).into())
+            }
+        }
+    }
+}

@@ -1,0 +1,5 @@
+pub mod Digits
+pub mod Commas
+pub mod Audit
+pub mod Splitting
+pub mod Reading

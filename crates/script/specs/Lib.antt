@@ -1,0 +1,5 @@
+pub mod Texts
+pub mod Entries
+pub mod Replies
+pub mod Words
+pub mod Lines

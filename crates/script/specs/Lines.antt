@@ -1,0 +1,216 @@
+-- Lines and the commands that they stand for, row by row (own).
+use Rattle.std.specs.Prelude.{ℕ, Bool, true, false, ◌==◌, nat_lt, ℤ, List, [], ◌∷◌, length, codes, Option, Some, None, option_map, option_and_then, bytes_eq, slice_index, if◌then◌else◌}
+use Rattle.aql_packet.specs.declared.ids.ClientId.{ClientId}
+use Rattle.aql_packet.specs.declared.ids.QueueId.{QueueId}
+use Rattle.aql_packet.specs.declared.ids.PacketId.{PacketId}
+use Rattle.aql_packet.specs.declared.ids.Address.{Address}
+use Rattle.aql_packet.specs.declared.ids.AgentHandle.{AgentHandle}
+use Rattle.aql_packet.specs.declared.ids.RegionHandle.{RegionHandle}
+use Rattle.aql_packet.specs.declared.ids.SignalHandle.{SignalHandle}
+use Rattle.aql_packet.specs.declared.ids.KernelObject.{KernelObject}
+use Rattle.policy.specs.declared.object.Kind.{Kind}
+use Rattle.policy.specs.declared.object.Kind.TheVariants as kind
+use Rattle.policy.specs.declared.object.Object.{Object}
+use Rattle.policy.specs.declared.object.Object.TheVariants as object
+use Rattle.policy.specs.declared.rights.Rights.{Rights}
+use Rattle.policy.specs.Policy.{Declared, number_in, names_of}
+use Rattle.signals.specs.declared.SignalOp.{SignalOp}
+use Rattle.signals.specs.declared.SignalOp.TheVariants as op
+use Rattle.core_model.specs.declared.event.Event.{Event}
+use Rattle.core_model.specs.declared.event.Event.TheVariants as event
+use Rattle.core_model.specs.declared.event.Query.{Query}
+use Rattle.core_model.specs.declared.event.Query.TheVariants as query
+use Rattle.core_model.specs.declared.event.Request.{Request}
+use Rattle.core_model.specs.declared.event.Request.TheVariants as request
+use Rattle.script.specs.declared.command.Command.{Command}
+use Rattle.script.specs.declared.command.Command.TheVariants as command
+use Rattle.script.specs.declared.lines.Line.{Line}
+use Rattle.script.specs.declared.lines.Line.TheVariants as line
+use Rattle.script.specs.declared.verbs.Verb.{Verb}
+use Rattle.script.specs.declared.verbs.Verb.TheVariants as verb
+use Rattle.script.specs.Words.{Word, words, no_words, one_word, two_words, three_words, four_words, five_words, decimal_word, signed_word, address_word, bytes_word, packet_word, rights_word, kind_word, condition_word}
+
+-- the client of a name; a name that isn't there is number 0
+abbrev pub client_in : Declared → Word → ClientId
+client_in policy name = record { 0 = number_in policy.clients name }
+
+-- the object of a kind and a name; a name that isn't there is number 0
+abbrev pub object_in : Declared → Kind → Word → Object
+object_in policy kind.Agent name = object.Agent (record { 0 = number_in (names_of policy kind.Agent) name })
+object_in policy kind.Region name = object.Region (record { 0 = number_in (names_of policy kind.Region) name })
+object_in policy kind.Signal name = object.Signal (record { 0 = number_in (names_of policy kind.Signal) name })
+object_in policy kind.Kernel name = object.Kernel (record { 0 = number_in (names_of policy kind.Kernel) name })
+
+-- the agent of a name, and the signal of a name
+abbrev pub agent_in : Declared → Word → AgentHandle
+agent_in policy name = record { 0 = number_in (names_of policy kind.Agent) name }
+
+abbrev pub signal_in : Declared → Word → SignalHandle
+signal_in policy name = record { 0 = number_in (names_of policy kind.Signal) name }
+
+-- events and queries as commands
+abbrev pub calls : Event → Command
+calls event = command.Core (request.Event event)
+
+abbrev pub asks : Query → Command
+asks query = command.Core (request.Query query)
+
+-- `C KIND NAME R,R`
+abbrev pub rights_on : Declared → List Word → Option (ClientId × Object × Rights)
+rights_on policy words = option_and_then (λ w. option_and_then (λ kind. option_map (λ rights.
+    (client_in policy w.0, object_in policy kind w.2, rights)) (rights_word w.3)) (kind_word w.1)) (four_words words)
+
+-- `grant C KIND NAME R,R`
+abbrev pub grant_row : Declared → List Word → Option Command
+grant_row policy words = option_map (λ row. calls (event.Grant row.0 row.1 row.2)) (rights_on policy words)
+
+-- `revoke C KIND NAME R,R`
+abbrev pub revoke_row : Declared → List Word → Option Command
+revoke_row policy words = option_map (λ row. calls (event.Revoke row.0 row.1 row.2)) (rights_on policy words)
+
+-- `queue C AGENT SIZE PRODUCERS`
+abbrev pub queue_row : Declared → List Word → Option Command
+queue_row policy words = option_and_then (λ w. option_and_then (λ size. option_map (λ producers.
+    command.OpenQueue (client_in policy w.0) (agent_in policy w.1) size producers) (decimal_word w.3)) (decimal_word w.2)) (four_words words)
+
+-- `Q`
+abbrev pub queue_of : List Word → Option QueueId
+queue_of words = option_and_then (λ w. option_map (λ queue. record { 0 = queue }) (decimal_word w)) (one_word words)
+
+-- `Q ID`
+abbrev pub packet_of_queue : List Word → Option (QueueId × PacketId)
+packet_of_queue words = option_and_then (λ w. option_and_then (λ queue. option_map (λ packet.
+    (record { 0 = queue }, record { 0 = packet })) (decimal_word w.1)) (decimal_word w.0)) (two_words words)
+
+-- `submit Q P H`
+abbrev pub submit_row : List Word → Option Command
+submit_row words = option_and_then (λ w. option_and_then (λ queue. option_and_then (λ producer. option_map (λ bytes.
+    command.Submit (record { 0 = queue }) producer bytes) (packet_word w.2)) (decimal_word w.1)) (decimal_word w.0)) (three_words words)
+
+-- `write C ADDR H`
+abbrev pub write_row : Declared → List Word → Option Command
+write_row policy words = option_and_then (λ w. option_and_then (λ address. option_map (λ bytes.
+    calls (event.HostWrite (client_in policy w.0) (record { 0 = address }) bytes)) (bytes_word w.2)) (address_word w.1)) (three_words words)
+
+-- `read C ADDR N`
+abbrev pub read_row : Declared → List Word → Option Command
+read_row policy words = option_and_then (λ w. option_and_then (λ address. option_map (λ length.
+    asks (query.HostRead (client_in policy w.0) (record { 0 = address }) length)) (decimal_word w.2)) (address_word w.1)) (three_words words)
+
+-- an operation with one value
+abbrev pub operation_of : Word → ℤ → Option SignalOp
+operation_of word value =
+    if bytes_eq word (codes "store") then Some (op.Store value)
+    else if bytes_eq word (codes "add") then Some (op.Add value)
+    else if bytes_eq word (codes "subtract") then Some (op.Subtract value)
+    else if bytes_eq word (codes "and") then Some (op.And value)
+    else if bytes_eq word (codes "or") then Some (op.Or value)
+    else if bytes_eq word (codes "xor") then Some (op.Xor value)
+    else if bytes_eq word (codes "exchange") then Some (op.Exchange value)
+    else None
+
+-- `C NAME OP V`
+abbrev pub plain_operation : Declared → List Word → Option Command
+plain_operation policy words = option_and_then (λ w. option_and_then (λ value. option_map (λ operation.
+    calls (event.ChangeSignal (client_in policy w.0) (signal_in policy w.1) operation)) (operation_of w.2 value)) (signed_word w.3)) (four_words words)
+
+-- `C NAME cas V V`
+abbrev pub cas_operation : Declared → List Word → Option Command
+cas_operation policy words = option_and_then (λ w. if bytes_eq w.2 (codes "cas") then option_and_then (λ expected. option_map (λ value.
+    calls (event.ChangeSignal (client_in policy w.0) (signal_in policy w.1) (op.Cas expected value))) (signed_word w.4)) (signed_word w.3) else None) (five_words words)
+
+-- the first of two answers, if there is one
+abbrev pub either_of : {X : Type 0} → Option X → Option X → Option X
+either_of None second = second
+either_of (Some first) second = Some first
+
+-- `signal C NAME OP V`, `signal C NAME cas V V`
+abbrev pub signal_row : Declared → List Word → Option Command
+signal_row policy words = either_of (plain_operation policy words) (cas_operation policy words)
+
+-- `load C NAME`
+abbrev pub load_row : Declared → List Word → Option Command
+load_row policy words = option_map (λ w. asks (query.LoadSignal (client_in policy w.0) (signal_in policy w.1))) (two_words words)
+
+-- `test C NAME COND V`
+abbrev pub test_row : Declared → List Word → Option Command
+test_row policy words = option_and_then (λ w. option_and_then (λ condition. option_map (λ value.
+    asks (query.TestSignal (client_in policy w.0) (signal_in policy w.1) condition value)) (signed_word w.3)) (condition_word w.2)) (four_words words)
+
+-- `list C`
+abbrev pub list_row : Declared → List Word → Option Command
+list_row policy words = option_map (λ w. asks (query.List (client_in policy w))) (one_word words)
+
+-- `audit`
+abbrev pub audit_row : List Word → Option Command
+audit_row words = if no_words words then Some (asks query.Audit) else None
+
+-- the verb of a word, among those of clients' calls and of queries
+abbrev pub client_verb_of : Word → Option Verb
+client_verb_of word =
+    if bytes_eq word (codes "write") then Some verb.Write
+    else if bytes_eq word (codes "read") then Some verb.Read
+    else if bytes_eq word (codes "signal") then Some verb.Signal
+    else if bytes_eq word (codes "load") then Some verb.Load
+    else if bytes_eq word (codes "test") then Some verb.Test
+    else if bytes_eq word (codes "list") then Some verb.List
+    else if bytes_eq word (codes "errors") then Some verb.Errors
+    else if bytes_eq word (codes "audit") then Some verb.Audit
+    else None
+
+-- the verb of a word
+abbrev pub verb_of : Word → Option Verb
+verb_of word =
+    if bytes_eq word (codes "grant") then Some verb.Grant
+    else if bytes_eq word (codes "revoke") then Some verb.Revoke
+    else if bytes_eq word (codes "queue") then Some verb.Queue
+    else if bytes_eq word (codes "stop") then Some verb.Stop
+    else if bytes_eq word (codes "submit") then Some verb.Submit
+    else if bytes_eq word (codes "serve") then Some verb.Serve
+    else if bytes_eq word (codes "run") then Some verb.Run
+    else if bytes_eq word (codes "poll") then Some verb.Poll
+    else if bytes_eq word (codes "finish") then Some verb.Finish
+    else client_verb_of word
+
+-- the row of a verb
+abbrev pub command_of : Declared → Verb → List Word → Option Command
+command_of policy verb.Grant words = grant_row policy words
+command_of policy verb.Revoke words = revoke_row policy words
+command_of policy verb.Queue words = queue_row policy words
+command_of policy verb.Stop words = option_map (λ queue. calls (event.Stop queue)) (queue_of words)
+command_of policy verb.Submit words = submit_row words
+command_of policy verb.Serve words = option_map (λ queue. command.Serve queue) (queue_of words)
+command_of policy verb.Run words = option_map (λ row. calls (event.RunNext row.0 row.1)) (packet_of_queue words)
+command_of policy verb.Poll words = option_map (λ row. calls (event.Poll row.0 row.1)) (packet_of_queue words)
+command_of policy verb.Finish words = option_map (λ row. calls (event.Finish row.0 row.1)) (packet_of_queue words)
+command_of policy verb.Write words = write_row policy words
+command_of policy verb.Read words = read_row policy words
+command_of policy verb.Signal words = signal_row policy words
+command_of policy verb.Load words = load_row policy words
+command_of policy verb.Test words = test_row policy words
+command_of policy verb.List words = list_row policy words
+command_of policy verb.Errors words = option_map (λ queue. asks (query.Errors queue)) (queue_of words)
+command_of policy verb.Audit words = audit_row words
+
+-- what words ask: none ask nothing, else the first is a verb
+abbrev pub asked_by : Declared → List Word → Option Line
+asked_by policy [] = Some line.Quiet
+asked_by policy (word ∷ words) = option_map (λ command. line.Asks command) (option_and_then (λ verb. command_of policy verb words) (verb_of word))
+
+-- a line that begins with `#` is a comment
+abbrev pub is_comment : List ℕ → Bool
+is_comment [] = false
+is_comment (byte ∷ bytes) = byte == 35
+
+-- what a line stands for, if it has at most 16,384 bytes and a form
+abbrev pub line_of : Declared → List ℕ → Option Line
+line_of policy bytes =
+    if nat_lt 16384 (length bytes) then None
+    else if is_comment bytes then Some line.Quiet
+    else asked_by policy (words bytes)
+
+-- the verb's row needs no memory to be read
+abbrev pub IsPlain : Verb → Type 0
+IsPlain verb.Submit = ⊥
+IsPlain verb.Write = ⊥
+IsPlain _ = Unit {0}

@@ -1,0 +1,139 @@
+-- Replies as texts, row by row (own). Each line of a reply ends with a line feed.
+use Rattle.std.specs.Prelude.{ℕ, ℤ, Bool, true, false, List, [], ◌∷◌, ◌++◌, length, flat_map, codes, decimal, Result, Ok, Err, if◌then◌else◌}
+use Rattle.std.specs.Option.{option_map_or}
+use Rattle.std.specs.Fmt.{signed_decimal}
+use Rattle.aql_packet.specs.declared.ids.PacketId.{PacketId}
+use Rattle.policy.specs.declared.object.Object.{Object}
+use Rattle.policy.specs.declared.rights.Rights.{Rights}
+use Rattle.policy.specs.Object.{kind_of, number_of}
+use Rattle.policy.specs.KindNames.{name_of_kind}
+use Rattle.policy.specs.RightNames.{name_of_right}
+use Rattle.policy.specs.Policy.{Declared, name_in}
+use Rattle.queue_error.specs.declared.error.QueueError.{QueueError}
+use Rattle.queue_error.specs.Texts.{text_of_error}
+use Rattle.core_model.specs.declared.refusal.Refusal.{Refusal}
+use Rattle.core_model.specs.declared.refusal.Refusal.TheVariants as refusal
+use Rattle.core_model.specs.declared.outcome.Cause.{Cause}
+use Rattle.core_model.specs.declared.outcome.Cause.TheVariants as cause
+use Rattle.core_model.specs.declared.outcome.Taken.{Taken}
+use Rattle.core_model.specs.declared.outcome.Taken.TheVariants as taken
+use Rattle.core_model.specs.declared.outcome.Worked.{Worked}
+use Rattle.core_model.specs.declared.outcome.Worked.TheVariants as worked
+use Rattle.core_model.specs.declared.outcome.Polled.{Polled}
+use Rattle.core_model.specs.declared.outcome.Polled.TheVariants as polled
+use Rattle.core_model.specs.declared.outcome.Outcome.{Outcome}
+use Rattle.core_model.specs.declared.outcome.Outcome.TheVariants as outcome
+use Rattle.core_model.specs.declared.answer.Answer.{Answer}
+use Rattle.core_model.specs.declared.answer.Answer.TheVariants as answer
+use Rattle.script.specs.declared.command.Told.{Told}
+use Rattle.script.specs.declared.command.Told.TheVariants as told
+use Rattle.script.specs.Texts.{text_of_bytes, text_of_rights}
+use Rattle.script.specs.Entries.{text_of_audit}
+
+-- a refusal's number and name
+abbrev pub name_of_refusal : Refusal → List ℕ
+name_of_refusal refusal.OutOfMemory = codes "0 OutOfMemory"
+name_of_refusal refusal.UnknownClient = codes "1 UnknownClient"
+name_of_refusal refusal.UnknownQueue = codes "2 UnknownQueue"
+name_of_refusal (refusal.Denied right) = codes "3 Denied"
+name_of_refusal (refusal.Busy queue packet) = codes "4 Busy"
+name_of_refusal refusal.NotAllowed = codes "5 NotAllowed"
+name_of_refusal (refusal.OutOfStep next) = codes "6 OutOfStep"
+name_of_refusal refusal.QueueDown = codes "7 QueueDown"
+name_of_refusal refusal.NotInFlight = codes "8 NotInFlight"
+name_of_refusal refusal.NotFinished = codes "9 NotFinished"
+name_of_refusal refusal.AuditFull = codes "10 AuditFull"
+name_of_refusal refusal.BadSize = codes "11 BadSize"
+name_of_refusal refusal.TooMany = codes "12 TooMany"
+name_of_refusal refusal.UnknownObject = codes "13 UnknownObject"
+
+-- what a refusal names
+abbrev pub details_of_refusal : Refusal → List ℕ
+details_of_refusal (refusal.Denied right) = codes " " ++ name_of_right right
+details_of_refusal (refusal.Busy queue packet) = codes " queue " ++ decimal queue.0 ++ codes " packet " ++ decimal packet.0
+details_of_refusal (refusal.OutOfStep next) = codes " " ++ decimal next
+details_of_refusal _ = []
+
+-- a refusal: `refused`, its number and name, and what it names
+abbrev pub text_of_refusal : Refusal → List ℕ
+text_of_refusal refusal = codes "refused " ++ name_of_refusal refusal ++ details_of_refusal refusal
+
+-- why a packet waits
+abbrev pub text_of_cause : Cause → List ℕ
+text_of_cause cause.Barrier = codes "Barrier"
+text_of_cause cause.Active = codes "Active"
+text_of_cause cause.Slots = codes "Slots"
+
+-- what became of a packet that was handed over
+abbrev pub text_of_taken : PacketId → Taken → List ℕ
+text_of_taken packet taken.Launched = codes "launched " ++ decimal packet.0
+text_of_taken packet (taken.Denied error) = codes "denied " ++ text_of_error error
+text_of_taken packet (taken.Waiting why) = codes "waiting " ++ decimal packet.0 ++ codes " " ++ text_of_cause why
+
+-- what became of a group
+abbrev pub text_of_worked : Worked → List ℕ
+text_of_worked (worked.Ran group left) = codes "ran " ++ decimal group ++ codes " left " ++ decimal left
+text_of_worked (worked.Faulted error) = codes "faulted " ++ text_of_error error
+text_of_worked worked.Done = codes "done"
+
+-- what a poll found
+abbrev pub text_of_polled : Polled → List ℕ
+text_of_polled (polled.Pending seen) = codes "pending"
+text_of_polled (polled.Ready seen) = codes "ready"
+text_of_polled (polled.Failed error) = codes "failed " ++ text_of_error error
+
+-- what an event came to; `old` says whether the old value of a signal is told
+abbrev pub text_of_outcome : Bool → Outcome → List ℕ
+text_of_outcome old outcome.Accepted = codes "ok"
+text_of_outcome old (outcome.Opened queue) = codes "queue " ++ decimal queue.0
+text_of_outcome old (outcome.Taken taken) = codes "ok"
+text_of_outcome old (outcome.Worked worked) = text_of_worked worked
+text_of_outcome old (outcome.Polled polled) = text_of_polled polled
+text_of_outcome old (outcome.Changed value) = if old then codes "old " ++ signed_decimal value else codes "ok"
+
+-- the name of an object
+abbrev pub text_of_name : Declared → Object → List ℕ
+text_of_name policy object = option_map_or (λ name. name) (name_in policy object) []
+
+-- an object with a client's rights on it: `KIND NUMBER NAME R,R`
+abbrev pub text_of_listed : Declared → Object → Rights → List ℕ
+text_of_listed policy object rights =
+    name_of_kind (kind_of object) ++ codes " " ++ decimal (number_of object) ++ codes " "
+    ++ text_of_name policy object ++ codes " " ++ text_of_rights rights ++ codes "\n"
+
+-- a listing: `list N`, then N lines
+abbrev pub text_of_listing : Declared → List (Object × Rights) → List ℕ
+text_of_listing policy all = codes "list " ++ decimal (length all) ++ codes "\n" ++ flat_map (λ listed. text_of_listed policy listed.0 listed.1) all
+
+-- an error of a listing
+abbrev pub line_of_error : QueueError → List ℕ
+line_of_error error = text_of_error error ++ codes "\n"
+
+-- a queue's errors: `errors N`, then N lines
+abbrev pub text_of_errors : List QueueError → List ℕ
+text_of_errors all = codes "errors " ++ decimal (length all) ++ codes "\n" ++ flat_map line_of_error all
+
+-- an answer of the core
+abbrev pub text_of_answer : Declared → Bool → Answer → List ℕ
+text_of_answer policy old (answer.Outcome outcome) = text_of_outcome old outcome ++ codes "\n"
+text_of_answer policy old (answer.Bytes bytes) = codes "bytes " ++ text_of_bytes bytes ++ codes "\n"
+text_of_answer policy old (answer.Value value) = codes "value " ++ signed_decimal value ++ codes "\n"
+text_of_answer policy old (answer.Test held) = if held then codes "true\n" else codes "false\n"
+text_of_answer policy old (answer.Listing all) = text_of_listing policy all
+text_of_answer policy old (answer.Errors all) = text_of_errors all
+text_of_answer policy old (answer.Audit all) = text_of_audit policy all
+
+-- a reply of the core
+abbrev pub text_of_reply : Declared → Bool → Result Answer Refusal → List ℕ
+text_of_reply policy old (Ok answer) = text_of_answer policy old answer
+text_of_reply policy old (Err refusal) = text_of_refusal refusal ++ codes "\n"
+
+-- what a command is told
+abbrev pub text_of_told : Declared → Bool → Told → List ℕ
+text_of_told policy old (told.Core reply) = text_of_reply policy old reply
+text_of_told policy old (told.Published packet) = codes "published " ++ decimal packet.0 ++ codes "\n"
+text_of_told policy old (told.Busy ticket read) = codes "busy ticket " ++ decimal ticket.0 ++ codes " read " ++ decimal read ++ codes "\n"
+text_of_told policy old (told.NotPublishable ticket) = codes "not publishable " ++ decimal ticket.0 ++ codes "\n"
+text_of_told policy old told.NotAStep = codes "refused 14 NotAStep\n"
+text_of_told policy old told.Empty = codes "empty\n"
+text_of_told policy old (told.Taken packet taken) = text_of_taken packet taken ++ codes "\n"

@@ -1,0 +1,382 @@
+//! Lines to commands: a function for each row of the forms.
+
+ghost use Rattle.std.specs.Prelude.{◌≡◌, IfOk, option_map};
+ghost use Rattle.script.specs.Words.{words};
+ghost use Rattle.script.specs.Lines.{client_in, object_in, agent_in, signal_in, rights_on, grant_row, revoke_row, queue_row, queue_of, packet_of_queue, submit_row, write_row, read_row, operation_of, plain_operation, cas_operation, signal_row, load_row, test_row, list_row, audit_row, command_of, line_of, asked_by, is_comment, IsPlain};
+
+use crate::command::Command;
+use crate::numbers::{address, bytes, condition, decimal, kind, packet, rights, signed};
+use crate::verbs::{Verb, verb_named};
+use crate::words::{five_words, four_words, no_words, one_word, split_word, three_words, two_words};
+use aql_packet::{AgentHandle, ClientId, PacketId, QueueId, SignalHandle};
+use core_model::{Event, Query, Request};
+use policy::{Kind, Object, Policy, Rights};
+use sequences::Sequence;
+use signals::SignalOp;
+use std::alloc::{AllocError, Global};
+
+/// The most bytes that a line has.
+pub const LONGEST_LINE: usize = 16_384;
+
+/// What a line stands for.
+#[derive(Debug, Drop)]
+pub enum Line {
+    /// Nothing: no word, or a comment.
+    Quiet,
+    /// A command.
+    Asks(Command),
+}
+
+// The client of a name.
+fn client(policy: &Policy, name: &[u8]) -> ClientId
+    ensures { result ≡ client_in policy.now name.now }
+{
+    policy.client_named(name)
+}
+
+// The object of a kind and a name.
+fn object(policy: &Policy, kind: Kind, name: &[u8]) -> Object
+    ensures { result ≡ object_in policy.now kind name.now }
+{
+    policy.object_named(kind, name)
+}
+
+// The agent of a name.
+fn agent(policy: &Policy, name: &[u8]) -> AgentHandle
+    ensures { result ≡ agent_in policy.now name.now }
+{
+    match object(policy, Kind::Agent, name) {
+        Object::Agent(agent) => agent,
+        _ => AgentHandle(0),
+    }
+}
+
+// The signal of a name.
+fn signal(policy: &Policy, name: &[u8]) -> SignalHandle
+    ensures { result ≡ signal_in policy.now name.now }
+{
+    match object(policy, Kind::Signal, name) {
+        Object::Signal(signal) => signal,
+        _ => SignalHandle(0),
+    }
+}
+
+// An event as a command.
+fn calls(event: Event) -> Command
+    ensures { result ≡ Command.Core (Request.Event event) }
+{
+    Command::Core(Request::Event(event))
+}
+
+// A query as a command.
+fn asks(query: Query) -> Command
+    ensures { result ≡ Command.Core (Request.Query query) }
+{
+    Command::Core(Request::Query(query))
+}
+
+// `C KIND NAME R,R`
+fn rights_on(policy: &Policy, line: &[u8]) -> Option<(ClientId, Object, Rights)>
+    ensures { result ≡ rights_on policy.now (words line.now) }
+{
+    let (holder, of, name, given) = four_words(line)?;
+    let kind = kind(of)?;
+    let rights = rights(given)?;
+    Some((client(policy, holder), object(policy, kind, name), rights))
+}
+
+// `grant C KIND NAME R,R`
+fn grant(policy: &Policy, line: &[u8]) -> Option<Command>
+    ensures { result ≡ grant_row policy.now (words line.now) }
+{
+    let (client, object, rights) = rights_on(policy, line)?;
+    Some(calls(Event::Grant { client, object, rights }))
+}
+
+// `revoke C KIND NAME R,R`
+fn revoke(policy: &Policy, line: &[u8]) -> Option<Command>
+    ensures { result ≡ revoke_row policy.now (words line.now) }
+{
+    let (client, object, rights) = rights_on(policy, line)?;
+    Some(calls(Event::Revoke { client, object, rights }))
+}
+
+// `queue C AGENT SIZE PRODUCERS`
+fn queue(policy: &Policy, line: &[u8]) -> Option<Command>
+    ensures { result ≡ queue_row policy.now (words line.now) }
+{
+    let (owner, on, size, producers) = four_words(line)?;
+    let size = decimal(size)?;
+    let producers = decimal(producers)?;
+    Some(Command::OpenQueue {
+        client: client(policy, owner),
+        agent: agent(policy, on),
+        size,
+        producers,
+    })
+}
+
+// `Q`
+fn queue_id(line: &[u8]) -> Option<QueueId>
+    ensures { result ≡ queue_of (words line.now) }
+{
+    Some(QueueId(decimal(one_word(line)?)?))
+}
+
+// `Q ID`
+fn packet_id(line: &[u8]) -> Option<(QueueId, PacketId)>
+    ensures { result ≡ packet_of_queue (words line.now) }
+{
+    let (queue, packet) = two_words(line)?;
+    let queue = decimal(queue)?;
+    let packet = decimal(packet)?;
+    Some((QueueId(queue), PacketId(packet)))
+}
+
+// `submit Q P H`
+fn submit(alloc: Global, line: &[u8]) -> Result<Option<Command>, AllocError>
+    ensures { IfOk result (λ read. read ≡ submit_row (words line.now)) }
+{
+    let Some((queue, producer, bytes)) = three_words(line) else {
+        return Ok(None);
+    };
+    let Some(queue) = decimal(queue) else {
+        return Ok(None);
+    };
+    let Some(producer) = decimal(producer) else {
+        return Ok(None);
+    };
+    let Some(bytes) = packet(alloc, bytes)? else {
+        return Ok(None);
+    };
+    Ok(Some(Command::Submit {
+        queue: QueueId(queue),
+        producer,
+        bytes,
+    }))
+}
+
+// `write C ADDR H`
+fn write(alloc: Global, policy: &Policy, line: &[u8]) -> Result<Option<Command>, AllocError>
+    ensures { IfOk result (λ read. read ≡ write_row policy.now (words line.now)) }
+{
+    let Some((writer, place, digits)) = three_words(line) else {
+        return Ok(None);
+    };
+    let Some(address) = address(place) else {
+        return Ok(None);
+    };
+    let Some(bytes) = bytes(alloc, digits)? else {
+        return Ok(None);
+    };
+    Ok(Some(calls(Event::HostWrite {
+        client: client(policy, writer),
+        address,
+        bytes: Sequence::from_vec(bytes),
+    })))
+}
+
+// `read C ADDR N`
+fn read(policy: &Policy, line: &[u8]) -> Option<Command>
+    ensures { result ≡ read_row policy.now (words line.now) }
+{
+    let (reader, place, count) = three_words(line)?;
+    let address = address(place)?;
+    let length = decimal(count)?;
+    Some(asks(Query::HostRead {
+        client: client(policy, reader),
+        address,
+        length,
+    }))
+}
+
+// An operation with one value.
+fn operation(word: &[u8], value: i64) -> Option<SignalOp>
+    ensures { result ≡ operation_of word.now value }
+{
+    if word == "store".as_bytes() {
+        Some(SignalOp::Store(value))
+    } else if word == "add".as_bytes() {
+        Some(SignalOp::Add(value))
+    } else if word == "subtract".as_bytes() {
+        Some(SignalOp::Subtract(value))
+    } else if word == "and".as_bytes() {
+        Some(SignalOp::And(value))
+    } else if word == "or".as_bytes() {
+        Some(SignalOp::Or(value))
+    } else if word == "xor".as_bytes() {
+        Some(SignalOp::Xor(value))
+    } else if word == "exchange".as_bytes() {
+        Some(SignalOp::Exchange(value))
+    } else {
+        None
+    }
+}
+
+// `signal C NAME OP V`
+fn plain_operation(policy: &Policy, line: &[u8]) -> Option<Command>
+    ensures { result ≡ plain_operation policy.now (words line.now) }
+{
+    let (changer, name, word, value) = four_words(line)?;
+    let value = signed(value)?;
+    let operation = operation(word, value)?;
+    Some(calls(Event::ChangeSignal {
+        client: client(policy, changer),
+        signal: signal(policy, name),
+        operation,
+    }))
+}
+
+// `signal C NAME cas V V`
+fn cas_operation(policy: &Policy, line: &[u8]) -> Option<Command>
+    ensures { result ≡ cas_operation policy.now (words line.now) }
+{
+    let (changer, name, word, expected, value) = five_words(line)?;
+    if word != "cas".as_bytes() {
+        return None;
+    }
+    let expected = signed(expected)?;
+    let value = signed(value)?;
+    Some(calls(Event::ChangeSignal {
+        client: client(policy, changer),
+        signal: signal(policy, name),
+        operation: SignalOp::Cas { expected, value },
+    }))
+}
+
+// `signal C NAME OP V`, `signal C NAME cas V V`
+fn change(policy: &Policy, line: &[u8]) -> Option<Command>
+    ensures { result ≡ signal_row policy.now (words line.now) }
+{
+    match plain_operation(policy, line) {
+        Some(command) => Some(command),
+        None => cas_operation(policy, line),
+    }
+}
+
+// `load C NAME`
+fn load(policy: &Policy, line: &[u8]) -> Option<Command>
+    ensures { result ≡ load_row policy.now (words line.now) }
+{
+    let (loader, name) = two_words(line)?;
+    Some(asks(Query::LoadSignal {
+        client: client(policy, loader),
+        signal: signal(policy, name),
+    }))
+}
+
+// `test C NAME COND V`
+fn test(policy: &Policy, line: &[u8]) -> Option<Command>
+    ensures { result ≡ test_row policy.now (words line.now) }
+{
+    let (tester, name, word, value) = four_words(line)?;
+    let condition = condition(word)?;
+    let value = signed(value)?;
+    Some(asks(Query::TestSignal {
+        client: client(policy, tester),
+        signal: signal(policy, name),
+        condition,
+        value,
+    }))
+}
+
+// `list C`
+fn list(policy: &Policy, line: &[u8]) -> Option<Command>
+    ensures { result ≡ list_row policy.now (words line.now) }
+{
+    let name = one_word(line)?;
+    Some(asks(Query::List {
+        client: client(policy, name),
+    }))
+}
+
+// `audit`
+fn audit(line: &[u8]) -> Option<Command>
+    ensures { result ≡ audit_row (words line.now) }
+{
+    if no_words(line) { Some(asks(Query::Audit)) } else { None }
+}
+
+// The row of a verb that takes no memory, and none where it takes some.
+fn plain_command(policy: &Policy, verb: Verb, line: &[u8]) -> Option<Command>
+    ensures { IsPlain verb → result ≡ command_of policy.now verb (words line.now) }
+{
+    match verb {
+        Verb::Grant => grant(policy, line),
+        Verb::Revoke => revoke(policy, line),
+        Verb::Queue => queue(policy, line),
+        Verb::Stop => Some(calls(Event::Stop { queue: queue_id(line)? })),
+        Verb::Serve => Some(Command::Serve { queue: queue_id(line)? }),
+        Verb::Run => {
+            let (queue, packet) = packet_id(line)?;
+            Some(calls(Event::RunNext { queue, packet }))
+        }
+        Verb::Poll => {
+            let (queue, packet) = packet_id(line)?;
+            Some(calls(Event::Poll { queue, packet }))
+        }
+        Verb::Finish => {
+            let (queue, packet) = packet_id(line)?;
+            Some(calls(Event::Finish { queue, packet }))
+        }
+        Verb::Read => read(policy, line),
+        Verb::Signal => change(policy, line),
+        Verb::Load => load(policy, line),
+        Verb::Test => test(policy, line),
+        Verb::List => list(policy, line),
+        Verb::Errors => Some(asks(Query::Errors { queue: queue_id(line)? })),
+        Verb::Audit => audit(line),
+        Verb::Submit | Verb::Write => None,
+    }
+}
+
+// The row of a verb.
+fn command(alloc: Global, policy: &Policy, verb: Verb, line: &[u8]) -> Result<Option<Command>, AllocError>
+    ensures { IfOk result (λ read. read ≡ command_of policy.now verb (words line.now)) }
+{
+    match verb {
+        Verb::Submit => submit(alloc, line),
+        Verb::Write => write(alloc, policy, line),
+        _ => Ok(plain_command(policy, verb, line)),
+    }
+}
+
+// What words ask.
+fn asked(alloc: Global, policy: &Policy, line: &[u8]) -> Result<Option<Line>, AllocError>
+    ensures { IfOk result (λ read. read ≡ asked_by policy.now (words line.now)) }
+{
+    let Some((word, rest)) = split_word(line) else {
+        return Ok(Some(Line::Quiet));
+    };
+    let Some(verb) = verb_named(word) else {
+        return Ok(None);
+    };
+    match command(alloc, policy, verb, rest)? {
+        Some(command) => Ok(Some(Line::Asks(command))),
+        None => Ok(None),
+    }
+}
+
+// Whether a line is a comment.
+fn is_comment(line: &[u8]) -> bool
+    ensures { result ≡ is_comment line.now }
+{
+    match line.split_first() {
+        Some((first, _)) => *first == b'#',
+        None => false,
+    }
+}
+
+/// What a line stands for, without its line feed; none where it is too long or has no form. Names
+/// go by the policy, and a name that isn't there is number 0.
+pub fn read_line(alloc: Global, policy: &Policy, line: &[u8]) -> Result<Option<Line>, AllocError>
+    ensures { IfOk result (λ read. read ≡ line_of policy.now line.now) }
+{
+    if line.len() > LONGEST_LINE {
+        return Ok(None);
+    }
+    if is_comment(line) {
+        return Ok(Some(Line::Quiet));
+    }
+    asked(alloc, policy, line)
+}

@@ -1,0 +1,237 @@
+//! Numbers, bytes, rights and kinds that single words stand for.
+
+ghost use Rattle.std.specs.Prelude.{◌≡◌, ◌∷◌, [], ◌<◌, IfOk, IfSome, option_map, length};
+ghost use Rattle.script.specs.Words.{digit_of, with_digit, number_from, decimal_word, negative, positive, signed_word, address_word, byte_of, bytes_word, packet_word, items_from, items_behind, right_of, with_right, rights_with, rights_word, kind_word, condition_word};
+
+use aql_packet::Address;
+use bitflags::Flags;
+use policy::{Kind, Right, Rights};
+use signals::Condition;
+use std::alloc::{AllocError, Global};
+
+// The value of a digit, in either case.
+fn digit(byte: u8) -> Option<u8>
+    ensures { result ≡ digit_of byte }
+{
+    match byte {
+        b'0'..=b'9' => Some(byte - b'0'),
+        b'A'..=b'F' => Some(byte - b'A' + 10),
+        b'a'..=b'f' => Some(byte - b'a' + 10),
+        _ => None,
+    }
+}
+
+// A number with a further digit of a base.
+fn with_digit(base: u8, number: u64, digit: u8) -> Option<u64>
+    ensures { result ≡ with_digit base number digit }
+{
+    if digit >= base {
+        return None;
+    }
+    let next = number as u128 * base as u128 + digit as u128;
+    if next < 1 << 64 { Some(next as u64) } else { None }
+}
+
+// The number that digits of a base stand for.
+fn number(base: u8, word: &[u8]) -> Option<u64>
+    ensures { result ≡ number_from base 0 word.now }
+{
+    let mut number = 0;
+    for byte in word {
+        number = with_digit(base, number, digit(*byte)?)?;
+    }
+    Some(number)
+}
+
+/// A decimal number.
+pub fn decimal(word: &[u8]) -> Option<u64>
+    ensures { result ≡ decimal_word word.now }
+{
+    if word.is_empty() {
+        return None;
+    }
+    number(10, word)
+}
+
+// A number as a negative number.
+fn negative(number: u64) -> Option<i64>
+    ensures { result ≡ negative number }
+{
+    if number < 1 << 63 {
+        Some(-(number as i64))
+    } else if number == 1 << 63 {
+        Some(i64::MIN)
+    } else {
+        None
+    }
+}
+
+// A number as a signed number.
+fn positive(number: u64) -> Option<i64>
+    ensures { result ≡ positive number }
+{
+    if number < 1 << 63 { Some(number as i64) } else { None }
+}
+
+/// A signed decimal number.
+pub fn signed(word: &[u8]) -> Option<i64>
+    ensures { result ≡ signed_word word.now }
+{
+    let (first, digits) = word.split_first()?;
+    if *first == b'-' {
+        negative(decimal(digits)?)
+    } else {
+        positive(decimal(word)?)
+    }
+}
+
+/// An address.
+pub fn address(word: &[u8]) -> Option<Address>
+    ensures { option_map (λ address. address.0) result ≡ address_word word.now }
+{
+    if word.len() == 16 {
+        Some(Address(number(16, word)?))
+    } else {
+        None
+    }
+}
+
+// The byte of two digits.
+fn byte(high: u8, low: u8) -> Option<u8>
+    ensures { result ≡ byte_of high low }
+{
+    Some(digit(high)? * 16 + digit(low)?)
+}
+
+/// Bytes in order, two hexadecimal digits each.
+pub fn bytes(alloc: Global, word: &[u8]) -> Result<Option<Vec<u8>>, AllocError>
+    ensures { IfOk result (λ read. option_map (λ bytes. bytes.items) read ≡ bytes_word word.now) }
+{
+    let mut read = Vec::new(alloc);
+    let mut rest = word;
+    while let Some((high, further)) = rest.split_first() {
+        let Some((low, further)) = further.split_first() else {
+            return Ok(None);
+        };
+        let Some(byte) = byte(*high, *low) else {
+            return Ok(None);
+        };
+        read.push(byte)?;
+        rest = further;
+    }
+    Ok(Some(read))
+}
+
+/// A packet's bytes.
+pub fn packet(alloc: Global, word: &[u8]) -> Result<Option<[u8; 64]>, AllocError>
+    ensures { IfOk result (λ read. read ≡ packet_word word.now) }
+{
+    let Some(bytes) = bytes(alloc, word)? else {
+        return Ok(None);
+    };
+    if bytes.len() != 64 {
+        return Ok(None);
+    }
+    let mut packet = [0; 64];
+    packet.copy_from_slice(bytes.as_slice());
+    Ok(Some(packet))
+}
+
+// The right of a name.
+fn right_named(word: &[u8]) -> Option<Right>
+    ensures { result ≡ right_of word.now }
+{
+    if word == "USE".as_bytes() {
+        Some(Right::Use)
+    } else if word == "READ".as_bytes() {
+        Some(Right::Read)
+    } else if word == "WRITE".as_bytes() {
+        Some(Right::Write)
+    } else if word == "WAIT".as_bytes() {
+        Some(Right::Wait)
+    } else if word == "CHANGE".as_bytes() {
+        Some(Right::Change)
+    } else if word == "LAUNCH".as_bytes() {
+        Some(Right::Launch)
+    } else {
+        None
+    }
+}
+
+// What stands before the first comma, and what stands behind it where there is one.
+fn split_item(word: &[u8]) -> (&[u8], Option<&[u8]>)
+    ensures items { items_from [] word.now ≡ result.0.now ∷ items_behind result.1 }
+    ensures shorter { IfSome result.1 (λ further. length further.now < length word.now) }
+{
+    for (index, byte) in word.iter().enumerate() {
+        if *byte == b',' {
+            let (item, further) = word.split_at(index);
+            return (item, Some(further.split_at(1).1));
+        }
+    }
+    (word, None)
+}
+
+// A set with a further right.
+fn with_right(mut rights: Rights, right: Right) -> Rights
+    ensures { result ≡ with_right rights right }
+{
+    rights.insert(Rights::of(right));
+    rights
+}
+
+// A set with the rights of the names between commas.
+fn rights_with(rights: Rights, word: &[u8]) -> Option<Rights>
+    ensures { result ≡ rights_with rights (items_from [] word.now) }
+{
+    let (name, further) = split_item(word);
+    let rights = with_right(rights, right_named(name)?);
+    match further {
+        Some(names) => rights_with(rights, names),
+        None => Some(rights),
+    }
+}
+
+/// A set of rights.
+pub fn rights(word: &[u8]) -> Option<Rights>
+    ensures { result ≡ rights_word word.now }
+{
+    if word == "-".as_bytes() {
+        return Some(Rights::NONE);
+    }
+    rights_with(Rights::NONE, word)
+}
+
+/// A kind of objects.
+pub fn kind(word: &[u8]) -> Option<Kind>
+    ensures { result ≡ kind_word word.now }
+{
+    if word == "agent".as_bytes() {
+        Some(Kind::Agent)
+    } else if word == "region".as_bytes() {
+        Some(Kind::Region)
+    } else if word == "signal".as_bytes() {
+        Some(Kind::Signal)
+    } else if word == "kernel".as_bytes() {
+        Some(Kind::Kernel)
+    } else {
+        None
+    }
+}
+
+/// A condition on a signal's value.
+pub fn condition(word: &[u8]) -> Option<Condition>
+    ensures { result ≡ condition_word word.now }
+{
+    if word == "EQ".as_bytes() {
+        Some(Condition::Eq)
+    } else if word == "NE".as_bytes() {
+        Some(Condition::Ne)
+    } else if word == "LT".as_bytes() {
+        Some(Condition::Lt)
+    } else if word == "GTE".as_bytes() {
+        Some(Condition::Gte)
+    } else {
+        None
+    }
+}

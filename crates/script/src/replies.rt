@@ -1,0 +1,208 @@
+//! Replies as text.
+
+ghost use Rattle.std.specs.Prelude.{◌≡◌, ◌++◌, OnOk, length, flat_map, codes, string_bytes};
+ghost use Rattle.script.specs.Replies.{name_of_refusal, details_of_refusal, text_of_refusal, text_of_name, text_of_cause, text_of_taken, text_of_worked, text_of_polled, text_of_outcome, text_of_listed, text_of_listing, line_of_error, text_of_errors, text_of_answer, text_of_reply, text_of_told};
+ghost use Rattle.script.specs.Texts.{text_of_bytes};
+
+use crate::command::Told;
+use crate::entries::write_audit;
+use crate::texts::{write_bytes, write_rights};
+use aql_packet::PacketId;
+use core_model::{Answer, Cause, Outcome, Polled, Refusal, Taken, Worked};
+use policy::{Object, Policy, Rights};
+use queue_error::QueueError;
+use std::alloc::AllocError;
+
+// A refusal's number and name.
+fn refusal_name(refusal: &Refusal) -> &'static str
+    ensures { result.now ≡ name_of_refusal refusal.now }
+{
+    match refusal {
+        Refusal::OutOfMemory => "0 OutOfMemory",
+        Refusal::UnknownClient => "1 UnknownClient",
+        Refusal::UnknownQueue => "2 UnknownQueue",
+        Refusal::Denied(_) => "3 Denied",
+        Refusal::Busy { .. } => "4 Busy",
+        Refusal::NotAllowed => "5 NotAllowed",
+        Refusal::OutOfStep(_) => "6 OutOfStep",
+        Refusal::QueueDown => "7 QueueDown",
+        Refusal::NotInFlight => "8 NotInFlight",
+        Refusal::NotFinished => "9 NotFinished",
+        Refusal::AuditFull => "10 AuditFull",
+        Refusal::BadSize => "11 BadSize",
+        Refusal::TooMany => "12 TooMany",
+        Refusal::UnknownObject => "13 UnknownObject",
+    }
+}
+
+// Writes what a refusal names.
+fn write_details(out: &mut String, refusal: &Refusal) -> Result<(), AllocError>
+    ensures { OnOk result (string_bytes out.new ≡ string_bytes out.old ++ details_of_refusal refusal.now) }
+{
+    match refusal {
+        Refusal::Denied(right) => write!(out, " {right}"),
+        Refusal::Busy { queue, packet } => write!(out, " queue {} packet {}", queue.0, packet.0),
+        Refusal::OutOfStep(next) => write!(out, " {next}"),
+        _ => Ok(()),
+    }
+}
+
+// Writes a refusal.
+fn write_refusal(out: &mut String, refusal: &Refusal) -> Result<(), AllocError>
+    ensures { OnOk result (string_bytes out.new ≡ string_bytes out.old ++ text_of_refusal refusal.now) }
+{
+    write!(out, "refused {}", refusal_name(refusal))?;
+    write_details(out, refusal)
+}
+
+// Why a packet waits, as a word.
+fn cause_name(cause: &Cause) -> &'static str
+    ensures { result.now ≡ text_of_cause cause.now }
+{
+    match cause {
+        Cause::Barrier => "Barrier",
+        Cause::Active => "Active",
+        Cause::Slots => "Slots",
+    }
+}
+
+// Writes what became of a packet that was handed over.
+fn write_taken(out: &mut String, packet: PacketId, taken: &Taken) -> Result<(), AllocError>
+    ensures { OnOk result (string_bytes out.new ≡ string_bytes out.old ++ text_of_taken packet taken.now) }
+{
+    match taken {
+        Taken::Launched => write!(out, "launched {}", packet.0),
+        Taken::Denied(error) => write!(out, "denied {error}"),
+        Taken::Waiting(cause) => write!(out, "waiting {} {}", packet.0, cause_name(cause)),
+    }
+}
+
+// Writes what became of a group.
+fn write_worked(out: &mut String, worked: &Worked) -> Result<(), AllocError>
+    ensures { OnOk result (string_bytes out.new ≡ string_bytes out.old ++ text_of_worked worked.now) }
+{
+    match worked {
+        Worked::Ran { group, left } => write!(out, "ran {group} left {left}"),
+        Worked::Faulted(error) => write!(out, "faulted {error}"),
+        Worked::Done => out.push_str("done"),
+    }
+}
+
+// Writes what a poll found.
+fn write_polled(out: &mut String, polled: &Polled) -> Result<(), AllocError>
+    ensures { OnOk result (string_bytes out.new ≡ string_bytes out.old ++ text_of_polled polled.now) }
+{
+    match polled {
+        Polled::Pending(_) => out.push_str("pending"),
+        Polled::Ready(_) => out.push_str("ready"),
+        Polled::Failed(error) => write!(out, "failed {error}"),
+    }
+}
+
+// Writes what an event came to; `old` says whether the old value of a signal is told.
+fn write_outcome(out: &mut String, old: bool, outcome: &Outcome) -> Result<(), AllocError>
+    ensures { OnOk result (string_bytes out.new ≡ string_bytes out.old ++ text_of_outcome old outcome.now) }
+{
+    match outcome {
+        Outcome::Accepted => out.push_str("ok"),
+        Outcome::Opened(queue) => write!(out, "queue {}", queue.0),
+        Outcome::Taken(_) => out.push_str("ok"),
+        Outcome::Worked(worked) => write_worked(out, worked),
+        Outcome::Polled(polled) => write_polled(out, polled),
+        Outcome::Changed(value) if old => write!(out, "old {value}"),
+        Outcome::Changed(_) => out.push_str("ok"),
+    }
+}
+
+// Writes the name of an object.
+fn write_name(out: &mut String, policy: &Policy, object: Object) -> Result<(), AllocError>
+    ensures { OnOk result (string_bytes out.new ≡ string_bytes out.old ++ text_of_name policy.now object) }
+{
+    match policy.object_name(object) {
+        Some(name) => out.push_str(name),
+        None => Ok(()),
+    }
+}
+
+// Writes an object with a client's rights on it.
+fn write_listed(out: &mut String, policy: &Policy, object: Object, rights: Rights) -> Result<(), AllocError>
+    ensures { OnOk result (string_bytes out.new ≡ string_bytes out.old ++ text_of_listed policy.now object rights) }
+{
+    write!(out, "{} {} ", object.kind(), object.number())?;
+    write_name(out, policy, object)?;
+    out.push_str(" ")?;
+    write_rights(out, rights)?;
+    out.push_str("\n")
+}
+
+// Writes a listing.
+fn write_listing(out: &mut String, policy: &Policy, all: &[(Object, Rights)]) -> Result<(), AllocError>
+    ensures { OnOk result (string_bytes out.new ≡ string_bytes out.old ++ text_of_listing policy.now all.now) }
+{
+    writeln!(out, "list {}", all.len())?;
+    for (object, rights) in all {
+        write_listed(out, policy, *object, *rights)?;
+    }
+    Ok(())
+}
+
+// Writes a queue's errors.
+fn write_errors(out: &mut String, all: &[QueueError]) -> Result<(), AllocError>
+    ensures { OnOk result (string_bytes out.new ≡ string_bytes out.old ++ text_of_errors all.now) }
+{
+    writeln!(out, "errors {}", all.len())?;
+    for error in all {
+        writeln!(out, "{error}")?;
+    }
+    Ok(())
+}
+
+// Writes a line of bytes.
+fn write_bytes_line(out: &mut String, bytes: &[u8]) -> Result<(), AllocError>
+    ensures { OnOk result (string_bytes out.new ≡ string_bytes out.old ++ (codes "bytes " ++ text_of_bytes bytes.now ++ codes "\n")) }
+{
+    out.push_str("bytes ")?;
+    write_bytes(out, bytes)?;
+    out.push_str("\n")
+}
+
+// Writes an answer of the core.
+fn write_answer(out: &mut String, policy: &Policy, old: bool, answer: &Answer) -> Result<(), AllocError>
+    ensures { OnOk result (string_bytes out.new ≡ string_bytes out.old ++ text_of_answer policy.now old answer.now) }
+{
+    match answer {
+        Answer::Outcome(outcome) => {
+            write_outcome(out, old, outcome)?;
+            out.push_str("\n")
+        }
+        Answer::Bytes(bytes) => write_bytes_line(out, bytes.as_slice()),
+        Answer::Value(value) => writeln!(out, "value {value}"),
+        Answer::Test(held) => out.push_str(if *held { "true\n" } else { "false\n" }),
+        Answer::Listing(all) => write_listing(out, policy, all.as_slice()),
+        Answer::Errors(all) => write_errors(out, all.as_slice()),
+        Answer::Audit(all) => write_audit(out, policy, all.as_slice()),
+    }
+}
+
+/// Writes what a command is told, each line with its line feed; `old` says whether the command is
+/// told the old value of a signal.
+pub fn write_told(out: &mut String, policy: &Policy, old: bool, told: &Told) -> Result<(), AllocError>
+    ensures { OnOk result (string_bytes out.new ≡ string_bytes out.old ++ text_of_told policy.now old told.now) }
+{
+    match told {
+        Told::Core(Ok(answer)) => write_answer(out, policy, old, answer),
+        Told::Core(Err(refusal)) => {
+            write_refusal(out, refusal)?;
+            out.push_str("\n")
+        }
+        Told::Published(packet) => writeln!(out, "published {}", packet.0),
+        Told::Busy { ticket, read } => writeln!(out, "busy ticket {} read {read}", ticket.0),
+        Told::NotPublishable(ticket) => writeln!(out, "not publishable {}", ticket.0),
+        Told::NotAStep => out.push_str("refused 14 NotAStep\n"),
+        Told::Empty => out.push_str("empty\n"),
+        Told::Taken { packet, taken } => {
+            write_taken(out, *packet, taken)?;
+            out.push_str("\n")
+        }
+    }
+}

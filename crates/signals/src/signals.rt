@@ -1,0 +1,116 @@
+//! The values of all signals, by their numbers from 1.
+
+ghost use Rattle.signals.specs.Values.{after, meets, unknown_signal, value_of};
+ghost use Rattle.std.specs.Option.{ok_or, option_map};
+ghost use Rattle.std.specs.Prelude.{IfOk, MatchOption, length, ◌+◌, ◌<◌, ◌==◌, ◌≡◌, ◌⊎◌};
+
+use crate::operation::{Condition, SignalOp};
+use aql_packet::SignalHandle;
+use std::alloc::{AllocError, Global};
+use std::fmt;
+use std::marker::Model;
+
+/// The signals, numbered from 1 in their order. A contract sees the list of their values.
+#[derive(Drop, Debug)]
+pub struct Signals {
+    values: Vec<i64>,
+}
+
+/// No signal has the number: it is 0, or more than the count (refusal 1).
+#[derive(Clone, Copy, Debug, PartialEq, Eq)]
+pub struct UnknownSignal;
+
+impl Model for Signals {
+    ghost use Rattle.std.specs.Prelude.{List, ℤ};
+
+    ghost Value = { List ℤ };
+
+    ghost view = { λ signals. signals.values.items };
+}
+
+impl Signals {
+    /// Signals with these values, numbered from 1. Without memory for them there are none.
+    pub fn new(alloc: Global, values: &[i64]) -> Result<Signals, AllocError>
+        ensures { IfOk result (λ signals. signals ≡ values.now) }
+    {
+        Ok(Signals {
+            values: Vec::from_slice(alloc, values)?,
+        })
+    }
+
+    /// How many signals there are.
+    pub fn len(&self) -> usize
+        ensures { result ≡ length self.now }
+    {
+        self.values.len()
+    }
+
+    /// Whether there is no signal.
+    pub fn is_empty(&self) -> bool
+        ensures { result ≡ (length self.now == 0) }
+    {
+        self.values.is_empty()
+    }
+
+    /// A signal's value (PRM, signal load). It takes no memory.
+    pub fn load(&self, signal: SignalHandle) -> Result<i64, UnknownSignal>
+        ensures { result ≡ ok_or (value_of self.now signal.0) unknown_signal }
+    {
+        let Some(index) = index_of(signal, self.values.len()) else {
+            return Err(UnknownSignal);
+        };
+        Ok(self.values[index])
+    }
+
+    /// Changes a signal's value, and answers the old one. Where no signal has the number, all stay.
+    /// It takes no memory.
+    pub fn apply(&mut self, signal: SignalHandle, operation: SignalOp) -> Result<i64, UnknownSignal>
+        ensures old { result ≡ ok_or (value_of self.old signal.0) unknown_signal }
+        ensures values { self.new ≡ after self.old signal.0 operation }
+    {
+        let Some(index) = index_of(signal, self.values.len()) else {
+            return Err(UnknownSignal);
+        };
+        let old = self.values[index];
+        self.values[index] = operation.applied(old);
+        Ok(old)
+    }
+
+    /// Whether a signal's value meets a condition against another value. It takes no memory.
+    pub fn test(
+        &self,
+        signal: SignalHandle,
+        condition: Condition,
+        against: i64,
+    ) -> Result<bool, UnknownSignal>
+        ensures { result ≡ ok_or
+            (option_map (λ value. meets condition value against) (value_of self.now signal.0))
+            unknown_signal }
+    {
+        let value = self.load(signal)?;
+        Ok(condition.is_met(value, against))
+    }
+}
+
+// Where the signal's value stands among `count`, if it is one of them.
+fn index_of(signal: SignalHandle, count: usize) -> Option<usize>
+    ensures { MatchOption result ((signal.0 ≡ 0) ⊎ (count < signal.0))
+        (λ index. (signal.0 ≡ index + 1) × (index < count)) }
+{
+    if signal.0 == 0 || signal.0 > count as u64 {
+        return None;
+    }
+    Some((signal.0 - 1) as usize)
+}
+
+impl fmt::Display for UnknownSignal {
+    ghost use Rattle.std.specs.Prelude.{Some, codes};
+
+    ghost output = { λ _. Some (codes "UnknownSignal") };
+
+    fn fmt<W: fmt::Write>(&self, f: &mut fmt::Formatter<W>) -> fmt::Result {
+        f.write_str("UnknownSignal")
+    }
+}
+
+impl std::error::Error for UnknownSignal {}
