@@ -1,0 +1,4 @@
+pub mod Claims
+pub mod Holds
+pub mod Rules
+pub mod Ledger

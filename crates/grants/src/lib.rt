@@ -1,2 +1,13 @@
-//! To come.
+//! Grants: which rights are in force, and which packets hold them.
+
+// The check tries its tactics on what is left of each proof.
 #![tactic(auto)]
+
+mod claim;
+mod grants;
+mod hold;
+mod refusal;
+mod rules;
+
+pub use grants::Grants;
+pub use refusal::{GrantError, Refusal};

@@ -33,7 +33,7 @@ use Rattle.policy.specs.declared.row.Takes.{Takes}
 use Rattle.policy.specs.RightNames.{name_of_right}
 use Rattle.policy.specs.SectionNames.{name_of_section}
 use Rattle.policy.specs.KindNames.{name_of_kind}
-use Rattle.policy.specs.Object.{same_kind}
+use Rattle.policy.specs.Object.{same_kind, object_of}
 use Rattle.policy.specs.Rights.{all_rights, rights_that}
 use Rattle.policy.specs.Policy.{Name, Source, Declared, names, names_of, number_in}
 use Rattle.policy.specs.Reading.{◌>>=◌, or_fault, unless, fault_of_file, fault_in}
@@ -216,12 +216,6 @@ named_row known rest before row = do
 abbrev pub subject_of : List Name → Option Name → Option Subject
 subject_of clients None = Some subject.Any
 subject_of clients (Some name) = if nat_lt 0 (number_in clients name) then Some (subject.One (record { 0 = number_in clients name })) else None
-
-abbrev pub object_of : Kind → ℕ → Object
-object_of kind.Agent n = object.Agent (record { 0 = n })
-object_of kind.Region n = object.Region (record { 0 = n })
-object_of kind.Signal n = object.Signal (record { 0 = n })
-object_of kind.Kernel n = object.Kernel (record { 0 = n })
 
 abbrev pub target_of : Kind → List Name → Option Name → Option Target
 target_of on objects None = Some (target.Any on)

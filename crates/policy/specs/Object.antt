@@ -2,6 +2,10 @@
 use Rattle.std.specs.Prelude.{ℕ, Bool, true, false, ◌&&◌, ◌==◌}
 use Rattle.policy.specs.declared.object.Kind.{Kind}
 use Rattle.policy.specs.declared.object.Kind.TheVariants as kind
+use Rattle.aql_packet.specs.declared.ids.AgentHandle.{AgentHandle}
+use Rattle.aql_packet.specs.declared.ids.RegionHandle.{RegionHandle}
+use Rattle.aql_packet.specs.declared.ids.SignalHandle.{SignalHandle}
+use Rattle.aql_packet.specs.declared.ids.KernelObject.{KernelObject}
 use Rattle.policy.specs.declared.object.Object.{Object}
 use Rattle.policy.specs.declared.object.Object.TheVariants.{Agent, Region, Signal, Kernel}
 
@@ -30,3 +34,10 @@ same_kind _ _ = false
 -- the two objects are the same: of one kind, with one number
 abbrev pub same_object : Object → Object → Bool
 same_object a b = same_kind (kind_of a) (kind_of b) && (number_of a == number_of b)
+
+-- the object of a kind with a number
+abbrev pub object_of : Kind → ℕ → Object
+object_of kind.Agent n = Agent (record { 0 = n })
+object_of kind.Region n = Region (record { 0 = n })
+object_of kind.Signal n = Signal (record { 0 = n })
+object_of kind.Kernel n = Kernel (record { 0 = n })

@@ -5,6 +5,8 @@ ghost use Rattle.policy.specs.declared.fault.RowError.TheVariants as row;
 ghost use Rattle.policy.specs.declared.fault.ReadPolicyError.TheVariants as file;
 
 use std::alloc::{AllocError, AllocFailed};
+use std::error::Error;
+use std::fmt;
 
 /// The array of a policy file in which a fault lies.
 #[derive(Clone, Copy, Debug, PartialEq, Eq)]
@@ -70,6 +72,38 @@ pub enum Cause {
     TooMany,
 }
 
+impl Cause {
+    ghost use Rattle.policy.specs.FaultTexts.{number_of_cause, name_of_cause};
+
+    /// The cause's number.
+    pub fn number(self) -> u8
+        ensures { result ≡ number_of_cause self }
+    {
+        match self {
+            Cause::NotToml => 1,
+            Cause::MissingKey => 2,
+            Cause::BadValue => 3,
+            Cause::UnknownName => 4,
+            Cause::DoubleName => 5,
+            Cause::TooMany => 6,
+        }
+    }
+
+    /// The cause's name.
+    pub fn name(self) -> &'static str
+        ensures { result.now ≡ name_of_cause self }
+    {
+        match self {
+            Cause::NotToml => "NotToml",
+            Cause::MissingKey => "MissingKey",
+            Cause::BadValue => "BadValue",
+            Cause::UnknownName => "UnknownName",
+            Cause::DoubleName => "DoubleName",
+            Cause::TooMany => "TooMany",
+        }
+    }
+}
+
 /// A fault of a policy file: the first, in the order in which the format looks for them.
 #[derive(Clone, Copy, Debug, PartialEq, Eq)]
 pub struct PolicyFault {
@@ -95,6 +129,23 @@ impl PolicyFault {
         }
     }
 }
+
+/// It prints as `4 UnknownName allow 7`, and before the arrays as `1 NotToml`.
+impl fmt::Display for PolicyFault {
+    ghost use Rattle.policy.specs.FaultTexts.{text_of_fault};
+
+    ghost output = { λ fault. Some (text_of_fault fault) };
+
+    fn fmt<W: fmt::Write>(&self, f: &mut fmt::Formatter<W>) -> fmt::Result {
+        write!(f, "{} {}", self.cause.number(), self.cause.name())?;
+        match self.kind {
+            None => Ok(()),
+            Some(section) => write!(f, " {} {}", section.name(), self.row),
+        }
+    }
+}
+
+impl Error for PolicyFault {}
 
 /// Why a policy isn't read.
 #[derive(Clone, Copy, Debug, PartialEq, Eq)]

@@ -3,6 +3,7 @@
 // The check tries its tactics on what is left of each proof.
 #![tactic(auto)]
 
+mod coverage;
 mod fault;
 mod kernel_source;
 mod object;
@@ -12,9 +13,11 @@ mod rights;
 mod row;
 mod table;
 
+pub use coverage::rows_allow;
 pub use fault::{Cause, PolicyFault, ReadPolicyError, Section};
 pub use kernel_source::KernelSource;
 pub use object::{Kind, Object};
 pub use policy::Policy;
+pub use read::read_policy;
 pub use rights::{Right, Rights};
 pub use row::{AllowRow, Subject, Takes, Target};

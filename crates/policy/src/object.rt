@@ -1,6 +1,6 @@
 //! What rights are on.
 
-ghost use Rattle.std.specs.Prelude.{◌≡◌, Some};
+ghost use Rattle.std.specs.Prelude.{◌≡◌, ◌<◌, ◌^◌, Some};
 
 use aql_packet::{AgentHandle, KernelObject, RegionHandle, SignalHandle};
 use std::fmt;
@@ -61,7 +61,20 @@ pub enum Object {
 }
 
 impl Object {
-    ghost use Rattle.policy.specs.Object.{kind_of, number_of};
+    ghost use Rattle.policy.specs.Object.{kind_of, number_of, object_of};
+
+    /// The object of a kind with a number.
+    pub fn of(kind: Kind, number: u64) -> Object
+        requires { number < 2 ^ 32 }
+        ensures { result ≡ object_of kind number }
+    {
+        match kind {
+            Kind::Agent => Object::Agent(AgentHandle(number as u32)),
+            Kind::Region => Object::Region(RegionHandle(number as u32)),
+            Kind::Signal => Object::Signal(SignalHandle(number)),
+            Kind::Kernel => Object::Kernel(KernelObject(number)),
+        }
+    }
 
     /// The object's kind.
     pub fn kind(self) -> Kind

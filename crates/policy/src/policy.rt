@@ -1,19 +1,17 @@
 //! A policy: what exists, and which rights may be granted to whom.
 
-ghost use Rattle.std.specs.Prelude.{◌≡◌, ◌<◌, [], length, Some, IfSome};
+ghost use Rattle.std.specs.Prelude.{◌≡◌, ◌<◌, ◌≤◌, [], length, Some, IfSome};
 ghost use Rattle.std.specs.Option.{option_copied};
-ghost use Rattle.policy.specs.declared.rights.Right.{Right};
 ghost use Rattle.policy.specs.Object.{kind_of, number_of};
-ghost use Rattle.policy.specs.Policy.{names, numbered, number_in, names_of, name_in, count_of, takes_of, length_of, initial_of, source_of, declares_client, declares, allowed, allows};
-ghost use Rattle.policy.specs.Rights.{has};
+ghost use Rattle.policy.specs.Policy.{names, numbered, number_in, names_of, name_in, count_of, takes_of, length_of, initial_of, source_of, declares_client, declares, allows};
 
+use crate::coverage::rows_allow;
 use crate::kernel_source::KernelSource;
 use crate::object::{Kind, Object};
 use crate::rights::Rights;
 use crate::row::{AllowRow, Takes};
 use crate::table::Table;
 use aql_packet::{AgentHandle, ClientId, KernelObject, RegionHandle, SignalHandle};
-use bitflags::Flags;
 use sequences::Sequence;
 use std::alloc::Global;
 use std::marker::Model;
@@ -83,14 +81,16 @@ impl Policy {
 
     /// How many clients there are: at most 64.
     pub fn client_count(&self) -> usize
-        ensures { result ≡ length self.now.clients }
+        ensures count { result ≡ length self.now.clients }
+        ensures bound { result ≤ 1024 }
     {
         self.clients.len()
     }
 
     /// How many objects of a kind there are: at most 16 agents, 64 regions, 1,024 signals and 64 kernels.
     pub fn object_count(&self, kind: Kind) -> usize
-        ensures { result ≡ count_of self.now kind }
+        ensures count { result ≡ count_of self.now kind }
+        ensures bound { result ≤ 1024 }
     {
         match kind {
             Kind::Agent => self.agents.len(),
@@ -197,19 +197,6 @@ impl Policy {
     pub fn allows(&self, client: ClientId, object: Object, rights: Rights) -> bool
         ensures { result ≡ allows self.now client object rights }
     {
-        self.allowed(client, object).includes(rights)
-    }
-
-    // The rights that some row covers for the client and the object.
-    fn allowed(&self, client: ClientId, object: Object) -> Rights
-        ensures { (right : Right) → has result right ≡ allowed self.now client object right }
-    {
-        let mut covered = Rights::NONE;
-        for row in self.allows.as_slice() {
-            if row.covers(client, object) {
-                covered.insert(row.rights);
-            }
-        }
-        covered
+        rows_allow(self.allows.as_slice(), client, object, rights)
     }
 }

@@ -3,3 +3,5 @@ pub mod Commas
 pub mod Audit
 pub mod Splitting
 pub mod Reading
+pub mod Running
+pub mod Blocks

@@ -3,3 +3,7 @@ pub mod Entries
 pub mod Replies
 pub mod Words
 pub mod Lines
+pub mod Runs
+pub mod Faults
+pub mod Sessions
+pub mod Scripts

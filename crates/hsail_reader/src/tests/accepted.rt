@@ -3,7 +3,10 @@ use crate::Cause;
 use std::test::Fail;
 
 /// All types that words of this kind could name.
-const KINDS: &str = "b1 b8 b16 b32 b64 b128 u1 u8 u16 u32 u64 s1 s8 s16 s32 s64 f16 f32 f64 U32 x";
+const KINDS: [&str; 21] = [
+    "b1", "b8", "b16", "b32", "b64", "b128", "u1", "u8", "u16", "u32", "u64", "s1", "s8", "s16",
+    "s32", "s64", "f16", "f32", "f64", "U32", "x",
+];
 
 const INTEGERS: &str = "u32 s32 u64 s64";
 
@@ -67,7 +70,7 @@ fn sample_kernels_are_read(rt: HostRuntime) {
 #[test]
 fn each_row_takes_its_types_and_no_other(rt: HostRuntime) -> Result<(), Fail> {
     for (front, kinds, operands) in ROWS {
-        for kind in KINDS.split(' ') {
+        for kind in KINDS {
             let item = format!(in rt.alloc(); "{front}_{kind} {operands};")?;
             let text = with_item(rt.alloc(), item.as_str())?;
             let has = kinds.split(' ').any(|k| k == kind);

@@ -511,7 +511,7 @@ const TEXTS: [Row; 18] = [
     (
         "bad_header_word",
         "module &m:1:0:$small:$large:$near;",
-        (1, 15, Syntax),
+        (1, 15, Lexeme),
     ),
     ("bad_lexeme_first", "foo $", (1, 5, Lexeme)),
     ("bad_name", "module &1", (1, 8, Lexeme)),

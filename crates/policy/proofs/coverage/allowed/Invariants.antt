@@ -3,8 +3,8 @@ use Rattle.std.specs.List.{list_any}
 use Rattle.policy.specs.declared.rights.Right.{Right}
 use Rattle.policy.specs.Policy.{covers}
 use Rattle.policy.specs.Rights.{has}
-use Rattle.policy.proofs.policy.Policy.allowed.Given as goal
+use Rattle.policy.proofs.coverage.allowed.Given as goal
 
 -- so far the set has the rights that some earlier row covers
 abbrev pub invariant-loop-row : goal.invariant-loop-row
-invariant-loop-row l = (right : Right) → has l.covered right ≡ list_any (covers l.client l.object right) (take l.row-index l.row-items)
+invariant-loop-row l = (right : Right) → has l.covered right ≡ list_any (covers l.client l.object right) (take l.row-index l.rows)

@@ -1,0 +1,111 @@
+//! Rights that packets hold, kept as a list.
+
+ghost use Rattle.std.specs.Prelude.{◌≡◌, ◌+◌, ◌≤◌, ◌++◌, ◌⊎◌, ◌&&◌, not, filter, map, length, vec_len, vec_capacity};
+ghost use Rattle.grants.specs.Claims.{same_pair};
+ghost use Rattle.grants.specs.Holds.{is_of, hold_of, meet, holds_one, IsUpTo, IsFirstTo};
+
+use aql_packet::{ClientId, PacketId, QueueId};
+use policy::{Object, Right, Rights};
+
+/// Rights on an object that a packet holds.
+#[derive(Clone, Copy, Debug, PartialEq, Eq)]
+pub struct Hold {
+    /// The packet's queue.
+    pub queue: QueueId,
+    /// The packet.
+    pub packet: PacketId,
+    /// The client of the queue.
+    pub client: ClientId,
+    /// What the rights are on.
+    pub object: Object,
+    /// The rights.
+    pub rights: Rights,
+}
+
+impl Hold {
+    fn is_of(&self, queue: QueueId, packet: PacketId) -> bool
+        ensures { result ≡ is_of queue packet self.now }
+    {
+        self.queue == queue && self.packet == packet
+    }
+
+    // Whether it is on one of the client's rights on the object.
+    fn blocks(&self, client: ClientId, object: Object, rights: Rights) -> bool
+        ensures { result ≡ (same_pair client object self.now.client self.now.object && meet rights self.now.rights) }
+    {
+        client == self.client && object == self.object && meet(rights, self.rights)
+    }
+}
+
+// Whether two sets have a right in common.
+fn meet(a: Rights, b: Rights) -> bool
+    ensures { result ≡ meet a b }
+{
+    Right::ALL
+        .iter()
+        .any(|right| a.has(*right) && b.has(*right))
+}
+
+/// Puts a packet's holds behind the others.
+pub fn push_holds(
+    holds: &mut Vec<Hold>,
+    queue: QueueId,
+    packet: PacketId,
+    client: ClientId,
+    rights: &[(Object, Rights)],
+)
+    requires { vec_len holds.old + length rights.now ≤ vec_capacity holds.old }
+    ensures { holds.new.items ≡ holds.old.items ++ map (hold_of queue packet client) rights.now }
+{
+    for (object, rights) in rights {
+        holds.push_reserved(Hold {
+            queue,
+            packet,
+            client,
+            object: *object,
+            rights: *rights,
+        });
+    }
+}
+
+/// Takes a packet's holds out of the list.
+pub fn drop_holds(holds: &mut Vec<Hold>, queue: QueueId, packet: PacketId)
+    ensures { holds.new.items ≡ filter (λ hold. not (is_of queue packet hold)) holds.old.items }
+{
+    holds.retain(|hold| !hold.is_of(queue, packet));
+}
+
+// Of two packets the first: by queue, and then by id.
+fn first_of(a: (QueueId, PacketId), b: (QueueId, PacketId)) -> (QueueId, PacketId)
+    ensures either { (result ≡ a) ⊎ (result ≡ b) }
+    ensures up_to_a { IsUpTo result.0 result.1 a.0 a.1 }
+    ensures up_to_b { IsUpTo result.0 result.1 b.0 b.1 }
+{
+    if a.0.0 < b.0.0 || (a.0.0 == b.0.0 && a.1.0 <= b.1.0) {
+        a
+    } else {
+        b
+    }
+}
+
+/// The first packet that holds one of the client's rights on the object, if any does.
+pub fn first_holder(
+    holds: &[Hold],
+    client: ClientId,
+    object: Object,
+    rights: Rights,
+) -> Option<(QueueId, PacketId)>
+    ensures { IsFirstTo (holds_one holds.now client object rights) result }
+{
+    let mut first = None;
+    for hold in holds {
+        if hold.blocks(client, object, rights) {
+            let packet = (hold.queue, hold.packet);
+            first = Some(match first {
+                Some(other) => first_of(other, packet),
+                None => packet,
+            });
+        }
+    }
+    first
+}

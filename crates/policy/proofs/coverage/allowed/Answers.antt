@@ -1,0 +1,12 @@
+use Rattle.std.proofs.Common.{◌≡◌, Bool, true, false, sym, ap, ◌∙◌, refl, arith}
+use Rattle.policy.specs.Rights.{has}
+use Rattle.policy.proofs.CoverLemmas.{covered_more, covered_same}
+use Rattle.policy.proofs.coverage.allowed.Goals as goal
+use Rattle.policy.proofs.coverage.allowed.Goals.{then-covers, else-covers}
+
+pub loop-row-preserved : goal.loop-row-preserved
+loop-row-preserved c = λ right.
+    elim c.if-covers.branch [
+      | then-covers w ↦ covered_more c.args.client c.args.object right c.args.rows.now c.loop-row.row-index _ (omega arith) c.loop-row.covered c.if-covers.covered (c.loop-row.invariant right) (sym c.covers.ensures ∙ w.if-covers.true) (ap (λ r. r.0) w.covered-is ∙ w.insert.ensures tt)
+      | else-covers w ↦ covered_same c.args.client c.args.object right c.args.rows.now c.loop-row.row-index _ (omega arith) c.loop-row.covered c.if-covers.covered (c.loop-row.invariant right) (sym c.covers.ensures ∙ w.if-covers.false) w.covered-is
+    ]

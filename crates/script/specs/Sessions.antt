@@ -1,0 +1,82 @@
+-- What a run in its course has done.
+use Rattle.std.specs.Prelude.{ℕ, ◌≡◌, ◌+◌, ◌<◌, ◌≤◌, List, [], ◌∷◌, ◌++◌, length, Option, Some, None, Result, string_bytes}
+use Rattle.std.specs.Io.KnownBytes.{Appends}
+use Rattle.script.specs.declared.fault.ScriptFault.{ScriptFault}
+use Rattle.script.specs.declared.fault.ScriptFault.TheVariants.{OutOfMemory, BadLine, Read, Write}
+use Rattle.script.specs.declared.session.Session.{Session}
+use Rattle.script.specs.Words.{kept}
+use Rattle.script.specs.Lines.{line_of}
+use Rattle.script.specs.Runs.{Law, Runs, Replied, ServedAtMostOne, lines_from, lines_of}
+
+-- the bytes of the line that is begun
+abbrev pub begun : Session → List ℕ
+begun session = session.line.items
+
+-- the replies that were not handed over yet
+abbrev pub pending : Session → List ℕ
+pending session = string_bytes session.out
+
+-- bytes were taken: the lines that ended in them are done, and their replies wait
+pub record Took {S : Type 0} (law : Law S) (old new : S) (before after : Session) (bytes : List ℕ) : Type 0 where
+  pub done : List (List ℕ)
+  pub text : List ℕ
+  pub lines : (more : List ℕ) → lines_from (begun before) (bytes ++ more) ≡ done ++ lines_from (begun after) more
+  pub runs : Runs law old done text new
+  pub out : pending after ≡ pending before ++ text
+  pub number : after.number ≡ before.number + length done
+  pub few : length done ≤ length bytes
+
+-- a line of some lines has no form
+abbrev pub HasBadLine : {S : Type 0} → Law S → S → List (List ℕ) → List (List ℕ) → Type 0
+HasBadLine law broker done lines = (line : List ℕ) × (further : List (List ℕ)) × (lines ≡ done ++ line ∷ further) × (line_of (law.names broker) line ≡ None)
+
+-- some lines begin with others
+abbrev pub BeginsWith : List (List ℕ) → List (List ℕ) → Type 0
+BeginsWith done lines = (further : List (List ℕ)) × (lines ≡ done ++ further)
+
+-- why some lines could not all be served, after those done; `number` is the first one's
+abbrev pub Why : {S : Type 0} → Law S → S → S → ℕ → List (List ℕ) → List (List ℕ) → ScriptFault → Type 0
+Why law mid new number done lines (BadLine bad) = (bad ≡ number + length done) × (new ≡ mid) × HasBadLine law new done lines
+Why law mid new number done lines OutOfMemory = ServedAtMostOne law mid new × BeginsWith done lines
+Why law mid new number done lines Read = ⊥
+Why law mid new number done lines Write = ⊥
+
+-- the lines that come when further bytes follow some, or when none follow the line that is begun
+abbrev pub with_further : Session → List ℕ → List ℕ → List (List ℕ)
+with_further session bytes more = lines_from (begun session) (bytes ++ more)
+
+abbrev pub at_end : Session → List ℕ → List (List ℕ)
+at_end session more = kept (begun session) []
+
+-- lines could not all be served: the replies of those done before wait
+pub record Failed {S : Type 0} (law : Law S) (old new : S) (before after : Session) (lines : List ℕ → List (List ℕ)) (fault : ScriptFault) : Type 0 where
+  pub done : List (List ℕ)
+  pub text : List ℕ
+  pub mid : S
+  pub runs : Runs law old done text mid
+  pub out : pending after ≡ pending before ++ text
+  pub why : (more : List ℕ) → Why law mid new before.number done (lines more) fault
+
+-- the end was taken: the line that was begun is done
+pub record Ended {S : Type 0} (law : Law S) (old new : S) (before after : Session) : Type 0 where
+  pub text : List ℕ
+  pub runs : Runs law old (kept (begun before) []) text new
+  pub out : pending after ≡ pending before ++ text
+
+-- the line that was begun is served, and the next one begins
+pub record EndedLine {S : Type 0} (law : Law S) (old new : S) (before after : Session) : Type 0 where
+  pub reply : List ℕ
+  pub replied : Replied law old (begun before) reply new
+  pub out : pending after ≡ pending before ++ reply
+  pub line : begun after ≡ []
+  pub number : after.number ≡ before.number + 1
+
+-- the line that was begun could not be served
+abbrev pub WhyLine : {S : Type 0} → Law S → S → S → Session → ScriptFault → Type 0
+WhyLine law old new before (BadLine bad) = (bad ≡ before.number) × (new ≡ old) × (line_of (law.names old) (begun before) ≡ None)
+WhyLine law old new before OutOfMemory = ServedAtMostOne law old new
+WhyLine law old new before Read = ⊥
+WhyLine law old new before Write = ⊥
+
+abbrev pub FailedLine : {S : Type 0} → Law S → S → S → Session → Session → ScriptFault → Type 0
+FailedLine law old new before after fault = (pending after ≡ pending before) × WhyLine law old new before fault

@@ -1,0 +1,55 @@
+//! Why a run ended early.
+
+use std::alloc::{AllocError, AllocFailed};
+
+/// Why a run of a script ended early.
+#[derive(Clone, Copy, Debug, PartialEq, Eq)]
+pub enum ScriptFault {
+    /// The engine wanted memory, and none was to be had.
+    OutOfMemory,
+    /// The line of this number, from 1, is too long or of no form.
+    BadLine(u64),
+    /// The reader failed, or 2^40 reads were made.
+    Read,
+    /// The writer failed.
+    Write,
+}
+
+impl ScriptFault {
+    ghost use Rattle.std.specs.Prelude.{◌≡◌};
+    ghost use Rattle.script.specs.Faults.{number_of_fault};
+
+    /// The fault's number.
+    pub fn number(&self) -> u8
+        ensures { result ≡ number_of_fault self.now }
+    {
+        match self {
+            ScriptFault::OutOfMemory => 0,
+            ScriptFault::BadLine(_) => 1,
+            ScriptFault::Read => 2,
+            ScriptFault::Write => 3,
+        }
+    }
+}
+
+impl From<AllocError> for ScriptFault {
+    ghost use Rattle.std.specs.Prelude.{◌≡◌};
+    ghost use Rattle.script.specs.declared.fault.ScriptFault.TheVariants.{OutOfMemory};
+
+    ghost from_gives = { λ error result. result ≡ OutOfMemory };
+
+    fn from(_: AllocError) -> ScriptFault {
+        ScriptFault::OutOfMemory
+    }
+}
+
+impl From<AllocFailed<u8>> for ScriptFault {
+    ghost use Rattle.std.specs.Prelude.{◌≡◌};
+    ghost use Rattle.script.specs.declared.fault.ScriptFault.TheVariants.{OutOfMemory};
+
+    ghost from_gives = { λ error result. result ≡ OutOfMemory };
+
+    fn from(_: AllocFailed<u8>) -> ScriptFault {
+        ScriptFault::OutOfMemory
+    }
+}

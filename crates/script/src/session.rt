@@ -1,0 +1,85 @@
+//! A script in the course of its run: bytes are taken as they come, and each line that ends is served.
+
+ghost use Rattle.std.specs.Prelude.{◌≡◌, ◌∷◌, [], ◌+◌, ◌<◌, ◌^◌, MatchResult, length, slice_index};
+ghost use Rattle.script.specs.Runs.{law_of};
+ghost use Rattle.script.specs.Sessions.{Took, Failed, Ended, EndedLine, FailedLine, with_further, at_end};
+
+use crate::command::Broker;
+use crate::engine::answer;
+use crate::fault::ScriptFault;
+use crate::lines::LONGEST_LINE;
+use std::alloc::Global;
+
+/// What a run keeps between bytes.
+#[derive(Drop)]
+pub struct Session {
+    /// The bytes of the line that is begun.
+    pub line: Vec<u8>,
+    /// That line's number, from 1.
+    pub number: u64,
+    /// The replies that were not handed over yet.
+    pub out: String,
+}
+
+// Serves the line that ends here.
+fn end_line<B: Broker>(alloc: Global, broker: &mut B, session: &mut Session) -> Result<(), ScriptFault>
+    requires { session.old.number + 1 < 2 ^ 64 }
+    ensures { MatchResult result
+        (λ _. EndedLine (law_of B.serves B.names) broker.old broker.new session.old session.new)
+        (FailedLine (law_of B.serves B.names) broker.old broker.new session.old session.new) }
+{
+    if !answer(alloc, broker, session.line.as_slice(), &mut session.out)? {
+        return Err(ScriptFault::BadLine(session.number));
+    }
+    session.line.clear();
+    session.number += 1;
+    Ok(())
+}
+
+// Takes a byte of the script.
+fn take_byte<B: Broker>(alloc: Global, broker: &mut B, session: &mut Session, byte: u8) -> Result<(), ScriptFault>
+    requires { session.old.number + 1 < 2 ^ 64 }
+    ensures { MatchResult result
+        (λ _. Took (law_of B.serves B.names) broker.old broker.new session.old session.new (byte ∷ []))
+        (Failed (law_of B.serves B.names) broker.old broker.new session.old session.new (with_further session.old (byte ∷ []))) }
+{
+    if byte == b'\n' {
+        return end_line(alloc, broker, session);
+    }
+    if session.line.len() >= LONGEST_LINE {
+        return Err(ScriptFault::BadLine(session.number));
+    }
+    session.line.push(byte)?;
+    Ok(())
+}
+
+/// Takes further bytes of the script.
+pub fn take_bytes<B: Broker>(
+    alloc: Global,
+    broker: &mut B,
+    session: &mut Session,
+    bytes: &[u8],
+) -> Result<(), ScriptFault>
+    requires { session.old.number + length bytes.now < 2 ^ 64 }
+    ensures { MatchResult result
+        (λ _. Took (law_of B.serves B.names) broker.old broker.new session.old session.new bytes.now)
+        (Failed (law_of B.serves B.names) broker.old broker.new session.old session.new (with_further session.old bytes.now)) }
+{
+    for byte in bytes {
+        take_byte(alloc, broker, session, *byte)?;
+    }
+    Ok(())
+}
+
+/// Takes the end of the script: a line that is begun ends there.
+pub fn take_end<B: Broker>(alloc: Global, broker: &mut B, session: &mut Session) -> Result<(), ScriptFault>
+    requires { session.old.number + 1 < 2 ^ 64 }
+    ensures { MatchResult result
+        (λ _. Ended (law_of B.serves B.names) broker.old broker.new session.old session.new)
+        (Failed (law_of B.serves B.names) broker.old broker.new session.old session.new (at_end session.old)) }
+{
+    if session.line.is_empty() {
+        return Ok(());
+    }
+    end_line(alloc, broker, session)
+}
