@@ -1,0 +1,14 @@
+pub mod Granted
+pub mod Told
+pub mod Owing
+pub mod Judged
+pub mod QueueShown
+pub mod Moves
+pub mod Reachable
+pub mod Deciding
+pub mod Kept
+pub mod Opening
+pub mod Lookups
+pub mod ToldQueries
+pub mod Listed
+pub mod ToldWork

@@ -1,2 +1,12 @@
-//! To come.
+//! The broker's core: every call of clients, administrators and packet processors, decided one at a
+//! time, with an audit of all that was done.
+
+// The check tries its tactics on what is left of each proof.
 #![tactic(auto)]
+
+mod access;
+mod granted;
+mod queue;
+mod verdict;
+
+pub use access::{AccessCore, OpenFault};

@@ -32,12 +32,12 @@ abbrev pub is_packet : QueueId → PacketId → InFlight → Bool
 is_packet queue id flying = flying.queue.0 == queue.0 && flying.id.0 == id.0
 
 -- a packet as it is when it is launched: none of its groups has run, and none of its dependencies was seen
-abbrev pub launched : QueueId → PacketId → Packet → InFlight
-launched queue id packet = record { queue = queue; id = id; packet = packet; groups_run = 0; seen = none_seen }
+abbrev pub as_launched : QueueId → PacketId → Packet → InFlight
+as_launched queue id packet = record { queue = queue; id = id; packet = packet; groups_run = 0; seen = none_seen }
 
 -- the packets in flight with one more, if there is a packet
 abbrev pub with_launched : List InFlight → QueueId → PacketId → Option Packet → List InFlight
-with_launched before queue id (Some packet) = before ++ launched queue id packet ∷ []
+with_launched before queue id (Some packet) = before ++ as_launched queue id packet ∷ []
 with_launched before queue id None = before
 
 -- a packet after one more of its groups ran, if it is the one named
@@ -67,7 +67,7 @@ abbrev pub flight_after : List InFlight → Entry → List InFlight
 flight_after before entry = fold flight_after_effect (flight_moved before entry.event entry.outcome) entry.effects
 
 -- the packets in flight, in the order in which they were launched
-abbrev pub flight : Start → List Entry → List InFlight
+unfoldable pub flight : Start → List Entry → List InFlight
 flight start entries = fold flight_after [] entries
 
 -- the packet in flight with this queue and id, if there is one

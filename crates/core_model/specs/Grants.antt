@@ -30,7 +30,7 @@ in_force_after client object right before (HostWrite _ _ _) = before
 in_force_after client object right before (ChangeSignal _ _ _) = before
 
 -- whether a client's right on an object is in force: a grant gave it, and no later revocation took it (own)
-abbrev pub in_force : Start → List Entry → ClientId → Object → Right → Bool
+unfoldable pub in_force : Start → List Entry → ClientId → Object → Right → Bool
 in_force start entries client object right = fold (λ before entry. in_force_after client object right before entry.event) false entries
 
 -- the rights that a client has in force on an object (own)

@@ -16,5 +16,5 @@ pub record History : Type 0 where
   pub entries : List Entry
 
 -- all changes that entries made, in order (own)
-abbrev pub effects_of : List Entry → List Effect
+unfoldable pub effects_of : List Entry → List Effect
 effects_of entries = flat_map (λ entry. entry.effects) entries

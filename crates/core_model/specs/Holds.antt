@@ -27,7 +27,7 @@ use Rattle.core_model.specs.declared.flight.InFlight.{InFlight}
 use Rattle.core_model.specs.History.{Start}
 use Rattle.core_model.specs.Queues.{Opening, owner}
 use Rattle.core_model.specs.Flight.{flight}
-use Rattle.core_model.specs.LaunchRules.{reach, Reach, dependencies, completion}
+use Rattle.core_model.specs.LaunchRules.{ranges, Range, dependencies, completion}
 
 -- one right on one object
 abbrev pub Held : Type 0
@@ -43,13 +43,13 @@ held_signals needed [] = []
 held_signals needed (signal ∷ others) = held_signal needed signal ++ held_signals needed others
 
 -- a right on the region of a range
-abbrev pub held_range : Reach → Held
+abbrev pub held_range : Range → Held
 held_range r = (object.Region (record { 0 = region_of r.address }), r.right)
 
 -- what a packet holds beside its agent and its completion signal: an agent dispatch the regions that it reaches,
 -- a barrier packet its dependencies (own)
 abbrev pub held_by_kind : Packet → List Held
-held_by_kind (packet.Agent dispatch) = map held_range (reach dispatch)
+held_by_kind (packet.Agent dispatch) = map held_range (ranges dispatch)
 held_by_kind (packet.Kernel _) = []
 held_by_kind (packet.BarrierAnd barrier) = held_signals right.Wait barrier.dependencies
 held_by_kind (packet.BarrierOr barrier) = held_signals right.Wait barrier.dependencies
@@ -108,13 +108,13 @@ abbrev pub comes_before : InFlight → Holder → Bool
 comes_before f h = nat_lt f.queue.0 h.queue.0 || (f.queue.0 == h.queue.0 && nat_lt f.id.0 h.packet.0)
 
 -- a packet's name
-abbrev pub name_of : InFlight → Holder
-name_of f = record { queue = f.queue; packet = f.id }
+abbrev pub as_holder : InFlight → Holder
+as_holder f = record { queue = f.queue; packet = f.id }
 
 -- the lesser of what was found and one packet more
 abbrev pub least_of : Option Holder → InFlight → Option Holder
-least_of None f = Some (name_of f)
-least_of (Some h) f = if comes_before f h then Some (name_of f) else Some h
+least_of None f = Some (as_holder f)
+least_of (Some h) f = if comes_before f h then Some (as_holder f) else Some h
 
 -- of all packets that hold one of these rights, the one with the least queue, then the least id
 abbrev pub holder : Start → List Entry → ClientId → Object → Rights → Option Holder

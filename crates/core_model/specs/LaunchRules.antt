@@ -36,7 +36,7 @@ pub record Facts : Type 0 where
   pub lengths : List ℕ
 
 -- a range of addresses that a dispatch reaches, and the right that it needs there (own)
-pub record Reach : Type 0 where
+pub record Range : Type 0 where
   pub address : ℕ
   pub size : ℕ
   pub right : Right
@@ -56,29 +56,29 @@ abbrev pub argument : AgentDispatch → ℕ → ℕ
 argument dispatch k = slice_index dispatch.arguments k
 
 -- what a function reaches: FILL the bytes that it writes, COPY its source and its target, ADD64 its number (own)
-abbrev pub function_reach : AgentDispatch → List Reach
-function_reach dispatch =
+abbrev pub function_ranges : AgentDispatch → List Range
+function_ranges dispatch =
     if dispatch.function == FILL then record { address = argument dispatch 0; size = argument dispatch 1; right = Write } ∷ []
     else if dispatch.function == COPY then
-      record { address = argument dispatch 0; size = argument dispatch 2; right = Read }
-      ∷ record { address = argument dispatch 1; size = argument dispatch 2; right = Write } ∷ []
+    record { address = argument dispatch 0; size = argument dispatch 2; right = Read }
+    ∷ record { address = argument dispatch 1; size = argument dispatch 2; right = Write } ∷ []
     else if dispatch.function == ADD64 then
-      record { address = argument dispatch 0; size = 8; right = Read }
-      ∷ record { address = argument dispatch 0; size = 8; right = Write } ∷ []
+    record { address = argument dispatch 0; size = 8; right = Read }
+    ∷ record { address = argument dispatch 0; size = 8; right = Write } ∷ []
     else []
 
 -- where a dispatch's result goes: 8 bytes at its return address, unless that is 0 (own)
-abbrev pub result_reach : AgentDispatch → List Reach
-result_reach dispatch =
+abbrev pub result_range : AgentDispatch → List Range
+result_range dispatch =
     if dispatch.return_address.0 == 0 then [] else record { address = dispatch.return_address.0; size = 8; right = Write } ∷ []
 
 -- all that an agent dispatch reaches; an empty range needs no right and is left out (own)
-abbrev pub reach : AgentDispatch → List Reach
-reach dispatch = filter (λ r. not (r.size == 0)) (function_reach dispatch ++ result_reach dispatch)
+abbrev pub ranges : AgentDispatch → List Range
+ranges dispatch = filter (λ r. not (r.size == 0)) (function_ranges dispatch ++ result_range dispatch)
 
 -- whether a range lies whole in one region on which the right is in force (own)
-abbrev pub may_reach : Facts → Reach → Bool
-may_reach facts r = is_within facts.lengths r.address r.size && facts.in_force (object.Region (record { 0 = region_of r.address })) r.right
+abbrev pub may_use_range : Facts → Range → Bool
+may_use_range facts r = is_within facts.lengths r.address r.size && facts.in_force (object.Region (record { 0 = region_of r.address })) r.right
 
 -- the null signal needs no right; another needs it in force (own)
 abbrev pub may_signal : Facts → Right → SignalHandle → Bool
@@ -92,18 +92,18 @@ is_taken takes (packet.BarrierAnd _) = true
 is_taken takes (packet.BarrierOr _) = true
 
 -- an agent dispatch names a known function (own)
-abbrev pub is_known_function : Packet → Bool
-is_known_function (packet.Agent dispatch) = dispatch.function == FILL || dispatch.function == COPY || dispatch.function == ADD64
-is_known_function (packet.Kernel _) = true
-is_known_function (packet.BarrierAnd _) = true
-is_known_function (packet.BarrierOr _) = true
+abbrev pub names_known_function : Packet → Bool
+names_known_function (packet.Agent dispatch) = dispatch.function == FILL || dispatch.function == COPY || dispatch.function == ADD64
+names_known_function (packet.Kernel _) = true
+names_known_function (packet.BarrierAnd _) = true
+names_known_function (packet.BarrierOr _) = true
 
--- an agent dispatch may reach all that it reaches (own)
-abbrev pub may_reach_all : Facts → Packet → Bool
-may_reach_all facts (packet.Agent dispatch) = list_all (may_reach facts) (reach dispatch)
-may_reach_all facts (packet.Kernel _) = true
-may_reach_all facts (packet.BarrierAnd _) = true
-may_reach_all facts (packet.BarrierOr _) = true
+-- an agent dispatch may use all ranges that it reaches (own)
+abbrev pub may_use_ranges : Facts → Packet → Bool
+may_use_ranges facts (packet.Agent dispatch) = list_all (may_use_range facts) (ranges dispatch)
+may_use_ranges facts (packet.Kernel _) = true
+may_use_ranges facts (packet.BarrierAnd _) = true
+may_use_ranges facts (packet.BarrierOr _) = true
 
 -- the signals that a packet depends on
 abbrev pub dependencies : Packet → List SignalHandle
@@ -125,10 +125,10 @@ holds_rule facts bytes p L1 = passes codec.L1 bytes
 holds_rule facts bytes p L2 = passes codec.L2 bytes
 holds_rule facts bytes p L3 = passes codec.L3 bytes
 holds_rule facts bytes p L4 = facts.in_force (object.Agent facts.agent) Use && is_taken facts.takes p
-holds_rule facts bytes p L5 = is_known_function p
+holds_rule facts bytes p L5 = names_known_function p
 holds_rule facts bytes p L6 = true
 holds_rule facts bytes p L7 = true
-holds_rule facts bytes p L8 = may_reach_all facts p
+holds_rule facts bytes p L8 = may_use_ranges facts p
 holds_rule facts bytes p L9 = list_all (may_signal facts Wait) (dependencies p)
 holds_rule facts bytes p L10 = may_signal facts Change (completion p)
 holds_rule facts bytes p A1 = true

@@ -1,6 +1,9 @@
 -- Which histories are legal, and what a list of requests is owed in turn.
-use Rattle.std.specs.Prelude.{ℕ, ◌+◌, ◌≡◌, ◌⊎◌, Bool, List, [], ◌∷◌, ◌++◌, length, nat_lt, Result, Ok, Err, if◌then◌else◌}
+use Rattle.std.specs.Prelude.{ℕ, ◌+◌, ◌≡◌, ◌≤◌, ◌⊎◌, Bool, true, false, List, [], ◌∷◌, ◌++◌, length, nat_lt, Result, Ok, Err, if◌then◌else◌}
 use Rattle.core_model.specs.declared.event.Event.{Event}
+use Rattle.core_model.specs.declared.event.Event.TheVariants.{Grant, Revoke, OpenQueue, Stop, Take, RunNext, Poll, Finish, HostWrite, ChangeSignal}
+use Rattle.core_model.specs.declared.event.Query.{Query}
+use Rattle.core_model.specs.declared.event.Query.TheVariants as query
 use Rattle.core_model.specs.declared.event.Request.{Request}
 use Rattle.core_model.specs.declared.event.Request.TheVariants as request
 use Rattle.core_model.specs.declared.entry.Entry.{Entry}
@@ -10,10 +13,19 @@ use Rattle.core_model.specs.declared.answer.Answer.{Answer}
 use Rattle.core_model.specs.declared.answer.Answer.TheVariants as answer
 use Rattle.core_model.specs.declared.refusal.Refusal.{Refusal}
 use Rattle.core_model.specs.declared.refusal.Refusal.TheVariants as refusal
+use Rattle.policy.specs.Policy.{Declared}
 use Rattle.core_model.specs.History.{Start, History}
 use Rattle.core_model.specs.Flight.{flight}
 use Rattle.core_model.specs.Owed.{Owed, refuses, answers, enters, owed}
 use Rattle.core_model.specs.Queries.{replied}
+
+-- the history of a core that was just opened: no entry yet (own)
+abbrev pub opened : Declared → ℕ → History
+opened policy capacity = record { start = record { policy = policy }; capacity = capacity; entries = [] }
+
+-- whether an audit has room for an entry of each packet in flight (own)
+abbrev pub HasRoom : History → Type 0
+HasRoom history = length history.entries + length (flight history.start history.entries) ≤ history.capacity
 
 -- the entries follow each other lawfully after those before: each is what its event was owed at that point (own)
 abbrev pub IsLegalAfter : Start → List Entry → List Entry → Type 0
@@ -45,15 +57,15 @@ within_room history event (enters outcome effects) =
     if lacks_room history.capacity history.start (with_entry history.entries event outcome effects) then refuses refusal.AuditFull
     else enters outcome effects
 
--- what is due to an event
+-- what is due to an event: what it is owed, or that the audit has no room for its entry
 abbrev pub due : History → Event → Owed
 due history event = within_room history event (owed history.start history.entries event)
 
 -- the reply to an event that is owed this
-abbrev pub told_of : Owed → Result Outcome Refusal
-told_of (refuses why) = Err why
-told_of (answers outcome) = Ok outcome
-told_of (enters outcome effects) = Ok outcome
+abbrev pub reply_of : Owed → Result Outcome Refusal
+reply_of (refuses why) = Err why
+reply_of (answers outcome) = Ok outcome
+reply_of (enters outcome effects) = Ok outcome
 
 -- the entries after an event that is owed this
 abbrev pub entries_after : List Entry → Event → Owed → List Entry
@@ -67,17 +79,43 @@ history_after history event owing = record history { entries = entries_after his
 
 -- an event got what was due, and left what was due (own)
 pub record Meets (event : Event) (old new : History) (reply : Result Outcome Refusal) : Type 0 where
-  pub reply_is : reply ≡ told_of (due old event)
+  pub reply_is : reply ≡ reply_of (due old event)
   pub history_is : new ≡ history_after old event (due old event)
 
+-- whether an event that is owed this may want memory: a revocation, a stop, a completion and a change of a signal never do,
+-- nor does a packet that waits (own)
+abbrev pub may_lack : Event → Owed → Bool
+may_lack (Revoke _ _ _) owing = false
+may_lack (Stop _) owing = false
+may_lack (Finish _ _) owing = false
+may_lack (ChangeSignal _ _ _) owing = false
+may_lack (Take _ _ _) (answers _) = false
+may_lack (Take _ _ _) (refuses _) = true
+may_lack (Take _ _ _) (enters _ _) = true
+may_lack (Grant _ _ _) owing = true
+may_lack (OpenQueue _ _ _) owing = true
+may_lack (RunNext _ _) owing = true
+may_lack (Poll _ _) owing = true
+may_lack (HostWrite _ _ _) owing = true
+
 -- memory was wanted and not to be had, and all is as before (own)
-pub record Lacks (old new : History) (reply : Result Outcome Refusal) : Type 0 where
+pub record Lacks (event : Event) (old new : History) (reply : Result Outcome Refusal) : Type 0 where
+  pub may : may_lack event (due old event) ≡ true
   pub reply_is : reply ≡ Err refusal.OutOfMemory
   pub history_is : new ≡ old
 
 -- an event got and left what was due, unless memory was wanted
 abbrev pub MeetsOrLacks : Event → History → History → Result Outcome Refusal → Type 0
-MeetsOrLacks event old new reply = Meets event old new reply ⊎ Lacks old new reply
+MeetsOrLacks event old new reply = Meets event old new reply ⊎ Lacks event old new reply
+
+-- whether a query may want memory: to look at a signal never does (own)
+abbrev pub query_may_lack : Query → Bool
+query_may_lack (query.HostRead _ _ _) = true
+query_may_lack (query.LoadSignal _ _) = false
+query_may_lack (query.TestSignal _ _ _ _) = false
+query_may_lack (query.List _) = true
+query_may_lack (query.Errors _) = true
+query_may_lack query.Audit = true
 
 -- the reply to a request
 abbrev pub Replying : Type 0
@@ -90,13 +128,25 @@ as_reply (Err why) = Err why
 
 -- the reply that is due to a request
 abbrev pub reply_due : History → Request → Replying
-reply_due history (request.Event event) = as_reply (told_of (due history event))
-reply_due history (request.Query query) = replied history.start history.entries query
+reply_due history (request.Event event) = as_reply (reply_of (due history event))
+reply_due history (request.Query asked) = replied history.start history.entries asked
+
+-- a query got its answer, or its refusal, and changed nothing; where it may want memory it may be told so
+abbrev pub Replies : Query → History → Replying → Type 0
+Replies asked history reply = reply ≡ replied history.start history.entries asked
+
+abbrev pub RepliesOrLacks : Query → History → Replying → Type 0
+RepliesOrLacks asked history reply = Replies asked history reply ⊎ ((query_may_lack asked ≡ true) × (reply ≡ Err refusal.OutOfMemory))
+
+-- whether a request may want memory
+abbrev pub request_may_lack : History → Request → Bool
+request_may_lack history (request.Event event) = may_lack event (due history event)
+request_may_lack history (request.Query asked) = query_may_lack asked
 
 -- the history that is due after a request: queries change nothing
 abbrev pub after : History → Request → History
 after history (request.Event event) = history_after history event (due history event)
-after history (request.Query query) = history
+after history (request.Query asked) = history
 
 -- these replies answer these requests in turn, and lead from one history to the other: each is the one due, or tells that
 -- memory was wanted, and then its request counts as not made (own)
@@ -104,6 +154,6 @@ abbrev pub AreReplies : History → List Request → List Replying → History �
 AreReplies old [] [] new = new ≡ old
 AreReplies old (asked ∷ requests) (reply ∷ replies) new =
     ((reply ≡ reply_due old asked) × AreReplies (after old asked) requests replies new)
-    ⊎ ((reply ≡ Err refusal.OutOfMemory) × AreReplies old requests replies new)
+    ⊎ ((request_may_lack old asked ≡ true) × (reply ≡ Err refusal.OutOfMemory) × AreReplies old requests replies new)
 AreReplies old [] (reply ∷ replies) new = ⊥
 AreReplies old (asked ∷ requests) [] new = ⊥

@@ -14,7 +14,7 @@ byte_after x before (Signal _ _ _) = before
 byte_after x before (Release _ _) = before
 
 -- the byte at an address: 0 at first, then what was last written there (own)
-abbrev pub memory_at : Start → List Entry → ℕ → ℕ
+unfoldable pub memory_at : Start → List Entry → ℕ → ℕ
 memory_at start entries x = fold (byte_after x) 0 (effects_of entries)
 
 -- `size` bytes of memory from an address on (own)
@@ -36,5 +36,5 @@ signals_after before (Signal signal old new) = slice_set before (signal.0 - 1) n
 signals_after before (Release _ _) = before
 
 -- the values of all signals in order: the policy's at first, then what each was last changed to (own)
-abbrev pub signals : Start → List Entry → List ℤ
+unfoldable pub signals : Start → List Entry → List ℤ
 signals start entries = fold signals_after (initial_values start) (effects_of entries)

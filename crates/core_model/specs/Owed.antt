@@ -1,7 +1,7 @@
 -- What each event is owed: its refusal, or its outcome with the changes that it makes. It is a function of the history alone.
-use Rattle.std.specs.Prelude.{ℕ, ℤ, pos, ◌+◌, ◌-◌, ◌==◌, ◌&&◌, ◌||◌, Bool, true, false, not, nat_lt, nat_le, List, [], ◌∷◌, ◌++◌, length, Option, Some, None, if◌then◌else◌, filter, fold, codes}
+use Rattle.std.specs.Prelude.{ℕ, ℤ, pos, ◌+◌, ◌-◌, ◌==◌, ◌&&◌, ◌||◌, Bool, true, false, not, nat_lt, nat_le, List, [], ◌∷◌, ◌++◌, length, Option, Some, None, if◌then◌else◌, filter, find}
 use Rattle.std.specs.List.{list_any, list_all}
-use Rattle.std.specs.Option.{unwrap_or}
+use Rattle.std.specs.Option.{option_map_or}
 use Rattle.aql_packet.specs.declared.ids.Address.{Address}
 use Rattle.aql_packet.specs.declared.ids.ClientId.{ClientId}
 use Rattle.aql_packet.specs.declared.ids.QueueId.{QueueId}
@@ -12,9 +12,9 @@ use Rattle.aql_packet.specs.declared.packet.Packet.{Packet}
 use Rattle.aql_packet.specs.declared.packet.Packet.TheVariants as packet
 use Rattle.aql_packet.specs.Reading.{decoded, barrier_bit}
 use Rattle.regions.specs.Memory.{is_within, region_of}
-use Rattle.signals.specs.Meaning.{applied, meets}
-use Rattle.signals.specs.declared.SignalOp.{SignalOp}
-use Rattle.signals.specs.declared.SignalOp.TheVariants as op
+use Rattle.signals.specs.Values.{applied, value_of}
+use Rattle.signals.specs.declared.operation.SignalOp.{SignalOp}
+use Rattle.signals.specs.declared.operation.SignalOp.TheVariants as op
 use Rattle.policy.specs.declared.object.Object.{Object}
 use Rattle.policy.specs.declared.object.Object.TheVariants as object
 use Rattle.policy.specs.declared.rights.Right.{Right}
@@ -23,7 +23,7 @@ use Rattle.policy.specs.declared.rights.Rights.{Rights}
 use Rattle.policy.specs.declared.row.Takes.{Takes}
 use Rattle.policy.specs.Object.{same_object}
 use Rattle.policy.specs.Rights.{has}
-use Rattle.policy.specs.Policy.{declares_client, declares, allows, numbered}
+use Rattle.policy.specs.Policy.{declares_client, declares, allows, numbered, takes_of}
 use Rattle.queue_error.specs.declared.rule.Rule.{Rule}
 use Rattle.queue_error.specs.declared.rule.Rule.TheVariants.{B1}
 use Rattle.queue_error.specs.declared.error.QueueError.{QueueError}
@@ -45,9 +45,9 @@ use Rattle.core_model.specs.declared.refusal.Refusal.TheVariants as refusal
 use Rattle.core_model.specs.History.{Start}
 use Rattle.core_model.specs.Grants.{in_force}
 use Rattle.core_model.specs.Memory.{region_lengths, signals}
-use Rattle.core_model.specs.Queues.{Opening, openings, owner, next, is_stopped, is_down}
+use Rattle.core_model.specs.Queues.{Opening, openings, owner, next_id, is_stopped, is_down}
 use Rattle.core_model.specs.Flight.{flight, in_flight, none_seen, seen_with}
-use Rattle.core_model.specs.LaunchRules.{Facts, first_failing, may_start, is_barrier, completion, reach, Reach, dependencies}
+use Rattle.core_model.specs.LaunchRules.{Facts, first_failing, may_start, is_barrier, completion, ranges, Range, dependencies}
 use Rattle.core_model.specs.Work.{agent_writes, groups_of, is_ready, is_negative, newly_seen, awaited}
 use Rattle.core_model.specs.Holds.{holder, Holder}
 
@@ -63,6 +63,10 @@ pub data Owed : Type 0 where
 -- a refusal where the test holds, else the rest
 abbrev pub refuse_if : Bool → Refusal → Owed → Owed
 refuse_if test why rest = if test then refuses why else rest
+
+-- the rest where the test holds, else a refusal
+abbrev pub refuse_unless : Bool → Refusal → Owed → Owed
+refuse_unless test why rest = if test then rest else refuses why
 
 -- a refusal where there is nothing, else the rest for what there is
 abbrev pub for_some : {X : Type 0} → Option X → Refusal → (X → Owed) → Owed
@@ -82,19 +86,18 @@ is_ring_size size =
 abbrev pub is_host_size : ℕ → Bool
 is_host_size size = nat_le 1 size && nat_le size 65536
 
+-- an agent that takes no dispatch
+abbrev pub takes_nothing : Takes
+takes_nothing = record { kernel = false; agent = false }
+
 -- the facts by which a queue's packets are judged
 abbrev pub facts_of : Start → List Entry → Opening → Facts
 facts_of start entries opening = record {
   agent = opening.agent;
-  takes = takes_by start opening.agent;
+  takes = option_map_or (λ takes. takes) (takes_of start.policy opening.agent.0) takes_nothing;
   in_force = in_force start entries opening.client;
   lengths = region_lengths start;
 }
- where
-  nothing : Takes
-  nothing = record { kernel = false; agent = false }
-  takes_by : Start → AgentHandle → Takes
-  takes_by start agent = elim (numbered start.policy.agents agent.0) [ None ↦ nothing | Some row ↦ row.1 ]
 
 -- the packets of one queue in flight
 abbrev pub flight_of : Start → List Entry → QueueId → List InFlight
@@ -114,20 +117,20 @@ decided queue id None (Some rule) = enters (outcome.Taken (Denied (error_at queu
 abbrev pub owed_take : Start → List Entry → QueueId → PacketId → List ℕ → Opening → Owed
 owed_take start entries queue id bytes opening =
     refuse_if (is_down start entries queue) refusal.QueueDown
-    (refuse_if (not (id.0 == next start entries queue)) (refusal.OutOfStep (next start entries queue))
+    (refuse_unless (id.0 == next_id start entries queue) (refusal.OutOfStep (next_id start entries queue))
     (decided queue id.0 (may_start (flight_of start entries queue) (barrier_bit bytes)) (first_failing (facts_of start entries opening) bytes)))
 
 -- the next group of a packet in flight: an agent dispatch has one group, number 0, and never faults
 abbrev pub owed_group : Start → List Entry → InFlight → Owed
 owed_group start entries flying = group_of flying.packet
- where
-  group_of : Packet → Owed
-  group_of (packet.Agent dispatch) =
-      if nat_le 1 flying.groups_run then answers (outcome.Worked Done)
-      else enters (outcome.Worked (Ran 0 0)) (agent_writes start entries dispatch)
-  group_of (packet.Kernel _) = answers (outcome.Worked Done)
-  group_of (packet.BarrierAnd _) = refuses refusal.NotInFlight
-  group_of (packet.BarrierOr _) = refuses refusal.NotInFlight
+  where
+    group_of : Packet → Owed
+    group_of (packet.Agent dispatch) =
+        if nat_le 1 flying.groups_run then answers (outcome.Worked Done)
+        else enters (outcome.Worked (Ran 0 0)) (agent_writes start entries dispatch)
+    group_of (packet.Kernel _) = answers (outcome.Worked Done)
+    group_of (packet.BarrierAnd _) = refuses refusal.NotInFlight
+    group_of (packet.BarrierOr _) = refuses refusal.NotInFlight
 
 -- the outcome of a poll that sees something new, or nothing new
 abbrev pub polled : Packet → Seen → Seen → Owed
@@ -139,7 +142,7 @@ polled p seen new =
 -- a poll of a barrier packet in flight: ready packets stay ready; then a negative dependency fails it, before what is newly seen
 abbrev pub owed_poll : Start → List Entry → InFlight → Owed
 owed_poll start entries f =
-    refuse_if (not (is_barrier f.packet)) refusal.NotInFlight
+    refuse_unless (is_barrier f.packet) refusal.NotInFlight
     (if is_ready f.packet f.seen then answers (outcome.Polled (Ready none_seen))
     else if list_any (is_negative (signals start entries)) (awaited f.packet f.seen)
     then enters (outcome.Polled (Failed (error_at f.queue f.id.0 B1))) (effect.Release f.queue f.id ∷ [])
@@ -151,51 +154,55 @@ is_finished f = if is_barrier f.packet then is_ready f.packet f.seen else nat_le
 
 -- the decrement of a completion signal that isn't null (PSA, Signals: the packet processor decrements it by 1)
 abbrev pub completed : List ℤ → SignalHandle → List Effect
-completed values signal = if signal.0 == 0 then [] else elim (numbered values signal.0) [ None ↦ [] | Some v ↦ effect.Signal signal v (applied (op.Subtract (pos 1)) v) ∷ [] ]
+completed values signal = if signal.0 == 0 then [] else elim (value_of values signal.0) [ None ↦ [] | Some v ↦ effect.Signal signal v (applied (op.Subtract (pos 1)) v) ∷ [] ]
 
 -- the completion of a packet in flight
 abbrev pub owed_finish : Start → List Entry → InFlight → Owed
 owed_finish start entries f =
-    refuse_if (not (is_finished f)) refusal.NotFinished
+    refuse_unless (is_finished f) refusal.NotFinished
     (enters outcome.Accepted (completed (signals start entries) (completion f.packet) ++ effect.Release f.queue f.id ∷ []))
 
--- the releases of a stop: the queue's barrier packet in flight, if there is one
+-- the release of a packet, if there is one
+abbrev pub release_of : Option InFlight → List Effect
+release_of None = []
+release_of (Some f) = effect.Release f.queue f.id ∷ []
+
+-- the releases of a stop: of the packets of the queue in flight, its barrier packet, if there is one
 abbrev pub stop_releases : List InFlight → List Effect
-stop_releases [] = []
-stop_releases (f ∷ flying) = if is_barrier f.packet then effect.Release f.queue f.id ∷ stop_releases flying else stop_releases flying
+stop_releases flying = release_of (find (λ f. is_barrier f.packet) flying)
 
 -- what a change of a signal answers: the old value for an exchange or a compare-and-swap, else 0
-abbrev pub told : SignalOp → ℤ → ℤ
-told (op.Exchange _) old = old
-told (op.Cas _ _) old = old
-told (op.Store _) old = pos 0
-told (op.Add _) old = pos 0
-told (op.Subtract _) old = pos 0
-told (op.And _) old = pos 0
-told (op.Or _) old = pos 0
-told (op.Xor _) old = pos 0
+abbrev pub old_if_asked : SignalOp → ℤ → ℤ
+old_if_asked (op.Exchange _) old = old
+old_if_asked (op.Cas _ _) old = old
+old_if_asked (op.Store _) old = pos 0
+old_if_asked (op.Add _) old = pos 0
+old_if_asked (op.Subtract _) old = pos 0
+old_if_asked (op.And _) old = pos 0
+old_if_asked (op.Or _) old = pos 0
+old_if_asked (op.Xor _) old = pos 0
 
 -- the refusal of a revocation by the packet that holds a right
-abbrev pub busy : Option Holder → Owed → Owed
-busy None rest = rest
-busy (Some h) rest = refuses (refusal.Busy h.queue h.packet)
+abbrev pub refuse_if_held : Option Holder → Owed → Owed
+refuse_if_held None rest = rest
+refuse_if_held (Some h) rest = refuses (refusal.Busy h.queue h.packet)
 
 -- what an event is owed after these entries, whatever room the audit has: its refusals in order, then its outcome
 unfoldable pub owed : Start → List Entry → Event → Owed
 owed start entries (Grant client on rights) =
-    refuse_if (not (declares_client start.policy client)) refusal.UnknownClient
-    (refuse_if (not (declares start.policy on)) refusal.UnknownObject
-    (refuse_if (not (allows start.policy client on rights)) refusal.NotAllowed
+    refuse_unless (declares_client start.policy client) refusal.UnknownClient
+    (refuse_unless (declares start.policy on) refusal.UnknownObject
+    (refuse_unless (allows start.policy client on rights) refusal.NotAllowed
     (enters outcome.Accepted [])))
 owed start entries (Revoke client on rights) =
-    refuse_if (not (declares_client start.policy client)) refusal.UnknownClient
-    (refuse_if (not (declares start.policy on)) refusal.UnknownObject
-    (busy (holder start entries client on rights)
+    refuse_unless (declares_client start.policy client) refusal.UnknownClient
+    (refuse_unless (declares start.policy on) refusal.UnknownObject
+    (refuse_if_held (holder start entries client on rights)
     (enters outcome.Accepted [])))
 owed start entries (OpenQueue client agent size) =
-    refuse_if (not (declares_client start.policy client)) refusal.UnknownClient
-    (refuse_if (not (in_force start entries client (object.Agent agent) right.Use)) (refusal.Denied right.Use)
-    (refuse_if (not (is_ring_size size)) refusal.BadSize
+    refuse_unless (declares_client start.policy client) refusal.UnknownClient
+    (refuse_unless (in_force start entries client (object.Agent agent) right.Use) (refusal.Denied right.Use)
+    (refuse_unless (is_ring_size size) refusal.BadSize
     (refuse_if (nat_le QUEUES (length (openings start entries))) refusal.TooMany
     (enters (outcome.Opened (record { 0 = length (openings start entries) + 1 })) []))))
 owed start entries (Stop queue) =
@@ -214,13 +221,13 @@ owed start entries (Finish queue id) =
     for_some (owner start entries queue) refusal.UnknownQueue (λ opening.
     for_some (in_flight start entries queue id) refusal.NotInFlight (owed_finish start entries))
 owed start entries (HostWrite client address bytes) =
-    refuse_if (not (declares_client start.policy client)) refusal.UnknownClient
-    (refuse_if (not (is_host_size (length bytes))) refusal.BadSize
-    (refuse_if (not (is_within (region_lengths start) address.0 (length bytes) && in_force start entries client (object.Region (record { 0 = region_of address.0 })) right.Write))
-      (refusal.Denied right.Write)
+    refuse_unless (declares_client start.policy client) refusal.UnknownClient
+    (refuse_unless (is_host_size (length bytes)) refusal.BadSize
+    (refuse_unless (is_within (region_lengths start) address.0 (length bytes) && in_force start entries client (object.Region (record { 0 = region_of address.0 })) right.Write)
+    (refusal.Denied right.Write)
     (enters outcome.Accepted (effect.Write address bytes ∷ []))))
 owed start entries (ChangeSignal client signal operation) =
-    refuse_if (not (declares_client start.policy client)) refusal.UnknownClient
-    (refuse_if (not (in_force start entries client (object.Signal signal) right.Change)) (refusal.Denied right.Change)
-    (for_some (numbered (signals start entries) signal.0) (refusal.Denied right.Change) (λ old.
-    enters (outcome.Changed (told operation old)) (effect.Signal signal old (applied operation old) ∷ []))))
+    refuse_unless (declares_client start.policy client) refusal.UnknownClient
+    (refuse_unless (in_force start entries client (object.Signal signal) right.Change) (refusal.Denied right.Change)
+    (for_some (value_of (signals start entries) signal.0) (refusal.Denied right.Change) (λ old.
+    enters (outcome.Changed (old_if_asked operation old)) (effect.Signal signal old (applied operation old) ∷ []))))

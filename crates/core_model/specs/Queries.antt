@@ -7,7 +7,7 @@ use Rattle.aql_packet.specs.declared.ids.RegionHandle.{RegionHandle}
 use Rattle.aql_packet.specs.declared.ids.SignalHandle.{SignalHandle}
 use Rattle.aql_packet.specs.declared.ids.KernelObject.{KernelObject}
 use Rattle.regions.specs.Memory.{is_within, region_of}
-use Rattle.signals.specs.Meaning.{meets}
+use Rattle.signals.specs.Values.{meets, value_of}
 use Rattle.policy.specs.declared.object.Object.{Object}
 use Rattle.policy.specs.declared.object.Object.TheVariants as object
 use Rattle.policy.specs.declared.rights.Right.TheVariants as right
@@ -31,9 +31,9 @@ use Rattle.core_model.specs.Owed.{is_host_size}
 abbrev pub Replied : Type 0
 Replied = Result Answer Refusal
 
--- a refusal where the test holds, else the rest
-abbrev pub refuse_query_if : Bool → Refusal → Replied → Replied
-refuse_query_if test why rest = if test then Err why else rest
+-- the rest where the test holds, else a refusal
+abbrev pub answer_if : Bool → Refusal → Replied → Replied
+answer_if test why rest = if test then rest else Err why
 
 -- a refusal where there is nothing, else the rest for what there is
 abbrev pub answer_some : {X : Type 0} → Option X → Refusal → (X → Replied) → Replied
@@ -60,21 +60,21 @@ listing start entries client =
 -- what a query is answered after these entries: its refusals in order, then its answer
 unfoldable pub replied : Start → List Entry → Query → Replied
 replied start entries (query.HostRead client address size) =
-    refuse_query_if (not (declares_client start.policy client)) refusal.UnknownClient
-    (refuse_query_if (not (is_host_size size)) refusal.BadSize
-    (refuse_query_if (not (is_within (region_lengths start) address.0 size && in_force start entries client (object.Region (record { 0 = region_of address.0 })) right.Read))
-      (refusal.Denied right.Read)
+    answer_if (declares_client start.policy client) refusal.UnknownClient
+    (answer_if (is_host_size size) refusal.BadSize
+    (answer_if (is_within (region_lengths start) address.0 size && in_force start entries client (object.Region (record { 0 = region_of address.0 })) right.Read)
+    (refusal.Denied right.Read)
     (Ok (answer.Bytes (memory_from start entries address.0 size)))))
 replied start entries (query.LoadSignal client signal) =
-    refuse_query_if (not (declares_client start.policy client)) refusal.UnknownClient
-    (refuse_query_if (not (in_force start entries client (object.Signal signal) right.Wait)) (refusal.Denied right.Wait)
-    (answer_some (numbered (signals start entries) signal.0) (refusal.Denied right.Wait) (λ value. Ok (answer.Value value))))
+    answer_if (declares_client start.policy client) refusal.UnknownClient
+    (answer_if (in_force start entries client (object.Signal signal) right.Wait) (refusal.Denied right.Wait)
+    (answer_some (value_of (signals start entries) signal.0) (refusal.Denied right.Wait) (λ value. Ok (answer.Value value))))
 replied start entries (query.TestSignal client signal condition than) =
-    refuse_query_if (not (declares_client start.policy client)) refusal.UnknownClient
-    (refuse_query_if (not (in_force start entries client (object.Signal signal) right.Wait)) (refusal.Denied right.Wait)
-    (answer_some (numbered (signals start entries) signal.0) (refusal.Denied right.Wait) (λ value. Ok (answer.Test (meets condition value than)))))
+    answer_if (declares_client start.policy client) refusal.UnknownClient
+    (answer_if (in_force start entries client (object.Signal signal) right.Wait) (refusal.Denied right.Wait)
+    (answer_some (value_of (signals start entries) signal.0) (refusal.Denied right.Wait) (λ value. Ok (answer.Test (meets condition value than)))))
 replied start entries (query.List client) =
-    refuse_query_if (not (declares_client start.policy client)) refusal.UnknownClient
+    answer_if (declares_client start.policy client) refusal.UnknownClient
     (Ok (answer.Listing (listing start entries client)))
 replied start entries (query.Errors queue) =
     answer_some (owner start entries queue) refusal.UnknownQueue (λ opening. Ok (answer.Errors (errors start entries queue)))

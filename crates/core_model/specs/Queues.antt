@@ -38,7 +38,7 @@ opening_of (HostWrite _ _ _) = None
 opening_of (ChangeSignal _ _ _) = None
 
 -- all openings, in order: the first is queue 1 (own)
-abbrev pub openings : Start → List Entry → List Opening
+unfoldable pub openings : Start → List Entry → List Opening
 openings start entries = filter_map (λ entry. opening_of entry.event) entries
 
 -- the opening of a queue, if it was opened (own)
@@ -46,21 +46,21 @@ abbrev pub owner : Start → List Entry → QueueId → Option Opening
 owner start entries queue = numbered (openings start entries) queue.0
 
 -- whether an event hands over a packet of a queue (own)
-abbrev pub takes_of : QueueId → Event → Bool
-takes_of queue (Take q _ _) = q.0 == queue.0
-takes_of queue (Grant _ _ _) = false
-takes_of queue (Revoke _ _ _) = false
-takes_of queue (OpenQueue _ _ _) = false
-takes_of queue (Stop _) = false
-takes_of queue (RunNext _ _) = false
-takes_of queue (Poll _ _) = false
-takes_of queue (Finish _ _) = false
-takes_of queue (HostWrite _ _ _) = false
-takes_of queue (ChangeSignal _ _ _) = false
+abbrev pub hands_over : QueueId → Event → Bool
+hands_over queue (Take q _ _) = q.0 == queue.0
+hands_over queue (Grant _ _ _) = false
+hands_over queue (Revoke _ _ _) = false
+hands_over queue (OpenQueue _ _ _) = false
+hands_over queue (Stop _) = false
+hands_over queue (RunNext _ _) = false
+hands_over queue (Poll _ _) = false
+hands_over queue (Finish _ _) = false
+hands_over queue (HostWrite _ _ _) = false
+hands_over queue (ChangeSignal _ _ _) = false
 
 -- the id of a queue's next packet: how many of its packets were launched or denied (PSA, User Mode Queuing: packets are processed in order)
-abbrev pub next : Start → List Entry → QueueId → ℕ
-next start entries queue = count_by (λ entry. takes_of queue entry.event) entries
+unfoldable pub next_id : Start → List Entry → QueueId → ℕ
+next_id start entries queue = count_by (λ entry. hands_over queue entry.event) entries
 
 -- the error that an outcome tells (own)
 abbrev pub error_of : Outcome → Option QueueError
@@ -78,7 +78,7 @@ error_of (outcome.Polled (Failed error)) = Some error
 error_of (outcome.Changed _) = None
 
 -- a queue's errors, in order (own)
-abbrev pub errors : Start → List Entry → QueueId → List QueueError
+unfoldable pub errors : Start → List Entry → QueueId → List QueueError
 errors start entries queue = filter (λ error. error.queue.0 == queue.0) (filter_map (λ entry. error_of entry.outcome) entries)
 
 -- whether an event stops a queue (own)
@@ -95,7 +95,7 @@ stops queue (HostWrite _ _ _) = false
 stops queue (ChangeSignal _ _ _) = false
 
 -- whether a queue was stopped (own)
-abbrev pub is_stopped : Start → List Entry → QueueId → Bool
+unfoldable pub is_stopped : Start → List Entry → QueueId → Bool
 is_stopped start entries queue = list_any (λ entry. stops queue entry.event) entries
 
 -- whether a queue launches nothing more: it has an error, or was stopped (own)

@@ -9,7 +9,7 @@ use Rattle.aql_packet.specs.declared.ids.SignalHandle.{SignalHandle}
 use Rattle.aql_packet.specs.declared.packet.AgentDispatch.{AgentDispatch}
 use Rattle.aql_packet.specs.declared.packet.Packet.{Packet}
 use Rattle.aql_packet.specs.declared.packet.Packet.TheVariants as packet
-use Rattle.policy.specs.Policy.{numbered}
+use Rattle.signals.specs.Values.{value_of}
 use Rattle.core_model.specs.declared.entry.Effect.{Effect}
 use Rattle.core_model.specs.declared.entry.Effect.TheVariants.{Write, Signal, Release}
 use Rattle.core_model.specs.declared.entry.Entry.{Entry}
@@ -19,8 +19,8 @@ use Rattle.core_model.specs.Memory.{memory_from, signals}
 use Rattle.core_model.specs.LaunchRules.{FILL, COPY, ADD64, argument, dependencies}
 
 -- a change of memory: none for no bytes (own)
-abbrev pub written : ℕ → List ℕ → List Effect
-written address bytes = if length bytes == 0 then [] else Write (record { 0 = address }) bytes ∷ []
+abbrev pub write_of : ℕ → List ℕ → List Effect
+write_of address bytes = if length bytes == 0 then [] else Write (record { 0 = address }) bytes ∷ []
 
 -- the 64-bit number in memory at an address, the lowest byte first
 abbrev pub number_in_memory : Start → List Entry → ℕ → ℕ
@@ -29,10 +29,10 @@ number_in_memory start entries address = from_le_bytes w64 (memory_from start en
 -- what an agent's function writes: FILL the low byte of its third argument, COPY its source as it was before, ADD64 the wrapped sum (own)
 abbrev pub function_writes : Start → List Entry → AgentDispatch → List Effect
 function_writes start entries dispatch =
-    if dispatch.function == FILL then written (argument dispatch 0) (replicate (argument dispatch 1) (argument dispatch 2 % 256))
-    else if dispatch.function == COPY then written (argument dispatch 1) (memory_from start entries (argument dispatch 0) (argument dispatch 2))
+    if dispatch.function == FILL then write_of (argument dispatch 0) (replicate (argument dispatch 1) (argument dispatch 2 % 256))
+    else if dispatch.function == COPY then write_of (argument dispatch 1) (memory_from start entries (argument dispatch 0) (argument dispatch 2))
     else if dispatch.function == ADD64 then
-      written (argument dispatch 0) (to_le_bytes w64 ((number_in_memory start entries (argument dispatch 0) + argument dispatch 1) % 2 ^ 64))
+    write_of (argument dispatch 0) (to_le_bytes w64 ((number_in_memory start entries (argument dispatch 0) + argument dispatch 1) % 2 ^ 64))
     else []
 
 -- an agent's function's result: ADD64's is the old number, the others' is 0 (own)
@@ -43,7 +43,7 @@ function_result start entries dispatch = if dispatch.function == ADD64 then numb
 abbrev pub result_writes : Start → List Entry → AgentDispatch → List Effect
 result_writes start entries dispatch =
     if dispatch.return_address.0 == 0 then []
-    else written dispatch.return_address.0 (to_le_bytes w64 (function_result start entries dispatch))
+    else write_of dispatch.return_address.0 (to_le_bytes w64 (function_result start entries dispatch))
 
 -- what the one group of an agent dispatch writes: its function's target, then its result (own)
 abbrev pub agent_writes : Start → List Entry → AgentDispatch → List Effect
@@ -78,7 +78,7 @@ is_awaited a = not (a.0.0 == 0) && not a.1
 
 -- a signal's value, 0 for a number that no signal has
 abbrev pub signal_value : List ℤ → SignalHandle → ℤ
-signal_value values signal = unwrap_or (numbered values signal.0) (pos 0)
+signal_value values signal = unwrap_or (value_of values signal.0) (pos 0)
 
 -- whether a dependency that is still looked at is negative (own)
 abbrev pub is_negative : List ℤ → Awaited → Bool

@@ -21,7 +21,10 @@ pub enum Effect {
         new: i64,
     },
     /// A packet left flight, and its rights are held no more.
-    Release { queue: QueueId, packet: PacketId },
+    Release {
+        queue: QueueId,
+        packet: PacketId,
+    },
 }
 
 /// An event that was not refused and changed something, with what it came to and what it changed.

@@ -27,7 +27,9 @@ pub enum Event {
         size: u64,
     },
     /// A queue is stopped: it launches nothing from then on.
-    Stop { queue: QueueId },
+    Stop {
+        queue: QueueId,
+    },
     /// The packet processor hands over the next packet of a queue: its id and its 64 bytes.
     Take {
         queue: QueueId,
@@ -35,11 +37,20 @@ pub enum Event {
         bytes: [u8; 64],
     },
     /// The next group of a kernel or agent dispatch in flight is run.
-    RunNext { queue: QueueId, packet: PacketId },
+    RunNext {
+        queue: QueueId,
+        packet: PacketId,
+    },
     /// A barrier packet in flight looks at its dependencies.
-    Poll { queue: QueueId, packet: PacketId },
+    Poll {
+        queue: QueueId,
+        packet: PacketId,
+    },
     /// A packet whose work is done is completed and released.
-    Finish { queue: QueueId, packet: PacketId },
+    Finish {
+        queue: QueueId,
+        packet: PacketId,
+    },
     /// A client writes bytes to memory.
     HostWrite {
         client: ClientId,
@@ -76,9 +87,13 @@ pub enum Query {
         value: i64,
     },
     /// The objects on which a client has a right in force.
-    List { client: ClientId },
+    List {
+        client: ClientId,
+    },
     /// The errors of a queue, in order.
-    Errors { queue: QueueId },
+    Errors {
+        queue: QueueId,
+    },
     /// All entries, in order.
     Audit,
 }
@@ -89,4 +104,3 @@ pub enum Request {
     Event(Event),
     Query(Query),
 }
-

@@ -3,26 +3,17 @@
 #![tactic(auto)]
 
 mod answer;
-mod entry;
 mod effects;
+mod entry;
 mod event;
 mod flight;
 mod outcome;
 mod refusal;
 
-pub use answer::Answer;
-pub use answer::Reply;
+pub use answer::{Answer, Reply};
 pub use effects::Effects;
-pub use entry::Effect;
-pub use entry::Entry;
-pub use event::Event;
-pub use event::Query;
-pub use event::Request;
+pub use entry::{Effect, Entry};
+pub use event::{Event, Query, Request};
 pub use flight::InFlight;
-pub use outcome::Cause;
-pub use outcome::Outcome;
-pub use outcome::Polled;
-pub use outcome::Seen;
-pub use outcome::Taken;
-pub use outcome::Worked;
+pub use outcome::{Cause, Outcome, Polled, Seen, Taken, Worked};
 pub use refusal::Refusal;

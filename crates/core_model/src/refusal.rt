@@ -1,7 +1,10 @@
 //! Why the core refuses a call.
 
+ghost use Rattle.std.specs.Prelude.{◌≡◌};
+
 use aql_packet::{PacketId, QueueId};
 use policy::Right;
+use std::alloc::{AllocError, AllocFailed};
 
 /// Why a call was refused. After every refusal all is as before (own).
 #[derive(Clone, Copy, Debug, PartialEq, Eq)]
@@ -56,5 +59,25 @@ impl Refusal {
             Refusal::TooMany => 12,
             Refusal::UnknownObject => 13,
         }
+    }
+}
+
+impl From<AllocError> for Refusal {
+    ghost use Rattle.core_model.specs.declared.refusal.Refusal.TheVariants as refusal;
+
+    ghost from_gives = { λ _ why. why ≡ refusal.OutOfMemory };
+
+    fn from(_want: AllocError) -> Refusal {
+        Refusal::OutOfMemory
+    }
+}
+
+impl<T: Drop> From<AllocFailed<T>> for Refusal {
+    ghost use Rattle.core_model.specs.declared.refusal.Refusal.TheVariants as refusal;
+
+    ghost from_gives = { λ _ why. why ≡ refusal.OutOfMemory };
+
+    fn from(_want: AllocFailed<T>) -> Refusal {
+        Refusal::OutOfMemory
     }
 }

@@ -1,6 +1,7 @@
 -- Lists of claims and of holds, by what is found in them.
 use Rattle.std.proofs.Common.{◌≡◌, ℕ, zero, suc, ◌+◌, ◌-◌, ◌<◌, ◌≤◌, ◌⊎◌, inl, inr, Bool, true, false, not, ◌&&◌, ◌||◌, ◌==◌, List, [], ◌∷◌, ◌++◌, map, filter, take, get_or, length, Option, Some, None, refl, sym, ap, subst, ◌∙◌, arith, true≢false, if◌then◌else◌}
 use Rattle.std.specs.List.{list_any, flat_map}
+use Rattle.std.proofs.lemmas.Bool.{false_from_ne_true}
 use Rattle.std.proofs.lemmas.Bool.Decides.{Decides-eqb, nat_tests}
 use Rattle.std.proofs.lemmas.List.Folds.{list_any-append, list_any_more}
 use Rattle.std.proofs.lemmas.Map.Views.{any-filter_same}
@@ -298,3 +299,18 @@ module _ (holds : List Hold) (c : ClientId) (o : Object) (rights : Rights) (i : 
       (and_assoc (same_packet q p next.queue next.packet) (same_pair c o next.client next.object) (meet rights next.rights)
       ∙ ap (λ b. same_packet q p next.queue next.packet && b) passes ∙ and-false (same_packet q p next.queue next.packet))
       ∙ or-false (holds_one (take i holds) c o rights q p)
+
+-- a packet without holds holds nothing
+pub held-none : (holds : List Hold) (q : QueueId) (p : PacketId) (c : ClientId) (o : Object) (right : Right) → list_any (is_of q p) holds ≡ false → held holds q p c o right ≡ false
+held-none [] q p c o right h = refl
+held-none (x ∷ xs) q p c o right h = by_test (is_of q p x) refl h (held-none xs q p c o right)
+  where
+    other : is_of q p x ≡ false → is_hold q p c o right x ≡ false
+    other none = false_from_ne_true (is_hold q p c o right x) (λ e.
+        let on = (both (is_on q p c o x) (has x.rights right) e).0 in
+        let packet = same_packet_is q p x.queue x.packet (both (same_packet q p x.queue x.packet) (same_pair c o x.client x.object) on).0 in
+        true≢false (sym (same_packet_itself q p) ∙ (λ i. same_packet (packet.0 i) (packet.1 i) q p) ∙ none))
+
+    by_test : (b : Bool) → is_of q p x ≡ b → (b || list_any (is_of q p) xs) ≡ false → (list_any (is_of q p) xs ≡ false → held xs q p c o right ≡ false) → held (x ∷ xs) q p c o right ≡ false
+    by_test true e h rest = absurd (true≢false h)
+    by_test false e h rest = (λ i. other e i || held xs q p c o right) ∙ rest h

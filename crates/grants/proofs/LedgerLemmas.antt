@@ -6,14 +6,18 @@ use Rattle.aql_packet.specs.declared.ids.PacketId.{PacketId}
 use Rattle.policy.specs.declared.object.Kind.{Kind}
 use Rattle.policy.specs.declared.object.Object.{Object}
 use Rattle.policy.specs.declared.rights.Rights.{Rights}
+use Rattle.std.specs.List.{list_any}
+use Rattle.policy.specs.declared.rights.Right.{Right}
+use Rattle.policy.specs.Rights.{has}
+use Rattle.policy.proofs.RightsLemmas.{has-rights_that}
 use Rattle.policy.specs.Object.{object_of}
 use Rattle.grants.specs.declared.claim.Claim.{Claim}
 use Rattle.grants.specs.declared.hold.Hold.{Hold}
 use Rattle.grants.specs.Rules.{Rules}
 use Rattle.grants.specs.Claims.{is_among, claimed, claims_of}
 use Rattle.grants.specs.Holds.{is_of, held, hold_of, holds_one, IsFirstTo}
-use Rattle.grants.specs.Ledger.{Ledger, Gives, Takes, Holds, Releases, is_holder, listed, listed_to}
-use Rattle.grants.proofs.ClaimLemmas.{claimed-given, claimed-dropped, held-pushed, held-dropped, holder, first_same}
+use Rattle.grants.specs.Ledger.{Ledger, Gives, Takes, Holds, Releases, HoldsNothing, in_force, rights_on, is_holder, listed, listed_to}
+use Rattle.grants.proofs.ClaimLemmas.{claimed-given, claimed-dropped, held-pushed, held-dropped, held-none, holder, first_same}
 
 -- a ledger of these parts
 abbrev pub ledger : Rules → List Claim → List Hold → Ledger
@@ -65,3 +69,17 @@ module _ (rules : Rules) (claims : List Claim) (holds : List Hold) where
 
 pub listed_to-next : (grants : Ledger) (client : ClientId) (on : Kind) (n : ℕ) → listed_to grants client on (n + 1) ≡ listed_to grants client on n ++ listed grants client (object_of on (n + 1))
 listed_to-next grants client on n = rw add-one
+
+no_hold : (b : Bool) → not b ≡ true → b ≡ false
+no_hold true h = sym h
+no_hold false h = refl
+
+-- a packet without holds in the list holds nothing
+pub idle : (rules : Rules) (claims : List Claim) (holds : List Hold) (grants : Ledger) (q : QueueId) (p : PacketId) (b : Bool) → ledger rules claims holds ≡ grants
+    → b ≡ list_any (is_of q p) holds → not b ≡ true → HoldsNothing grants q p
+idle rules claims holds grants q p b view some none =
+    subst (λ g. HoldsNothing g q p) view (λ c o right. held-none holds q p c o right (sym some ∙ no_hold b none))
+
+-- the rights of the client on the object are those in force
+pub rights_on-has : (grants : Ledger) (c : ClientId) (o : Object) (rights : Rights) → rights ≡ rights_on grants c o → (right : Right) → has rights right ≡ in_force grants c o right
+rights_on-has grants c o rights e right = ap (λ r. has r right) e ∙ has-rights_that (in_force grants c o) right

@@ -43,6 +43,10 @@ rights_on grants client object = rights_that (in_force grants client object)
 abbrev pub is_holder : Ledger → ClientId → Object → Rights → QueueId → PacketId → Bool
 is_holder grants client object rights queue packet = list_any (λ right. has rights right && holds grants queue packet client object right) all_rights
 
+-- the packet holds nothing
+abbrev pub HoldsNothing : Ledger → QueueId → PacketId → Type 0
+HoldsNothing grants queue packet = (client : ClientId) (object : Object) (right : Right) → holds grants queue packet client object right ≡ false
+
 -- ---- changes
 
 -- nothing is in force, and nothing is held

@@ -1,12 +1,12 @@
 //! Grants and holds.
 
-ghost use Rattle.std.specs.Prelude.{◌≡◌, ◌++◌, false, true, IfOk, OnOk, OnErr};
+ghost use Rattle.std.specs.Prelude.{◌≡◌, ◌++◌, true, IfOk, OnOk, OnErr};
 ghost use Rattle.std.specs.List.{list_all};
-ghost use Rattle.policy.specs.Rights.{each_right};
+ghost use Rattle.policy.specs.Rights.{has, each_right};
 ghost use Rattle.grants.specs.Rules.{rules_of, count};
 
 use crate::claim::{Claim, drop_claims, push_claims, rights_in};
-use crate::hold::{Hold, drop_holds, first_holder, push_holds};
+use crate::hold::{Hold, drop_holds, first_holder, has_holds, push_holds};
 use crate::refusal::{GrantError, Refusal};
 use crate::rules::Rules;
 use aql_packet::{ClientId, PacketId, QueueId};
@@ -34,9 +34,7 @@ impl Model for Grants {
 }
 
 impl Grants {
-    ghost use Rattle.grants.specs.Ledger.{IsNew, Gives, Takes, Holds, Releases, GrantAnswers, RevokeAnswers, grant_due, in_force, holds, rights_on, listed, listed_to, listing};
-    ghost use Rattle.aql_packet.specs.declared.ids.ClientId.{ClientId};
-    ghost use Rattle.policy.specs.declared.object.Object.{Object};
+    ghost use Rattle.grants.specs.Ledger.{IsNew, HoldsNothing, Gives, Takes, Holds, Releases, GrantAnswers, RevokeAnswers, grant_due, in_force, rights_on, listed, listed_to, listing};
     ghost use Rattle.policy.specs.declared.rights.Right.{Right};
 
     /// No right is in force yet, and no packet holds one.
@@ -126,9 +124,32 @@ impl Grants {
 
     /// The rights of a client on an object.
     pub fn in_force(&self, client: ClientId, object: Object) -> Rights
-        ensures { result ≡ rights_on self.now client object }
+        ensures set { result ≡ rights_on self.now client object }
+        ensures each { (right : Right) → has result right ≡ in_force self.now client object right }
     {
         rights_in(self.claims.as_slice(), client, object)
+    }
+
+    /// Whether each of some rights on objects is in force for a client.
+    pub fn are_in_force(&self, client: ClientId, rights: &[(Object, Rights)]) -> bool
+        ensures { result ≡ list_all (λ named. each_right named.1 (in_force self.now client named.0)) rights.now }
+    {
+        rights
+            .iter()
+            .all(|named| self.has_all(client, named.0, named.1))
+    }
+
+    fn has_all(&self, client: ClientId, object: Object, rights: Rights) -> bool
+        ensures { result ≡ each_right rights (in_force self.now client object) }
+    {
+        self.in_force(client, object).includes(rights)
+    }
+
+    /// Whether a packet surely holds nothing.
+    pub fn is_idle(&self, queue: QueueId, packet: PacketId) -> bool
+        ensures { result ≡ true → HoldsNothing self.now queue packet }
+    {
+        !has_holds(self.holds.as_slice(), queue, packet)
     }
 
     /// Has a packet hold rights on objects, each of which is in force for the client of its queue.
@@ -140,7 +161,7 @@ impl Grants {
         rights: &[(Object, Rights)],
     ) -> Result<(), AllocError>
         requires in_force { list_all (λ named. each_right named.1 (in_force self.old client named.0)) rights.now ≡ true }
-        requires nothing { (client : ClientId) (object : Object) (right : Right) → holds self.old queue packet client object right ≡ false }
+        requires nothing { HoldsNothing self.old queue packet }
         ensures ok { OnOk result (Holds self.old self.new client queue packet rights.now) }
         ensures err { OnErr result (self.new ≡ self.old) }
     {

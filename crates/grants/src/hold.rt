@@ -1,6 +1,7 @@
 //! Rights that packets hold, kept as a list.
 
 ghost use Rattle.std.specs.Prelude.{◌≡◌, ◌+◌, ◌≤◌, ◌++◌, ◌⊎◌, ◌&&◌, not, filter, map, length, vec_len, vec_capacity};
+ghost use Rattle.std.specs.List.{list_any};
 ghost use Rattle.grants.specs.Claims.{same_pair};
 ghost use Rattle.grants.specs.Holds.{is_of, hold_of, meet, holds_one, IsUpTo, IsFirstTo};
 
@@ -66,6 +67,13 @@ pub fn push_holds(
             rights: *rights,
         });
     }
+}
+
+/// Whether some hold is a packet's.
+pub fn has_holds(holds: &[Hold], queue: QueueId, packet: PacketId) -> bool
+    ensures { result ≡ list_any (is_of queue packet) holds.now }
+{
+    holds.iter().any(|hold| hold.is_of(queue, packet))
 }
 
 /// Takes a packet's holds out of the list.

@@ -8,6 +8,8 @@ mod grants;
 mod hold;
 mod refusal;
 mod rules;
+#[cfg(test)]
+mod tests;
 
 pub use grants::Grants;
 pub use refusal::{GrantError, Refusal};

@@ -2,3 +2,5 @@ pub mod Pieces
 pub mod Lexing
 pub mod Loop
 pub mod Located
+pub mod Reaches
+pub mod WordReaches

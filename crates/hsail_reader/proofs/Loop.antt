@@ -1,11 +1,10 @@
 -- Reading one after the other, as a loop does.
-use Rattle.std.proofs.Common.{◌≡◌, ℕ, zero, suc, ◌+◌, ◌-◌, ◌≤◌, ◌<◌, List, [], ◌∷◌, ◌++◌, length, Bool, true, false, Result, Ok, Err, refl, sym, ap, ◌∙◌, append_assoc, subst, length-append, arith}
+use Rattle.std.proofs.Common.{◌≡◌, ℕ, zero, suc, ◌+◌, ◌-◌, ◌<◌, List, [], ◌∷◌, ◌++◌, length, Bool, true, false, Ok, Err, refl, sym, ap, ◌∙◌, append_assoc, subst, length-append, arith}
 use Rattle.std.proofs.lemmas.List.{append-nil}
 use Rattle.hsail_reader.specs.Faults.{Fails}
 use Rattle.hsail_reader.specs.Operands.{Reading, ◌>>=◌, mark_at}
 use Rattle.hsail_reader.specs.Syntax.{many_at, all_at, with_first}
 use Rattle.hsail_reader.specs.Tokens.{Piece}
-use Rattle.hsail_reader.specs.declared.fault.Refusal.{Refusal}
 use Rattle.hsail_reader.specs.declared.fault.Stop.{Stop}
 use Rattle.hsail_reader.specs.declared.fault.Stop.TheVariants as stop
 

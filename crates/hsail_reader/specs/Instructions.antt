@@ -1,18 +1,10 @@
 -- The operands of each family of instructions, in their order (PRM, HSAIL Instructions).
-use Rattle.std.specs.Prelude.{ℕ, List, [], ◌∷◌, Bool, true, false, Option, Some, None, Result, Ok, Err}
+use Rattle.std.specs.Prelude.{ℕ, List, Option, Ok}
 use Rattle.hsail_reader.specs.Operands.{Reading, ◌>>=◌, mark_at, register_at, number_at, label_at, source_at, address_at}
 use Rattle.hsail_reader.specs.Tokens.{Piece}
-use Rattle.hsail_reader.specs.declared.fault.Refusal.{Refusal}
 use Rattle.hsail_reader.specs.declared.module.Address.{Address}
-use Rattle.hsail_reader.specs.declared.module.Binary.{Binary}
-use Rattle.hsail_reader.specs.declared.module.ConditionalBranch.{ConditionalBranch}
-use Rattle.hsail_reader.specs.declared.module.Identify.{Identify}
-use Rattle.hsail_reader.specs.declared.module.Load.{Load}
 use Rattle.hsail_reader.specs.declared.module.Operation.{Operation}
 use Rattle.hsail_reader.specs.declared.module.Operation.TheVariants as operation
-use Rattle.hsail_reader.specs.declared.module.Store.{Store}
-use Rattle.hsail_reader.specs.declared.module.Ternary.{Ternary}
-use Rattle.hsail_reader.specs.declared.module.Unary.{Unary}
 use Rattle.hsail_reader.specs.declared.types.BinaryOperation.{BinaryOperation}
 use Rattle.hsail_reader.specs.declared.types.DataType.{DataType}
 use Rattle.hsail_reader.specs.declared.types.Modifiers.{Modifiers}

@@ -1,8 +1,8 @@
 -- The lexemes of kernel text (PRM, Lexical Elements; blanks, comments and modifiers are (own)).
-use Rattle.std.specs.Prelude.{◌≡◌, ℕ, zero, suc, ◌+◌, ◌-◌, List, [], ◌∷◌, ◌++◌, Bool, true, false, ◌||◌, ◌==◌, if◌then◌else◌, Option, Some, None, codes, length, take, drop, Result, Ok, Err}
-use Rattle.std.specs.List.{prefix_len, list_any, count_by}
+use Rattle.std.specs.Prelude.{ℕ, zero, suc, ◌+◌, ◌-◌, List, [], ◌∷◌, Bool, ◌||◌, ◌==◌, if◌then◌else◌, Option, Some, None, codes, length, drop}
+use Rattle.std.specs.List.{prefix_len, list_any}
 use Rattle.std.specs.Option.{is_some, option_map}
-use Rattle.hsail_reader.specs.Bytes.{is_name_byte, is_name_start, is_not_line_feed, begins_name, begins_with, begins_digit, behind, closing_at, decimal_at, numeral_at, align_at, width_at, ◌>>=◌}
+use Rattle.hsail_reader.specs.Bytes.{is_name_byte, is_name_start, is_not_line_feed, begins_name, behind, closing_at, decimal_at, numeral_at, align_at, width_at, ◌>>=◌}
 use Rattle.hsail_reader.specs.declared.token.Header.{Header}
 use Rattle.hsail_reader.specs.declared.token.Header.TheVariants.{Base, Full, Large, Default, Zero, Near}
 use Rattle.hsail_reader.specs.declared.token.HeaderName.{HeaderName}

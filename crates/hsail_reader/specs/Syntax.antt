@@ -1,11 +1,11 @@
 -- Items, arguments, kernels and the module, read from the tokens at the front; the next token decides
 -- each choice (PRM, Syntax; what may be left out is (own)).
-use Rattle.std.specs.Prelude.{◌≡◌, ℕ, zero, suc, List, [], ◌∷◌, ◌++◌, Bool, true, false, ◌==◌, nat_lt, if◌then◌else◌, Option, Some, None, Result, Ok, Err, length, take, drop}
+use Rattle.std.specs.Prelude.{◌≡◌, ℕ, zero, suc, List, [], ◌∷◌, Bool, true, false, ◌==◌, nat_lt, if◌then◌else◌, Option, Some, None, Result, Ok, Err, length}
 use Rattle.hsail_reader.specs.Faults.{fault_of, too_long}
 use Rattle.hsail_reader.specs.declared.fault.ReadError.{ReadError}
 use Rattle.hsail_reader.specs.declared.fault.ReadError.TheVariants as error
 use Rattle.hsail_reader.specs.Instructions.{operation_at}
-use Rattle.hsail_reader.specs.Operands.{Reading, ◌>>=◌, refuse, token_at, begins_with_mark, mark_at, number_at, global_at, variable_at}
+use Rattle.hsail_reader.specs.Operands.{Reading, ◌>>=◌, refuse, token_at, begins_with_mark, mark_at, global_at, variable_at}
 use Rattle.hsail_reader.specs.Tokens.{Piece, tokens_of}
 use Rattle.hsail_reader.specs.Words.{word_of, alignment_of}
 use Rattle.hsail_reader.specs.declared.fault.Flaw.{Flaw}

@@ -1,5 +1,5 @@
 -- The tokens of a text: its lexemes from the first byte on, without blanks and comments.
-use Rattle.std.specs.Prelude.{◌≡◌, ℕ, zero, suc, ◌+◌, ◌-◌, List, [], ◌∷◌, ◌++◌, ◌==◌, if◌then◌else◌, Option, Some, None, Result, Ok, Err, take, map}
+use Rattle.std.specs.Prelude.{ℕ, zero, suc, ◌+◌, ◌-◌, List, [], ◌∷◌, ◌==◌, if◌then◌else◌, Option, Some, None, Result, Ok, Err, take, map}
 use Rattle.hsail_reader.specs.Faults.{refusal, with_front}
 use Rattle.hsail_reader.specs.Lexemes.{lexeme_at}
 use Rattle.hsail_reader.specs.declared.fault.Flaw.TheVariants as flaw

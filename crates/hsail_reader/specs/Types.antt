@@ -1,5 +1,5 @@
 -- Data types, registers and alignments (PRM, Data Types; Registers).
-use Rattle.std.specs.Prelude.{ℕ, List, [], ◌∷◌, codes}
+use Rattle.std.specs.Prelude.{ℕ}
 use Rattle.hsail_reader.specs.declared.types.DataType.{DataType}
 use Rattle.hsail_reader.specs.declared.types.DataType.TheVariants.{B1, B8, B16, B32, B64, U8, U16, U32, U64, S8, S16, S32, S64}
 use Rattle.hsail_reader.specs.declared.types.RegisterClass.{RegisterClass}

@@ -6,6 +6,7 @@ mod fault;
 mod instructions;
 mod kernels;
 mod lexeme;
+mod longest;
 mod module;
 mod operands;
 mod reading;
@@ -17,6 +18,7 @@ mod types;
 mod words;
 
 pub use fault::{Cause, ReadError, ReadFault};
+pub use longest::lexemes_are_longest;
 pub use module::{
     Address, Argument, Binary, ConditionalBranch, Identify, Indexed, Instruction, Item, Kernel,
     Label, Load, Module, Operation, Place, Profile, Relative, Rounding, Store, Ternary, Unary,

@@ -1,12 +1,12 @@
 -- Which rights are in the sets that the operations of a flags type make.
-use Rattle.std.proofs.Common.{◌≡◌, ℕ, zero, suc, ◌+◌, ◌-◌, ◌*◌, ◌<◌, ◌≤◌, ◌^◌, min, max, Bool, true, false, cond, not, ◌&&◌, ◌||◌, ◌==◌, List, [], ◌∷◌, refl, sym, ap, subst, ◌∙◌, arith, bit_and, bit_or, rules}
+use Rattle.std.proofs.Common.{◌≡◌, ℕ, zero, suc, ◌+◌, ◌-◌, ◌*◌, ◌<◌, ◌≤◌, ◌^◌, min, max, Bool, true, false, cond, not, ◌&&◌, ◌||◌, ◌==◌, List, [], ◌∷◌, refl, sym, ap, subst, ◌∙◌, arith, true≢false, bit_and, bit_or}
 use Rattle.std.specs.Int.{bit_at}
 use Rattle.std.proofs.lemmas.Bool.Decides.{nat_tests}
 use Rattle.std.proofs.lemmas.Nat.Bits.{and_pow, bit_at_or, bit_at_and, bit_at-lt}
 use Rattle.policy.specs.declared.rights.Right.{Right}
 use Rattle.policy.specs.declared.rights.Right.TheVariants.{Use, Read, Write, Wait, Change, Launch}
 use Rattle.policy.specs.declared.rights.Rights.{Rights}
-use Rattle.policy.specs.Rights.{has, bit_of, all_rights, each_right, rights_that}
+use Rattle.policy.specs.Rights.{has, bit_of, all_rights, each_right, rights_that, among}
 
 -- the place of a right's bit
 abbrev pub place_of : Right → ℕ
@@ -54,3 +54,62 @@ has-none Write = refl
 has-none Wait = refl
 has-none Change = refl
 has-none Launch = refl
+
+-- ---- the set of the rights that pass a test
+
+abbrev same : Bool → Bool → Bool
+same true b = b
+same false b = not b
+
+same_is : (a b : Bool) → same a b ≡ true → a ≡ b
+same_is true b h = sym h
+same_is false true h = h
+same_is false false h = refl
+
+abbrev either_way : (Bool → Bool) → Bool
+either_way p = p true && p false
+
+halves : (a b : Bool) → (a && b) ≡ true → (a ≡ true) × (b ≡ true)
+halves true b h = (refl, h)
+halves false b h = absurd (true≢false (sym h))
+
+in_each : (p : Bool → Bool) → either_way p ≡ true → (b : Bool) → p b ≡ true
+in_each p h true = (halves (p true) (p false) h).0
+in_each p h false = (halves (p true) (p false) h).1
+
+abbrev agrees : Right → Bool → Bool → Bool → Bool → Bool → Bool → Bool
+agrees right a b c d e f = same (has (rights_that (among a b c d e f)) right) (among a b c d e f right)
+
+abbrev agrees_each : Right → Bool
+agrees_each right = either_way (λ a. either_way (λ b. either_way (λ c. either_way (λ d. either_way (λ e. either_way (λ f. agrees right a b c d e f))))))
+
+agreed : (right : Right) → agrees_each right ≡ true
+agreed Use = refl
+agreed Read = refl
+agreed Write = refl
+agreed Wait = refl
+agreed Change = refl
+agreed Launch = refl
+
+has-among : (a b c d e f : Bool) (right : Right) → has (rights_that (among a b c d e f)) right ≡ among a b c d e f right
+has-among a b c d e f right =
+    same_is (has (rights_that (among a b c d e f)) right) (among a b c d e f right)
+    (in_each (λ f. agrees right a b c d e f)
+    (in_each (λ e. either_way (λ f. agrees right a b c d e f))
+    (in_each (λ d. either_way (λ e. either_way (λ f. agrees right a b c d e f)))
+    (in_each (λ c. either_way (λ d. either_way (λ e. either_way (λ f. agrees right a b c d e f))))
+    (in_each (λ b. either_way (λ c. either_way (λ d. either_way (λ e. either_way (λ f. agrees right a b c d e f)))))
+    (in_each (λ a. either_way (λ b. either_way (λ c. either_way (λ d. either_way (λ e. either_way (λ f. agrees right a b c d e f)))))) (agreed right) a) b) c) d) e) f)
+
+by_six : (test : Right → Bool) (right : Right) → among (test Use) (test Read) (test Write) (test Wait) (test Change) (test Launch) right ≡ test right
+by_six test Use = refl
+by_six test Read = refl
+by_six test Write = refl
+by_six test Wait = refl
+by_six test Change = refl
+by_six test Launch = refl
+
+-- the set of the rights that pass a test has just these
+pub has-rights_that : (test : Right → Bool) (right : Right) → has (rights_that test) right ≡ test right
+has-rights_that test right =
+    has-among (test Use) (test Read) (test Write) (test Wait) (test Change) (test Launch) right ∙ by_six test right

@@ -1,2 +1,6 @@
 pub mod Words
 pub mod Tickets
+pub mod Parts
+pub mod Machine
+pub mod Rule
+pub mod Faults

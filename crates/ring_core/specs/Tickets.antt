@@ -1,15 +1,63 @@
 -- The tickets of a producer, by id.
-use Rattle.std.specs.Prelude.{ℕ, ◌==◌, List, [], ◌∷◌, Option, Some, None, if◌then◌else◌}
+use Rattle.std.specs.Prelude.{◌≡◌, ◌≢◌, ◌<◌, length, get_or, ℕ, ◌+◌, Bool, false, ◌==◌, nat_lt, List, [], ◌∷◌, slice_set, Option, Some, None, is_some, if◌then◌else◌}
 use Rattle.ring_core.specs.declared.ticket.Ticket.{Ticket}
 use Rattle.ring_core.specs.declared.ticket.Reserved.{Reserved}
+use Rattle.ring_core.specs.Words.{word, no_words}
+
+-- a new ticket: nothing seen, nothing written
+abbrev pub blank : Ticket
+blank = record { saw = None; words = no_words }
+
+-- the ticket after it saw a read index
+abbrev pub seeing : ℕ → Ticket → Ticket
+seeing read_index ticket = record { saw = Some read_index; words = ticket.words }
+
+-- the ticket after its word k was written
+abbrev pub writing : ℕ → ℕ → Ticket → Ticket
+writing k w ticket = record { saw = ticket.saw; words = slice_set ticket.words k (Some w) }
+
+-- a ticket is published once its header word is written; until then it is open
+abbrev pub is_published : Ticket → Bool
+is_published ticket = is_some (word ticket.words 0)
+
+-- whether a read index that was seen shows room for the packet: its slot holds no packet that is not retired
+abbrev pub shows_room : ℕ → ℕ → Option ℕ → Bool
+shows_room size id None = false
+shows_room size id (Some read_index) = nat_lt id (read_index + size)
+
+-- an entry, to stand for none
+abbrev pub unnamed : Reserved
+unnamed = record { id = record { 0 = 0 }; ticket = blank }
 
 -- the ticket under an id
 abbrev pub held : ℕ → List Reserved → Option Ticket
 held id [] = None
 held id (entry ∷ entries) = if entry.id.0 == id then Some entry.ticket else held id entries
 
--- the tickets with another in place of the one under the id
-abbrev pub with_ticket : ℕ → Ticket → List Reserved → List Reserved
-with_ticket id ticket [] = []
-with_ticket id ticket (entry ∷ entries) =
-    if entry.id.0 == id then record entry { ticket = ticket } ∷ entries else entry ∷ with_ticket id ticket entries
+-- the ticket under an id, if it is open
+abbrev pub only_open : Option Ticket → Option Ticket
+only_open None = None
+only_open (Some ticket) = if is_published ticket then None else Some ticket
+
+abbrev pub open_ticket : ℕ → List Reserved → Option Ticket
+open_ticket id entries = only_open (held id entries)
+
+-- the tickets after the one under the id was changed
+abbrev pub changed : ℕ → (Ticket → Ticket) → List Reserved → List Reserved
+changed id change [] = []
+changed id change (entry ∷ entries) =
+    if entry.id.0 == id then record { id = entry.id; ticket = change entry.ticket } ∷ entries else entry ∷ changed id change entries
+
+-- where the first ticket under an id stands, if there is one
+abbrev pub IsPlaceOf : ℕ → List Reserved → Option ℕ → Type 0
+IsPlaceOf id entries None = (k : ℕ) → k < length entries → (get_or entries k unnamed).id.0 ≢ id
+IsPlaceOf id entries (Some i) =
+    (i < length entries) × ((get_or entries i unnamed).id.0 ≡ id) × ((k : ℕ) → k < i → (get_or entries k unnamed).id.0 ≢ id)
+
+-- the ids rise
+abbrev pub IsAscending : List Reserved → Type 0
+IsAscending entries = (i j : ℕ) → i < j → j < length entries → (get_or entries i unnamed).id.0 < (get_or entries j unnamed).id.0
+
+-- an id is above all of these
+abbrev pub IsAbove : ℕ → List Reserved → Type 0
+IsAbove id entries = (k : ℕ) → k < length entries → (get_or entries k unnamed).id.0 < id

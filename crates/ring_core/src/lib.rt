@@ -3,17 +3,21 @@
 #![tactic(auto)]
 
 mod access;
+mod laws;
 mod part;
+mod state;
+mod steps;
+#[cfg(test)]
+mod tests;
 mod ticket;
 mod tickets;
+#[cfg(test)]
+mod walk;
 
-pub use access::Access;
-pub use access::Made;
-pub use access::Seen;
-pub use access::Step;
-pub use part::Part;
-pub use part::ProcessorPart;
-pub use part::ProducerPart;
-pub use ticket::Reserved;
-pub use ticket::Ticket;
+pub use access::{Access, Made, READ_PLACE, Seen, Step, WRITE_PLACE, word_place};
+pub use laws::{each_step_keeps_the_rule, every_run_meets_the_rule};
+pub use part::{ALLOWANCE, Part, ProcessorPart, ProducerPart};
+pub use state::{RING_SIZES, ReplayFault, RingState, StepFault, is_ring_size, replay};
+pub use steps::Steps;
+pub use ticket::{INVALID, Reserved, Ticket, is_invalid};
 pub use tickets::Tickets;

@@ -1,8 +1,17 @@
 //! What each seat of a ring knows: the parts that the steps of its own seat alone change.
 
-use crate::access::Made;
+ghost use Rattle.std.specs.Prelude.{◌≡◌, OnOk, OnErr};
+ghost use Rattle.ring_core.specs.Parts.{producer_may, processor_may, may_make, part_after, new_producer, new_processor, after_producing, after_processing, passes, collected_packet, IsNew, TakesNew};
+ghost use Rattle.ring_core.specs.Words.{has_body};
+ghost use Rattle.ring_core.specs.Tickets.{shows_room};
+
+use crate::access::Access;
+use crate::steps::Steps;
+use crate::ticket::{Reserved, Ticket, has_body, is_body, is_invalid, packet_of, whole, with_word};
 use crate::tickets::Tickets;
+use aql_packet::PacketId;
 use sequences::Sequence;
+use std::alloc::{AllocError, Global};
 
 /// What a producer knows.
 #[derive(Drop, Debug)]
@@ -12,7 +21,7 @@ pub struct ProducerPart {
     /// The ids that it reserved, in order.
     pub tickets: Tickets,
     /// The steps that it made, in order.
-    pub steps: Sequence<Made>,
+    pub steps: Steps,
 }
 
 /// What the processor knows.
@@ -25,7 +34,7 @@ pub struct ProcessorPart {
     /// Whether it has cleared the header of the slot at the read index, and not yet raised the index.
     pub raising: bool,
     /// The steps that it made, in order.
-    pub steps: Sequence<Made>,
+    pub steps: Steps,
 }
 
 /// What one seat knows.
@@ -33,4 +42,176 @@ pub struct ProcessorPart {
 pub enum Part {
     Processor(ProcessorPart),
     Producer(ProducerPart),
+}
+
+/// How many ids a producer may reserve: 2^40.
+pub const ALLOWANCE: u64 = 1_099_511_627_776;
+
+impl ProducerPart {
+    /// Whether the producer may make an access, in a ring of this size.
+    pub(crate) fn may_make(&self, size: u64, access: Access) -> bool
+        ensures { result ≡ producer_may size self.now access }
+    {
+        match access {
+            Access::Reserve => self.allowance > 0,
+            Access::LoadReadIndex { ticket } => self.tickets.get_open(ticket).is_some(),
+            Access::StoreBody { ticket, place, .. } => {
+                is_body(place) && has_room(self.tickets.get_open(ticket), size, ticket)
+            }
+            Access::StoreHeader { ticket, word } => {
+                !is_invalid(word) && has_all(self.tickets.get_open(ticket))
+            }
+            _ => false,
+        }
+    }
+
+    /// Notes an access that the producer made and the word that it found. Without memory for it
+    /// nothing changes.
+    pub(crate) fn record(&mut self, access: Access, old: u64) -> Result<(), AllocError>
+        requires { IsNew access old self.old.tickets }
+        ensures ok { OnOk result (self.new ≡ after_producing self.old access old) }
+        ensures err { OnErr result (self.new ≡ self.old) }
+    {
+        self.steps.push(access.made(old))?;
+        match access {
+            Access::Reserve => {
+                let reserved = Reserved {
+                    id: PacketId(old),
+                    ticket: Ticket::blank(),
+                };
+                if self.tickets.push(reserved).is_err() {
+                    self.steps.pop();
+                    return Err(AllocError);
+                }
+                self.allowance = self.allowance.saturating_sub(1);
+            }
+            Access::LoadReadIndex { ticket } => self.tickets.note_read_index(ticket, old),
+            Access::StoreBody {
+                ticket,
+                place,
+                word,
+            } => self.tickets.note_word(ticket, place, word),
+            Access::StoreHeader { ticket, word } => self.tickets.note_word(ticket, 0, word),
+            _ => {}
+        }
+        Ok(())
+    }
+}
+
+/// Whether there is a ticket, and it saw room for its packet.
+fn has_room(ticket: Option<Ticket>, size: u64, id: PacketId) -> bool
+    ensures { result ≡ passes (λ t. shows_room size id.0 t.saw) ticket }
+{
+    match ticket {
+        None => false,
+        Some(ticket) => ticket.shows_room(size, id),
+    }
+}
+
+/// Whether there is a ticket, and all its body words are written.
+fn has_all(ticket: Option<Ticket>) -> bool
+    ensures { result ≡ passes (λ t. has_body t.words) ticket }
+{
+    match ticket {
+        None => false,
+        Some(ticket) => has_body(&ticket.words),
+    }
+}
+
+impl ProcessorPart {
+    /// The packet collected, once it is whole.
+    pub fn collected_packet(&self) -> Option<[u64; 8]>
+        ensures { result ≡ collected_packet self.now }
+    {
+        whole(&self.collected)
+    }
+
+    /// Whether the processor may make an access.
+    pub(crate) fn may_make(&self, access: Access) -> bool
+        ensures { result ≡ processor_may self.now access }
+    {
+        match access {
+            Access::LoadHeader => !self.raising,
+            Access::LoadBody { place } => is_body(place) && self.collected[0].is_some(),
+            Access::ClearHeader => !self.raising && has_body(&self.collected),
+            Access::RaiseReadIndex => self.raising,
+            _ => false,
+        }
+    }
+
+    /// Notes an access that the processor made and the word that it found. Without memory for it
+    /// nothing changes.
+    pub(crate) fn record(&mut self, access: Access, old: u64) -> Result<(), AllocError>
+        ensures ok { OnOk result (self.new ≡ after_processing self.old access old) }
+        ensures err { OnErr result (self.new ≡ self.old) }
+    {
+        self.steps.push(access.made(old))?;
+        match access {
+            Access::LoadHeader => {
+                if !is_invalid(old) {
+                    self.collected = with_word(self.collected, 0, old);
+                }
+            }
+            Access::LoadBody { place } => self.collected = with_word(self.collected, place, old),
+            Access::ClearHeader => self.raising = true,
+            Access::RaiseReadIndex => {
+                if self.retired.push(packet_of(&self.collected)).is_err() {
+                    self.steps.pop();
+                    return Err(AllocError);
+                }
+                self.collected = [None; 8];
+                self.raising = false;
+            }
+            _ => {}
+        }
+        Ok(())
+    }
+}
+
+impl Part {
+    /// The part of a producer as a ring opens. It takes no memory.
+    pub(crate) fn new_producer(alloc: Global) -> Part
+        ensures { result ≡ new_producer }
+    {
+        Part::Producer(ProducerPart {
+            allowance: ALLOWANCE,
+            tickets: Tickets::new(alloc),
+            steps: Steps::new(alloc),
+        })
+    }
+
+    /// The part of the processor as a ring opens. It takes no memory.
+    pub(crate) fn new_processor(alloc: Global) -> Part
+        ensures { result ≡ new_processor }
+    {
+        Part::Processor(ProcessorPart {
+            retired: Sequence::new(alloc),
+            collected: [None; 8],
+            raising: false,
+            steps: Steps::new(alloc),
+        })
+    }
+
+    /// Whether a seat with this part may make an access, in a ring of this size.
+    pub(crate) fn may_make(&self, size: u64, access: Access) -> bool
+        ensures { result ≡ may_make size self.now access }
+    {
+        match self {
+            Part::Processor(part) => part.may_make(access),
+            Part::Producer(part) => part.may_make(size, access),
+        }
+    }
+
+    /// Notes an access that the seat made and the word that it found. Without memory for it nothing
+    /// changes.
+    pub(crate) fn record(&mut self, access: Access, old: u64) -> Result<(), AllocError>
+        requires { TakesNew self.old access old }
+        ensures ok { OnOk result (self.new ≡ part_after self.old access old) }
+        ensures err { OnErr result (self.new ≡ self.old) }
+    {
+        match self {
+            Part::Processor(part) => part.record(access, old),
+            Part::Producer(part) => part.record(access, old),
+        }
+    }
 }

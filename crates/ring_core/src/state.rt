@@ -1,1 +1,224 @@
-//! The machine.
+//! The machine: a ring's words and the part of each seat.
+
+ghost use Rattle.std.specs.Prelude.{◌≡◌, ◌↔◌, IfOk, IfErr, OnErr, Err, true, false};
+ghost use Rattle.ring_core.specs.Machine.{Makes, is_allowed, opened, Replays, is_ring_size, IsProducerCount, producers_of, write_index, read_index};
+ghost use Rattle.ring_core.specs.Rule.{IsRule, processor_of};
+ghost use Rattle.ring_core.specs.Faults.{IsReplayFault};
+
+use crate::access::{READ_PLACE, Seen, Step, WRITE_PLACE};
+use crate::part::{Part, ProcessorPart};
+use std::alloc::{AllocError, Global};
+use std::marker::Model;
+
+/// A ring as a pure machine: its words and what each seat knows (PSA, User Mode Queuing). A contract
+/// sees the size, the words and the parts; every ring state meets the ring rule.
+#[derive(Drop, Debug)]
+pub struct RingState {
+    size: u64,
+    words: Vec<u64>,
+    parts: Vec<Part>,
+}
+
+impl Model for RingState {
+    ghost use Rattle.ring_core.specs.Machine.{Machine, machine_of};
+
+    ghost Value = { Machine };
+
+    ghost use Rattle.ring_core.specs.Rule.{IsRing};
+
+    ghost view = { λ s. machine_of s.size s.words.items s.parts.items };
+
+    ghost invariant = { λ s. IsRing (machine_of s.size s.words.items s.parts.items) };
+}
+
+/// Why a step was not made. Nothing has changed.
+#[derive(Clone, Copy, Debug, PartialEq, Eq)]
+pub enum StepFault {
+    /// There was no memory to note the step.
+    OutOfMemory,
+    /// The step is not allowed.
+    NotAStep,
+}
+
+impl From<AllocError> for StepFault {
+    ghost use Rattle.std.specs.Prelude.{◌≡◌};
+    ghost use Rattle.ring_core.specs.declared.state.StepFault.{StepFault};
+
+    ghost from_gives = { λ _ fault. fault ≡ StepFault.OutOfMemory };
+
+    fn from(_: AllocError) -> StepFault {
+        StepFault::OutOfMemory
+    }
+}
+
+/// The numbers of slots that a ring may have.
+pub const RING_SIZES: [u64; 12] = [2, 4, 8, 16, 32, 64, 128, 256, 512, 1024, 2048, 4096];
+
+/// Whether a ring may have so many slots: a power of two from 2 to 4,096.
+pub fn is_ring_size(size: u64) -> bool
+    ensures { result ≡ is_ring_size size }
+{
+    RING_SIZES.contains(&size)
+}
+
+impl RingState {
+    /// The ring as it opens: both indices 0, each slot free, and no step made.
+    pub fn new(alloc: Global, size: u64, producers: u64) -> Result<RingState, AllocError>
+        requires size { is_ring_size size ≡ true }
+        requires producers { IsProducerCount producers }
+        ensures { IfOk result (λ ring. ring ≡ opened size producers) }
+    {
+        let words = opening_words(alloc, size)?;
+        let parts = opening_parts(alloc, producers)?;
+        Ok(RingState { size, words, parts })
+    }
+
+    /// How many slots the ring has.
+    pub fn size(&self) -> u64
+        ensures { result ≡ self.now.size }
+    {
+        self.size
+    }
+
+    /// The ring's words: the write index, the read index, and eight words a slot.
+    pub fn words(&self) -> &[u64]
+        ensures { result.now ≡ self.now.words }
+    {
+        self.words.as_slice()
+    }
+
+    /// The part of each seat: the processor's, then those of the producers.
+    pub fn parts(&self) -> &[Part]
+        ensures { result.now ≡ self.now.parts }
+    {
+        self.parts.as_slice()
+    }
+
+    /// The write index: how many ids are reserved.
+    pub fn write_index(&self) -> u64
+        ensures { result ≡ write_index self.now }
+    {
+        self.words[WRITE_PLACE]
+    }
+
+    /// The read index: how many packets are retired.
+    pub fn read_index(&self) -> u64
+        ensures { result ≡ read_index self.now }
+    {
+        self.words[READ_PLACE]
+    }
+
+    /// The part of the processor.
+    pub fn processor(&self) -> &ProcessorPart
+        ensures { result.now ≡ processor_of self.now.parts }
+    {
+        match &self.parts[0] {
+            Part::Processor(part) => part,
+            Part::Producer(_) => unreachable!(),
+        }
+    }
+
+    /// Whether a step is allowed.
+    pub fn allows(&self, step: Step) -> bool
+        ensures { result ≡ is_allowed self.now step }
+    {
+        match self.parts.get(step.seat as usize) {
+            None => false,
+            Some(part) => part.may_make(self.size, step.access),
+        }
+    }
+
+    /// Makes a step, and tells what it read. A step that is not allowed is NotAStep.
+    pub fn step(&mut self, step: Step) -> Result<Seen, StepFault>
+        ensures made { IfOk result (λ seen. Makes self.old step seen self.new) }
+        ensures exact { result ≡ Err StepFault.NotAStep ↔ is_allowed self.old step ≡ false }
+        ensures err { OnErr result (self.new ≡ self.old) }
+    {
+        if !self.allows(step) {
+            return Err(StepFault::NotAStep);
+        }
+        let place = step.access.place(self.size, self.words[1]);
+        let old = self.words[place];
+        self.parts[step.seat as usize].record(step.access, old)?;
+        self.words[place] = step.access.word_after(old);
+        Ok(step.access.seen(old))
+    }
+
+    /// Every ring state meets the ring rule.
+    pub fn keeps_rule(&self)
+        ensures { IsRule (producers_of self.now) self.now }
+    {
+        let _ = &self.size;
+    }
+}
+
+/// Why there is no state after a list of steps.
+#[derive(Clone, Copy, Debug, PartialEq, Eq)]
+pub enum ReplayFault {
+    /// There was no memory for the ring or for noting a step.
+    OutOfMemory,
+    /// The step at this index, from 0, is the first that is not allowed.
+    NotAStep(usize),
+}
+
+impl From<AllocError> for ReplayFault {
+    ghost use Rattle.std.specs.Prelude.{◌≡◌};
+    ghost use Rattle.ring_core.specs.declared.state.ReplayFault.{ReplayFault};
+
+    ghost from_gives = { λ _ fault. fault ≡ ReplayFault.OutOfMemory };
+
+    fn from(_: AllocError) -> ReplayFault {
+        ReplayFault::OutOfMemory
+    }
+}
+
+/// The ring after these steps, in turn from the opening.
+pub fn replay(
+    alloc: Global,
+    size: u64,
+    producers: u64,
+    steps: &[Step],
+) -> Result<RingState, ReplayFault>
+    requires size { is_ring_size size ≡ true }
+    requires producers { IsProducerCount producers }
+    ensures replays { IfOk result (λ ring. Replays size producers steps.now ring) }
+    ensures rule { IfOk result (λ ring. IsRule producers ring) }
+    ensures stops { IfErr result (λ fault. IsReplayFault size producers steps.now fault) }
+{
+    let mut ring = RingState::new(alloc, size, producers)?;
+    for (index, step) in steps.iter().enumerate() {
+        match ring.step(*step) {
+            Ok(_) => {}
+            Err(StepFault::OutOfMemory) => return Err(ReplayFault::OutOfMemory),
+            Err(StepFault::NotAStep) => return Err(ReplayFault::NotAStep(index)),
+        }
+    }
+    Ok(ring)
+}
+
+/// The words of a ring as it opens.
+#[tactic(auto, using(crate::proofs::Places::free_more))]
+fn opening_words(alloc: Global, size: u64) -> Result<Vec<u64>, AllocError>
+    ensures { IfOk result (λ words. words.items ≡ (opened size 0).words) }
+{
+    let mut words = Vec::new(alloc);
+    words.push(0)?;
+    words.push(0)?;
+    for _slot in 0..size {
+        words.extend_from_slice(&[1, 0, 0, 0, 0, 0, 0, 0])?;
+    }
+    Ok(words)
+}
+
+/// The parts of a ring as it opens.
+#[tactic(auto, using(std::proofs::lemmas::List::replicate_more))]
+fn opening_parts(alloc: Global, producers: u64) -> Result<Vec<Part>, AllocError>
+    ensures { IfOk result (λ parts. parts.items ≡ (opened 0 producers).parts) }
+{
+    let mut parts = Vec::new(alloc);
+    parts.push(Part::new_processor(alloc))?;
+    for _producer in 0..producers {
+        parts.push(Part::new_producer(alloc))?;
+    }
+    Ok(parts)
+}

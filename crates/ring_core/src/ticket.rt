@@ -1,9 +1,11 @@
 //! What a producer knows of one id that it reserved.
 
-ghost use Rattle.std.specs.Prelude.{◌≡◌};
-ghost use Rattle.ring_core.specs.Words.{word, has_body, is_invalid};
+ghost use Rattle.std.specs.Prelude.{◌≡◌, None, slice_set, Some, is_some, if◌then◌else◌};
+ghost use Rattle.std.specs.List.{list_all};
+ghost use Rattle.ring_core.specs.Words.{no_words, is_body, has_body, packet_of, is_invalid};
+ghost use Rattle.ring_core.specs.Tickets.{blank, is_published, shows_room};
 
-use aql_packet::PacketId;
+use aql_packet::{PacketId, header_of};
 
 /// A reserved id, as its producer knows it: open until its header word is written, published from
 /// then on.
@@ -20,4 +22,99 @@ pub struct Ticket {
 pub struct Reserved {
     pub id: PacketId,
     pub ticket: Ticket,
+}
+
+impl Ticket {
+    /// A new ticket: nothing seen, nothing written.
+    pub(crate) fn blank() -> Ticket
+        ensures { result ≡ blank }
+    {
+        Ticket {
+            saw: None,
+            words: [None; 8],
+        }
+    }
+
+    /// Whether its header word is written.
+    pub fn is_published(&self) -> bool
+        ensures { result ≡ is_published self.now }
+    {
+        self.words[0].is_some()
+    }
+
+    /// Whether the read index that it saw shows room, in a ring of this size, for the packet with
+    /// this id.
+    pub(crate) fn shows_room(&self, size: u64, id: PacketId) -> bool
+        ensures { result ≡ shows_room size id.0 self.now.saw }
+    {
+        match self.saw {
+            None => false,
+            Some(read_index) => id.0 < read_index || id.0 - read_index < size,
+        }
+    }
+}
+
+/// Whether a number is the place of a body word, 1 to 7.
+pub(crate) fn is_body(place: u64) -> bool
+    ensures { result ≡ is_body place }
+{
+    1 <= place && place <= 7
+}
+
+/// Whether all seven body words are known.
+pub(crate) fn has_body(words: &[Option<u64>; 8]) -> bool
+    ensures { result ≡ has_body words.now }
+{
+    let (_header, body) = words.split_at(1);
+    body.iter().all(|word| word.is_some())
+}
+
+/// The packet, once all its words are known.
+pub(crate) fn whole(words: &[Option<u64>; 8]) -> Option<[u64; 8]>
+    ensures { result ≡ (if list_all is_some words.now then Some (packet_of words.now) else None) }
+{
+    if is_whole(words) {
+        Some(packet_of(words))
+    } else {
+        None
+    }
+}
+
+/// Whether all eight words are known.
+fn is_whole(words: &[Option<u64>; 8]) -> bool
+    ensures { result ≡ list_all is_some words.now }
+{
+    words.iter().all(|word| word.is_some())
+}
+
+/// The words with one of them known.
+pub(crate) fn with_word(words: [Option<u64>; 8], place: u64, word: u64) -> [Option<u64>; 8]
+    ensures { result ≡ slice_set words place (Some word) }
+{
+    let mut words = words;
+    if place < 8 {
+        words[place as usize] = Some(word);
+    }
+    words
+}
+
+/// The words themselves, once all are known.
+pub(crate) fn packet_of(words: &[Option<u64>; 8]) -> [u64; 8]
+    ensures { result ≡ packet_of words.now }
+{
+    let mut packet = [0; 8];
+    for place in 0..8 {
+        packet[place] = words[place].unwrap_or(0);
+    }
+    packet
+}
+
+/// The packet type INVALID (PSA, Architected Queuing Language).
+pub const INVALID: u8 = 1;
+
+/// Whether a header word has the type INVALID (PSA, Architected Queuing Language).
+pub fn is_invalid(header: u64) -> bool
+    ensures { result ≡ is_invalid header }
+{
+    header_of(header).kind == INVALID
 }

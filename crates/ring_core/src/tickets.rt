@@ -1,9 +1,9 @@
 //! The tickets of one producer.
 
 ghost use Rattle.std.specs.Prelude.{◌≡◌, ◌++◌, ◌∷◌, [], OnOk, OnErr};
-ghost use Rattle.ring_core.specs.Tickets.{held, with_ticket};
+ghost use Rattle.ring_core.specs.Tickets.{held, changed, seeing, writing, open_ticket, IsPlaceOf, IsAscending, IsAbove};
 
-use crate::ticket::{Reserved, Ticket};
+use crate::ticket::{Reserved, Ticket, with_word};
 use aql_packet::PacketId;
 use std::alloc::{AllocError, Global};
 use std::marker::Model;
@@ -20,12 +20,16 @@ impl Model for Tickets {
 
     ghost Value = { List Reserved };
 
+    ghost use Rattle.ring_core.specs.Tickets.{IsAscending};
+
     ghost view = { λ t. t.reserved.items };
+
+    ghost invariant = { λ t. IsAscending t.reserved.items };
 }
 
 impl Tickets {
     /// No ticket. It takes no memory.
-    pub fn new(alloc: Global) -> Tickets
+    pub(crate) fn new(alloc: Global) -> Tickets
         ensures { result ≡ [] }
     {
         Tickets {
@@ -44,29 +48,69 @@ impl Tickets {
     pub fn get(&self, id: PacketId) -> Option<Ticket>
         ensures { result ≡ held id.0 self.now }
     {
-        for reserved in &self.reserved {
-            if reserved.id.0 == id.0 {
-                return Some(reserved.ticket);
-            }
-        }
-        None
+        let index = place_of(self.reserved.as_slice(), id)?;
+        Some(self.reserved[index].ticket)
     }
 
-    /// Puts a ticket in place of the one under its id.
-    pub fn set(&mut self, id: PacketId, ticket: Ticket)
-        ensures { self.new ≡ with_ticket id.0 ticket self.old }
+    /// The ticket under an id, if it is one of these and open.
+    pub(crate) fn get_open(&self, id: PacketId) -> Option<Ticket>
+        ensures { result ≡ open_ticket id.0 self.now }
     {
-        if let Some(index) = self.reserved.iter().position(|reserved| reserved.id.0 == id.0) {
-            self.reserved[index].ticket = ticket;
+        let ticket = self.get(id)?;
+        if ticket.is_published() {
+            return None;
+        }
+        Some(ticket)
+    }
+
+    /// Notes the read index that the ticket under an id saw.
+    pub(crate) fn note_read_index(&mut self, id: PacketId, read_index: u64)
+        ensures { self.new ≡ changed id.0 (seeing read_index) self.old }
+    {
+        if let Some(index) = place_of(self.reserved.as_slice(), id) {
+            self.reserved[index].ticket.saw = Some(read_index);
         }
     }
 
-    /// Puts a new ticket behind the others.
-    pub fn push(&mut self, reserved: Reserved) -> Result<(), AllocError>
+    /// Notes a word that the ticket under an id wrote.
+    pub(crate) fn note_word(&mut self, id: PacketId, place: u64, word: u64)
+        ensures { self.new ≡ changed id.0 (writing place word) self.old }
+    {
+        if let Some(index) = place_of(self.reserved.as_slice(), id) {
+            let reserved = &mut self.reserved[index];
+            reserved.ticket.words = with_word(reserved.ticket.words, place, word);
+        }
+    }
+
+    /// Puts a new ticket, with an id above theirs, behind the others.
+    pub(crate) fn push(&mut self, reserved: Reserved) -> Result<(), AllocError>
+        requires { IsAbove reserved.id.0 self.old }
         ensures ok { OnOk result (self.new ≡ self.old ++ reserved ∷ []) }
         ensures err { OnErr result (self.new ≡ self.old) }
     {
         self.reserved.push(reserved)?;
         Ok(())
+    }
+}
+
+/// The index of the ticket under an id, by binary search.
+fn place_of(reserved: &[Reserved], id: PacketId) -> Option<usize>
+    requires { IsAscending reserved.now }
+    ensures { IsPlaceOf id.0 reserved.now result }
+{
+    let mut low = 0;
+    let mut high = reserved.len();
+    while low < high {
+        let middle = low + (high - low) / 2;
+        if reserved[middle].id.0 < id.0 {
+            low = middle + 1;
+        } else {
+            high = middle;
+        }
+    }
+    if low < reserved.len() && reserved[low].id.0 == id.0 {
+        Some(low)
+    } else {
+        None
     }
 }

@@ -1,6 +1,6 @@
 -- A run over blocks: what holds between reads, and what it comes to.
-use Rattle.std.proofs.Common.{◌≡◌, ℕ, ◌+◌, ◌<◌, ◌≤◌, List, [], ◌∷◌, ◌++◌, length, Option, Some, None, Result, Ok, Err, refl, sym, ap, ◌∙◌, subst, append_assoc, append-nil, length-append, arith}
-use Rattle.std.specs.Prelude.{⊤}
+use Rattle.std.proofs.Common.{◌≡◌, ℕ, ◌+◌, ◌<◌, ◌≤◌, List, [], ◌∷◌, ◌++◌, length, take, Option, Some, None, Result, Ok, Err, refl, sym, ap, ◌∙◌, subst, append_assoc, append-nil, length-append, arith}
+use Rattle.std.specs.Prelude.{⊤, MatchResult}
 use Rattle.std.specs.Io.KnownBytes.{Appends, Consumes, Keeps, IsAtEnd}
 use Rattle.script.specs.declared.fault.ScriptFault.{ScriptFault}
 use Rattle.script.specs.declared.fault.ScriptFault.TheVariants.{OutOfMemory, BadLine, Read, Write}
@@ -9,7 +9,7 @@ use Rattle.script.specs.Words.{kept}
 use Rattle.script.specs.Lines.{line_of}
 use Rattle.script.specs.Runs.{Law, Runs, ServedAtMostOne, lines_from, lines_of}
 use Rattle.script.specs.Sessions.{Took, Failed, Ended, Why, begun, pending, with_further, at_end}
-use Rattle.script.specs.Scripts.{Outcome, Replies}
+use Rattle.script.specs.Scripts.{Outcome, Replies, ReadsBlock}
 use Rattle.script.proofs.Running.{runs_append, lines_end}
 
 -- between reads: the lines that ended are done, and their replies were handed over
@@ -74,24 +74,29 @@ going_block law old mid new held holds handed left further before between after 
     let next = consumed_left left further so.rest bytes so.left_is k in
     let out : pending between ≡ took.text = took.out ∙ ap (λ front. front ++ took.text) empty in
     record {
-  done = so.done ++ took.done;
-  text = so.text ++ took.text;
-  rest = next.0;
-  runs = runs_append law old mid new so.done took.done so.text took.text so.runs took.runs;
-  handed = appends_more held holds handed so.text took.text so.handed (subst (λ text. Appends holds handed text) out given);
-  left_is = next.1;
-  lines = so.lines ∙ ap (λ rest. so.done ++ lines_from (begun before) rest) next.2 ∙ ap (λ lines. so.done ++ lines) (took.lines next.0)
-    ∙ sym (append_assoc so.done took.done (lines_from (begun between) next.0)) ∙ ap (λ line. (so.done ++ took.done) ++ lines_from line next.0) (sym line);
-  number = omega (arith, number, took.number, so.number, length-append so.done took.done);
-}
+      done = so.done ++ took.done;
+      text = so.text ++ took.text;
+      rest = next.0;
+      runs = runs_append law old mid new so.done took.done so.text took.text so.runs took.runs;
+      handed = appends_more held holds handed so.text took.text so.handed (subst (λ text. Appends holds handed text) out given);
+      left_is = next.1;
+      lines = so.lines ∙ ap (λ rest. so.done ++ lines_from (begun before) rest) next.2 ∙ ap (λ lines. so.done ++ lines) (took.lines next.0)
+          ∙ sym (append_assoc so.done took.done (lines_from (begun between) next.0)) ∙ ap (λ line. (so.done ++ took.done) ++ lines_from line next.0) (sym line);
+      number = omega (arith, number, took.number, so.number, length-append so.done took.done);
+    }
 
 pub outcome_why : {S : Type 0} (law : Law S) (old mid new : S) (held holds left : Option (List ℕ)) (script : List ℕ) (number : ℕ) (before done lines : List (List ℕ)) (fault : ScriptFault) →
     lines_of script ≡ before ++ lines → number ≡ length before + 1 → Replies law old mid held holds (before ++ done) → Why law mid new number done lines fault →
     Outcome law old new held holds left script (Err fault)
-outcome_why law old mid new held holds left script number before done lines (BadLine bad) e n so why =
-    (before ++ done, why.2.0, why.2.1, e ∙ ap (λ lines. before ++ lines) why.2.2 ∙ sym (append_assoc before done (why.2.0 ∷ why.2.1)),
-      omega (arith, why.0, n, length-append before done), why.2.3,
-      subst (λ broker. Replies law old broker held holds (before ++ done)) (sym why.1) so)
+outcome_why law old mid new held holds left script number before done lines (BadLine bad) e n so why = (
+  before ++ done,
+  why.2.0,
+  why.2.1,
+  e ∙ ap (λ lines. before ++ lines) why.2.2 ∙ sym (append_assoc before done (why.2.0 ∷ why.2.1)),
+  omega (arith, why.0, n, length-append before done),
+  why.2.3,
+  subst (λ broker. Replies law old broker held holds (before ++ done)) (sym why.1) so,
+)
 outcome_why law old mid new held holds left script number before done lines OutOfMemory e n so why =
     (before ++ done, why.1.0, mid, e ∙ ap (λ lines. before ++ lines) why.1.1 ∙ sym (append_assoc before done why.1.0), so, why.0)
 outcome_why law old mid new held holds left script number before done lines Read e n so why = absurd why
@@ -105,10 +110,12 @@ pub outcome_failed : {S : Type 0} (law : Law S) (old mid new : S) (held holds ha
 outcome_failed law old mid new held holds handed left further before after script lines rest fault so e empty failed given =
     let out : pending after ≡ failed.text = failed.out ∙ ap (λ front. front ++ failed.text) empty in
     outcome_why law old failed.mid new held handed further script before.number so.done failed.done (lines rest) fault
-      (so.lines ∙ ap (λ lines. so.done ++ lines) e) so.number
-      (so.text ++ failed.text, runs_append law old mid failed.mid so.done failed.done so.text failed.text so.runs failed.runs,
-        appends_more held holds handed so.text failed.text so.handed (subst (λ text. Appends holds handed text) out given))
-      (failed.why rest)
+    (so.lines ∙ ap (λ lines. so.done ++ lines) e) so.number (
+      so.text ++ failed.text,
+      runs_append law old mid failed.mid so.done failed.done so.text failed.text so.runs failed.runs,
+      appends_more held holds handed so.text failed.text so.handed (subst (λ text. Appends holds handed text) out given),
+    )
+    (failed.why rest)
 
 -- a block that could not all be taken
 pub outcome_block : {S : Type 0} (law : Law S) (old mid new : S) (held holds handed left further : Option (List ℕ)) (before after : Session) (script bytes : List ℕ) (fault : ScriptFault) →
@@ -117,7 +124,7 @@ pub outcome_block : {S : Type 0} (law : Law S) (old mid new : S) (held holds han
 outcome_block law old mid new held holds handed left further before after script bytes fault so k empty failed given =
     let next = consumed_left left further so.rest bytes so.left_is k in
     outcome_failed law old mid new held holds handed left further before after script (with_further before bytes) next.0 fault so
-      (ap (lines_from (begun before)) next.2) empty failed given
+    (ap (lines_from (begun before)) next.2) empty failed given
 
 -- at the end nothing is left
 pub nothing_left : {S : Type 0} (law : Law S) (old new : S) (held holds left further : Option (List ℕ)) (session : Session) (script : List ℕ) →
@@ -132,11 +139,12 @@ outcome_end law old mid new held holds handed left further before after script d
     let none = nothing_left law old mid held holds left further before script so k at in
     let out : pending after ≡ ended.text = ended.out ∙ ap (λ front. front ++ ended.text) empty in
     let all : lines_of script ≡ so.done ++ kept (begun before) [] =
-      so.lines ∙ ap (λ rest. so.done ++ lines_from (begun before) rest) none ∙ ap (λ lines. so.done ++ lines) (lines_end (begun before)) in
-    (so.text ++ ended.text,
+    so.lines ∙ ap (λ rest. so.done ++ lines_from (begun before) rest) none ∙ ap (λ lines. so.done ++ lines) (lines_end (begun before)) in (
+      so.text ++ ended.text,
       subst (λ lines. Runs law old lines (so.text ++ ended.text) new) (sym all)
-        (runs_append law old mid new so.done (kept (begun before) []) so.text ended.text so.runs ended.runs),
-      appends_more held holds handed so.text ended.text so.handed (subst (λ text. Appends holds handed text) out given))
+          (runs_append law old mid new so.done (kept (begun before) []) so.text ended.text so.runs ended.runs),
+      appends_more held holds handed so.text ended.text so.handed (subst (λ text. Appends holds handed text) out given),
+    )
 
 pub outcome_last : {S : Type 0} (law : Law S) (old mid new : S) (held holds handed left further : Option (List ℕ)) (before after : Session) (script : List ℕ) (fault : ScriptFault) →
     Going law old mid held holds left before script → Consumes left further [] → IsAtEnd further → pending before ≡ [] →
@@ -144,10 +152,27 @@ pub outcome_last : {S : Type 0} (law : Law S) (old mid new : S) (held holds hand
 outcome_last law old mid new held holds handed left further before after script fault so k at empty failed given =
     let none = nothing_left law old mid held holds left further before script so k at in
     outcome_failed law old mid new held holds handed left further before after script (at_end before) [] fault so
-      (ap (lines_from (begun before)) none ∙ lines_end (begun before)) empty failed given
+    (ap (lines_from (begun before)) none ∙ lines_end (begun before)) empty failed given
 
 -- the reader failed
 pub outcome_read : {S : Type 0} (law : Law S) (old new : S) (held holds left : Option (List ℕ)) (session : Session) (script : List ℕ) →
     Going law old new held holds left session script → Outcome law old new held holds left script (Err Read)
 outcome_read law old new held holds left session script so =
     (so.done, begun session, so.rest, so.left_is, so.lines, (so.text, so.runs, so.handed))
+
+-- what a read of some bytes consumed
+pub block_of : (old new : Option (List ℕ)) (count : ℕ) (block taken : List ℕ) → ReadsBlock old new (Ok (Some count)) block → taken ≡ take count block → Consumes old new taken
+block_of old new count block taken read e = subst (λ bytes. Consumes old new bytes) (sym e) read.1
+
+-- what a read of no byte says
+pub at_end_of : (old new : Option (List ℕ)) (count : ℕ) (block : List ℕ) → count ≡ 0 → ReadsBlock old new (Ok (Some count)) block → Consumes old new [] × IsAtEnd new
+at_end_of old new count block e read =
+    let none : take count block ≡ [] = rw e refl in
+    (subst (λ bytes. Consumes old new bytes) none read.1, read.2 e)
+
+-- an outcome by cases
+pub outcome_of : {S : Type 0} (law : Law S) (old new : S) (held holds left : Option (List ℕ)) (script : List ℕ) (result : Result ⊤ ScriptFault) →
+    MatchResult result (λ done. Outcome law old new held holds left script (Ok done)) (λ fault. Outcome law old new held holds left script (Err fault)) →
+    Outcome law old new held holds left script result
+outcome_of law old new held holds left script (Ok done) case = case
+outcome_of law old new held holds left script (Err fault) case = case

@@ -38,7 +38,7 @@ pub listed_passed : {X : Type 0} (p : X → Bool) (f : X → List ℕ) (xs : Lis
     new ≡ old ++ (comma_if any ++ f (get_or xs i d)) → more ≡ true → IsListed p f xs (i + 1) start new more
 listed_passed p f xs i d start old new any more so h t e m =
     let step : map f (filter p (take (i + 1) xs)) ≡ map f (filter p (take i xs)) ++ f (get_or xs i d) ∷ [] =
-        named_more p f xs i d h ∙ rw t refl in
+    named_more p f xs i d h ∙ rw t refl in
     record {
       text = rw (step, with_commas_more, ← so.some) (e ∙ ap (λ text. text ++ (comma_if any ++ f (get_or xs i d))) so.text ∙ append_assoc start _ _);
       some = rw (step, has_items_more) m;
@@ -49,7 +49,7 @@ pub listed_failed : {X : Type 0} (p : X → Bool) (f : X → List ℕ) (xs : Lis
     new ≡ old → more ≡ any → IsListed p f xs (i + 1) start new more
 listed_failed p f xs i d start old new any more so h t e m =
     let step : map f (filter p (take (i + 1) xs)) ≡ map f (filter p (take i xs)) =
-        named_more p f xs i d h ∙ rw t (append-nil _) in
+    named_more p f xs i d h ∙ rw t (append-nil _) in
     record { text = rw step (e ∙ so.text); some = rw step (m ∙ so.some) }
 
 pub listed_all : {X : Type 0} (p : X → Bool) (f : X → List ℕ) (xs : List X) (i : ℕ) (start now : List ℕ) (any : Bool) →

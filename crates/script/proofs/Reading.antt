@@ -119,8 +119,8 @@ pub bytes_more : (all : Option (List ℕ)) (read more : List ℕ) (rest : Word) 
     rest ≡ high ∷ further → further ≡ low ∷ last → byte_of high low ≡ Some byte → more ≡ read ++ byte ∷ [] → all ≡ option_map (λ bytes. more ++ bytes) (bytes_word last)
 bytes_more all read more rest high low byte further last so e f some is_more =
     let here : bytes_word rest ≡ option_map (λ bytes. byte ∷ bytes) (bytes_word last) =
-        ap bytes_word (e ∙ ap (λ bytes. high ∷ bytes) f) ∙ bytes_step high low last
-        ∙ ap (option_and_then (λ byte. option_map (λ bytes. byte ∷ bytes) (bytes_word last))) some in
+    ap bytes_word (e ∙ ap (λ bytes. high ∷ bytes) f) ∙ bytes_step high low last
+    ∙ ap (option_and_then (λ byte. option_map (λ bytes. byte ∷ bytes) (bytes_word last))) some in
     so ∙ ap (option_map (λ bytes. read ++ bytes)) here ∙ joined read more byte (bytes_word last) is_more
 
 pub bytes_none : (all : Option (List ℕ)) (read : List ℕ) (rest : Word) → all ≡ option_map (λ bytes. read ++ bytes) (bytes_word rest) → bytes_word rest ≡ None → None ≡ all

@@ -96,9 +96,9 @@ failed_long law broker before after byte e long out = record {
   runs = (refl, refl);
   out = out ∙ sym (append-nil (pending before));
   why = λ more.
-    let longer : 16384 < length (begun before ++ byte ∷ []) = omega (arith, length-append (begun before) (byte ∷ [])) in
-    let first = first_line (begun before ++ byte ∷ []) more (omega arith) in
-    (omega arith, refl, (first.0, first.1, lines_byte (begun before) byte more e ∙ first.2, no_form (law.names broker) first.0 (omega (arith, first.3))));
+      let longer : 16384 < length (begun before ++ byte ∷ []) = omega (arith, length-append (begun before) (byte ∷ [])) in
+      let first = first_line (begun before ++ byte ∷ []) more (omega arith) in
+      (omega arith, refl, (first.0, first.1, lines_byte (begun before) byte more e ∙ first.2, no_form (law.names broker) first.0 (omega (arith, first.3))));
 }
 
 -- a byte more belongs to the line that is begun
@@ -133,23 +133,25 @@ took_more law old mid new before between after bytes i h a b =
     let more_is : take (i + 1) bytes ≡ take i bytes ++ get_or bytes i 0 ∷ [] = take_more bytes i 0 h in
     let few_is : length (take (i + 1) bytes) ≡ length (take i bytes) + 1 = ap length more_is ∙ length-append (take i bytes) (get_or bytes i 0 ∷ []) in
     record {
-  done = a.done ++ b.done;
-  text = a.text ++ b.text;
-  lines = λ more.
-    ap (λ front. lines_from (begun before) (front ++ more)) more_is
-    ∙ ap (lines_from (begun before)) (append_assoc (take i bytes) (get_or bytes i 0 ∷ []) more)
-    ∙ a.lines (get_or bytes i 0 ∷ more) ∙ ap (λ further. a.done ++ further) (b.lines more) ∙ sym (append_assoc a.done b.done (lines_from (begun after) more));
-  runs = runs_append law old mid new a.done b.done a.text b.text a.runs b.runs;
-  out = b.out ∙ ap (λ front. front ++ b.text) a.out ∙ append_assoc (pending before) a.text b.text;
-  number = omega (arith, a.number, b.number, length-append a.done b.done);
-  few = omega (arith, a.few, b.few, few_is, length-append a.done b.done);
-}
+      done = a.done ++ b.done;
+      text = a.text ++ b.text;
+      lines = λ more.
+          ap (λ front. lines_from (begun before) (front ++ more)) more_is
+          ∙ ap (lines_from (begun before)) (append_assoc (take i bytes) (get_or bytes i 0 ∷ []) more)
+          ∙ a.lines (get_or bytes i 0 ∷ more) ∙ ap (λ further. a.done ++ further) (b.lines more) ∙ sym (append_assoc a.done b.done (lines_from (begun after) more));
+      runs = runs_append law old mid new a.done b.done a.text b.text a.runs b.runs;
+      out = b.out ∙ ap (λ front. front ++ b.text) a.out ∙ append_assoc (pending before) a.text b.text;
+      number = omega (arith, a.number, b.number, length-append a.done b.done);
+      few = omega (arith, a.few, b.few, few_is, length-append a.done b.done);
+    }
 
 pub why_behind : {S : Type 0} (law : Law S) (mid new : S) (first number : ℕ) (before done lines all : List (List ℕ)) (fault : ScriptFault) →
     number ≡ first + length before → all ≡ before ++ lines → Why law mid new number done lines fault → Why law mid new first (before ++ done) all fault
-why_behind law mid new first number before done lines all (BadLine bad) n e why =
-    (omega (arith, why.0, length-append before done), why.1,
-      (why.2.0, why.2.1, e ∙ ap (λ further. before ++ further) why.2.2 ∙ sym (append_assoc before done (why.2.0 ∷ why.2.1)), why.2.3))
+why_behind law mid new first number before done lines all (BadLine bad) n e why = (
+  omega (arith, why.0, length-append before done),
+  why.1,
+  (why.2.0, why.2.1, e ∙ ap (λ further. before ++ further) why.2.2 ∙ sym (append_assoc before done (why.2.0 ∷ why.2.1)), why.2.3),
+)
 why_behind law mid new first number before done lines all OutOfMemory n e why =
     (why.0, (why.1.0, e ∙ ap (λ further. before ++ further) why.1.1 ∙ sym (append_assoc before done why.1.0)))
 why_behind law mid new first number before done lines all Read n e why = why
@@ -166,10 +168,10 @@ failed_more law old mid new before between after bytes i fault h a b = record {
   runs = runs_append law old mid b.mid a.done b.done a.text b.text a.runs b.runs;
   out = b.out ∙ ap (λ front. front ++ b.text) a.out ∙ append_assoc (pending before) a.text b.text;
   why = λ more.
-    let whole : bytes ++ more ≡ take i bytes ++ (get_or bytes i 0 ∷ (drop (i + 1) bytes ++ more)) =
+      let whole : bytes ++ more ≡ take i bytes ++ (get_or bytes i 0 ∷ (drop (i + 1) bytes ++ more)) =
       ap (λ all. all ++ more) (sym (take-append-drop i bytes)) ∙ append_assoc (take i bytes) (drop i bytes) more
       ∙ ap (λ rest. take i bytes ++ (rest ++ more)) (left_at bytes i h) in
-    why_behind law b.mid new before.number between.number a.done b.done (with_further between (get_or bytes i 0 ∷ []) (drop (i + 1) bytes ++ more))
+      why_behind law b.mid new before.number between.number a.done b.done (with_further between (get_or bytes i 0 ∷ []) (drop (i + 1) bytes ++ more))
       (with_further before bytes more) fault a.number
       (ap (lines_from (begun before)) whole ∙ a.lines (get_or bytes i 0 ∷ (drop (i + 1) bytes ++ more)))
       (b.why (drop (i + 1) bytes ++ more));

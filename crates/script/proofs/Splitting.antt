@@ -42,7 +42,7 @@ word_found text zero h blank begins = absurd (differs (sym begins ∙ blank))
 word_found text (suc i) h blank begins =
     let begun : 0 < length (take (suc i) text) = rw (length-take-le (suc i) text (omega arith)) (omega arith) in
     let here : words_from (take (suc i) text) (drop (suc i) text) ≡ kept (take (suc i) text) (words (drop (suc i + 1) text)) =
-        ap (λ bytes. words_from (take (suc i) text) bytes) (left_at text (suc i) h) ∙ words_from_blank (take (suc i) text) (get_or text (suc i) 0) (drop (suc i + 1) text) blank in
+    ap (λ bytes. words_from (take (suc i) text) bytes) (left_at text (suc i) h) ∙ words_from_blank (take (suc i) text) (get_or text (suc i) 0) (drop (suc i + 1) text) blank in
     here ∙ kept_begun (take (suc i) text) (words (drop (suc i + 1) text)) begun ∙ ap (λ further. take (suc i) text ∷ further) (words_skipped text (suc i) h blank)
 
 pub last_word : (text : List ℕ) → 0 < length text → words_from text [] ≡ text ∷ words []

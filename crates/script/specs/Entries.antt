@@ -12,8 +12,8 @@ use Rattle.policy.specs.KindNames.{name_of_kind}
 use Rattle.policy.specs.Policy.{Declared}
 use Rattle.queue_error.specs.declared.error.QueueError.{QueueError}
 use Rattle.queue_error.specs.Texts.{text_of_rule, text_of_end}
-use Rattle.signals.specs.declared.SignalOp.{SignalOp}
-use Rattle.signals.specs.declared.SignalOp.TheVariants as op
+use Rattle.signals.specs.declared.operation.SignalOp.{SignalOp}
+use Rattle.signals.specs.declared.operation.SignalOp.TheVariants as op
 use Rattle.core_model.specs.declared.outcome.Seen.{Seen}
 use Rattle.core_model.specs.declared.outcome.Taken.{Taken}
 use Rattle.core_model.specs.declared.outcome.Taken.TheVariants as taken

@@ -14,8 +14,8 @@ use Rattle.policy.specs.declared.object.Object.{Object}
 use Rattle.policy.specs.declared.object.Object.TheVariants as object
 use Rattle.policy.specs.declared.rights.Rights.{Rights}
 use Rattle.policy.specs.Policy.{Declared, number_in, names_of}
-use Rattle.signals.specs.declared.SignalOp.{SignalOp}
-use Rattle.signals.specs.declared.SignalOp.TheVariants as op
+use Rattle.signals.specs.declared.operation.SignalOp.{SignalOp}
+use Rattle.signals.specs.declared.operation.SignalOp.TheVariants as op
 use Rattle.core_model.specs.declared.event.Event.{Event}
 use Rattle.core_model.specs.declared.event.Event.TheVariants as event
 use Rattle.core_model.specs.declared.event.Query.{Query}

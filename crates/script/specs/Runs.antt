@@ -2,8 +2,8 @@
 use Rattle.std.specs.Prelude.{ℕ, ◌≡◌, ◌+◌, ◌<◌, ◌==◌, ◌⊎◌, Bool, true, false, List, [], ◌∷◌, ◌++◌, length, Option, Some, None, if◌then◌else◌}
 use Rattle.std.specs.Io.KnownBytes.{Appends}
 use Rattle.policy.specs.Policy.{Declared}
-use Rattle.signals.specs.declared.SignalOp.{SignalOp}
-use Rattle.signals.specs.declared.SignalOp.TheVariants as op
+use Rattle.signals.specs.declared.operation.SignalOp.{SignalOp}
+use Rattle.signals.specs.declared.operation.SignalOp.TheVariants as op
 use Rattle.core_model.specs.declared.event.Event.{Event}
 use Rattle.core_model.specs.declared.event.Event.TheVariants as event
 use Rattle.core_model.specs.declared.event.Request.{Request}

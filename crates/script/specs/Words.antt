@@ -7,8 +7,8 @@ use Rattle.policy.specs.declared.rights.Rights.{Rights}
 use Rattle.policy.specs.Rights.{bit_of}
 use Rattle.policy.specs.declared.object.Kind.{Kind}
 use Rattle.policy.specs.declared.object.Kind.TheVariants as kind
-use Rattle.signals.specs.declared.Condition.{Condition}
-use Rattle.signals.specs.declared.Condition.TheVariants as condition
+use Rattle.signals.specs.declared.operation.Condition.{Condition}
+use Rattle.signals.specs.declared.operation.Condition.TheVariants as condition
 use Rattle.script.specs.Texts.{has_items}
 
 -- a word, as its bytes

@@ -6,7 +6,7 @@ use policy::Policy;
 use std::alloc::Global;
 
 /// What a line of a script asks.
-#[derive(Debug, Drop)]
+#[derive(Debug, Drop, PartialEq, Eq)]
 pub enum Command {
     /// A call of the core, other than to open a queue or to hand over a packet.
     Core(Request),
@@ -24,7 +24,9 @@ pub enum Command {
         bytes: [u8; 64],
     },
     /// The packet processor hands over the next packet of a queue.
-    Serve { queue: QueueId },
+    Serve {
+        queue: QueueId,
+    },
 }
 
 /// What a command is told.

@@ -17,7 +17,9 @@ fn tells_old(command: &Command) -> bool
     ensures { result ≡ tells_old command.now }
 {
     match command {
-        Command::Core(Request::Event(Event::ChangeSignal { operation, .. })) => gives_old(operation),
+        Command::Core(Request::Event(Event::ChangeSignal { operation, .. })) => gives_old(
+            operation,
+        ),
         _ => false,
     }
 }
@@ -34,7 +36,12 @@ fn gives_old(operation: &SignalOp) -> bool
 }
 
 // Has a command served, and puts the reply behind the others; for want of memory nothing is written.
-fn serve<B: Broker>(alloc: Global, broker: &mut B, command: Command, out: &mut String) -> Result<(), AllocError>
+fn serve<B: Broker>(
+    alloc: Global,
+    broker: &mut B,
+    command: Command,
+    out: &mut String,
+) -> Result<(), AllocError>
     ensures served { (told : Told) × B.serves broker.old command told broker.new
         × OnOk result (string_bytes out.new ≡ string_bytes out.old ++ text_of_told (B.names broker.new) (tells_old command) told) }
     ensures wanted { OnErr result (string_bytes out.new ≡ string_bytes out.old) }
@@ -47,7 +54,12 @@ fn serve<B: Broker>(alloc: Global, broker: &mut B, command: Command, out: &mut S
 }
 
 /// Has a line served, and puts its reply behind the others; false where the line has no form.
-pub fn answer<B: Broker>(alloc: Global, broker: &mut B, line: &[u8], out: &mut String) -> Result<bool, AllocError>
+pub fn answer<B: Broker>(
+    alloc: Global,
+    broker: &mut B,
+    line: &[u8],
+    out: &mut String,
+) -> Result<bool, AllocError>
     ensures { MatchResult result
         (Served (law_of B.serves B.names) broker.old broker.new line.now (string_bytes out.old) (string_bytes out.new))
         (λ _. Wanted (law_of B.serves B.names) broker.old broker.new (string_bytes out.old) (string_bytes out.new)) }

@@ -29,7 +29,12 @@ fn operation_name(operation: &SignalOp) -> &'static str
 }
 
 // Writes `VERB Q ID`, the verb with its blank.
-fn write_packet(out: &mut String, verb: &str, queue: QueueId, packet: PacketId) -> Result<(), AllocError>
+fn write_packet(
+    out: &mut String,
+    verb: &str,
+    queue: QueueId,
+    packet: PacketId,
+) -> Result<(), AllocError>
     ensures { OnOk result (string_bytes out.new ≡ string_bytes out.old ++ (verb.now ++ text_of_packet queue packet)) }
 {
     write!(out, "{verb}{} {}", queue.0, packet.0)
@@ -69,13 +74,30 @@ fn write_opening(
 }
 
 // Writes what was called; `number` is the number of a queue that was opened.
-fn write_event(out: &mut String, policy: &Policy, number: u64, event: &Event) -> Result<(), AllocError>
+fn write_event(
+    out: &mut String,
+    policy: &Policy,
+    number: u64,
+    event: &Event,
+) -> Result<(), AllocError>
     ensures { OnOk result (string_bytes out.new ≡ string_bytes out.old ++ text_of_event policy.now number event.now) }
 {
     match event {
-        Event::Grant { client, object, rights } => write_rights_on(out, policy, "grant ", *client, *object, *rights),
-        Event::Revoke { client, object, rights } => write_rights_on(out, policy, "revoke ", *client, *object, *rights),
-        Event::OpenQueue { client, agent, size } => write_opening(out, policy, number, *client, agent.0, *size),
+        Event::Grant {
+            client,
+            object,
+            rights,
+        } => write_rights_on(out, policy, "grant ", *client, *object, *rights),
+        Event::Revoke {
+            client,
+            object,
+            rights,
+        } => write_rights_on(out, policy, "revoke ", *client, *object, *rights),
+        Event::OpenQueue {
+            client,
+            agent,
+            size,
+        } => write_opening(out, policy, number, *client, agent.0, *size),
         Event::Stop { queue } => write!(out, "stop {}", queue.0),
         Event::Take { queue, packet, .. } => write_packet(out, "take ", *queue, *packet),
         Event::RunNext { queue, packet } => write_packet(out, "run ", *queue, *packet),
@@ -85,7 +107,11 @@ fn write_event(out: &mut String, policy: &Policy, number: u64, event: &Event) ->
             out.push_str("write ")?;
             write_client(out, policy, *client)
         }
-        Event::ChangeSignal { client, operation, .. } => {
+        Event::ChangeSignal {
+            client,
+            operation,
+            ..
+        } => {
             out.push_str("signal ")?;
             write_client(out, policy, *client)?;
             write!(out, " {}", operation_name(operation))
@@ -230,7 +256,12 @@ fn opened_queue(outcome: &Outcome) -> u64
 }
 
 // Writes an entry with its number.
-fn write_entry(out: &mut String, policy: &Policy, number: u64, entry: &Entry) -> Result<(), AllocError>
+fn write_entry(
+    out: &mut String,
+    policy: &Policy,
+    number: u64,
+    entry: &Entry,
+) -> Result<(), AllocError>
     ensures { OnOk result (string_bytes out.new ≡ string_bytes out.old ++ text_of_entry policy.now number entry.now) }
 {
     write!(out, "{number} ")?;

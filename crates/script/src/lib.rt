@@ -12,15 +12,14 @@ mod numbers;
 mod replies;
 mod run;
 mod session;
+#[cfg(test)]
+mod tests;
 mod texts;
 mod verbs;
 mod words;
 
-pub use command::Broker;
-pub use command::Command;
-pub use command::Told;
+pub use command::{Broker, Command, Told};
 pub use fault::ScriptFault;
-pub use lines::Line;
-pub use lines::read_line;
+pub use lines::{Line, read_line};
 pub use replies::write_told;
 pub use run::run_script;

@@ -7,7 +7,9 @@ ghost use Rattle.script.specs.Lines.{client_in, object_in, agent_in, signal_in, 
 use crate::command::Command;
 use crate::numbers::{address, bytes, condition, decimal, kind, packet, rights, signed};
 use crate::verbs::{Verb, verb_named};
-use crate::words::{five_words, four_words, no_words, one_word, split_word, three_words, two_words};
+use crate::words::{
+    five_words, four_words, no_words, one_word, split_word, three_words, two_words,
+};
 use aql_packet::{AgentHandle, ClientId, PacketId, QueueId, SignalHandle};
 use core_model::{Event, Query, Request};
 use policy::{Kind, Object, Policy, Rights};
@@ -19,7 +21,7 @@ use std::alloc::{AllocError, Global};
 pub const LONGEST_LINE: usize = 16_384;
 
 /// What a line stands for.
-#[derive(Debug, Drop)]
+#[derive(Debug, Drop, PartialEq, Eq)]
 pub enum Line {
     /// Nothing: no word, or a comment.
     Quiet,
@@ -90,7 +92,11 @@ fn grant(policy: &Policy, line: &[u8]) -> Option<Command>
     ensures { result ≡ grant_row policy.now (words line.now) }
 {
     let (client, object, rights) = rights_on(policy, line)?;
-    Some(calls(Event::Grant { client, object, rights }))
+    Some(calls(Event::Grant {
+        client,
+        object,
+        rights,
+    }))
 }
 
 // `revoke C KIND NAME R,R`
@@ -98,7 +104,11 @@ fn revoke(policy: &Policy, line: &[u8]) -> Option<Command>
     ensures { result ≡ revoke_row policy.now (words line.now) }
 {
     let (client, object, rights) = rights_on(policy, line)?;
-    Some(calls(Event::Revoke { client, object, rights }))
+    Some(calls(Event::Revoke {
+        client,
+        object,
+        rights,
+    }))
 }
 
 // `queue C AGENT SIZE PRODUCERS`
@@ -294,7 +304,11 @@ fn list(policy: &Policy, line: &[u8]) -> Option<Command>
 fn audit(line: &[u8]) -> Option<Command>
     ensures { result ≡ audit_row (words line.now) }
 {
-    if no_words(line) { Some(asks(Query::Audit)) } else { None }
+    if no_words(line) {
+        Some(asks(Query::Audit))
+    } else {
+        None
+    }
 }
 
 // The row of a verb that takes no memory, and none where it takes some.
@@ -305,8 +319,12 @@ fn plain_command(policy: &Policy, verb: Verb, line: &[u8]) -> Option<Command>
         Verb::Grant => grant(policy, line),
         Verb::Revoke => revoke(policy, line),
         Verb::Queue => queue(policy, line),
-        Verb::Stop => Some(calls(Event::Stop { queue: queue_id(line)? })),
-        Verb::Serve => Some(Command::Serve { queue: queue_id(line)? }),
+        Verb::Stop => Some(calls(Event::Stop {
+            queue: queue_id(line)?,
+        })),
+        Verb::Serve => Some(Command::Serve {
+            queue: queue_id(line)?,
+        }),
         Verb::Run => {
             let (queue, packet) = packet_id(line)?;
             Some(calls(Event::RunNext { queue, packet }))
@@ -324,14 +342,21 @@ fn plain_command(policy: &Policy, verb: Verb, line: &[u8]) -> Option<Command>
         Verb::Load => load(policy, line),
         Verb::Test => test(policy, line),
         Verb::List => list(policy, line),
-        Verb::Errors => Some(asks(Query::Errors { queue: queue_id(line)? })),
+        Verb::Errors => Some(asks(Query::Errors {
+            queue: queue_id(line)?,
+        })),
         Verb::Audit => audit(line),
         Verb::Submit | Verb::Write => None,
     }
 }
 
 // The row of a verb.
-fn command(alloc: Global, policy: &Policy, verb: Verb, line: &[u8]) -> Result<Option<Command>, AllocError>
+fn command(
+    alloc: Global,
+    policy: &Policy,
+    verb: Verb,
+    line: &[u8],
+) -> Result<Option<Command>, AllocError>
     ensures { IfOk result (λ read. read ≡ command_of policy.now verb (words line.now)) }
 {
     match verb {

@@ -29,7 +29,11 @@ fn with_digit(base: u8, number: u64, digit: u8) -> Option<u64>
         return None;
     }
     let next = number as u128 * base as u128 + digit as u128;
-    if next < 1 << 64 { Some(next as u64) } else { None }
+    if next < 1 << 64 {
+        Some(next as u64)
+    } else {
+        None
+    }
 }
 
 // The number that digits of a base stand for.
@@ -70,7 +74,11 @@ fn negative(number: u64) -> Option<i64>
 fn positive(number: u64) -> Option<i64>
     ensures { result ≡ positive number }
 {
-    if number < 1 << 63 { Some(number as i64) } else { None }
+    if number < 1 << 63 {
+        Some(number as i64)
+    } else {
+        None
+    }
 }
 
 /// A signed decimal number.

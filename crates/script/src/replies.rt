@@ -125,7 +125,12 @@ fn write_name(out: &mut String, policy: &Policy, object: Object) -> Result<(), A
 }
 
 // Writes an object with a client's rights on it.
-fn write_listed(out: &mut String, policy: &Policy, object: Object, rights: Rights) -> Result<(), AllocError>
+fn write_listed(
+    out: &mut String,
+    policy: &Policy,
+    object: Object,
+    rights: Rights,
+) -> Result<(), AllocError>
     ensures { OnOk result (string_bytes out.new ≡ string_bytes out.old ++ text_of_listed policy.now object rights) }
 {
     write!(out, "{} {} ", object.kind(), object.number())?;
@@ -136,7 +141,11 @@ fn write_listed(out: &mut String, policy: &Policy, object: Object, rights: Right
 }
 
 // Writes a listing.
-fn write_listing(out: &mut String, policy: &Policy, all: &[(Object, Rights)]) -> Result<(), AllocError>
+fn write_listing(
+    out: &mut String,
+    policy: &Policy,
+    all: &[(Object, Rights)],
+) -> Result<(), AllocError>
     ensures { OnOk result (string_bytes out.new ≡ string_bytes out.old ++ text_of_listing policy.now all.now) }
 {
     writeln!(out, "list {}", all.len())?;
@@ -167,7 +176,12 @@ fn write_bytes_line(out: &mut String, bytes: &[u8]) -> Result<(), AllocError>
 }
 
 // Writes an answer of the core.
-fn write_answer(out: &mut String, policy: &Policy, old: bool, answer: &Answer) -> Result<(), AllocError>
+fn write_answer(
+    out: &mut String,
+    policy: &Policy,
+    old: bool,
+    answer: &Answer,
+) -> Result<(), AllocError>
     ensures { OnOk result (string_bytes out.new ≡ string_bytes out.old ++ text_of_answer policy.now old answer.now) }
 {
     match answer {
@@ -186,7 +200,12 @@ fn write_answer(out: &mut String, policy: &Policy, old: bool, answer: &Answer) -
 
 /// Writes what a command is told, each line with its line feed; `old` says whether the command is
 /// told the old value of a signal.
-pub fn write_told(out: &mut String, policy: &Policy, old: bool, told: &Told) -> Result<(), AllocError>
+pub fn write_told(
+    out: &mut String,
+    policy: &Policy,
+    old: bool,
+    told: &Told,
+) -> Result<(), AllocError>
     ensures { OnOk result (string_bytes out.new ≡ string_bytes out.old ++ text_of_told policy.now old told.now) }
 {
     match told {

@@ -22,7 +22,11 @@ pub struct Session {
 }
 
 // Serves the line that ends here.
-fn end_line<B: Broker>(alloc: Global, broker: &mut B, session: &mut Session) -> Result<(), ScriptFault>
+fn end_line<B: Broker>(
+    alloc: Global,
+    broker: &mut B,
+    session: &mut Session,
+) -> Result<(), ScriptFault>
     requires { session.old.number + 1 < 2 ^ 64 }
     ensures { MatchResult result
         (λ _. EndedLine (law_of B.serves B.names) broker.old broker.new session.old session.new)
@@ -37,7 +41,12 @@ fn end_line<B: Broker>(alloc: Global, broker: &mut B, session: &mut Session) -> 
 }
 
 // Takes a byte of the script.
-fn take_byte<B: Broker>(alloc: Global, broker: &mut B, session: &mut Session, byte: u8) -> Result<(), ScriptFault>
+fn take_byte<B: Broker>(
+    alloc: Global,
+    broker: &mut B,
+    session: &mut Session,
+    byte: u8,
+) -> Result<(), ScriptFault>
     requires { session.old.number + 1 < 2 ^ 64 }
     ensures { MatchResult result
         (λ _. Took (law_of B.serves B.names) broker.old broker.new session.old session.new (byte ∷ []))
@@ -72,7 +81,11 @@ pub fn take_bytes<B: Broker>(
 }
 
 /// Takes the end of the script: a line that is begun ends there.
-pub fn take_end<B: Broker>(alloc: Global, broker: &mut B, session: &mut Session) -> Result<(), ScriptFault>
+pub fn take_end<B: Broker>(
+    alloc: Global,
+    broker: &mut B,
+    session: &mut Session,
+) -> Result<(), ScriptFault>
     requires { session.old.number + 1 < 2 ^ 64 }
     ensures { MatchResult result
         (λ _. Ended (law_of B.serves B.names) broker.old broker.new session.old session.new)

@@ -12,7 +12,11 @@ fn write_digit(out: &mut String, value: u8) -> Result<(), AllocError>
     requires { value < 16 }
     ensures { OnOk result (string_bytes out.new ≡ string_bytes out.old ++ hex_digit value ∷ []) }
 {
-    let digit = if value < 10 { b'0' + value } else { b'a' + (value - 10) };
+    let digit = if value < 10 {
+        b'0' + value
+    } else {
+        b'a' + (value - 10)
+    };
     out.push(char::from(digit))
 }
 

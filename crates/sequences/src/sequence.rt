@@ -1,5 +1,7 @@
 ghost use Rattle.std.specs.Prelude.{◌≡◌, ◌==◌, ◌<◌, ◌++◌, ◌∷◌, [], IfErr, IfOk, length, remove, slice_get, slice_set, if◌then◌else◌, is_ok};
 ghost use Rattle.std.specs.Option.{option_copied};
+ghost use Rattle.std.specs.Fn.{CalledAt};
+ghost use Rattle.std.specs.List.Retain.{IsFiltered};
 
 use std::alloc::{AllocError, AllocFailed, Global};
 use std::marker::Model;
@@ -97,6 +99,16 @@ impl<T> Sequence<T> {
         ensures item { slice_get self.old index ≡ Some result }
     {
         self.items.remove(index)
+    }
+
+    /// Keeps the items for which the test holds, in order.
+    pub fn retain<F: FnMut(&T) -> bool>(&mut self, test: F)
+    where
+        T: Drop,
+        requires { F.IsAlwaysCallable test }
+        ensures { IsFiltered (CalledAt F.FnMut) test self.old self.new }
+    {
+        self.items.retain(test);
     }
 }
 

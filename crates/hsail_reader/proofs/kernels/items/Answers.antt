@@ -1,10 +1,10 @@
-use Rattle.std.proofs.Common.{◌≡◌, ◌+◌, ◌<◌, ◌++◌, ◌∷◌, [], false, suc, length, sym, ◌∙◌, ap, length-append, arith}
+use Rattle.std.proofs.Common.{◌≡◌, ◌+◌, ◌<◌, false, suc, length, sym, ◌∙◌, ap, length-append, arith}
 use Rattle.std.proofs.lemmas.List.{length-map}
 use Rattle.std.proofs.lemmas.Result.{err_from_is_err_and}
 use Rattle.hsail_reader.specs.Operands.{begins_with_mark}
 use Rattle.hsail_reader.specs.Syntax.{item_at, items_at}
 use Rattle.hsail_reader.specs.Tokens.{token_view, token_views}
-use Rattle.hsail_reader.proofs.Loop.{begins, pushes, ends, is_done}
+use Rattle.hsail_reader.proofs.Loop.{begins, pushes, ends}
 use Rattle.hsail_reader.proofs.kernels.items.Goals as goal
 
 pub items-init : goal.items-init

@@ -1,9 +1,9 @@
-use Rattle.std.proofs.Common.{◌≡◌, ◌+◌, ◌<◌, ◌++◌, ◌∷◌, [], false, suc, length, sym, ◌∙◌, ap, length-append, arith}
+use Rattle.std.proofs.Common.{◌≡◌, ◌+◌, ◌<◌, false, suc, length, sym, ◌∙◌, ap, length-append, arith}
 use Rattle.std.proofs.lemmas.List.{length-map}
 use Rattle.std.proofs.lemmas.Result.{err_from_is_err_and}
 use Rattle.hsail_reader.specs.Syntax.{is_none_left, kernel_at, kernels_at}
 use Rattle.hsail_reader.specs.Tokens.{token_view, token_views}
-use Rattle.hsail_reader.proofs.Loop.{begins, pushes, ends, is_done}
+use Rattle.hsail_reader.proofs.Loop.{begins, pushes, ends}
 use Rattle.hsail_reader.proofs.kernels.kernels.Goals as goal
 
 pub kernels-init : goal.kernels-init

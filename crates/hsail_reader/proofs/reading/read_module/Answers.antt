@@ -1,4 +1,4 @@
-use Rattle.std.proofs.Common.{◌≡◌, ◌<◌, ◌≤◌, length, refl, sym, Err, arith}
+use Rattle.std.proofs.Common.{refl, arith}
 use Rattle.hsail_reader.specs.Faults.{too_long}
 use Rattle.hsail_reader.proofs.Located.{never_too_long, same_fault}
 use Rattle.hsail_reader.proofs.reading.read_module.Goals as goal

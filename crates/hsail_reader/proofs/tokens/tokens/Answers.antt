@@ -1,4 +1,4 @@
-use Rattle.std.proofs.Common.{◌≡◌, ◌+◌, ◌≤◌, length, sym, arith}
+use Rattle.std.proofs.Common.{sym, arith}
 use Rattle.hsail_reader.specs.Tokens.{token_views, tokens_of}
 use Rattle.hsail_reader.proofs.Lexing.{goes_on}
 use Rattle.hsail_reader.proofs.tokens.tokens.Goals as goal

@@ -10,11 +10,11 @@ returns-in_err-right_named t c =
 pub returns-in-Some : goal.returns-in-Some
 returns-in-Some t c =
     c.rights_with.ensures ∙ sym (rights_some c.args.rights c.with_right-rights.result (items_from [] c.args.word.now) _ (items_from [] c.in-Some.names.now) c.in_ok-right_named.field-0
-        (c.split_item.ensures.items ∙ ap (λ further. c.split_item.result.0.now ∷ items_behind further) c.in-Some.is)
-        (sym c.right_named.ensures ∙ c.in_ok-right_named.was) c.with_right-rights.ensures)
+    (c.split_item.ensures.items ∙ ap (λ further. c.split_item.result.0.now ∷ items_behind further) c.in-Some.is)
+    (sym c.right_named.ensures ∙ c.in_ok-right_named.was) c.with_right-rights.ensures)
 
 pub returns-in-None : goal.returns-in-None
 returns-in-None t c =
     sym (rights_some c.args.rights c.with_right-rights.result (items_from [] c.args.word.now) _ [] c.in_ok-right_named.field-0
-        (c.split_item.ensures.items ∙ ap (λ further. c.split_item.result.0.now ∷ items_behind further) c.in-None.is)
-        (sym c.right_named.ensures ∙ c.in_ok-right_named.was) c.with_right-rights.ensures ∙ rights_end c.with_right-rights.result)
+    (c.split_item.ensures.items ∙ ap (λ further. c.split_item.result.0.now ∷ items_behind further) c.in-None.is)
+    (sym c.right_named.ensures ∙ c.in_ok-right_named.was) c.with_right-rights.ensures ∙ rights_end c.with_right-rights.result)

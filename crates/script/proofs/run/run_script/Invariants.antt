@@ -8,7 +8,7 @@ use Rattle.script.proofs.run.run_script.Given as goal
 abbrev pub invariant-loop : goal.invariant-loop
 invariant-loop g l =
     ((script : List ℕ) → g.R.Read.remaining l.initial.reader ≡ Some script →
-      Going (law_of g.B.Broker.serves g.B.Broker.names) l.initial.broker l.broker (g.W.Write.contents l.initial.writer) (g.W.Write.contents l.writer)
-        (g.R.Read.remaining l.reader) l.session script)
+    Going (law_of g.B.Broker.serves g.B.Broker.names) l.initial.broker l.broker (g.W.Write.contents l.initial.writer) (g.W.Write.contents l.writer)
+    (g.R.Read.remaining l.reader) l.session script)
     × (pending l.session ≡ [])
     × (l.session.number ≤ 4096 * l.counter + 1)

@@ -7,8 +7,8 @@ use Rattle.script.proofs.session.take_byte.Goals as goal
 pub returns-then-byte-eq10 : goal.returns-then-byte-eq10
 returns-then-byte-eq10 g c =
     MatchResult-weaker c.end_line.result c.end_line.ensures
-      (λ _. took_line (law_of g.B.Broker.serves g.B.Broker.names) _ _ _ _ _ c.if-byte-eq10.true)
-      (λ fault. failed_line (law_of g.B.Broker.serves g.B.Broker.names) _ _ _ _ _ fault c.if-byte-eq10.true)
+    (λ _. took_line (law_of g.B.Broker.serves g.B.Broker.names) _ _ _ _ _ c.if-byte-eq10.true)
+    (λ fault. failed_line (law_of g.B.Broker.serves g.B.Broker.names) _ _ _ _ _ fault c.if-byte-eq10.true)
 
 pub returns-then-len-ge-LONGEST_LINE : goal.returns-then-len-ge-LONGEST_LINE
 returns-then-len-ge-LONGEST_LINE g c =

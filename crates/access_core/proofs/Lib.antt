@@ -1,0 +1,13 @@
+pub mod KeptMore
+pub mod Calls
+pub mod QueueLemmas
+pub mod KeptFacts
+pub mod Verdicts
+pub mod TakeLemmas
+pub mod HandOver
+pub mod LookupLemmas
+pub mod ReadLemmas
+pub mod ListLemmas
+pub mod WorkLemmas
+pub mod WorkReadLemmas
+pub mod RunLemmas

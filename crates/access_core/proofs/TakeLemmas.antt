@@ -1,0 +1,148 @@
+-- What is owed to a packet that is handed over, by what is kept.
+use Rattle.std.proofs.Common.{◌≡◌, ℕ, ◌+◌, ◌-◌, ◌<◌, ◌≤◌, ◌^◌, List, [], ◌∷◌, ◌++◌, length, refl, sym, ◌∙◌, ap, subst, Bool, true, false, Option, Some, None, arith}
+use Rattle.std.specs.Prelude.{nat_lt, All, not, ◌||◌, ◌&&◌, ◌==◌, map, slice_get, filter, option_map, if◌then◌else◌}
+use Rattle.std.proofs.lemmas.Option.{slice_get-map}
+use Rattle.std.proofs.lemmas.List.Elements.{All-append, All-cons}
+use Rattle.aql_packet.specs.declared.ids.QueueId.{QueueId}
+use Rattle.aql_packet.specs.declared.ids.PacketId.{PacketId}
+use Rattle.aql_packet.specs.declared.packet.Packet.{Packet}
+use Rattle.aql_packet.specs.declared.packet.Packet.TheVariants as packet
+use Rattle.aql_packet.specs.Reading.{barrier_bit, decoded}
+use Rattle.regions.specs.Memory.{is_within}
+use Rattle.queue_error.specs.declared.rule.Rule.{Rule}
+use Rattle.queue_error.specs.declared.rule.Rule.TheVariants as rule
+use Rattle.std.specs.List.{list_all}
+use Rattle.access_core.specs.Reachable.{is_reachable}
+use Rattle.access_core.proofs.Verdicts.{first_failing-decoded}
+use Rattle.policy.specs.Policy.{numbered}
+use Rattle.core_model.specs.declared.event.Event.TheVariants.{Take}
+use Rattle.core_model.specs.declared.flight.InFlight.{InFlight}
+use Rattle.core_model.specs.declared.refusal.Refusal.TheVariants as refusal
+use Rattle.core_model.specs.History.{Start}
+use Rattle.core_model.specs.Memory.{region_lengths}
+use Rattle.core_model.specs.Queues.{Opening, openings, owner, next_id, hands_over, errors}
+use Rattle.core_model.specs.declared.entry.Entry.{Entry}
+use Rattle.queue_error.specs.declared.error.QueueError.{QueueError}
+use Rattle.std.proofs.lemmas.List.Sums.{count_by-le-length}
+use Rattle.std.proofs.lemmas.Bool.{lt-ltb}
+use Rattle.access_core.specs.Moves.{CanHandOver}
+use Rattle.core_model.specs.Flight.{flight}
+use Rattle.core_model.specs.LaunchRules.{Facts, Range, ranges, may_use_range, may_use_ranges, first_failing, may_start}
+use Rattle.core_model.specs.Owed.{Owed, refuses, owed, refuse_if, refuse_unless, decided, facts_of}
+use Rattle.access_core.specs.declared.queue.Queue.{Queue}
+use Rattle.access_core.specs.declared.access.AccessCore.TheInside.{Inside}
+use Rattle.access_core.specs.Granted.{has_granted}
+use Rattle.access_core.specs.Judged.{facts_lent}
+use Rattle.access_core.specs.Kept.{IsKept, start_of, kept_opening, kept_next, kept_errors, kept_stopped, history_of}
+use Rattle.access_core.specs.Deciding.{TakesNext}
+
+numbered-map : (queues : List Queue) (n : ℕ) → numbered (map kept_opening queues) n ≡ option_map kept_opening (numbered queues n)
+numbered-map queues n = either (nat_lt 0 n)
+  where
+    either : (b : Bool) → (if b then slice_get (map kept_opening queues) (n - 1) else None) ≡ option_map kept_opening (if b then slice_get queues (n - 1) else None)
+    either true = slice_get-map kept_opening queues (n - 1)
+    either false = refl
+
+-- the owner of a queue is the one that is kept
+pub owner-kept : (a : Inside) (queue : QueueId) → IsKept a → owner (start_of a) a.audit.items queue ≡ option_map kept_opening (numbered a.queues.items queue.0)
+owner-kept a queue kept = ap (λ (all : List Opening). numbered all queue.0) (sym kept.openings) ∙ numbered-map a.queues.items queue.0
+
+-- the facts by which the packets of a kept queue are judged
+pub facts-kept : (a : Inside) (q : Queue) → IsKept a → facts_of (start_of a) a.audit.items (kept_opening q) ≡ facts_lent a.policy a.granted a.memory q.client q.agent
+facts-kept a q kept = λ i. record {
+  agent = q.agent;
+  takes = (facts_of (start_of a) a.audit.items (kept_opening q)).takes;
+  in_force = λ on right. sym (kept.granted q.client on right) i;
+  lengths = sym kept.lengths i;
+}
+
+module _ (a : Inside) (kept : IsKept a) (queue : QueueId) (id : PacketId) (bytes : List ℕ) where
+  -- no queue has the number
+  pub take-unknown : numbered a.queues.items queue.0 ≡ None → owed (start_of a) a.audit.items (Take queue id bytes) ≡ refuses refusal.UnknownQueue
+  unfolding owed
+  take-unknown none = rw (owner-kept a queue kept, none) refl
+
+  -- the queue is kept
+  pub take-known : (q : Queue) → numbered a.queues.items queue.0 ≡ Some q →
+      owed (start_of a) a.audit.items (Take queue id bytes) ≡
+      refuse_if (nat_lt 0 (length q.errors.items) || q.stopped) refusal.QueueDown
+      (refuse_unless (id.0 == q.next) (refusal.OutOfStep q.next)
+      (decided queue id.0 (may_start (filter (λ (f : InFlight). f.queue.0 == queue.0) a.flight) (barrier_bit bytes)) (first_failing (facts_lent a.policy a.granted a.memory q.client q.agent) bytes)))
+  unfolding owed
+  take-known q some =
+      rw (owner-kept a queue kept, some, kept.errors queue, kept.stops queue, kept.next_ids queue, some, ← kept.flight, facts-kept a q kept) refl
+
+-- both parts of a conjunction hold
+both_true : (a b : Bool) → (a && b) ≡ true → (a ≡ true) × (b ≡ true)
+both_true true true e = (refl, refl)
+both_true true false e = cc
+both_true false b e = cc
+
+-- a packet that no rule refuses passes the rule on its ranges
+passed-ranges : (l4 l5 l8 : Bool) (rest : Option Rule) → (if not l4 then Some rule.L4 else if not l5 then Some rule.L5 else if not l8 then Some rule.L8 else rest) ≡ None → l8 ≡ true
+passed-ranges false l5 l8 rest e = cc
+passed-ranges true false l8 rest e = cc
+passed-ranges true true false rest e = cc
+passed-ranges true true true rest e = refl
+
+-- ranges that may be used lie whole in regions
+within-used : (facts : Facts) (all : List Range) → list_all (may_use_range facts) all ≡ true → list_all (λ r. is_within facts.lengths r.address r.size) all ≡ true
+within-used facts [] used = refl
+within-used facts (r ∷ all) used =
+    let both = both_true (may_use_range facts r) (list_all (may_use_range facts) all) used in
+    let within = both_true (is_within facts.lengths r.address r.size) _ both.0 in
+    rw (within.0, within-used facts all both.1) refl
+
+-- what a packet that may use its ranges reaches lies whole in regions
+reachable-used : (facts : Facts) (p : Packet) → may_use_ranges facts p ≡ true → is_reachable facts.lengths p ≡ true
+reachable-used facts (packet.Agent dispatch) used = within-used facts (ranges dispatch) used
+reachable-used facts (packet.Kernel dispatch) used = refl
+reachable-used facts (packet.BarrierAnd barrier) used = refl
+reachable-used facts (packet.BarrierOr barrier) used = refl
+
+-- a packet that is launched reaches only what lies whole in regions
+pub reachable-launched : (a : Inside) (q : Queue) (bytes : List ℕ) (p : Packet) → IsKept a → decoded bytes ≡ Some p → first_failing (facts_lent a.policy a.granted a.memory q.client q.agent) bytes ≡ None → is_reachable (region_lengths (start_of a)) p ≡ true
+reachable-launched a q bytes p kept found none =
+    rw (← kept.lengths) (reachable-used (facts_lent a.policy a.granted a.memory q.client q.agent) p
+    (passed-ranges _ _ (may_use_ranges (facts_lent a.policy a.granted a.memory q.client q.agent) p) _ (sym (first_failing-decoded _ bytes p found) ∙ none)))
+
+-- a queue that is kept and not down takes its next packet
+pub takes-next : (a : Inside) (kept : IsKept a) (queue : QueueId) (q : Queue) → numbered a.queues.items queue.0 ≡ Some q → (nat_lt 0 (length q.errors.items) || q.stopped) ≡ false → TakesNext (history_of a) queue
+takes-next a kept queue q some down =
+    (kept_opening q, owner-kept a queue kept ∙ ap (option_map kept_opening) some, rw (kept.errors queue, kept.stops queue, some) down)
+
+none_opening : (o : Opening) → None ≡ Some o → ⊥
+none_opening o e = cc
+
+-- no more packets of a queue were handed over than there are entries
+next_id-le : (start : Start) (entries : List Entry) (queue : QueueId) → next_id start entries queue ≤ length entries
+unfolding next_id
+next_id-le start entries queue = count_by-le-length (λ (entry : Entry). hands_over queue entry.event) entries
+
+no_errors : (xs : List QueueError) (s : Bool) → (nat_lt 0 (length xs) || s) ≡ false → xs ≡ []
+no_errors [] s e = refl
+no_errors (x ∷ xs) s e = let some : nat_lt 0 (length (x ∷ xs)) ≡ true = lt-ltb 0 (length (x ∷ xs)) (omega arith) in absurd (true_false (rw some at e))
+  where
+    true_false : true ≡ false → ⊥
+    true_false e = cc
+
+-- a queue that takes its next packet is kept, has no error, and its next id can rise
+pub kept-next : (a : Inside) (kept : IsKept a) (queue : QueueId) → TakesNext (history_of a) queue → CanHandOver a.queues.items queue × (kept_errors (numbered a.queues.items queue.0) ≡ [])
+kept-next a kept queue takes = either (numbered a.queues.items queue.0) refl
+  where
+    either : (o : Option Queue) → numbered a.queues.items queue.0 ≡ o → CanHandOver a.queues.items queue × (kept_errors (numbered a.queues.items queue.0) ≡ [])
+    either None is =
+        let none : option_map kept_opening (numbered a.queues.items queue.0) ≡ None = ap (option_map kept_opening) is in
+        absurd (none_opening takes.0 (sym none ∙ sym (owner-kept a queue kept) ∙ takes.1))
+    either (Some q) is =
+        let next : next_id (start_of a) a.audit.items queue ≡ q.next = kept.next_ids queue ∙ ap kept_next is in
+        let few : next_id (start_of a) a.audit.items queue ≤ length a.audit.items = next_id-le (start_of a) a.audit.items queue in
+        let small : q.next < 2 ^ 63 = omega (arith, kept.room, kept.few) in
+        let errs : errors (start_of a) a.audit.items queue ≡ [] = no_errors _ _ takes.2 in
+        ((q, is, small), sym (kept.errors queue) ∙ errs)
+
+-- one packet more reaches only what lies whole in regions
+pub reachable-more : (lengths : List ℕ) (flying : List InFlight) (f : InFlight) → All (λ (x : InFlight). is_reachable lengths x.packet ≡ true) flying → is_reachable lengths f.packet ≡ true → All (λ (x : InFlight). is_reachable lengths x.packet ≡ true) (flying ++ f ∷ [])
+reachable-more lengths flying f all one =
+    let P : InFlight → Type 0 = λ x. is_reachable lengths x.packet ≡ true in
+    All-append P flying (f ∷ []) all (All-cons P f [] one (λ k d below. absurd (omega (arith, below))))

@@ -1,0 +1,55 @@
+-- What is kept moves along with the completion, which always finds room: a packet leaves flight for its entry.
+use Rattle.std.proofs.Common.{◌≡◌, ◌∙◌, refl, sym, true, [], ◌∷◌, ◌++◌}
+use Rattle.std.specs.Prelude.{not}
+use Rattle.std.proofs.lemmas.Bool.{le-ltb}
+use Rattle.std.proofs.lemmas.List.Elements.{All-filter}
+use Rattle.core_model.specs.declared.event.Event.TheVariants.{Finish}
+use Rattle.core_model.specs.declared.outcome.Outcome.TheVariants as outcome
+use Rattle.core_model.specs.declared.entry.Effect.TheVariants as effect
+use Rattle.core_model.specs.Flight.{is_packet}
+use Rattle.core_model.specs.Memory.{region_lengths}
+use Rattle.core_model.specs.LaunchRules.{completion}
+use Rattle.core_model.specs.Owed.{completed}
+use Rattle.access_core.specs.Kept.{start_of}
+use Rattle.access_core.specs.Reachable.{is_reachable}
+use Rattle.access_core.proofs.KeptMore.{IsKept-more}
+use Rattle.access_core.proofs.Calls.{entered}
+use Rattle.access_core.proofs.WorkLemmas.{flight-completed, memory-completed, finish-inside, release-room, place-for_entry}
+use Rattle.access_core.proofs.access.AccessCore.finish.Goals as goal
+
+pub enter-requires : goal.enter-requires
+enter-requires c = place-for_entry c.self.inside c.self.invariant _ c.self.view_is _ _ _ c.in_ok-flying.ensures.found
+
+pub invariant_of-self : goal.invariant_of-self
+invariant_of-self c =
+    let a = c.self.inside in
+    let f = c.in_ok-flying.flying in
+    let quiet = flight-completed a.signals (completion f.packet) f.queue f.id a.flight in
+    let room = release-room a c.self.invariant _ c.self.view_is _ _ _ c.in_ok-flying.ensures.found in
+    IsKept-more a _ (Finish c.args.queue c.args.packet) outcome.Accepted (completed a.signals (completion f.packet) ++ effect.Release f.queue f.id ∷ []) c.self.invariant
+    (record { policy = refl; capacity = refl; entries = rw c.complete-effects.ensures.effects at c.enter.ensures.entries; place = c.enter.ensures.place; room = rw c.release.ensures room })
+    (record {
+      granted = λ client on right. refl;
+      lengths = refl;
+      memory = λ x byte h. rw (memory-completed a.signals (completion f.packet) f.queue f.id x byte) h;
+      values = rw c.complete-effects.ensures.effects at c.complete-effects.ensures.values;
+      openings = refl;
+      next_ids = λ queue. refl;
+      errors = λ queue. refl;
+      stops = λ queue. refl;
+      few_queues = c.self.invariant.few_queues;
+      flight = c.release.ensures ∙ sym quiet;
+      reachable = rw c.release.ensures (All-filter (λ g. not (is_packet f.queue f.id g)) (λ g. is_reachable (region_lengths (start_of a)) g.packet ≡ true) a.flight c.self.invariant.reachable);
+    })
+    (finish-inside a c.self.invariant _ c.self.view_is _ (completion f.packet) f.queue f.id c.in_ok-flying.ensures.may)
+
+pub returns : goal.returns
+returns c =
+    let a = c.self.inside in
+    let f = c.in_ok-flying.flying in
+    let quiet = flight-completed a.signals (completion f.packet) f.queue f.id a.flight in
+    let room = release-room a c.self.invariant _ c.self.view_is _ _ _ c.in_ok-flying.ensures.found in
+    entered _ a _ c.self.view_is _ outcome.Accepted (completed a.signals (completion f.packet) ++ effect.Release f.queue f.id ∷ []) c.self.invariant
+    (rw c.complete-effects.ensures.effects at c.enter.ensures.entries)
+    (finish-inside a c.self.invariant _ c.self.view_is _ (completion f.packet) f.queue f.id c.in_ok-flying.ensures.may)
+    (rw quiet (le-ltb _ _ room))

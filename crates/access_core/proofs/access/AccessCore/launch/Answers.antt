@@ -1,0 +1,56 @@
+-- The packet is in flight, and the entry tells it.
+use Rattle.std.proofs.Common.{◌≡◌, ◌+◌, ◌≤◌, refl, sym, ◌∙◌, ap, subst, inl, Bool, true, false, Some, None, [], ◌∷◌, ◌++◌, length, length-append, arith}
+use Rattle.std.specs.Prelude.{nat_lt, ◌==◌, All, slice_index_or}
+use Rattle.std.proofs.lemmas.Bool.{ltb-false}
+use Rattle.aql_packet.specs.Reading.{decoded}
+use Rattle.core_model.specs.declared.event.Event.TheVariants.{Take}
+use Rattle.core_model.specs.declared.outcome.Outcome.TheVariants as outcome
+use Rattle.core_model.specs.declared.outcome.Taken.TheVariants.{Launched, Denied}
+use Rattle.core_model.specs.Owed.{error_at}
+use Rattle.core_model.specs.Flight.{flight_after}
+use Rattle.core_model.specs.Legal.{entry_of}
+use Rattle.access_core.specs.Deciding.{TakesNext}
+use Rattle.core_model.specs.Memory.{region_lengths}
+use Rattle.access_core.specs.Reachable.{is_reachable}
+use Rattle.access_core.specs.Kept.{history_of, start_of}
+use Rattle.access_core.proofs.KeptMore.{IsKept-more, AuditMore, MovesAlong}
+use Rattle.access_core.proofs.TakeLemmas.{kept-next, reachable-more}
+use Rattle.access_core.proofs.Calls.{full, entered, owed-inside}
+use Rattle.access_core.proofs.access.AccessCore.launch.Goals as goal
+
+pub returns-then-lacks_room : goal.returns-then-lacks_room
+returns-then-lacks_room c =
+    let lacks : nat_lt c.self.inside.capacity (length c.self.inside.audit.items + 1 + (length c.self.inside.flight + 1)) ≡ true = cc in
+    inl (full _ c.self.inside _ c.self.view_is (outcome.Taken Launched) [] c.self.invariant (owed-inside _ c.self.inside _ c.self.view_is _ c.requires.0) (rw (c.requires.1, length-append) lacks))
+
+pub advance-requires : goal.advance-requires
+advance-requires c =
+    (kept-next c.self.inside c.self.invariant c.args.queue (subst (λ h. TakesNext h c.args.queue) (sym c.self.view_is) c.requires.3)).0
+
+pub invariant_of-self-2 : goal.invariant_of-self-2
+invariant_of-self-2 c =
+    let room : nat_lt c.self.inside.capacity (length c.self.inside.audit.items + 1 + (length c.self.inside.flight + 1)) ≡ false = cc in
+    let flying = c.in_ok-push.ensures.items in
+    let over = c.advance.ensures in
+    let reaches : is_reachable (region_lengths (start_of c.self.inside)) c.args.laid_out ≡ true = subst (λ h. is_reachable (region_lengths h.start) c.args.laid_out ≡ true) (sym c.self.view_is) c.requires.2 in
+    IsKept-more c.self.inside _ (Take c.args.queue c.args.packet c.args.bytes.now) (outcome.Taken Launched) [] c.self.invariant
+    (record { policy = refl; capacity = refl; entries = rw c.none.ensures at c.enter.ensures.entries; place = c.enter.ensures.place; room = rw (flying, length-append) (ltb-false _ _ room) })
+    (record {
+      granted = λ client on right. refl;
+      lengths = refl;
+      memory = λ x byte h. h;
+      values = refl;
+      openings = over.openings;
+      next_ids = over.next_ids;
+      errors = over.errors;
+      stops = over.stops;
+      few_queues = omega (arith, over.count, c.self.invariant.few_queues);
+      flight = rw (flying, c.requires.1) refl;
+      reachable = rw flying (reachable-more _ c.self.inside.flight _ c.self.invariant.reachable reaches);
+    })
+    (owed-inside _ c.self.inside _ c.self.view_is _ c.requires.0)
+
+pub returns : goal.returns
+returns c =
+    let room : nat_lt c.self.inside.capacity (length c.self.inside.audit.items + 1 + (length c.self.inside.flight + 1)) ≡ false = cc in
+    inl (entered _ c.self.inside _ c.self.view_is _ (outcome.Taken Launched) [] c.self.invariant (rw c.none.ensures at c.enter.ensures.entries) (owed-inside _ c.self.inside _ c.self.view_is _ c.requires.0) (rw (c.requires.1, length-append) room))

@@ -1,0 +1,32 @@
+-- What was decided of a packet that is handed over.
+use Rattle.std.specs.Prelude.{◌≡◌, ℕ, List, [], Some}
+use Rattle.aql_packet.specs.declared.ids.QueueId.{QueueId}
+use Rattle.aql_packet.specs.declared.ids.PacketId.{PacketId}
+use Rattle.aql_packet.specs.Reading.{decoded}
+use Rattle.core_model.specs.declared.event.Event.TheVariants.{Take}
+use Rattle.core_model.specs.declared.outcome.Outcome.TheVariants as outcome
+use Rattle.core_model.specs.declared.outcome.Taken.TheVariants.{Launched, Denied, Waiting}
+use Rattle.core_model.specs.History.{History}
+use Rattle.core_model.specs.Memory.{region_lengths}
+use Rattle.core_model.specs.Queues.{Opening, owner, is_down}
+use Rattle.core_model.specs.Owed.{owed, answers, enters, error_at}
+use Rattle.access_core.specs.Reachable.{is_reachable}
+use Rattle.access_core.specs.declared.access.taking.Decision.{Decision}
+use Rattle.access_core.specs.declared.access.taking.Decision.TheVariants.{Wait, Deny, Launch}
+use Rattle.std.specs.Prelude.{true, false}
+
+-- a queue takes its next packet: it was opened, and launches packets yet
+abbrev pub TakesNext : History → QueueId → Type 0
+TakesNext history queue =
+    (opening : Opening) × (owner history.start history.entries queue ≡ Some opening) × (is_down history.start history.entries queue ≡ false)
+
+-- what is owed to the packet is what was decided; a packet that is launched is the one that the bytes lay out, and reaches
+-- only what lies whole in a region
+abbrev pub Decides : History → QueueId → PacketId → List ℕ → Decision → Type 0
+Decides history queue id bytes (Wait cause) = owed history.start history.entries (Take queue id bytes) ≡ answers (outcome.Taken (Waiting cause))
+Decides history queue id bytes (Deny rule) =
+    (owed history.start history.entries (Take queue id bytes) ≡ enters (outcome.Taken (Denied (error_at queue id.0 rule))) [])
+    × TakesNext history queue
+Decides history queue id bytes (Launch packet) =
+    (owed history.start history.entries (Take queue id bytes) ≡ enters (outcome.Taken Launched) [])
+    × (decoded bytes ≡ Some packet) × (is_reachable (region_lengths history.start) packet ≡ true) × TakesNext history queue

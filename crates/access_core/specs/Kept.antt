@@ -1,0 +1,58 @@
+-- What the core keeps beside its audit, and that it is what the audit says.
+use Rattle.std.specs.Prelude.{◌≡◌, ℕ, ◌+◌, ◌^◌, ◌≤◌, Bool, true, false, List, [], map, length, Option, Some, None, All}
+use Rattle.std.specs.List.{list_all}
+use Rattle.aql_packet.specs.declared.ids.ClientId.{ClientId}
+use Rattle.aql_packet.specs.declared.ids.QueueId.{QueueId}
+use Rattle.aql_packet.specs.declared.packet.Packet.{Packet}
+use Rattle.aql_packet.specs.declared.packet.Packet.TheVariants as packet
+use Rattle.policy.specs.declared.object.Object.{Object}
+use Rattle.policy.specs.declared.rights.Right.{Right}
+use Rattle.policy.specs.Policy.{Declared, numbered}
+use Rattle.regions.specs.Memory.{byte_at, lengths_of, lies_in_region, is_within}
+use Rattle.core_model.specs.declared.entry.Entry.{Entry}
+use Rattle.core_model.specs.declared.flight.InFlight.{InFlight}
+use Rattle.core_model.specs.History.{Start, History}
+use Rattle.core_model.specs.Grants.{in_force}
+use Rattle.core_model.specs.Memory.{memory_at, signals, region_lengths}
+use Rattle.core_model.specs.Queues.{Opening, openings, next_id, errors, is_stopped}
+use Rattle.queue_error.specs.declared.error.QueueError.{QueueError}
+use Rattle.core_model.specs.Flight.{flight}
+use Rattle.core_model.specs.LaunchRules.{ranges}
+use Rattle.core_model.specs.Legal.{IsLegal}
+use Rattle.access_core.specs.declared.access.AccessCore.TheInside.{Inside}
+use Rattle.access_core.specs.Granted.{has_granted}
+pub use Rattle.access_core.specs.QueueShown.{kept_opening, kept_next, kept_errors, kept_stopped}
+use Rattle.access_core.specs.Reachable.{is_reachable}
+
+-- what the history begins from
+abbrev pub start_of : Inside → Start
+start_of a = record { policy = a.policy }
+
+-- the history that the fields tell
+abbrev pub history_of : Inside → History
+history_of a = record { start = start_of a; capacity = a.capacity; entries = a.audit.items }
+
+-- The fields are what the history says, question by question.
+pub record IsKept (a : Inside) : Type 0 where
+  -- the rights in force
+  pub granted : (client : ClientId) (on : Object) (right : Right) → has_granted a.granted client on right ≡ in_force (start_of a) a.audit.items client on right
+  -- the regions' lengths, and each byte in them
+  pub lengths : lengths_of a.memory ≡ region_lengths (start_of a)
+  pub memory : (x : ℕ) → lies_in_region (region_lengths (start_of a)) x ≡ true → byte_at a.memory x ≡ Some (memory_at (start_of a) a.audit.items x)
+  -- the signals' values
+  pub values : a.signals ≡ signals (start_of a) a.audit.items
+  -- the queues
+  pub openings : map kept_opening a.queues.items ≡ openings (start_of a) a.audit.items
+  pub next_ids : (queue : QueueId) → next_id (start_of a) a.audit.items queue ≡ kept_next (numbered a.queues.items queue.0)
+  pub errors : (queue : QueueId) → errors (start_of a) a.audit.items queue ≡ kept_errors (numbered a.queues.items queue.0)
+  pub stops : (queue : QueueId) → is_stopped (start_of a) a.audit.items queue ≡ kept_stopped (numbered a.queues.items queue.0)
+  pub few_queues : length a.queues.items ≤ 64
+  -- the packets in flight, none of which reaches past a region
+  pub flight : a.flight ≡ flight (start_of a) a.audit.items
+  pub reachable : All (λ f. is_reachable (region_lengths (start_of a)) f.packet ≡ true) a.flight
+  -- room for an entry of each packet in flight, and memory for all entries
+  pub room : length a.audit.items + length a.flight ≤ a.capacity
+  pub places : a.capacity ≤ length a.audit.items + a.audit.room
+  pub few : a.capacity ≤ 2 ^ 20
+  -- the audit is a legal history
+  pub legal : IsLegal (start_of a) a.audit.items

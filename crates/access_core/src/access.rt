@@ -1,0 +1,92 @@
+//! The core: what is in force, in memory and in flight, and the audit that says how it came about.
+
+ghost use Rattle.std.specs.Prelude.{◌≡◌, ◌+◌, ◌^◌, ◌<◌, nat_lt};
+ghost use Rattle.core_model.specs.Legal.{with_entry};
+
+mod granting;
+mod listing;
+mod lookups;
+mod queries;
+mod queueing;
+mod running;
+mod taking;
+mod working;
+
+use crate::granted::Granted;
+use crate::queue::Queue;
+use core_model::{Effects, Entry, Event, InFlight, Outcome};
+use policy::Policy;
+use regions::Regions;
+use sequences::{Reserved, Sequence};
+use signals::Signals;
+use std::alloc::AllocError;
+use std::marker::Model;
+
+/// Why a core can't be opened.
+#[derive(Clone, Copy, Debug, PartialEq, Eq)]
+pub enum OpenFault {
+    /// Memory was wanted and not to be had.
+    OutOfMemory,
+    /// The policy's regions are more, or longer, than memory has place for.
+    BadRegions,
+    /// The audit's capacity isn't 1 to 2^20 entries.
+    BadCapacity,
+}
+
+impl From<AllocError> for OpenFault {
+    ghost use Rattle.std.specs.Prelude.{◌≡◌};
+    ghost use Rattle.access_core.specs.declared.access.OpenFault.TheVariants as fault;
+
+    ghost from_gives = { λ _ why. why ≡ fault.OutOfMemory };
+
+    fn from(_want: AllocError) -> OpenFault {
+        OpenFault::OutOfMemory
+    }
+}
+
+/// The broker's core. A contract sees its history: what it began from, and its audit's entries.
+#[derive(Drop)]
+pub struct AccessCore {
+    policy: Policy,
+    granted: Granted,
+    memory: Regions,
+    signals: Signals,
+    queues: Vec<Queue>,
+    flight: Sequence<InFlight>,
+    capacity: usize,
+    audit: Reserved<Entry>,
+}
+
+impl Model for AccessCore {
+    ghost use Rattle.core_model.specs.History.{History};
+
+    ghost Value = { History };
+
+    ghost use Rattle.access_core.specs.Kept.{history_of, IsKept};
+
+    ghost view = { history_of };
+
+    ghost invariant = { IsKept };
+}
+
+// Whether an audit lacks room for one more entry, with so many packets in flight after it.
+fn lacks_room(capacity: usize, entries: usize, flying: usize) -> bool
+    requires few { entries < 2 ^ 32 }
+    requires small { flying < 2 ^ 32 }
+    ensures { result ≡ nat_lt capacity (entries + 1 + flying) }
+{
+    capacity < entries + 1 + flying
+}
+
+// Puts an entry behind the others.
+fn enter(audit: &mut Reserved<Entry>, event: Event, outcome: Outcome, effects: Effects)
+    requires { 0 < audit.old.room }
+    ensures entries { audit.new.items ≡ with_entry audit.old.items event outcome effects }
+    ensures place { audit.new.room + 1 ≡ audit.old.room }
+{
+    audit.push(Entry {
+        event,
+        outcome,
+        effects,
+    });
+}

@@ -1,0 +1,92 @@
+//! What the core looks up before it decides a call.
+
+ghost use Rattle.std.specs.Prelude.{◌≡◌, option_map};
+ghost use Rattle.std.specs.Option.{option_copied};
+ghost use Rattle.policy.specs.Policy.{numbered};
+ghost use Rattle.regions.specs.Memory.{is_within, region_of};
+ghost use Rattle.signals.specs.Values.{value_of};
+ghost use Rattle.core_model.specs.Grants.{in_force};
+ghost use Rattle.core_model.specs.Memory.{region_lengths, signals};
+ghost use Rattle.core_model.specs.Queues.{owner};
+ghost use Rattle.access_core.specs.Lookups.{IsQueue, bytes_within, may_reach, opening_from};
+
+use crate::access::AccessCore;
+use crate::queue::Queue;
+use aql_packet::{Address, AgentHandle, ClientId, QueueId, RegionHandle, SignalHandle};
+use policy::{Object, Right};
+
+impl AccessCore {
+    // Whether a client's right on an object is in force.
+    pub(crate) fn is_in_force(&self, client: ClientId, object: Object, right: Right) -> bool
+        ensures { result ≡ in_force self.now.start self.now.entries client object right }
+    {
+        self.granted.has(client, object, right)
+    }
+
+    // Whether a range of addresses lies whole in one region.
+    pub(crate) fn is_within(&self, address: Address, length: u64) -> bool
+        ensures { result ≡ is_within (region_lengths self.now.start) address.0 length }
+    {
+        self.memory.read(address, length).is_ok()
+    }
+
+    // Whether a range of addresses lies whole in one region on which a client's right is in force.
+    pub(crate) fn may_reach(
+        &self,
+        client: ClientId,
+        address: Address,
+        length: u64,
+        right: Right,
+    ) -> bool
+        ensures { result ≡ may_reach self.now client address length right }
+    {
+        self.is_within(address, length)
+            && self.is_in_force(client, Object::Region(region_at(address)), right)
+    }
+
+    // The bytes of a range of addresses, if it lies whole in one region.
+    pub(crate) fn bytes_at(&self, address: Address, length: u64) -> Option<&[u8]>
+        ensures { option_copied result ≡ bytes_within self.now address length }
+    {
+        self.memory.read(address, length).ok()
+    }
+
+    // The value of a signal, if there is one of this number.
+    pub(crate) fn signal_value(&self, signal: SignalHandle) -> Option<i64>
+        ensures { result ≡ value_of (signals self.now.start self.now.entries) signal.0 }
+    {
+        self.signals.load(signal).ok()
+    }
+
+    // What is kept of a queue, if it was opened.
+    pub(crate) fn queue(&self, queue: QueueId) -> Option<&Queue>
+        ensures { IsQueue self.now queue (option_copied result) }
+    {
+        queue_of(self.queues.as_slice(), queue)
+    }
+
+    // Whose a queue is and which agent runs its packets, if it was opened.
+    pub(crate) fn owner_of(&self, queue: QueueId) -> Option<(ClientId, AgentHandle)>
+        ensures { option_map opening_from result ≡ owner self.now.start self.now.entries queue }
+    {
+        let queue = self.queue(queue)?;
+        Some((queue.client, queue.agent))
+    }
+}
+
+// The region in which an address would lie.
+pub(crate) fn region_at(address: Address) -> RegionHandle
+    ensures { result.0 ≡ region_of address.0 }
+{
+    RegionHandle((address.0 >> 32) as u32)
+}
+
+// The queue with a number, which counts from 1.
+pub(crate) fn queue_of(queues: &[Queue], queue: QueueId) -> Option<&Queue>
+    ensures { option_copied result ≡ numbered queues.now queue.0 }
+{
+    if queue.0 == 0 {
+        return None;
+    }
+    queues.get(queue.0 as usize - 1)
+}

@@ -1,0 +1,129 @@
+//! Queries: they change nothing, and no entry tells of them.
+
+ghost use Rattle.std.specs.Prelude.{◌≡◌};
+ghost use Rattle.core_model.specs.Legal.{Replies, RepliesOrLacks};
+ghost use Rattle.access_core.specs.ToldQueries.{bytes_told, errors_told, listing_told, test_told, value_told};
+
+use crate::access::AccessCore;
+use crate::access::lookups::region_at;
+use aql_packet::{Address, ClientId, QueueId, SignalHandle};
+use core_model::{Entry, Query, Refusal};
+use policy::{Kind, Object, Policy, Right, Rights};
+use queue_error::QueueError;
+use sequences::Sequence;
+use signals::Condition;
+use std::alloc::Global;
+
+/// How many bytes a client reads at most in one call (own).
+const MOST_BYTES: u64 = 65_536;
+
+impl AccessCore {
+    /// The policy that the core was opened with.
+    pub fn policy(&self) -> &Policy
+        ensures { result.now ≡ self.now.start.policy }
+    {
+        &self.policy
+    }
+
+    /// The audit's entries, in order.
+    pub fn audit(&self) -> &[Entry]
+        ensures { result.now ≡ self.now.entries }
+    {
+        self.audit.as_slice()
+    }
+
+    /// The `length` bytes of memory from an address on. Refused in this order: no client has the
+    /// number; the length isn't 1 to 65,536; the range doesn't lie whole in a region on which the
+    /// client's right to read is in force.
+    #[tactic(auto, unfolding(core_model::specs::Queries::replied))]
+    pub fn host_read(
+        &self,
+        alloc: Global,
+        client: ClientId,
+        address: Address,
+        length: u64,
+    ) -> Result<Sequence<u8>, Refusal>
+        ensures { RepliesOrLacks
+            (Query.HostRead client address length) self.now (bytes_told result) }
+    {
+        if !self.policy().declares_client(client) {
+            return Err(Refusal::UnknownClient);
+        }
+        if length == 0 || length > MOST_BYTES {
+            return Err(Refusal::BadSize);
+        }
+        let Some(bytes) = self.bytes_at(address, length) else {
+            return Err(Refusal::Denied(Right::Read));
+        };
+        if !self.is_in_force(client, Object::Region(region_at(address)), Right::Read) {
+            return Err(Refusal::Denied(Right::Read));
+        }
+        Ok(Sequence::from_vec(Vec::from_slice(alloc, bytes)?))
+    }
+
+    /// A signal's value. Refused in this order: no client has the number; the client's right to
+    /// wait on the signal isn't in force.
+    #[tactic(auto, unfolding(core_model::specs::Queries::replied))]
+    pub fn load_signal(&self, client: ClientId, signal: SignalHandle) -> Result<i64, Refusal>
+        ensures { Replies (Query.LoadSignal client signal) self.now (value_told result) }
+    {
+        if !self.policy().declares_client(client) {
+            return Err(Refusal::UnknownClient);
+        }
+        if !self.is_in_force(client, Object::Signal(signal), Right::Wait) {
+            return Err(Refusal::Denied(Right::Wait));
+        }
+        match self.signal_value(signal) {
+            Some(value) => Ok(value),
+            None => Err(Refusal::Denied(Right::Wait)),
+        }
+    }
+
+    /// Whether a signal's value meets a condition against another value. Refused as a load is.
+    #[tactic(auto, unfolding(core_model::specs::Queries::replied))]
+    pub fn test_signal(
+        &self,
+        client: ClientId,
+        signal: SignalHandle,
+        condition: Condition,
+        value: i64,
+    ) -> Result<bool, Refusal>
+        ensures { Replies
+            (Query.TestSignal client signal condition value) self.now (test_told result) }
+    {
+        let current = self.load_signal(client, signal)?;
+        Ok(condition.is_met(current, value))
+    }
+
+    /// Each object on which a client has a right in force, with those rights: agents, regions,
+    /// signals and kernels, each kind by number. Refused where no client has the number.
+    #[tactic(auto, unfolding(core_model::specs::Queries::replied))]
+    pub fn list(
+        &self,
+        alloc: Global,
+        client: ClientId,
+    ) -> Result<Sequence<(Object, Rights)>, Refusal>
+        ensures { RepliesOrLacks (Query.List client) self.now (listing_told result) }
+    {
+        if !self.policy().declares_client(client) {
+            return Err(Refusal::UnknownClient);
+        }
+        let mut rows = Sequence::new(alloc);
+        self.list_kind(client, Kind::Agent, &mut rows)?;
+        self.list_kind(client, Kind::Region, &mut rows)?;
+        self.list_kind(client, Kind::Signal, &mut rows)?;
+        self.list_kind(client, Kind::Kernel, &mut rows)?;
+        Ok(rows)
+    }
+
+    /// The errors of a queue, in order. Refused where no queue has the number.
+    #[tactic(auto, unfolding(core_model::specs::Queries::replied))]
+    pub fn errors(&self, alloc: Global, queue: QueueId) -> Result<Sequence<QueueError>, Refusal>
+        ensures { RepliesOrLacks (Query.Errors queue) self.now (errors_told result) }
+    {
+        let Some(kept) = self.queue(queue) else {
+            return Err(Refusal::UnknownQueue);
+        };
+        Ok(Sequence::from_vec(Vec::from_slice(alloc, kept.errors.as_slice())?))
+    }
+}

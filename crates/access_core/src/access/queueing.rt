@@ -1,0 +1,86 @@
+//! Queues are opened, and their packets handed over.
+
+ghost use Rattle.std.specs.Prelude.{◌≡◌, ◌<◌, [], OnOk, IfErr, IfOk, length};
+ghost use Rattle.core_model.specs.Queues.{openings};
+ghost use Rattle.core_model.specs.Owed.{owed, enters, refuses, is_ring_size};
+ghost use Rattle.core_model.specs.Legal.{MeetsOrLacks};
+ghost use Rattle.access_core.specs.Told.{opened};
+
+use crate::access::{AccessCore, enter, lacks_room};
+use crate::queue::Queue;
+use aql_packet::{AgentHandle, ClientId, QueueId};
+use core_model::{Effects, Event, Outcome, Refusal};
+use policy::{Object, Right};
+use sequences::Reserved;
+use std::alloc::Global;
+
+const QUEUES: usize = 64;
+
+// Whether a ring may have so many slots: a power of two from 2 to 4,096.
+fn is_ring_size(size: u64) -> bool
+    ensures { result ≡ is_ring_size size }
+{
+    matches!(
+        size,
+        2 | 4 | 8 | 16 | 32 | 64 | 128 | 256 | 512 | 1024 | 2048 | 4096
+    )
+}
+
+impl AccessCore {
+    /// Opens a queue of `size` slots for a client, whose packets an agent runs.
+    pub fn open_queue(
+        &mut self,
+        alloc: Global,
+        client: ClientId,
+        agent: AgentHandle,
+        size: u64,
+    ) -> Result<QueueId, Refusal>
+        ensures { MeetsOrLacks (Event.OpenQueue client agent size) self.old self.new (opened result) }
+    {
+        let queue = self.may_open(client, agent, size)?;
+        if lacks_room(self.capacity, self.audit.len(), self.flight.len()) {
+            return Err(Refusal::AuditFull);
+        }
+        self.queues.push(Queue {
+            client,
+            agent,
+            next: 0,
+            stopped: false,
+            errors: Reserved::new(alloc),
+        })?;
+        let event = Event::OpenQueue {
+            client,
+            agent,
+            size,
+        };
+        enter(
+            &mut self.audit,
+            event,
+            Outcome::Opened(queue),
+            Effects::none(),
+        );
+        Ok(queue)
+    }
+
+    // The number that a queue of so many slots will have, if the client may open it.
+    #[tactic(auto, unfolding(core_model::specs::Owed::owed))]
+    fn may_open(&self, client: ClientId, agent: AgentHandle, size: u64) -> Result<QueueId, Refusal>
+        ensures may { IfOk result (λ queue. owed self.now.start self.now.entries (Event.OpenQueue client agent size) ≡ enters (Outcome.Opened queue) []) }
+        ensures few { OnOk result (length (openings self.now.start self.now.entries) < 64) }
+        ensures why { IfErr result (λ why. owed self.now.start self.now.entries (Event.OpenQueue client agent size) ≡ refuses why) }
+    {
+        if !self.policy.declares_client(client) {
+            return Err(Refusal::UnknownClient);
+        }
+        if !self.is_in_force(client, Object::Agent(agent), Right::Use) {
+            return Err(Refusal::Denied(Right::Use));
+        }
+        if !is_ring_size(size) {
+            return Err(Refusal::BadSize);
+        }
+        if self.queues.len() >= QUEUES {
+            return Err(Refusal::TooMany);
+        }
+        Ok(QueueId(self.queues.len() as u64 + 1))
+    }
+}

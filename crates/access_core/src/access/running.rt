@@ -1,0 +1,260 @@
+//! The groups of agent dispatches in flight are run.
+
+ghost use Rattle.std.specs.Prelude.{◌≡◌, ◌++◌, ◌<◌, ◌^◌, All, IfErr, IfOk, length, map, option_to_list, replicate, true};
+ghost use Rattle.std.specs.Option.{IfSome};
+ghost use Rattle.std.specs.Int.{w64, to_le_bytes};
+ghost use Rattle.aql_packet.specs.declared.packet.Packet.TheVariants as kind;
+ghost use Rattle.regions.specs.Memory.{is_within, lengths_of};
+ghost use Rattle.core_model.specs.Memory.{memory_from, region_lengths};
+ghost use Rattle.core_model.specs.Flight.{group_ran};
+ghost use Rattle.core_model.specs.Work.{function_writes, number_in_memory, result_writes, write_of};
+ghost use Rattle.core_model.specs.Owed.{refuses};
+ghost use Rattle.core_model.specs.Legal.{MeetsOrLacks};
+ghost use Rattle.access_core.specs.ToldWork.{GroupOwed, IsChanged, IsOwed, IsPlaced, is_placed, Reaches, run_owed, worked};
+
+use crate::access::{AccessCore, enter, lacks_room};
+use aql_packet::{Address, AgentDispatch, Packet, PacketId, QueueId};
+use core_model::{Effect, Effects, Event, InFlight, Outcome, Refusal, Worked};
+use regions::Regions;
+use sequences::Sequence;
+use std::alloc::{AllocError, Global};
+
+/// The functions that agents have built in: fill, copy, and add to a 64-bit number.
+const FILL: u16 = 0x8000;
+
+const COPY: u16 = 0x8001;
+
+const ADD64: u16 = 0x8002;
+
+/// Bytes that go to memory from an address on.
+#[derive(Drop)]
+struct Piece {
+    address: Address,
+    bytes: Sequence<u8>,
+}
+
+impl AccessCore {
+    /// Runs the next group of a dispatch in flight. An agent dispatch has one, number 0, which
+    /// writes its function's target and then its result.
+    pub fn run_next(
+        &mut self,
+        alloc: Global,
+        queue: QueueId,
+        packet: PacketId,
+    ) -> Result<Worked, Refusal>
+        ensures { MeetsOrLacks (Event.RunNext queue packet) self.old self.new (worked result) }
+    {
+        let Some(dispatch) = self.may_run(queue, packet)? else {
+            return Ok(Worked::Done);
+        };
+        if lacks_room(self.capacity, self.audit.len(), self.flight.len()) {
+            return Err(Refusal::AuditFull);
+        }
+        let target = self.function_piece(alloc, &dispatch)?;
+        let result = self.result_piece(alloc, &dispatch)?;
+        let effects = lay_both(&mut self.memory, target, result);
+        count_group(&mut self.flight, queue, packet);
+        let worked = Worked::Ran { group: 0, left: 0 };
+        let event = Event::RunNext { queue, packet };
+        enter(&mut self.audit, event, Outcome::Worked(worked), effects);
+        Ok(worked)
+    }
+
+    // The agent dispatch whose group is to be run, or none where all groups ran.
+    fn may_run(&self, queue: QueueId, packet: PacketId) -> Result<Option<AgentDispatch>, Refusal>
+        ensures may { IfOk result (λ next.
+            IsOwed self.now (Event.RunNext queue packet) (run_owed self.now.start self.now.entries next)) }
+        ensures why { IfErr result (λ why. IsOwed self.now (Event.RunNext queue packet) (refuses why)) }
+        ensures reachable { IfOk result (λ next. IfSome next (λ dispatch. Reaches self.now (kind.Agent dispatch))) }
+    {
+        let flying = self.flying(queue, packet)?;
+        next_group(&flying)
+    }
+
+    // What an agent's function writes, and where.
+    fn function_piece(&self, alloc: Global, dispatch: &AgentDispatch) -> Result<Piece, AllocError>
+        requires { Reaches self.now (kind.Agent dispatch.now) }
+        ensures written { IfOk result (λ piece.
+            write_of piece.address.0 piece.bytes ≡ function_writes self.now.start self.now.entries dispatch.now) }
+        ensures placed { IfOk result (λ piece. IsPlaced self.now piece.address.0 (length piece.bytes)) }
+    {
+        let [first, second, third, _] = dispatch.arguments;
+        match dispatch.function {
+            FILL => Ok(Piece {
+                address: Address(first),
+                bytes: filled(alloc, second, (third % 256) as u8)?,
+            }),
+            COPY => Ok(Piece {
+                address: Address(second),
+                bytes: self.copied(alloc, Address(first), third)?,
+            }),
+            ADD64 => Ok(Piece {
+                address: Address(first),
+                bytes: number_bytes(alloc, self.number(Address(first)).wrapping_add(second))?,
+            }),
+            _ => Ok(Piece {
+                address: Address(0),
+                bytes: Sequence::new(alloc),
+            }),
+        }
+    }
+
+    // What an agent's function leaves at its return address.
+    fn result_piece(&self, alloc: Global, dispatch: &AgentDispatch) -> Result<Piece, AllocError>
+        requires { Reaches self.now (kind.Agent dispatch.now) }
+        ensures written { IfOk result (λ piece.
+            write_of piece.address.0 piece.bytes ≡ result_writes self.now.start self.now.entries dispatch.now) }
+        ensures placed { IfOk result (λ piece. IsPlaced self.now piece.address.0 (length piece.bytes)) }
+    {
+        let address = dispatch.return_address;
+        if address.0 == 0 {
+            return Ok(Piece {
+                address,
+                bytes: Sequence::new(alloc),
+            });
+        }
+        let number = if dispatch.function == ADD64 {
+            self.number(Address(dispatch.arguments[0]))
+        } else {
+            0
+        };
+        Ok(Piece {
+            address,
+            bytes: number_bytes(alloc, number)?,
+        })
+    }
+
+    // The bytes from an address on, as a list of its own.
+    fn copied(&self, alloc: Global, address: Address, size: u64) -> Result<Sequence<u8>, AllocError>
+        requires { IsPlaced self.now address.0 size }
+        ensures { IfOk result (λ bytes.
+            bytes ≡ memory_from self.now.start self.now.entries address.0 size) }
+    {
+        if size == 0 {
+            return Ok(Sequence::new(alloc));
+        }
+        match self.memory.read(address, size) {
+            Ok(bytes) => Ok(Sequence::from_vec(Vec::from_slice(alloc, bytes)?)),
+            Err(_) => unreachable!(),
+        }
+    }
+
+    // The 64-bit number at an address.
+    fn number(&self, address: Address) -> u64
+        requires { is_within (region_lengths self.now.start) address.0 8 ≡ true }
+        ensures { result ≡ number_in_memory self.now.start self.now.entries address.0 }
+    {
+        match self.memory.read(address, 8) {
+            Ok(bytes) => {
+                let mut number = [0; 8];
+                number.copy_from_slice(bytes);
+                u64::from_le_bytes(number)
+            }
+            Err(_) => unreachable!(),
+        }
+    }
+}
+
+// The agent dispatch whose group is the next of a packet in flight, or none where all groups ran.
+fn next_group(flying: &InFlight) -> Result<Option<AgentDispatch>, Refusal>
+    ensures owed { IfOk result (λ next. GroupOwed flying.now (λ start entries. run_owed start entries next)) }
+    ensures why { IfErr result (λ why. GroupOwed flying.now (λ start entries. refuses why)) }
+    ensures agent { IfOk result (λ next. IfSome next (λ dispatch. flying.now.packet ≡ kind.Agent dispatch)) }
+{
+    match flying.packet {
+        Packet::Agent(dispatch) => Ok(if flying.groups_run == 0 {
+            Some(dispatch)
+        } else {
+            None
+        }),
+        Packet::Kernel(_) => Ok(None),
+        Packet::BarrierAnd(_) => Err(Refusal::NotInFlight),
+        Packet::BarrierOr(_) => Err(Refusal::NotInFlight),
+    }
+}
+
+// The same byte again and again.
+fn filled(alloc: Global, size: u64, byte: u8) -> Result<Sequence<u8>, AllocError>
+    ensures { IfOk result (λ bytes. bytes ≡ replicate size byte) }
+{
+    Ok(Sequence::from_vec(vec![in alloc; byte; size as usize]?))
+}
+
+// The 8 bytes of a number, the lowest first.
+fn number_bytes(alloc: Global, number: u64) -> Result<Sequence<u8>, AllocError>
+    ensures { IfOk result (λ bytes. bytes ≡ to_le_bytes w64 number) }
+{
+    Ok(Sequence::from_vec(Vec::from_slice(alloc, &number.to_le_bytes())?))
+}
+
+// Lays one piece and then another over memory, and tells the changes.
+fn lay_both(memory: &mut Regions, first: Piece, second: Piece) -> Effects
+    requires first { is_placed (lengths_of memory.old) first.address.0 (length first.bytes) ≡ true }
+    requires second { is_placed (lengths_of memory.old) second.address.0 (length second.bytes) ≡ true }
+    ensures effects { result ≡
+        write_of first.address.0 first.bytes ++ write_of second.address.0 second.bytes }
+    ensures changed { IsChanged memory.old
+        (write_of first.address.0 first.bytes ++ write_of second.address.0 second.bytes) memory.new }
+    ensures lengths { lengths_of memory.new ≡ lengths_of memory.old }
+{
+    lay(memory, &first);
+    lay(memory, &second);
+    match (change(first), change(second)) {
+        (Some(first), Some(second)) => Effects::two(first, second),
+        (Some(only), None) | (None, Some(only)) => Effects::one(only),
+        (None, None) => Effects::none(),
+    }
+}
+
+// Lays a piece over memory.
+fn lay(memory: &mut Regions, piece: &Piece)
+    requires { is_placed (lengths_of memory.old) piece.now.address.0 (length piece.now.bytes) ≡ true }
+    ensures changed { IsChanged memory.old (write_of piece.now.address.0 piece.now.bytes) memory.new }
+    ensures lengths { lengths_of memory.new ≡ lengths_of memory.old }
+{
+    if piece.bytes.is_empty() {
+        return;
+    }
+    match memory.write(piece.address, piece.bytes.as_slice()) {
+        Ok(()) => {}
+        Err(_) => unreachable!(),
+    }
+}
+
+// The change that a piece makes: none where it has no bytes.
+fn change(piece: Piece) -> Option<Effect>
+    ensures { option_to_list result ≡ write_of piece.address.0 piece.bytes }
+{
+    let Piece { address, bytes } = piece;
+    if bytes.is_empty() {
+        None
+    } else {
+        Some(Effect::Write { address, bytes })
+    }
+}
+
+// One more group of a packet has run.
+fn count_group(flight: &mut Sequence<InFlight>, queue: QueueId, packet: PacketId)
+    requires { All (λ f. f.groups_run < 2 ^ 31) flight.old }
+    ensures { flight.new ≡ map (group_ran queue packet) flight.old }
+{
+    for index in 0..flight.len() {
+        let ran = one_more(flight.as_slice()[index], queue, packet);
+        flight.set(index, ran);
+    }
+}
+
+// A packet after one more of its groups ran, if it is the one named.
+fn one_more(flying: InFlight, queue: QueueId, packet: PacketId) -> InFlight
+    requires { flying.groups_run < 2 ^ 31 }
+    ensures { result ≡ group_ran queue packet flying }
+{
+    if flying.queue.0 == queue.0 && flying.id.0 == packet.0 {
+        InFlight {
+            groups_run: flying.groups_run + 1,
+            ..flying
+        }
+    } else {
+        flying
+    }
+}

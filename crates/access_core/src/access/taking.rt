@@ -1,0 +1,273 @@
+//! Packets are handed over: they wait, are launched, or denied.
+
+ghost use Rattle.std.specs.Prelude.{◌≡◌, ◌==◌, ◌||◌, nat_lt, IfErr, IfOk, Some, None, [], ◌∷◌, filter, length};
+ghost use Rattle.std.specs.List.{list_any};
+ghost use Rattle.aql_packet.specs.Reading.{barrier_bit};
+ghost use Rattle.core_model.specs.LaunchRules.{is_barrier, may_start};
+ghost use Rattle.core_model.specs.Owed.{owed, refuses};
+ghost use Rattle.access_core.specs.Judged.{Judges, facts_lent};
+ghost use Rattle.access_core.specs.Deciding.{Decides};
+ghost use Rattle.access_core.specs.QueueShown.{kept_errors};
+ghost use Rattle.access_core.specs.Moves.{HandsOver, CanHandOver};
+ghost use Rattle.queue_error.specs.declared.error.QueueError.{QueueError};
+ghost use Rattle.core_model.specs.Legal.{MeetsOrLacks};
+ghost use Rattle.access_core.specs.Told.{taken};
+ghost use Rattle.policy.specs.Policy.{numbered};
+
+use crate::access::lookups::queue_of;
+use crate::access::{AccessCore, enter, lacks_room};
+use crate::granted::Granted;
+use crate::queue::Queue;
+use crate::verdict::{Facts, TAKES_NOTHING, judge};
+use aql_packet::{AgentHandle, ClientId, Packet, PacketId, QueueId, header_of};
+use core_model::{Cause, Effects, Event, InFlight, Outcome, Refusal, Seen, Taken};
+use policy::Policy;
+use queue_error::{QueueError, Rule};
+use regions::Regions;
+use sequences::Reserved;
+use std::alloc::Global;
+
+// How many errors a queue can have at the most: that of a packet denied, and those of all in flight.
+const ERRORS: usize = 9;
+
+// Whether a queue launches nothing more.
+fn is_down(queue: &Queue) -> bool
+    ensures { result ≡ (nat_lt 0 (length queue.now.errors.items) || queue.now.stopped) }
+{
+    queue.errors.len() > 0 || queue.stopped
+}
+
+// Whether a packet is a barrier packet.
+fn is_barrier(packet: &Packet) -> bool
+    ensures { result ≡ is_barrier packet.now }
+{
+    matches!(packet, Packet::BarrierAnd(_) | Packet::BarrierOr(_))
+}
+
+// Whether a barrier packet of a queue is in flight.
+fn has_barrier(flight: &[InFlight], queue: QueueId) -> bool
+    ensures { result ≡ list_any (λ f. is_barrier f.packet) (filter (λ f. f.queue.0 == queue.0) flight.now) }
+{
+    flight
+        .iter()
+        .filter(|flying| flying.queue.0 == queue.0)
+        .any(|flying| is_barrier(&flying.packet))
+}
+
+// How many packets of a queue are in flight.
+fn count_of(flight: &[InFlight], queue: QueueId) -> usize
+    ensures { result ≡ length (filter (λ f. f.queue.0 == queue.0) flight.now) }
+{
+    flight
+        .iter()
+        .filter(|flying| flying.queue.0 == queue.0)
+        .count()
+}
+
+// Why a queue's next packet may not start yet, by its barrier bit and what is in flight.
+#[tactic(auto, unfolding(core_model::specs::LaunchRules::may_start))]
+fn waits_for(flight: &[InFlight], queue: QueueId, barrier: bool) -> Option<Cause>
+    ensures { result ≡ may_start (filter (λ f. f.queue.0 == queue.0) flight.now) barrier }
+{
+    if has_barrier(flight, queue) {
+        return Some(Cause::Barrier);
+    }
+    let count = count_of(flight, queue);
+    if barrier && count > 0 {
+        return Some(Cause::Active);
+    }
+    if count >= 8 {
+        return Some(Cause::Slots);
+    }
+    None
+}
+
+// Whether the barrier bit of a packet's header is set.
+fn has_barrier_bit(bytes: &[u8; 64]) -> bool
+    ensures { result ≡ barrier_bit bytes.now }
+{
+    header_of(u64::from(bytes[0]) + 256 * u64::from(bytes[1])).barrier
+}
+
+// What is decided of a packet that is next.
+#[derive(Drop)]
+enum Decision {
+    Wait(Cause),
+    Deny(Rule),
+    Launch(Packet),
+}
+
+// Judges a packet of a client's queue on an agent.
+fn judged(
+    policy: &Policy,
+    granted: &Granted,
+    regions: &Regions,
+    client: ClientId,
+    agent: AgentHandle,
+    bytes: &[u8; 64],
+) -> Result<Packet, Rule>
+    ensures { Judges (facts_lent policy.now granted.now regions.now client agent) bytes.now result }
+{
+    let takes = policy.takes(agent).unwrap_or(TAKES_NOTHING);
+    let facts = Facts {
+        client,
+        agent,
+        takes,
+        granted,
+        regions,
+    };
+    judge(bytes, &facts)
+}
+
+// Counts the next packet of a queue as handed over.
+fn advance(queues: &mut Vec<Queue>, queue: QueueId)
+    requires { CanHandOver queues.old.items queue }
+    ensures { HandsOver queues.old.items queues.new.items queue None }
+{
+    let place = queue.0 as usize - 1;
+    let kept = &mut queues[place];
+    kept.next += 1;
+}
+
+// Counts the next packet of a queue as handed over, and puts the queue's first error in place.
+fn fail_next(queues: &mut Vec<Queue>, queue: QueueId, errors: Reserved<QueueError>)
+    requires there { CanHandOver queues.old.items queue }
+    requires first { kept_errors (numbered queues.old.items queue.0) ≡ [] }
+    ensures { (error : QueueError) → error.queue.0 ≡ queue.0 → errors.items ≡ error ∷ [] → HandsOver queues.old.items queues.new.items queue (Some error) }
+{
+    let place = queue.0 as usize - 1;
+    let kept = &mut queues[place];
+    kept.next += 1;
+    kept.errors = errors;
+}
+
+impl AccessCore {
+    // What is decided of the packet that is handed over, if the queue takes one and it is the next.
+    fn may_take(
+        &self,
+        queue: QueueId,
+        packet: PacketId,
+        bytes: &[u8; 64],
+    ) -> Result<Decision, Refusal>
+        ensures may { IfOk result (λ decision. Decides self.now queue packet bytes.now decision) }
+        ensures why { IfErr result (λ why. owed self.now.start self.now.entries (Event.Take queue packet bytes.now) ≡ refuses why) }
+    {
+        let kept = match queue_of(self.queues.as_slice(), queue) {
+            None => return Err(Refusal::UnknownQueue),
+            Some(kept) => kept,
+        };
+        if is_down(kept) {
+            return Err(Refusal::QueueDown);
+        }
+        if packet.0 != kept.next {
+            return Err(Refusal::OutOfStep(kept.next));
+        }
+        match waits_for(self.flight.as_slice(), queue, has_barrier_bit(bytes)) {
+            Some(cause) => Ok(Decision::Wait(cause)),
+            None => match judged(
+                &self.policy,
+                &self.granted,
+                &self.memory,
+                kept.client,
+                kept.agent,
+                bytes,
+            ) {
+                Ok(packet) => Ok(Decision::Launch(packet)),
+                Err(rule) => Ok(Decision::Deny(rule)),
+            },
+        }
+    }
+
+    /// Hands over the next packet of a queue: its id and its 64 bytes. It waits, is launched, or is
+    /// denied by the first launch rule that fails, after which the queue launches nothing more.
+    pub fn take(
+        &mut self,
+        alloc: Global,
+        queue: QueueId,
+        packet: PacketId,
+        bytes: &[u8; 64],
+    ) -> Result<Taken, Refusal>
+        ensures { MeetsOrLacks (Event.Take queue packet bytes.now) self.old self.new (taken result) }
+    {
+        match self.may_take(queue, packet, bytes)? {
+            Decision::Wait(cause) => Ok(Taken::Waiting(cause)),
+            Decision::Deny(rule) => self.deny(alloc, queue, packet, bytes, rule),
+            Decision::Launch(laid_out) => self.launch(queue, packet, bytes, laid_out),
+        }
+    }
+
+    // Denies the next packet of a queue.
+    fn deny(
+        &mut self,
+        alloc: Global,
+        queue: QueueId,
+        packet: PacketId,
+        bytes: &[u8; 64],
+        rule: Rule,
+    ) -> Result<Taken, Refusal>
+        requires { Decides self.old queue packet bytes.now (Decision.Deny rule) }
+        ensures { MeetsOrLacks (Event.Take queue packet bytes.now) self.old self.new (taken result) }
+    {
+        if lacks_room(self.capacity, self.audit.len(), self.flight.len()) {
+            return Err(Refusal::AuditFull);
+        }
+        let error = QueueError {
+            queue,
+            packet,
+            rule,
+            place: None,
+        };
+        let mut errors = Reserved::with_room(alloc, ERRORS)?;
+        errors.push(error);
+        fail_next(&mut self.queues, queue, errors);
+        let event = Event::Take {
+            queue,
+            packet,
+            bytes: *bytes,
+        };
+        let became = Taken::Denied(error);
+        enter(
+            &mut self.audit,
+            event,
+            Outcome::Taken(became),
+            Effects::none(),
+        );
+        Ok(became)
+    }
+
+    // Launches the next packet of a queue.
+    fn launch(
+        &mut self,
+        queue: QueueId,
+        packet: PacketId,
+        bytes: &[u8; 64],
+        laid_out: Packet,
+    ) -> Result<Taken, Refusal>
+        requires { Decides self.old queue packet bytes.now (Decision.Launch laid_out) }
+        ensures { MeetsOrLacks (Event.Take queue packet bytes.now) self.old self.new (taken result) }
+    {
+        if lacks_room(self.capacity, self.audit.len(), self.flight.len() + 1) {
+            return Err(Refusal::AuditFull);
+        }
+        self.flight.push(InFlight {
+            queue,
+            id: packet,
+            packet: laid_out,
+            groups_run: 0,
+            seen: Seen([false; 5]),
+        })?;
+        advance(&mut self.queues, queue);
+        let event = Event::Take {
+            queue,
+            packet,
+            bytes: *bytes,
+        };
+        enter(
+            &mut self.audit,
+            event,
+            Outcome::Taken(Taken::Launched),
+            Effects::none(),
+        );
+        Ok(Taken::Launched)
+    }
+}

@@ -1,0 +1,20 @@
+//! What is kept of a queue.
+
+use aql_packet::{AgentHandle, ClientId};
+use queue_error::QueueError;
+use sequences::Reserved;
+
+/// A queue that was opened.
+#[derive(Drop)]
+pub struct Queue {
+    /// Whose it is.
+    pub client: ClientId,
+    /// The agent that runs its packets.
+    pub agent: AgentHandle,
+    /// The id of its next packet.
+    pub next: u64,
+    /// Whether it was stopped.
+    pub stopped: bool,
+    /// Its errors, in order, with room for one of each packet in flight.
+    pub errors: Reserved<QueueError>,
+}

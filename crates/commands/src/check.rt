@@ -1,0 +1,49 @@
+//! The command that checks a policy.
+
+use crate::status::Status;
+use policy::{Kind, Policy, ReadPolicyError, read_policy};
+use std::alloc::Global;
+use std::io;
+
+// Writes how many rows each array of a policy has, a line an array, and then `ok`.
+fn write_counts<W: io::Write>(policy: &Policy, out: &mut W) -> io::Result<()> {
+    let clients = policy.client_count();
+    let agents = policy.object_count(Kind::Agent);
+    let regions = policy.object_count(Kind::Region);
+    let signals = policy.object_count(Kind::Signal);
+    let kernels = policy.object_count(Kind::Kernel);
+    let allows = policy.allow_rows().len();
+    writeln!(out, "clients {clients}")?;
+    writeln!(out, "agents {agents}")?;
+    writeln!(out, "regions {regions}")?;
+    writeln!(out, "signals {signals}")?;
+    writeln!(out, "kernels {kernels}")?;
+    writeln!(out, "allows {allows}")?;
+    writeln!(out, "ok")?;
+    out.flush()
+}
+
+// Done where what was to be told was written, and failed where it wasn't.
+fn told(written: io::Result<()>, status: Status) -> Status {
+    match written {
+        Ok(()) => status,
+        Err(_) => Status::Failed,
+    }
+}
+
+/// Checks the text of a policy. A good one is counted on `out`; the first fault of another is named
+/// on `err`, as `policy: 4 UnknownName allow 7`, with the array and the row that it lies in.
+pub fn check_policy<O: io::Write, E: io::Write>(
+    alloc: Global,
+    text: &[u8],
+    out: &mut O,
+    err: &mut E,
+) -> Status {
+    match read_policy(alloc, text) {
+        Ok(policy) => told(write_counts(&policy, out), Status::Done),
+        Err(ReadPolicyError::Fault(fault)) => {
+            told(writeln!(err, "policy: {fault}"), Status::Refused)
+        }
+        Err(ReadPolicyError::OutOfMemory) => told(writeln!(err, "no memory"), Status::Failed),
+    }
+}

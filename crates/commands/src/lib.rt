@@ -1,0 +1,10 @@
+//! What the program's commands do, apart from the command line itself.
+
+// The check tries its tactics on what is left of each proof.
+#![tactic(auto)]
+
+mod check;
+mod status;
+
+pub use check::check_policy;
+pub use status::Status;

@@ -1,0 +1,88 @@
+-- Which whole texts are lexemes of each kind (PRM, Lexical Elements; comments and modifiers are (own)).
+use Rattle.std.specs.Prelude.{◌≡◌, ℕ, ◌+◌, ◌<◌, ◌≤◌, ◌⊎◌, List, [], ◌∷◌, ◌++◌, Bool, true, false, ◌&&◌, ◌==◌, Option, Some, length}
+use Rattle.std.specs.Char.{is_digit}
+use Rattle.hsail_reader.specs.Bytes.{is_name_byte, is_name_start, is_not_line_feed, begins_with, align_at}
+use Rattle.hsail_reader.specs.Lexemes.{modifier_length, word_at}
+use Rattle.hsail_reader.specs.declared.token.Lexeme.{Lexeme}
+use Rattle.hsail_reader.specs.declared.token.Numeral.{Numeral}
+
+-- each byte passes the test
+abbrev pub AllPass : (ℕ → Bool) → List ℕ → Type 0
+AllPass test [] = Unit {0}
+AllPass test (b ∷ bytes) = (test b ≡ true) × AllPass test bytes
+
+-- a name, behind `&`, `%` or `@`: a letter or `_`, and letters, digits and `_`
+abbrev pub IsName : List ℕ → Type 0
+IsName [] = ⊥
+IsName (b ∷ bytes) = (is_name_start b ≡ true) × AllPass is_name_byte bytes
+
+-- decimal digits: 0 alone, or no leading zero
+abbrev pub IsDecimal : List ℕ → Type 0
+IsDecimal [] = ⊥
+IsDecimal (b ∷ digits) =
+    (is_digit b 10 ≡ true) × AllPass (λ d. is_digit d 10) digits × (b ≡ 48 → digits ≡ [])
+
+-- 0x and a hexadecimal digit at least
+abbrev pub IsHexadecimal : List ℕ → Type 0
+IsHexadecimal text =
+    (digit : ℕ) × (digits : List ℕ) × (text ≡ 48 ∷ 120 ∷ digit ∷ digits)
+    × (is_digit digit 16 ≡ true) × AllPass (λ d. is_digit d 16) digits
+
+abbrev pub IsNumber : List ℕ → Type 0
+IsNumber text = IsDecimal text ⊎ IsHexadecimal text
+
+-- the letter of a register's class and a decimal number, behind the dollar
+abbrev pub IsRegister : List ℕ → Type 0
+IsRegister [] = ⊥
+IsRegister (c ∷ digits) = ((c ≡ 99) ⊎ (c ≡ 115) ⊎ (c ≡ 100)) × IsDecimal digits
+
+-- the rest of a line, behind the first slash of a comment
+abbrev pub IsLineComment : List ℕ → Type 0
+IsLineComment text = (line : List ℕ) × (text ≡ 47 ∷ line) × AllPass is_not_line_feed line
+
+-- `*/` stands at the end, and nowhere before
+abbrev pub IsClosed : List ℕ → Type 0
+IsClosed [] = ⊥
+IsClosed (b ∷ bytes) =
+    ((b ∷ bytes) ≡ 42 ∷ 47 ∷ []) ⊎ (((b == 42 && begins_with 47 bytes) ≡ false) × IsClosed bytes)
+
+-- a star and all up to the first `*/` behind it, behind the first slash of a comment
+abbrev pub IsBlockComment : List ℕ → Type 0
+IsBlockComment text = (inside : List ℕ) × (text ≡ 42 ∷ inside) × IsClosed inside
+
+abbrev pub IsComment : List ℕ → Type 0
+IsComment text = IsLineComment text ⊎ IsBlockComment text
+
+-- `_align(n)` or `_width(w)`: what is read as a modifier, whatever stands behind it
+pub record IsModifier (text : List ℕ) : Type 0 where
+  pub some : 0 < length text
+  pub whole : (more : List ℕ) → modifier_length (text ++ more) ≡ length text
+
+-- bytes of a name, and modifiers between them
+pub data ArePieces : List ℕ → Type 0 where
+  none : ArePieces []
+  byte : (b : ℕ) (rest : List ℕ) → is_name_byte b ≡ true → ArePieces rest → ArePieces (b ∷ rest)
+  modifier : (m rest text : List ℕ) → IsModifier m → text ≡ m ++ rest → ArePieces rest → ArePieces text
+
+-- a name, with modifiers inside or at its end
+abbrev pub IsModifiedName : List ℕ → Type 0
+IsModifiedName [] = ⊥
+IsModifiedName (b ∷ rest) = (is_name_start b ≡ true) × ArePieces rest
+
+-- align(n): what is read as one, whatever stands behind it
+pub record IsAlign (text : List ℕ) : Type 0 where
+  pub n : Numeral
+  pub read : (more : List ℕ) → align_at (text ++ more) ≡ Some n
+  pub whole : n.length ≡ length text
+
+abbrev pub IsWord : List ℕ → Type 0
+IsWord text = IsModifiedName text ⊎ IsAlign text
+
+-- where a lexeme is found, no front that is spelled so is longer; `first` bytes stand before
+abbrev pub IsLongest : ℕ → (List ℕ → Type 0) → (List ℕ → Option Lexeme) → Type 0
+IsLongest first IsSpelled at =
+    (text more : List ℕ) (found : Lexeme) → IsSpelled text → at (text ++ more) ≡ Some found →
+    first + length text ≤ found.length
+
+abbrev pub word_found : List ℕ → Option Lexeme
+word_found bytes = Some (word_at bytes)

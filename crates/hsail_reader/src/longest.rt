@@ -1,0 +1,17 @@
+//! The law of the longest lexeme.
+
+ghost use Rattle.std.specs.Prelude.{codes};
+ghost use Rattle.hsail_reader.specs.Lexemes.{comment_at, name_at, register_at, number_at};
+ghost use Rattle.hsail_reader.specs.Spelling.{IsComment, IsName, IsRegister, IsNumber, IsWord, IsModifier, IsLongest, word_found};
+ghost use Rattle.hsail_reader.specs.declared.token.TokenKind.{TokenKind};
+
+/// Where a lexeme is found at the front of some bytes, no front that is longer is a lexeme of its
+/// kind. Blanks and marks are one byte, and no word of the header begins another. It does nothing.
+pub fn lexemes_are_longest()
+    ensures comments { IsLongest 1 IsComment comment_at }
+    ensures names { (kind : TokenKind) → IsLongest 1 IsName (name_at kind) }
+    ensures registers { IsLongest 1 IsRegister register_at }
+    ensures numbers { IsLongest 0 IsNumber number_at }
+    ensures words { IsLongest 0 IsWord word_found }
+    ensures modifiers { IsModifier (codes "_align(4)") × IsModifier (codes "_width(all)") }
+{}

@@ -1,0 +1,6 @@
+pub mod Entries
+pub mod Tied
+pub mod Seats
+pub mod Places
+pub mod Kept
+pub mod States
