@@ -11,3 +11,11 @@ pub mod ListLemmas
 pub mod WorkLemmas
 pub mod WorkReadLemmas
 pub mod RunLemmas
+pub mod HostMemory
+pub mod Launches
+pub mod HeldMore
+pub mod RightsLeft
+pub mod RowLeft
+pub mod HeldKinds
+pub mod KeptHolder
+pub mod HolderKept

@@ -12,3 +12,8 @@ pub mod Lookups
 pub mod ToldQueries
 pub mod Listed
 pub mod ToldWork
+pub mod ToldHost
+pub mod OwingHost
+pub mod Held
+pub mod Revoked
+pub mod OwingRevoke

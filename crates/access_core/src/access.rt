@@ -4,10 +4,12 @@ ghost use Rattle.std.specs.Prelude.{◌≡◌, ◌+◌, ◌^◌, ◌<◌, nat_lt
 ghost use Rattle.core_model.specs.Legal.{with_entry};
 
 mod granting;
+mod host;
 mod listing;
 mod lookups;
 mod queries;
 mod queueing;
+mod revoking;
 mod running;
 mod taking;
 mod working;

@@ -7,6 +7,8 @@ ghost use Rattle.policy.specs.declared.rights.Right.{Right};
 ghost use Rattle.core_model.specs.Grants.{is_named};
 ghost use Rattle.access_core.specs.Granted.{has_granted};
 
+mod revoking;
+
 use aql_packet::ClientId;
 use policy::{Object, Right, Rights};
 use sequences::Sequence;

@@ -6,6 +6,7 @@
 
 mod access;
 mod granted;
+mod holding;
 mod queue;
 mod verdict;
 

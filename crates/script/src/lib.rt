@@ -12,8 +12,6 @@ mod numbers;
 mod replies;
 mod run;
 mod session;
-#[cfg(test)]
-mod tests;
 mod texts;
 mod verbs;
 mod words;

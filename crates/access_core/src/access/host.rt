@@ -1,0 +1,193 @@
+//! What clients do from outside their queues: they write memory and change signals.
+
+ghost use Rattle.std.specs.Prelude.{◌≡◌, ◌-◌, ◌∷◌, [], OnOk, IfOk, IfErr, Some, true, length, slice_set};
+ghost use Rattle.regions.specs.Memory.{IsWritten, is_within, lengths_of};
+ghost use Rattle.signals.specs.Values.{applied, value_of};
+ghost use Rattle.core_model.specs.Owed.{enters, old_if_asked, refuses};
+ghost use Rattle.core_model.specs.Legal.{Meets, MeetsOrLacks};
+ghost use Rattle.access_core.specs.Told.{accepted};
+ghost use Rattle.access_core.specs.ToldHost.{changed};
+ghost use Rattle.access_core.specs.OwingHost.{ChangeOwed, WriteOwed};
+
+use crate::access::{AccessCore, enter, lacks_room};
+use crate::granted::Granted;
+use aql_packet::{Address, ClientId, RegionHandle, SignalHandle};
+use core_model::{Effect, Effects, Event, Outcome, Refusal};
+use policy::{Object, Policy, Right};
+use regions::Regions;
+use sequences::Sequence;
+use signals::{SignalOp, Signals};
+use std::alloc::Global;
+
+/// How many addresses lie between the first of one region and the first of the next.
+const SPAN: u64 = 1 << 32;
+
+/// How many bytes a client may write in one call.
+const MOST_BYTES: usize = 65_536;
+
+impl AccessCore {
+    /// Changes a signal, and answers its old value for an exchange or a compare-and-swap, else 0.
+    /// It takes no memory.
+    pub fn change_signal(
+        &mut self,
+        client: ClientId,
+        signal: SignalHandle,
+        operation: SignalOp,
+    ) -> Result<i64, Refusal>
+        ensures { Meets (Event.ChangeSignal client signal operation) self.old self.new (changed result) }
+    {
+        let old = may_change(
+            &self.policy,
+            &self.granted,
+            &self.signals,
+            client,
+            signal,
+            operation,
+        )?;
+        if lacks_room(self.capacity, self.audit.len(), self.flight.len()) {
+            return Err(Refusal::AuditFull);
+        }
+        let new = change(&mut self.signals, signal, operation, old);
+        let event = Event::ChangeSignal {
+            client,
+            signal,
+            operation,
+        };
+        let answer = told(operation, old);
+        let effects = Effects::one(Effect::Signal { signal, old, new });
+        enter(&mut self.audit, event, Outcome::Changed(answer), effects);
+        Ok(answer)
+    }
+
+    /// Writes bytes to memory, from an address on: 1 to 65,536, all in one region that the client
+    /// may write.
+    pub fn host_write(
+        &mut self,
+        alloc: Global,
+        client: ClientId,
+        address: Address,
+        bytes: Sequence<u8>,
+    ) -> Result<(), Refusal>
+        ensures { MeetsOrLacks (Event.HostWrite client address bytes) self.old self.new (accepted result) }
+    {
+        may_write(
+            &self.policy,
+            &self.granted,
+            &self.memory,
+            client,
+            address,
+            &bytes,
+        )?;
+        if lacks_room(self.capacity, self.audit.len(), self.flight.len()) {
+            return Err(Refusal::AuditFull);
+        }
+        let written = bytes.copy(alloc)?;
+        lay(&mut self.memory, address, bytes.as_slice());
+        let event = Event::HostWrite {
+            client,
+            address,
+            bytes,
+        };
+        let effects = Effects::one(Effect::Write {
+            address,
+            bytes: written,
+        });
+        enter(&mut self.audit, event, Outcome::Accepted, effects);
+        Ok(())
+    }
+}
+
+// Whether a client may write these bytes from an address on.
+#[tactic(auto, unfolding(core_model::specs::Owed::owed))]
+fn may_write(
+    policy: &Policy,
+    granted: &Granted,
+    memory: &Regions,
+    client: ClientId,
+    address: Address,
+    bytes: &Sequence<u8>,
+) -> Result<(), Refusal>
+    ensures within { OnOk result (is_within (lengths_of memory.now) address.0 (length bytes.now) ≡ true) }
+    ensures may { OnOk result (WriteOwed policy.now granted.now memory.now client address bytes.now
+        (enters Outcome.Accepted (Effect.Write address bytes.now ∷ []))) }
+    ensures why { IfErr result (λ why.
+        WriteOwed policy.now granted.now memory.now client address bytes.now (refuses why)) }
+{
+    if !policy.declares_client(client) {
+        return Err(Refusal::UnknownClient);
+    }
+    if bytes.is_empty() || bytes.len() > MOST_BYTES {
+        return Err(Refusal::BadSize);
+    }
+    let region = Object::Region(RegionHandle((address.0 / SPAN) as u32));
+    if !lies_within(memory, address, bytes.len()) || !granted.has(client, region, Right::Write) {
+        return Err(Refusal::Denied(Right::Write));
+    }
+    Ok(())
+}
+
+// Whether a range of addresses lies whole in one region.
+fn lies_within(memory: &Regions, address: Address, size: usize) -> bool
+    ensures { result ≡ is_within (lengths_of memory.now) address.0 size }
+{
+    memory.read(address, size as u64).is_ok()
+}
+
+// Lays bytes over the memory, where they lie whole in one region.
+fn lay(memory: &mut Regions, address: Address, bytes: &[u8])
+    requires { is_within (lengths_of memory.old) address.0 (length bytes.now) ≡ true }
+    ensures bytes { IsWritten memory.old address.0 bytes.now memory.new }
+    ensures lengths { lengths_of memory.new ≡ lengths_of memory.old }
+{
+    let _ = memory.write(address, bytes);
+}
+
+// Whether a client may change a signal, and the signal's value.
+#[tactic(auto, unfolding(core_model::specs::Owed::owed))]
+fn may_change(
+    policy: &Policy,
+    granted: &Granted,
+    signals: &Signals,
+    client: ClientId,
+    signal: SignalHandle,
+    operation: SignalOp,
+) -> Result<i64, Refusal>
+    ensures value { IfOk result (λ old. value_of signals.now signal.0 ≡ Some old) }
+    ensures may { IfOk result (λ old. ChangeOwed policy.now granted.now signals.now client signal operation
+        (enters (Outcome.Changed (old_if_asked operation old))
+        (Effect.Signal signal old (applied operation old) ∷ []))) }
+    ensures why { IfErr result (λ why.
+        ChangeOwed policy.now granted.now signals.now client signal operation (refuses why)) }
+{
+    if !policy.declares_client(client) {
+        return Err(Refusal::UnknownClient);
+    }
+    if !granted.has(client, Object::Signal(signal), Right::Change) {
+        return Err(Refusal::Denied(Right::Change));
+    }
+    match signals.load(signal) {
+        Ok(old) => Ok(old),
+        Err(_) => Err(Refusal::Denied(Right::Change)),
+    }
+}
+
+// Changes a signal whose old value is known, and answers the new one.
+#[tactic(auto, unfolding(signals::specs::Values::after))]
+fn change(signals: &mut Signals, signal: SignalHandle, operation: SignalOp, old: i64) -> i64
+    requires { value_of signals.old signal.0 ≡ Some old }
+    ensures new { result ≡ applied operation old }
+    ensures values { signals.new ≡ slice_set signals.old (signal.0 - 1) (applied operation old) }
+{
+    let _ = signals.apply(signal, operation);
+    operation.applied(old)
+}
+
+// What is told of the old value.
+fn told(operation: SignalOp, old: i64) -> i64
+    ensures { result ≡ old_if_asked operation old }
+{
+    match operation {
+        SignalOp::Exchange(_) | SignalOp::Cas { .. } => old,
+        _ => 0,
+    }
+}
