@@ -19,3 +19,4 @@ pub mod RowLeft
 pub mod HeldKinds
 pub mod KeptHolder
 pub mod HolderKept
+pub mod Opened

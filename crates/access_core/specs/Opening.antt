@@ -1,6 +1,10 @@
--- What a policy says of regions and signals, as lists.
-use Rattle.std.specs.Prelude.{ℕ, ℤ, List, map}
+-- When a core is opened, and what a policy says of regions and signals, as lists.
+use Rattle.std.specs.Prelude.{ℕ, ℤ, ◌≡◌, ◌^◌, ◌&&◌, Bool, true, false, nat_le, List, map, Result, Ok, Err}
 use Rattle.policy.specs.Policy.{Declared}
+use Rattle.core_model.specs.History.{History}
+use Rattle.core_model.specs.Legal.{opened}
+use Rattle.access_core.specs.declared.access.OpenFault.{OpenFault}
+use Rattle.access_core.specs.declared.access.OpenFault.TheVariants as fault
 
 -- the lengths of the regions, in order
 abbrev pub lengths_of_rows : Declared → List ℕ
@@ -9,3 +13,14 @@ lengths_of_rows policy = map (λ row. row.1) policy.regions
 -- the values with which the signals begin, in order
 abbrev pub values_of_rows : Declared → List ℤ
 values_of_rows policy = map (λ row. row.1) policy.signals
+
+-- how many entries an audit may have place for: 1 to 2^20 (own)
+abbrev pub is_capacity : ℕ → Bool
+is_capacity capacity = nat_le 1 capacity && nat_le capacity (2 ^ 20)
+
+-- a core is opened just where its audit's capacity is one, unless memory is wanted (own)
+abbrev pub Opens : Declared → ℕ → Result History OpenFault → Type 0
+Opens policy capacity (Ok core) = (is_capacity capacity ≡ true) × (core ≡ opened policy capacity)
+Opens policy capacity (Err fault.OutOfMemory) = is_capacity capacity ≡ true
+Opens policy capacity (Err fault.BadRegions) = is_capacity capacity ≡ true
+Opens policy capacity (Err fault.BadCapacity) = is_capacity capacity ≡ false

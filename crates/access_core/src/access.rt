@@ -7,6 +7,7 @@ mod granting;
 mod host;
 mod listing;
 mod lookups;
+mod opening;
 mod queries;
 mod queueing;
 mod revoking;

@@ -148,12 +148,15 @@ abbrev pub after : History → Request → History
 after history (request.Event event) = history_after history event (due history event)
 after history (request.Query asked) = history
 
--- these replies answer these requests in turn, and lead from one history to the other: each is the one due, or tells that
--- memory was wanted, and then its request counts as not made (own)
+-- a request was served: it got the reply that is due and left what is due, or was told that memory was wanted, and then it counts as not made (own)
+abbrev pub IsServed : History → Request → Replying → History → Type 0
+IsServed old asked reply new =
+    ((reply ≡ reply_due old asked) × (new ≡ after old asked))
+    ⊎ ((request_may_lack old asked ≡ true) × (reply ≡ Err refusal.OutOfMemory) × (new ≡ old))
+
+-- these replies answer these requests in turn, and lead from one history to the other (own)
 abbrev pub AreReplies : History → List Request → List Replying → History → Type 0
 AreReplies old [] [] new = new ≡ old
-AreReplies old (asked ∷ requests) (reply ∷ replies) new =
-    ((reply ≡ reply_due old asked) × AreReplies (after old asked) requests replies new)
-    ⊎ ((request_may_lack old asked ≡ true) × (reply ≡ Err refusal.OutOfMemory) × AreReplies old requests replies new)
+AreReplies old (asked ∷ requests) (reply ∷ replies) new = (mid : History) × IsServed old asked reply mid × AreReplies mid requests replies new
 AreReplies old [] (reply ∷ replies) new = ⊥
 AreReplies old (asked ∷ requests) [] new = ⊥

@@ -1,8 +1,9 @@
 //! The changes of an entry, kept in place where they are few.
 
-ghost use Rattle.std.specs.Prelude.{◌≡◌, ◌∷◌, []};
+ghost use Rattle.std.specs.Prelude.{◌≡◌, ◌∷◌, [], IfOk};
 
 use crate::entry::Effect;
+use std::alloc::{AllocError, Global};
 use std::marker::Model;
 
 /// The changes that an event made, in order. Up to two take no memory, so that a completion, which
@@ -78,4 +79,29 @@ impl Effects {
             Kept::Many(many) => many.as_slice(),
         }
     }
+
+    /// The same changes once more, with bytes of their own.
+    pub fn copy(&self, alloc: Global) -> Result<Effects, AllocError>
+        ensures { IfOk result (λ copy. copy ≡ self.now) }
+    {
+        match &self.kept {
+            Kept::Few0 => Ok(Effects::none()),
+            Kept::Few1([only]) => Ok(Effects::one(only.copy(alloc)?)),
+            Kept::Few2([first, second]) => {
+                Ok(Effects::two(first.copy(alloc)?, second.copy(alloc)?))
+            }
+            Kept::Many(many) => Ok(Effects::many(copy_all(alloc, many.as_slice())?)),
+        }
+    }
+}
+
+// The same changes once more.
+fn copy_all(alloc: Global, effects: &[Effect]) -> Result<Vec<Effect>, AllocError>
+    ensures { IfOk result (λ copy. copy.items ≡ effects.now) }
+{
+    let mut copies = Vec::with_capacity(alloc, effects.len())?;
+    for effect in effects {
+        copies.push(effect.copy(alloc)?)?;
+    }
+    Ok(copies)
 }

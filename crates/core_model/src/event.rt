@@ -1,9 +1,12 @@
 //! The calls of the core as values.
 
+ghost use Rattle.std.specs.Prelude.{◌≡◌, IfOk};
+
 use aql_packet::{Address, AgentHandle, ClientId, PacketId, QueueId, SignalHandle};
 use policy::{Object, Rights};
 use sequences::Sequence;
 use signals::{Condition, SignalOp};
+use std::alloc::{AllocError, Global};
 
 /// A call that can change the core, with all that was handed to it. An audit entry keeps it.
 #[derive(Debug, Drop, PartialEq, Eq)]
@@ -63,6 +66,83 @@ pub enum Event {
         signal: SignalHandle,
         operation: SignalOp,
     },
+}
+
+impl Event {
+    /// The same event once more, with bytes of its own.
+    pub fn copy(&self, alloc: Global) -> Result<Event, AllocError>
+        ensures { IfOk result (λ copy. copy ≡ self.now) }
+    {
+        Ok(match self {
+            Event::Grant {
+                client,
+                object,
+                rights,
+            } => Event::Grant {
+                client: *client,
+                object: *object,
+                rights: *rights,
+            },
+            Event::Revoke {
+                client,
+                object,
+                rights,
+            } => Event::Revoke {
+                client: *client,
+                object: *object,
+                rights: *rights,
+            },
+            Event::OpenQueue {
+                client,
+                agent,
+                size,
+            } => Event::OpenQueue {
+                client: *client,
+                agent: *agent,
+                size: *size,
+            },
+            Event::Stop { queue } => Event::Stop { queue: *queue },
+            Event::Take {
+                queue,
+                packet,
+                bytes,
+            } => Event::Take {
+                queue: *queue,
+                packet: *packet,
+                bytes: *bytes,
+            },
+            Event::RunNext { queue, packet } => Event::RunNext {
+                queue: *queue,
+                packet: *packet,
+            },
+            Event::Poll { queue, packet } => Event::Poll {
+                queue: *queue,
+                packet: *packet,
+            },
+            Event::Finish { queue, packet } => Event::Finish {
+                queue: *queue,
+                packet: *packet,
+            },
+            Event::HostWrite {
+                client,
+                address,
+                bytes,
+            } => Event::HostWrite {
+                client: *client,
+                address: *address,
+                bytes: bytes.copy(alloc)?,
+            },
+            Event::ChangeSignal {
+                client,
+                signal,
+                operation,
+            } => Event::ChangeSignal {
+                client: *client,
+                signal: *signal,
+                operation: *operation,
+            },
+        })
+    }
 }
 
 /// A call that changes nothing.

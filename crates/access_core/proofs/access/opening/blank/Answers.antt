@@ -1,0 +1,11 @@
+-- A core in which nothing has happened is as opened.
+use Rattle.std.proofs.Common.{◌≡◌, refl}
+use Rattle.access_core.proofs.Opened.{IsKept-opened}
+use Rattle.access_core.proofs.access.opening.blank.Goals as goal
+
+pub invariant_of-result : goal.invariant_of-result
+invariant_of-result c =
+    IsKept-opened _ refl c.requires.memory c.requires.signals refl refl c.requires.empty c.requires.places c.requires.few
+
+pub returns : goal.returns
+returns c = rw c.requires.empty refl

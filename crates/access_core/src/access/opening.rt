@@ -1,0 +1,105 @@
+//! A core is opened.
+
+ghost use Rattle.std.specs.Prelude.{◌≡◌, ◌≤◌, ◌^◌, [], IfOk, length};
+ghost use Rattle.regions.specs.Memory.{zeros};
+ghost use Rattle.core_model.specs.Legal.{opened};
+ghost use Rattle.access_core.specs.Opening.{Opens, is_capacity, lengths_of_rows, values_of_rows};
+
+use crate::access::{AccessCore, OpenFault};
+use crate::granted::Granted;
+use aql_packet::{RegionHandle, SignalHandle};
+use core_model::Entry;
+use policy::{Kind, Policy};
+use regions::Regions;
+use sequences::{Reserved, Sequence};
+use signals::Signals;
+use std::alloc::{AllocError, Global};
+
+// How many entries an audit can have at the most.
+const MOST_ENTRIES: usize = 1 << 20;
+
+impl AccessCore {
+    /// Opens a core over a policy: no right is in force, memory is all zeros, each signal has its
+    /// initial value, no queue is open, and the audit is empty, with places for `capacity` entries.
+    /// Memory for all of them is got here.
+    pub fn open(alloc: Global, policy: Policy, capacity: usize) -> Result<AccessCore, OpenFault>
+        ensures { Opens policy capacity result }
+    {
+        if !is_capacity(capacity) {
+            return Err(OpenFault::BadCapacity);
+        }
+        let lengths = region_lengths(alloc, &policy)?;
+        if !Regions::accepts(lengths.as_slice()) {
+            return Err(OpenFault::BadRegions);
+        }
+        let memory = Regions::new(alloc, lengths.as_slice())?;
+        let values = signal_values(alloc, &policy)?;
+        let signals = Signals::new(alloc, values.as_slice())?;
+        let audit = Reserved::with_room(alloc, capacity)?;
+        Ok(blank(alloc, policy, memory, signals, capacity, audit))
+    }
+}
+
+// Whether an audit may have so many places: 1 to 2^20.
+fn is_capacity(capacity: usize) -> bool
+    ensures { result ≡ is_capacity capacity }
+{
+    1 <= capacity && capacity <= MOST_ENTRIES
+}
+
+// The lengths of a policy's regions, in order.
+fn region_lengths(alloc: Global, policy: &Policy) -> Result<Sequence<u32>, AllocError>
+    ensures { IfOk result (λ lengths. lengths ≡ lengths_of_rows policy.now) }
+{
+    let mut lengths = Sequence::new(alloc);
+    for before in 0..policy.object_count(Kind::Region) {
+        match policy.region_length(RegionHandle(before as u32 + 1)) {
+            Some(length) => lengths.push(length)?,
+            None => {}
+        }
+    }
+    Ok(lengths)
+}
+
+// The initial values of a policy's signals, in order.
+fn signal_values(alloc: Global, policy: &Policy) -> Result<Sequence<i64>, AllocError>
+    ensures { IfOk result (λ values. values ≡ values_of_rows policy.now) }
+{
+    let mut values = Sequence::new(alloc);
+    for before in 0..policy.object_count(Kind::Signal) {
+        match policy.signal_initial(SignalHandle(before as u64 + 1)) {
+            Some(value) => values.push(value)?,
+            None => {}
+        }
+    }
+    Ok(values)
+}
+
+// A core in which nothing has happened.
+#[tactic(none)]
+fn blank(
+    alloc: Global,
+    policy: Policy,
+    memory: Regions,
+    signals: Signals,
+    capacity: usize,
+    audit: Reserved<Entry>,
+) -> AccessCore
+    requires memory { memory ≡ zeros (lengths_of_rows policy) }
+    requires signals { signals ≡ values_of_rows policy }
+    requires few { capacity ≤ 2 ^ 20 }
+    requires empty { audit.items ≡ [] }
+    requires places { capacity ≤ audit.room }
+    ensures { result ≡ opened policy capacity }
+{
+    AccessCore {
+        policy,
+        granted: Granted::new(alloc),
+        memory,
+        signals,
+        queues: Vec::new(alloc),
+        flight: Sequence::new(alloc),
+        capacity,
+        audit,
+    }
+}
