@@ -9,7 +9,7 @@ use Rattle.policy.specs.declared.row.AllowRow.{AllowRow}
 use Rattle.policy.specs.declared.row.Takes.{Takes}
 use Rattle.policy.specs.Policy.{Declared, Name, Source, names}
 use Rattle.policy.specs.Reading.{◌>>=◌, FileGives, FileFails}
-use Rattle.policy.specs.Format.{file_head, regions_of, objects_of, declared_by, array_of, named_row, allow_row, client_keys, agent_keys, signal_keys, kernel_keys, nothing, takes, initial_value, kernel_source, IsFile, IsRefused, HasFault, in_file}
+use Rattle.policy.specs.Format.{file_head, regions_of, objects_of, declared_by, array_of, named_row, allow_row, client_keys, agent_keys, signal_keys, kernel_keys, nothing, takes, initial_value, kernel_source, IsFile, IsRefused, in_file}
 
 -- a fault of the file is the text's
 pub refused_in_file : (text : List ℕ) (file : Members) → length text ≤ 2 ^ 20 → IsFile text file → (r : Result Declared ReadPolicyError) → FileGives r (declared_by file) → IfErr r (IsRefused text)

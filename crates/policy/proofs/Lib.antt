@@ -3,3 +3,4 @@ pub mod RightsLemmas
 pub mod CoverLemmas
 pub mod ValueLemmas
 pub mod FileLemmas
+pub mod LimitLemmas

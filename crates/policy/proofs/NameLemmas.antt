@@ -1,5 +1,5 @@
 -- Names among rows: a table's look-ups are those of the definitions, and names and numbers invert each other.
-use Rattle.std.proofs.Common.{◌≡◌, ℕ, zero, suc, ◌+◌, ◌-◌, ◌<◌, ◌≤◌, Bool, true, false, cond, not, List, [], ◌∷◌, ◌++◌, map, length, get_or, position, nat_lt, Option, Some, None, option_map, slice_get, String, Global, string_bytes, refl, sym, ap, subst, ◌∙◌, arith, IsUtf8, true≢false, add-one, rules}
+use Rattle.std.proofs.Common.{◌≡◌, ℕ, zero, suc, ◌+◌, ◌-◌, ◌<◌, ◌≤◌, Bool, true, false, cond, not, List, [], ◌∷◌, ◌++◌, map, length, get_or, position, nat_lt, Option, Some, None, option_map, slice_get, String, Global, string_bytes, refl, sym, ap, subst, ◌∙◌, arith, IsUtf8, true≢false, add-one}
 use Rattle.std.specs.List.{position_or_len, IsDistinct, AllByRecursion}
 use Rattle.std.specs.Borrow.{Bor}
 use Rattle.std.specs.Map.{keys_of, lookup}

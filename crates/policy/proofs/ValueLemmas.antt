@@ -1,24 +1,19 @@
 -- The values of a policy file's keys, seen in the tree and in memory.
-use Rattle.std.proofs.Common.{◌≡◌, ℕ, ◌<◌, ◌≤◌, nat_le, length, Bool, true, false, cond, not, ◌&&◌, ◌||◌, List, [], ◌∷◌, map, codes, String, Global, string_bytes, Option, Some, None, option_map, Ok, Err, refl, sym, ap, ◌∙◌, arith}
+use Rattle.std.proofs.Common.{◌≡◌, ℕ, ◌<◌, ◌≤◌, nat_le, length, Bool, true, false, ◌||◌, List, [], ◌∷◌, map, codes, String, Global, string_bytes, Some, None, option_map, Ok, Err, refl, sym, ap, ◌∙◌, arith}
 use Rattle.std.specs.List.{list_any, list_all}
 use Rattle.std.specs.Map.{keys_of}
 use Rattle.std.proofs.lemmas.List.Folds.{list_all-map}
-use Rattle.toml.specs.Data.{Data, array, table, Items, no_items, item, as_array}
+use Rattle.toml.specs.Data.{Data, as_array}
 use Rattle.toml.specs.View.{view, items_of, items_view, members_view}
 use Rattle.toml.specs.declared.value.Value.{Value}
 use Rattle.policy.specs.declared.object.Kind.{Kind}
-use Rattle.policy.specs.declared.rights.Right.{Right}
 use Rattle.policy.specs.declared.rights.Rights.{Rights}
-use Rattle.policy.specs.declared.row.Takes.{Takes}
-use Rattle.policy.specs.RightNames.{name_of_right}
-use Rattle.std.specs.Str.{bytes_eq}
 use Rattle.policy.specs.declared.fault.Cause.TheVariants.{BadValue, TooMany}
 use Rattle.policy.specs.declared.fault.PolicyFault.{PolicyFault}
 use Rattle.policy.specs.declared.fault.Section.{Section}
 use Rattle.policy.specs.Reading.{fault_in}
 use Rattle.std.proofs.lemmas.Bool.Decides.{nat_tests}
 use Rattle.std.proofs.lemmas.List.{length-map}
-use Rattle.policy.specs.Names.{Name}
 use Rattle.policy.specs.Rights.{rights_that, among}
 use Rattle.policy.specs.Format.{keys_in, is_table, tables_in, elements, items_in, is_text, dispatches_in, names_right, rights_in}
 

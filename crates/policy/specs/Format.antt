@@ -1,15 +1,9 @@
 -- The policy file: its arrays, the keys of their rows, and the order in which faults are looked for.
-use Rattle.std.specs.Prelude.{ℕ, ◌+◌, ◌^◌, ◌≡◌, ◌<◌, ◌≤◌, ℤ, pos, negsuc, Bool, true, false, not, ◌&&◌, ◌||◌, ◌==◌, nat_lt, nat_le, codes, List, [], ◌∷◌, ◌++◌, map, length, sum_by, slice_index, Option, Some, None, option_map, option_and_then, Result, Ok, Err, if◌then◌else◌, IsUtf8}
+use Rattle.std.specs.Prelude.{ℕ, ◌+◌, ◌^◌, ◌≡◌, ◌<◌, ◌≤◌, ℤ, pos, negsuc, Bool, true, false, ◌&&◌, ◌||◌, ◌==◌, nat_lt, nat_le, codes, List, [], ◌∷◌, ◌++◌, length, sum_by, slice_index, Option, Some, None, option_map, option_and_then, Result, Ok, Err, if◌then◌else◌, IsUtf8}
 use Rattle.std.specs.List.{list_any, list_all}
-use Rattle.std.specs.Option.{option_map_or}
 use Rattle.std.specs.Str.{bytes_eq}
-use Rattle.toml.specs.Data.{Data, string, integer, array, table, Items, no_items, item, Members, no_members, member, get_member, as_str, as_integer, as_array, as_table}
+use Rattle.toml.specs.Data.{Data, string, integer, table, Items, no_items, item, Members, no_members, member, get_member, as_str, as_integer, as_array, as_table}
 use Rattle.toml.specs.Parse.{parse_document}
-use Rattle.aql_packet.specs.declared.ids.ClientId.{ClientId}
-use Rattle.aql_packet.specs.declared.ids.AgentHandle.{AgentHandle}
-use Rattle.aql_packet.specs.declared.ids.RegionHandle.{RegionHandle}
-use Rattle.aql_packet.specs.declared.ids.SignalHandle.{SignalHandle}
-use Rattle.aql_packet.specs.declared.ids.KernelObject.{KernelObject}
 use Rattle.policy.specs.declared.fault.Cause.{Cause}
 use Rattle.policy.specs.declared.fault.Cause.TheVariants.{NotToml, MissingKey, BadValue, UnknownName, DoubleName, TooMany}
 use Rattle.policy.specs.declared.fault.PolicyFault.{PolicyFault}
@@ -19,8 +13,6 @@ use Rattle.policy.specs.declared.fault.ReadPolicyError.TheVariants as error
 use Rattle.policy.specs.declared.fault.Section.TheVariants as section
 use Rattle.policy.specs.declared.object.Kind.{Kind}
 use Rattle.policy.specs.declared.object.Kind.TheVariants as kind
-use Rattle.policy.specs.declared.object.Object.{Object}
-use Rattle.policy.specs.declared.object.Object.TheVariants as object
 use Rattle.policy.specs.declared.rights.Right.{Right}
 use Rattle.policy.specs.declared.rights.Right.TheVariants.{Use, Read, Write, Wait, Change, Launch}
 use Rattle.policy.specs.declared.rights.Rights.{Rights}
@@ -32,7 +24,6 @@ use Rattle.policy.specs.declared.row.AllowRow.{AllowRow}
 use Rattle.policy.specs.declared.row.Takes.{Takes}
 use Rattle.policy.specs.RightNames.{name_of_right}
 use Rattle.policy.specs.SectionNames.{name_of_section}
-use Rattle.policy.specs.KindNames.{name_of_kind}
 use Rattle.policy.specs.Object.{same_kind, object_of}
 use Rattle.policy.specs.Rights.{all_rights, rights_that}
 use Rattle.policy.specs.Policy.{Name, Source, Declared, names, names_of, number_in}

@@ -9,5 +9,7 @@ pub mod Table
 pub mod Kernel
 pub mod Policy
 pub mod Reading
+pub mod Limits
+pub mod Inside
 pub mod Format
 pub mod Choice

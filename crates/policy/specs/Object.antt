@@ -2,10 +2,6 @@
 use Rattle.std.specs.Prelude.{ℕ, Bool, true, false, ◌&&◌, ◌==◌}
 use Rattle.policy.specs.declared.object.Kind.{Kind}
 use Rattle.policy.specs.declared.object.Kind.TheVariants as kind
-use Rattle.aql_packet.specs.declared.ids.AgentHandle.{AgentHandle}
-use Rattle.aql_packet.specs.declared.ids.RegionHandle.{RegionHandle}
-use Rattle.aql_packet.specs.declared.ids.SignalHandle.{SignalHandle}
-use Rattle.aql_packet.specs.declared.ids.KernelObject.{KernelObject}
 use Rattle.policy.specs.declared.object.Object.{Object}
 use Rattle.policy.specs.declared.object.Object.TheVariants.{Agent, Region, Signal, Kernel}
 

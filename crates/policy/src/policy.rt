@@ -3,6 +3,7 @@
 ghost use Rattle.std.specs.Prelude.{◌≡◌, ◌<◌, ◌≤◌, [], length, Some, IfSome};
 ghost use Rattle.std.specs.Option.{option_copied};
 ghost use Rattle.policy.specs.Object.{kind_of, number_of};
+ghost use Rattle.policy.specs.Limits.{IsWithinLimits};
 ghost use Rattle.policy.specs.Policy.{names, numbered, number_in, names_of, name_in, count_of, takes_of, length_of, initial_of, source_of, declares_client, declares, allows};
 
 use crate::coverage::rows_allow;
@@ -29,18 +30,16 @@ pub struct Policy {
 }
 
 impl Model for Policy {
-    ghost use Rattle.policy.specs.Policy.{Declared, names};
+    ghost use Rattle.policy.specs.Policy.{Declared};
 
     ghost Value = { Declared };
 
-    ghost view = { λ policy. record {
-      clients = names policy.clients;
-      agents = policy.agents;
-      regions = policy.regions;
-      signals = policy.signals;
-      kernels = policy.kernels;
-      allows = policy.allows;
-    } };
+    ghost use Rattle.policy.specs.Inside.{declared_in};
+    ghost use Rattle.policy.specs.Limits.{IsWithinLimits};
+
+    ghost view = { declared_in };
+
+    ghost invariant = { λ policy. IsWithinLimits (declared_in policy) };
 }
 
 impl Policy {
@@ -53,6 +52,14 @@ impl Policy {
         signals: Table<i64>,
         kernels: Table<KernelSource>,
     ) -> Policy
+        requires { IsWithinLimits (record {
+          clients = names clients;
+          agents = agents;
+          regions = regions;
+          signals = signals;
+          kernels = kernels;
+          allows = [];
+        }) }
         ensures { result ≡ record {
           clients = names clients;
           agents = agents;
@@ -74,6 +81,7 @@ impl Policy {
 
     // Puts allow rows in the place of those before.
     pub(crate) fn set_allow_rows(&mut self, allows: Sequence<AllowRow>)
+        requires { length allows ≤ 4096 }
         ensures { self.new ≡ record self.old { allows = allows } }
     {
         self.allows = allows;
@@ -83,6 +91,7 @@ impl Policy {
     pub fn client_count(&self) -> usize
         ensures count { result ≡ length self.now.clients }
         ensures bound { result ≤ 1024 }
+        ensures limits { IsWithinLimits self.now }
     {
         self.clients.len()
     }
@@ -91,6 +100,7 @@ impl Policy {
     pub fn object_count(&self, kind: Kind) -> usize
         ensures count { result ≡ count_of self.now kind }
         ensures bound { result ≤ 1024 }
+        ensures limits { IsWithinLimits self.now }
     {
         match kind {
             Kind::Agent => self.agents.len(),

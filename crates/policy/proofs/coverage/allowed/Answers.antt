@@ -1,5 +1,4 @@
-use Rattle.std.proofs.Common.{◌≡◌, Bool, true, false, sym, ap, ◌∙◌, refl, arith}
-use Rattle.policy.specs.Rights.{has}
+use Rattle.std.proofs.Common.{sym, ap, ◌∙◌, arith}
 use Rattle.policy.proofs.CoverLemmas.{covered_more, covered_same}
 use Rattle.policy.proofs.coverage.allowed.Goals as goal
 use Rattle.policy.proofs.coverage.allowed.Goals.{then-covers, else-covers}

@@ -1,4 +1,4 @@
-use Rattle.std.proofs.Common.{◌≡◌, ◌≤◌, drop, map, length, []}
+use Rattle.std.proofs.Common.{◌≡◌, drop, map, length, []}
 use Rattle.toml.specs.View.{view}
 use Rattle.policy.specs.Format.{read_each, named_row}
 use Rattle.policy.proofs.read.arrays.named_array.Given as goal

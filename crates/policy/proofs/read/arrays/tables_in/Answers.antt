@@ -1,4 +1,4 @@
-use Rattle.std.proofs.Common.{◌∙◌, sym, arith}
+use Rattle.std.proofs.Common.{◌∙◌, sym}
 use Rattle.policy.proofs.ValueLemmas.{no_tables, too_many, all_tables}
 use Rattle.policy.proofs.read.arrays.tables_in.Goals as goal
 

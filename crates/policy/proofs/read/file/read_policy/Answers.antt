@@ -1,4 +1,4 @@
-use Rattle.std.proofs.Common.{◌≡◌, ◌∙◌, sym, arith, subst, ap, Some}
+use Rattle.std.proofs.Common.{◌≡◌, arith, subst, Some}
 use Rattle.toml.specs.Parse.{parse_document}
 use Rattle.toml.specs.View.{table_view}
 use Rattle.policy.proofs.FileLemmas.{refused_in_file}

@@ -1,5 +1,5 @@
 use Rattle.std.proofs.Common.{◌∙◌, ap, Some, map}
-use Rattle.toml.specs.View.{view, items_view}
+use Rattle.toml.specs.View.{view}
 use Rattle.policy.proofs.ValueLemmas.{items_seen}
 use Rattle.policy.proofs.read.values.items_in.Goals as goal
 

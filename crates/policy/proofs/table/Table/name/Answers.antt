@@ -1,4 +1,4 @@
-use Rattle.std.proofs.Common.{◌≡◌, ◌∙◌, ap, Some, None, string_bytes}
+use Rattle.std.proofs.Common.{◌∙◌, ap, Some, None, string_bytes}
 use Rattle.policy.proofs.NameLemmas.{name_at, number_back}
 use Rattle.policy.proofs.table.Table.name.Goals as goal
 

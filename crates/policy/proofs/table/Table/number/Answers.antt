@@ -1,6 +1,4 @@
-use Rattle.std.proofs.Common.{◌≡◌, ◌∙◌, sym, subst, ap, ◌<◌, Some}
-use Rattle.std.specs.Option.{option_map_or}
-use Rattle.policy.specs.Names.{names, numbered, number_in}
+use Rattle.policy.specs.Names.{names}
 use Rattle.policy.proofs.NameLemmas.{numbered_place}
 use Rattle.policy.proofs.table.Table.number.Goals as goal
 

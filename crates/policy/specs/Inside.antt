@@ -1,0 +1,14 @@
+-- What a contract sees of a policy's tables.
+use Rattle.policy.specs.declared.policy.Policy.TheInside.{Inside}
+use Rattle.policy.specs.Policy.{Declared, names}
+
+-- the tables as plain lists
+abbrev pub declared_in : Inside → Declared
+declared_in policy = record {
+  clients = names policy.clients;
+  agents = policy.agents;
+  regions = policy.regions;
+  signals = policy.signals;
+  kernels = policy.kernels;
+  allows = policy.allows;
+}
