@@ -7,8 +7,15 @@ use Rattle.policy.specs.Policy.{Name, numbered, row_of}
 use Rattle.policy.proofs.NameLemmas.{numbered-next}
 use Rattle.regions.specs.Memory.{byte_at, lengths_of, lies_in_region, zeros}
 use Rattle.regions.proofs.Laws.{lengths_of-zeros, byte_at-zeros}
+use Rattle.aql_packet.specs.declared.ids.ClientId.{ClientId}
+use Rattle.policy.specs.declared.object.Object.{Object}
+use Rattle.policy.specs.declared.rights.Right.{Right}
+use Rattle.core_model.specs.declared.entry.Entry.{Entry}
+use Rattle.core_model.specs.declared.flight.InFlight.{InFlight}
+use Rattle.core_model.specs.History.{Start}
+use Rattle.core_model.specs.Legal.{IsLegal}
 use Rattle.core_model.specs.Grants.{in_force}
-use Rattle.core_model.specs.Memory.{memory_at, signals, region_lengths}
+use Rattle.core_model.specs.Memory.{initial_values, memory_at, signals, region_lengths}
 use Rattle.core_model.specs.Queues.{openings, next_id, errors, is_stopped}
 use Rattle.core_model.specs.Flight.{flight}
 use Rattle.queue_error.specs.declared.error.QueueError.{QueueError}
@@ -16,6 +23,7 @@ use Rattle.access_core.specs.declared.queue.Queue.{Queue}
 use Rattle.access_core.specs.declared.access.AccessCore.TheInside.{Inside}
 use Rattle.access_core.specs.Granted.{has_granted}
 use Rattle.access_core.specs.Kept.{IsKept, start_of, kept_opening, kept_next, kept_errors, kept_stopped}
+use Rattle.access_core.specs.Reachable.{is_reachable}
 use Rattle.access_core.specs.Opening.{lengths_of_rows, values_of_rows}
 
 -- no queue has a number where there is none
@@ -26,27 +34,110 @@ numbered-none n = either (nat_lt 0 n)
     either true = refl
     either false = refl
 
+-- what the empty audit says, question by question
+module _ (start : Start) where
+  no_right : (client : ClientId) (on : Object) (right : Right) → has_granted [] client on right ≡ in_force start [] client on right
+  unfolding in_force
+  no_right client on right = refl
+
+  no_write : (x : ℕ) → memory_at start [] x ≡ 0
+  unfolding memory_at
+  no_write x = refl
+
+  no_change : initial_values start ≡ signals start []
+  unfolding signals
+  no_change = refl
+
+  no_opening : [] ≡ openings start []
+  unfolding openings
+  no_opening = refl
+
+  no_packet : (queue : QueueId) → next_id start [] queue ≡ 0
+  unfolding next_id
+  no_packet queue = refl
+
+  no_error : (queue : QueueId) → errors start [] queue ≡ []
+  unfolding errors
+  no_error queue = refl
+
+  no_stop : (queue : QueueId) → is_stopped start [] queue ≡ false
+  unfolding is_stopped
+  no_stop queue = refl
+
+  no_flight : [] ≡ flight start []
+  unfolding flight
+  no_flight = refl
+
 -- what is kept where nothing has happened is what the empty audit says
-pub IsKept-opened : (a : Inside) → a.granted ≡ [] → a.memory ≡ zeros (lengths_of_rows a.policy) → a.signals ≡ values_of_rows a.policy
-    → a.queues.items ≡ [] → a.flight ≡ [] → a.audit.items ≡ [] → a.capacity ≤ a.audit.room → a.capacity ≤ 2 ^ 20 → IsKept a
-unfolding in_force memory_at signals openings next_id errors is_stopped flight
-IsKept-opened a granted memory values queues flying entries places few = record {
-  granted = λ client on right. rw (granted, entries) refl;
-  lengths = rw memory (lengths_of-zeros (lengths_of_rows a.policy));
-  memory = λ x lies. rw (memory, entries) (byte_at-zeros (lengths_of_rows a.policy) x lies);
-  values = rw entries values;
-  openings = rw (queues, entries) refl;
-  next_ids = λ queue. rw (queues, entries, numbered-none queue.0) refl;
-  errors = λ queue. rw (queues, entries, numbered-none queue.0) refl;
-  stops = λ queue. rw (queues, entries, numbered-none queue.0) refl;
-  few_queues = rw queues (omega arith);
-  flight = rw entries flying;
-  reachable = rw flying (All-nil _);
-  room = rw (flying, entries) (omega arith);
-  places = rw entries places;
-  few = few;
-  legal = rw entries tt;
-}
+module _ (a : Inside) (granted : a.granted ≡ []) (memory : a.memory ≡ zeros (lengths_of_rows a.policy)) (values : a.signals ≡ values_of_rows a.policy)
+    (queues : a.queues.items ≡ []) (flying : a.flight ≡ []) (entries : a.audit.items ≡ []) where
+  granted-opened : (client : ClientId) (on : Object) (right : Right) → has_granted a.granted client on right ≡ in_force (start_of a) a.audit.items client on right
+  granted-opened client on right =
+      ap (λ g. has_granted g client on right) granted ∙ no_right (start_of a) client on right
+      ∙ sym (ap (λ (es : List Entry). in_force (start_of a) es client on right) entries)
+
+  lengths-opened : lengths_of a.memory ≡ region_lengths (start_of a)
+  lengths-opened = ap lengths_of memory ∙ lengths_of-zeros (lengths_of_rows a.policy)
+
+  memory-opened : (x : ℕ) → lies_in_region (region_lengths (start_of a)) x ≡ true → byte_at a.memory x ≡ Some (memory_at (start_of a) a.audit.items x)
+  memory-opened x lies =
+      ap (λ (m : List (List ℕ)). byte_at m x) memory ∙ byte_at-zeros (lengths_of_rows a.policy) x lies
+      ∙ sym (ap Some (ap (λ (es : List Entry). memory_at (start_of a) es x) entries ∙ no_write (start_of a) x))
+
+  values-opened : a.signals ≡ signals (start_of a) a.audit.items
+  values-opened = values ∙ no_change (start_of a) ∙ sym (ap (signals (start_of a)) entries)
+
+  openings-opened : map kept_opening a.queues.items ≡ openings (start_of a) a.audit.items
+  openings-opened = ap (map kept_opening) queues ∙ no_opening (start_of a) ∙ sym (ap (openings (start_of a)) entries)
+
+  no_queue : (queue : QueueId) → numbered a.queues.items queue.0 ≡ None
+  no_queue queue = ap (λ (qs : List Queue). numbered qs queue.0) queues ∙ numbered-none queue.0
+
+  next_ids-opened : (queue : QueueId) → next_id (start_of a) a.audit.items queue ≡ kept_next (numbered a.queues.items queue.0)
+  next_ids-opened queue = ap (λ (es : List Entry). next_id (start_of a) es queue) entries ∙ no_packet (start_of a) queue ∙ sym (ap kept_next (no_queue queue))
+
+  errors-opened : (queue : QueueId) → errors (start_of a) a.audit.items queue ≡ kept_errors (numbered a.queues.items queue.0)
+  errors-opened queue = ap (λ (es : List Entry). errors (start_of a) es queue) entries ∙ no_error (start_of a) queue ∙ sym (ap kept_errors (no_queue queue))
+
+  stops-opened : (queue : QueueId) → is_stopped (start_of a) a.audit.items queue ≡ kept_stopped (numbered a.queues.items queue.0)
+  stops-opened queue = ap (λ (es : List Entry). is_stopped (start_of a) es queue) entries ∙ no_stop (start_of a) queue ∙ sym (ap kept_stopped (no_queue queue))
+
+  flight-opened : a.flight ≡ flight (start_of a) a.audit.items
+  flight-opened = flying ∙ no_flight (start_of a) ∙ sym (ap (flight (start_of a)) entries)
+
+  reachable-opened : All (λ (f : InFlight). is_reachable (region_lengths (start_of a)) f.packet ≡ true) a.flight
+  reachable-opened = subst (All (λ (f : InFlight). is_reachable (region_lengths (start_of a)) f.packet ≡ true)) (sym flying) (All-nil _)
+
+  none_queues : length a.queues.items ≡ 0
+  none_queues = ap length queues
+
+  none_flying : length a.flight ≡ 0
+  none_flying = ap length flying
+
+  none_entries : length a.audit.items ≡ 0
+  none_entries = ap length entries
+
+  legal-opened : IsLegal (start_of a) a.audit.items
+  legal-opened = subst (IsLegal (start_of a)) (sym entries) tt
+
+  pub IsKept-opened : a.capacity ≤ a.audit.room → a.capacity ≤ 2 ^ 20 → IsKept a
+  IsKept-opened places few = record {
+    granted = granted-opened;
+    lengths = lengths-opened;
+    memory = memory-opened;
+    values = values-opened;
+    openings = openings-opened;
+    next_ids = next_ids-opened;
+    errors = errors-opened;
+    stops = stops-opened;
+    few_queues = omega (arith, none_queues);
+    flight = flight-opened;
+    reachable = reachable-opened;
+    room = omega (arith, none_flying, none_entries);
+    places = omega (arith, none_entries, places);
+    few = few;
+    legal = legal-opened;
+  }
 
 -- what the next row holds follows what the rows before hold
 next-at : {X : Type 0} (rows : List (Name × X)) (i : ℕ) (x : X) → option_map (λ (row : Name × X). row.1) (slice_get rows i) ≡ Some x

@@ -22,5 +22,4 @@ is_capacity capacity = nat_le 1 capacity && nat_le capacity (2 ^ 20)
 abbrev pub Opens : Declared → ℕ → Result History OpenFault → Type 0
 Opens policy capacity (Ok core) = (is_capacity capacity ≡ true) × (core ≡ opened policy capacity)
 Opens policy capacity (Err fault.OutOfMemory) = is_capacity capacity ≡ true
-Opens policy capacity (Err fault.BadRegions) = is_capacity capacity ≡ true
 Opens policy capacity (Err fault.BadCapacity) = is_capacity capacity ≡ false

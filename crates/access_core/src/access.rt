@@ -30,8 +30,6 @@ use std::marker::Model;
 pub enum OpenFault {
     /// Memory was wanted and not to be had.
     OutOfMemory,
-    /// The policy's regions are more, or longer, than memory has place for.
-    BadRegions,
     /// The audit's capacity isn't 1 to 2^20 entries.
     BadCapacity,
 }

@@ -23,11 +23,19 @@ fn write_counts<W: io::Write>(policy: &Policy, out: &mut W) -> io::Result<()> {
     out.flush()
 }
 
-// Done where what was to be told was written, and failed where it wasn't.
-fn told(written: io::Result<()>, status: Status) -> Status {
+/// The status where what was to be told was written, and failed where it wasn't.
+pub(crate) fn told(written: io::Result<()>, status: Status) -> Status {
     match written {
         Ok(()) => status,
         Err(_) => Status::Failed,
+    }
+}
+
+// Names on `err` why a policy was refused.
+pub(crate) fn refuse<E: io::Write>(why: ReadPolicyError, err: &mut E) -> Status {
+    match why {
+        ReadPolicyError::Fault(fault) => told(writeln!(err, "policy: {fault}"), Status::Refused),
+        ReadPolicyError::OutOfMemory => told(writeln!(err, "no memory"), Status::Failed),
     }
 }
 
@@ -41,9 +49,6 @@ pub fn check_policy<O: io::Write, E: io::Write>(
 ) -> Status {
     match read_policy(alloc, text) {
         Ok(policy) => told(write_counts(&policy, out), Status::Done),
-        Err(ReadPolicyError::Fault(fault)) => {
-            told(writeln!(err, "policy: {fault}"), Status::Refused)
-        }
-        Err(ReadPolicyError::OutOfMemory) => told(writeln!(err, "no memory"), Status::Failed),
+        Err(why) => refuse(why, err),
     }
 }

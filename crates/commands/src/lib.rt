@@ -4,7 +4,12 @@
 #![tactic(auto)]
 
 mod check;
+mod run;
 mod status;
 
+#[cfg(test)]
+mod tests;
+
 pub use check::check_policy;
+pub use run::run_policy;
 pub use status::Status;

@@ -1,2 +1,4 @@
 pub mod Rings
 pub mod Serving
+pub mod Opening
+pub mod Steps

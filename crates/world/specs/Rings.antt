@@ -1,5 +1,5 @@
 -- A queue's ring, as the list of what was published in it.
-use Rattle.std.specs.Prelude.{ℕ, ◌≡◌, ◌+◌, ◌⊎◌, ◌==◌, ◌&&◌, Bool, true, false, not, nat_le, List, [], ◌∷◌, ◌++◌, length, slice_get, Option, Some, None, Result, Ok, Err, if◌then◌else◌}
+use Rattle.std.specs.Prelude.{ℕ, ◌≡◌, ◌+◌, ◌-◌, ◌⊎◌, ◌==◌, ◌&&◌, Bool, true, false, not, nat_le, List, [], ◌∷◌, ◌++◌, length, slice_get, Option, Some, None, Result, Ok, Err, if◌then◌else◌}
 use Rattle.aql_packet.specs.declared.ids.PacketId.{PacketId}
 use Rattle.aql_packet.specs.Reading.{packet_type}
 use Rattle.core_model.specs.declared.refusal.Refusal.TheVariants as refusal
@@ -17,7 +17,7 @@ is_producer ring producer = nat_le 1 producer && nat_le producer ring.producers
 
 -- all slots are taken: as many packets as there are slots weren't retired (PSA, User Mode Queuing)
 abbrev pub is_full : Ring → Bool
-is_full ring = nat_le (ring.size + ring.read) (length ring.published)
+is_full ring = nat_le ring.size (length ring.published - ring.read)
 
 -- the id of the next packet
 abbrev pub next_ticket : Ring → PacketId

@@ -34,6 +34,10 @@ pub record Ringed : Type 0 where
 abbrev pub ring_of : List Ring → QueueId → Option Ring
 ring_of rings queue = numbered rings queue.0
 
+-- a queue has a ring
+abbrev pub HasRing : List Ring → QueueId → Type 0
+HasRing rings queue = (ring : Ring) × (ring_of rings queue ≡ Some ring)
+
 -- the rings with another in the place of a queue's
 abbrev pub with_ring : List Ring → QueueId → Ring → List Ring
 with_ring rings queue ring = slice_set rings (queue.0 - 1) ring

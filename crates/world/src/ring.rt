@@ -1,10 +1,11 @@
 //! A queue's ring, as the list of what was published in it.
 
-ghost use Rattle.std.specs.Prelude.{◌≡◌};
+ghost use Rattle.std.specs.Prelude.{◌≡◌, ◌<◌, length};
+ghost use Rattle.aql_packet.specs.Reading.{packet_type};
 ghost use Rattle.std.specs.Option.{option_copied};
 ghost use Rattle.world.specs.Rings.{empty_ring, is_producer, is_full, retired, shown, Submitted};
 
-use aql_packet::PacketId;
+use aql_packet::{PacketId, header_of};
 use core_model::Refusal;
 use script::Told;
 use sequences::Sequence;
@@ -57,7 +58,7 @@ impl Ring {
             return Told::NotAStep;
         }
         let ticket = PacketId(self.published.len() as u64);
-        if bytes[0] == INVALID {
+        if type_of(&bytes) == INVALID {
             return Told::NotPublishable(ticket);
         }
         if self.is_full() {
@@ -74,10 +75,12 @@ impl Ring {
 
     /// The packet at the read index leaves its slot.
     pub fn retire(&mut self)
-        requires { self.old.read < 2 ^ 63 }
+        requires { self.old.read < length self.old.published }
         ensures { self.new ≡ retired self.old }
     {
-        self.read += 1;
+        if self.read < self.published.len() as u64 {
+            self.read += 1;
+        }
     }
 
     // Whether a number is a producer's.
@@ -91,6 +94,13 @@ impl Ring {
     fn is_full(&self) -> bool
         ensures { result ≡ is_full self.now }
     {
-        self.size + self.read <= self.published.len() as u64
+        self.size <= (self.published.len() as u64).saturating_sub(self.read)
     }
+}
+
+// The type of a packet.
+fn type_of(bytes: &[u8; 64]) -> u8
+    ensures { result ≡ packet_type bytes.now }
+{
+    header_of(u64::from(bytes[0]) + 256 * u64::from(bytes[1])).kind
 }

@@ -1,13 +1,12 @@
 //! The core with its rings.
 
-ghost use Rattle.std.specs.Prelude.{◌≡◌, ◌++◌, ◌∷◌, [], IfOk, IfErr};
-ghost use Rattle.policy.specs.Policy.{numbered};
+ghost use Rattle.std.specs.Prelude.{◌≡◌, [], IfOk, option_map};
+ghost use Rattle.std.specs.Option.{option_copied};
 ghost use Rattle.core_model.specs.declared.event.Event.TheVariants as event;
-ghost use Rattle.core_model.specs.Legal.{opened};
 ghost use Rattle.access_core.specs.Opening.{Opens as CoreOpens};
-ghost use Rattle.world.specs.Rings.{empty_ring};
-ghost use Rattle.world.specs.Serving.{Asks, HandsOver, LooksAt, Opens, Submits, Serves, are_producers, asked_size, opening_asked, ring_of, told_opened, told_taken};
-ghost use Rattle.world.specs.Opening.{core_opened, IsFresh};
+ghost use Rattle.world.specs.Serving.{Asks, asked_size, HasRing, LooksAt, opening_asked, Opens, ring_of, Submits};
+ghost use Rattle.world.specs.Opening.{core_opened};
+ghost use Rattle.world.specs.Steps.{IsNext, next_of, RingFollows, RingSubmits, ShowsPacket};
 
 use crate::ring::Ring;
 use access_core::{AccessCore, OpenFault};
@@ -87,31 +86,40 @@ impl World {
     fn submit(&mut self, queue: QueueId, producer: u64, bytes: [u8; 64]) -> Told
         ensures { Submits (ring_of self.old.rings queue) queue producer bytes self.old result self.new }
     {
-        if !is_open(&self.rings, queue) {
-            return Told::Core(Err(Refusal::UnknownQueue));
+        match ring_at(&self.rings, queue) {
+            None => Told::Core(Err(Refusal::UnknownQueue)),
+            Some(_) => submit_to(&mut self.rings, queue, producer, bytes),
         }
-        let ring = &mut self.rings[queue.0 as usize - 1];
-        ring.submit(producer, bytes)
     }
 
     // Has the packet processor hand over the next packet of a queue, if there is one.
     fn look_at(&mut self, alloc: Global, queue: QueueId) -> Told
         ensures { LooksAt (ring_of self.old.rings queue) queue self.old result self.new }
     {
-        if !is_open(&self.rings, queue) {
-            return Told::Core(Err(Refusal::UnknownQueue));
+        match next_packet(&self.rings, queue) {
+            None => Told::Core(Err(Refusal::UnknownQueue)),
+            Some(None) => Told::Empty,
+            Some(Some((packet, bytes))) => self.hand_over(alloc, queue, packet, bytes),
         }
-        let ring = &self.rings[queue.0 as usize - 1];
-        let packet = PacketId(ring.read);
-        match ring.shown().copied() {
-            None => Told::Empty,
-            Some(bytes) => match self.core.take(alloc, queue, packet, &bytes) {
-                Ok(taken) => {
-                    retire_taken(&mut self.rings, queue, taken);
-                    Told::Taken { packet, taken }
-                }
-                Err(why) => Told::Core(Err(why)),
-            },
+    }
+
+    // Has the packet processor hand over the packet at a queue's read index.
+    fn hand_over(
+        &mut self,
+        alloc: Global,
+        queue: QueueId,
+        packet: PacketId,
+        bytes: [u8; 64],
+    ) -> Told
+        requires { IsNext self.old.rings queue packet bytes }
+        ensures { LooksAt (ring_of self.old.rings queue) queue self.old result self.new }
+    {
+        match self.core.take(alloc, queue, packet, &bytes) {
+            Ok(taken) => {
+                retire_taken(&mut self.rings, queue, taken);
+                Told::Taken { packet, taken }
+            }
+            Err(why) => Told::Core(Err(why)),
         }
     }
 }
@@ -175,23 +183,48 @@ fn asked_size(size: u64, producers: u64) -> u64
     }
 }
 
-// Whether a queue has a ring.
-fn is_open(rings: &Vec<Ring>, queue: QueueId) -> bool
-    ensures open { IsTrue result → IsSomeAt rings.now.items queue }
-    ensures closed { result ≡ false → ring_of rings.now.items queue ≡ None }
+// A queue's ring, if it was opened.
+fn ring_at(rings: &Vec<Ring>, queue: QueueId) -> Option<&Ring>
+    ensures { option_copied result ≡ ring_of rings.now.items queue }
 {
-    1 <= queue.0 && queue.0 <= rings.len() as u64
+    if queue.0 == 0 {
+        return None;
+    }
+    rings.get(queue.0 as usize - 1)
+}
+
+// The packet at the read index of a queue's ring with its id, if there is a ring and a packet.
+fn next_packet(rings: &Vec<Ring>, queue: QueueId) -> Option<Option<(PacketId, [u8; 64])>>
+    ensures { result ≡ option_map next_of (ring_of rings.now.items queue) }
+{
+    match ring_at(rings, queue) {
+        None => None,
+        Some(ring) => match ring.shown() {
+            None => Some(None),
+            Some(bytes) => Some(Some((PacketId(ring.read), *bytes))),
+        },
+    }
+}
+
+// Has a producer hand in a packet to a queue's ring.
+fn submit_to(rings: &mut Vec<Ring>, queue: QueueId, producer: u64, bytes: [u8; 64]) -> Told
+    requires { HasRing rings.old.items queue }
+    ensures { RingSubmits (ring_of rings.old.items queue) queue producer bytes rings.old.items result rings.new.items }
+{
+    let place = queue.0 as usize - 1;
+    let ring = &mut rings[place];
+    ring.submit(producer, bytes)
 }
 
 // Retires the packet at the read index of a queue's ring, unless it waits.
 fn retire_taken(rings: &mut Vec<Ring>, queue: QueueId, taken: Taken)
-    requires { IsSomeAt rings.old.items queue }
-    ensures { (ring : Ring) → ring_of rings.old.items queue ≡ Some ring →
-        rings.new.items ≡ with_ring rings.old.items queue (ring_after ring (Ok taken)) }
+    requires { ShowsPacket rings.old.items queue }
+    ensures { RingFollows (ring_of rings.old.items queue) queue taken rings.old.items rings.new.items }
 {
     match taken {
         Taken::Launched | Taken::Denied(_) => {
-            let ring = &mut rings[queue.0 as usize - 1];
+            let place = queue.0 as usize - 1;
+            let ring = &mut rings[place];
             ring.retire();
         }
         Taken::Waiting(_) => {}

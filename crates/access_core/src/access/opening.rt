@@ -1,9 +1,9 @@
 //! A core is opened.
 
-ghost use Rattle.std.specs.Prelude.{◌≡◌, ◌≤◌, ◌^◌, [], IfOk, length};
-ghost use Rattle.regions.specs.Memory.{zeros};
+ghost use Rattle.std.specs.Prelude.{◌≡◌, ◌≤◌, ◌^◌, [], IfOk, IsTrue};
+ghost use Rattle.regions.specs.Memory.{are_region_lengths, zeros};
 ghost use Rattle.core_model.specs.Legal.{opened};
-ghost use Rattle.access_core.specs.Opening.{Opens, is_capacity, lengths_of_rows, values_of_rows};
+ghost use Rattle.access_core.specs.Opening.{is_capacity, lengths_of_rows, Opens, values_of_rows};
 
 use crate::access::{AccessCore, OpenFault};
 use crate::granted::Granted;
@@ -29,9 +29,6 @@ impl AccessCore {
             return Err(OpenFault::BadCapacity);
         }
         let lengths = region_lengths(alloc, &policy)?;
-        if !Regions::accepts(lengths.as_slice()) {
-            return Err(OpenFault::BadRegions);
-        }
         let memory = Regions::new(alloc, lengths.as_slice())?;
         let values = signal_values(alloc, &policy)?;
         let signals = Signals::new(alloc, values.as_slice())?;
@@ -48,8 +45,10 @@ fn is_capacity(capacity: usize) -> bool
 }
 
 // The lengths of a policy's regions, in order.
+#[tactic(none)]
 fn region_lengths(alloc: Global, policy: &Policy) -> Result<Sequence<u32>, AllocError>
-    ensures { IfOk result (λ lengths. lengths ≡ lengths_of_rows policy.now) }
+    ensures all { IfOk result (λ lengths. lengths ≡ lengths_of_rows policy.now) }
+    ensures fit { IfOk result (λ lengths. IsTrue (are_region_lengths lengths)) }
 {
     let mut lengths = Sequence::new(alloc);
     for before in 0..policy.object_count(Kind::Region) {
@@ -62,6 +61,7 @@ fn region_lengths(alloc: Global, policy: &Policy) -> Result<Sequence<u32>, Alloc
 }
 
 // The initial values of a policy's signals, in order.
+#[tactic(none)]
 fn signal_values(alloc: Global, policy: &Policy) -> Result<Sequence<i64>, AllocError>
     ensures { IfOk result (λ values. values ≡ values_of_rows policy.now) }
 {

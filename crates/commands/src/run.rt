@@ -1,0 +1,61 @@
+//! The command that runs a script over a policy.
+
+use crate::check::{refuse, told};
+use crate::status::Status;
+use access_core::OpenFault;
+use policy::{Policy, read_policy};
+use script::{ScriptFault, run_script};
+use std::alloc::Global;
+use std::io;
+use world::World;
+
+// Tells on `err` why a script's run ended early, if it did.
+fn ended<E: io::Write>(run: Result<(), ScriptFault>, err: &mut E) -> Status {
+    match run {
+        Ok(()) => Status::Done,
+        Err(ScriptFault::BadLine(number)) => {
+            told(writeln!(err, "line {number}: bad request"), Status::Refused)
+        }
+        Err(ScriptFault::OutOfMemory) => told(writeln!(err, "no memory"), Status::Failed),
+        Err(ScriptFault::Read) => told(writeln!(err, "read fault"), Status::Failed),
+        Err(ScriptFault::Write) => told(writeln!(err, "write fault"), Status::Failed),
+    }
+}
+
+// Runs a script over a policy that was read.
+fn run_over<R: io::Read, O: io::Write, E: io::Write>(
+    alloc: Global,
+    policy: Policy,
+    places: usize,
+    script: &mut R,
+    out: &mut O,
+    err: &mut E,
+) -> Status {
+    match World::open(alloc, policy, places) {
+        Ok(mut world) => {
+            let run = run_script(alloc, script, out, &mut world);
+            ended(run, err)
+        }
+        Err(OpenFault::OutOfMemory) => told(writeln!(err, "no memory"), Status::Failed),
+        Err(OpenFault::BadCapacity) => {
+            told(writeln!(err, "audit: 1 to 1048576 entries"), Status::Refused)
+        }
+    }
+}
+
+/// Runs a script over the policy in a text, with places for so many entries (1 to 2^20) in the
+/// audit. Replies go to `out`. A fault of the policy is named on `err` as `check_policy` does, before
+/// any reply; a line of no form as `line 3: bad request`, after the replies to the lines before it.
+pub fn run_policy<R: io::Read, O: io::Write, E: io::Write>(
+    alloc: Global,
+    text: &[u8],
+    places: usize,
+    script: &mut R,
+    out: &mut O,
+    err: &mut E,
+) -> Status {
+    match read_policy(alloc, text) {
+        Ok(policy) => run_over(alloc, policy, places, script, out, err),
+        Err(why) => refuse(why, err),
+    }
+}

@@ -1,0 +1,100 @@
+//! One packet's way from its digits to memory and the audit.
+
+use crate::tests::packets::*;
+use crate::tests::sample::SAMPLE;
+use crate::tests::*;
+
+#[test]
+fn fill_writes_its_bytes_and_completes(rt: HostRuntime) -> Result<(), Fail> {
+    let script = format!(in rt.alloc();
+        "submit 1 1 {FILL}\nserve 1\nrun 1 0\nfinish 1 0\nread alice 0000000100000000 8\nload alice done\naudit\n")?;
+    let replies = "published 0
+launched 0
+ran 0 left 0
+ok
+bytes 5a5a5a5a00000000
+value 0
+audit 10
+1 grant alice agent 1 USE
+2 grant alice region 1 READ,WRITE
+3 grant alice region 2 READ,WRITE
+4 grant alice signal 1 WAIT,CHANGE
+5 grant alice signal 2 WAIT,CHANGE
+6 grant alice kernel 1 LAUNCH
+7 queue 1 alice agent 1 size 2
+8 take 1 0 launched
+9 run 1 0 group 0; write 0000000100000000 5a5a5a5a
+10 finish 1 0; signal 1 1 0; release 1 0
+";
+    assert!(rt; told(rt.alloc(), script.as_str(), replies)?);
+    Ok(())
+}
+
+#[test]
+fn fill_without_a_grant_on_its_region_is_denied(rt: HostRuntime) -> Result<(), Fail> {
+    let script = format!(in rt.alloc();
+        "grant alice agent gpu USE
+grant alice signal done WAIT,CHANGE
+queue alice gpu 2 2
+submit 1 1 {FILL}
+serve 1
+load alice done
+errors 1
+submit 1 1 {FILL}
+serve 1
+grant alice region buf READ
+read alice 0000000100000000 4
+")?;
+    let replies = "ok
+ok
+queue 1
+published 0
+denied queue 1 packet 0 rule L8
+value 1
+errors 1
+queue 1 packet 0 rule L8
+published 1
+refused 7 QueueDown
+ok
+bytes 00000000
+";
+    let run = run_over(rt.alloc(), SAMPLE, 65536, script.as_str());
+    assert!(rt; run.is(0, replies, ""));
+    Ok(())
+}
+
+#[test]
+fn copy_reads_its_source_before_it_writes(rt: HostRuntime) -> Result<(), Fail> {
+    let script = format!(in rt.alloc();
+        "write alice 0000000100000000 0102030405060708090a0b0c\nsubmit 1 1 {COPY}\nserve 1\nrun 1 0\nfinish 1 0\nread alice 0000000100000000 12\n")?;
+    let replies =
+        "ok\npublished 0\nlaunched 0\nran 0 left 0\nok\nbytes 010203040102030405060708\n";
+    assert!(rt; told(rt.alloc(), script.as_str(), replies)?);
+    Ok(())
+}
+
+#[test]
+fn add64_wraps_and_leaves_the_old_number(rt: HostRuntime) -> Result<(), Fail> {
+    let script = format!(in rt.alloc();
+        "write alice 0000000100000000 ffffffffffffffff\nsubmit 1 1 {ADD64}\nserve 1\nrun 1 0\nfinish 1 0\nread alice 0000000100000000 16\n")?;
+    let replies = "ok\npublished 0\nlaunched 0\nran 0 left 0\nok\nbytes 0000000000000000ffffffffffffffff\n";
+    assert!(rt; told(rt.alloc(), script.as_str(), replies)?);
+    Ok(())
+}
+
+#[test]
+fn a_packet_is_denied_by_the_first_rule_it_breaks(rt: HostRuntime) -> Result<(), Fail> {
+    let zeros = "0000000000000000".repeat(rt.alloc(), 8)?;
+    let ones = "ffffffffffffffff".repeat(rt.alloc(), 8)?;
+    for (name, packet, rule) in [
+        ("zeros", zeros.as_str(), "L1"),
+        ("ones", ones.as_str(), "L1"),
+        ("reserved_scope", FILL_OF_RESERVED_SCOPE, "L2"),
+        ("kernel", KERNEL, "L4"),
+    ] {
+        let script = format!(in rt.alloc(); "submit 1 1 {packet}\nserve 1\n")?;
+        let replies = format!(in rt.alloc(); "published 0\ndenied queue 1 packet 0 rule {rule}\n")?;
+        assert!(rt; told(rt.alloc(), script.as_str(), replies.as_str())?, "{name}");
+    }
+    Ok(())
+}
