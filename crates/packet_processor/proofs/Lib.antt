@@ -1,0 +1,2 @@
+pub mod FirstFailing
+pub mod HeldByKind
