@@ -1,2 +1,3 @@
 pub mod FirstFailing
 pub mod HeldByKind
+pub mod QueueingLemmas
