@@ -17,7 +17,8 @@ use Rattle.core_model.specs.Holds.{Held, holder, least_of, is_owned, holds_one_o
 use Rattle.core_model.specs.Legal.{IsLegal}
 use Rattle.access_core.specs.declared.queue.Queue.{Queue}
 use Rattle.access_core.specs.Kept.{kept_opening}
-use Rattle.access_core.specs.Held.{IsHeld, is_among, queue_holds, kept_holds, kept_holder}
+use Rattle.packet_processor.specs.Holding.{is_among}
+use Rattle.access_core.specs.Held.{IsHeld, queue_holds, kept_holds, kept_holder}
 use Rattle.access_core.proofs.HeldMore.{AreHeld-legal}
 
 -- two tests that agree at each element of which something holds

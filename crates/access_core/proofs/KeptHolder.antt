@@ -13,7 +13,8 @@ use Rattle.core_model.specs.History.{Start}
 use Rattle.core_model.specs.Holds.{Holder, held_at_launch, least_of}
 use Rattle.access_core.specs.declared.queue.Queue.{Queue}
 use Rattle.access_core.specs.Kept.{kept_opening}
-use Rattle.access_core.specs.Held.{is_among, queue_holds, kept_holds, kept_holder}
+use Rattle.packet_processor.specs.Holding.{is_among}
+use Rattle.access_core.specs.Held.{queue_holds, kept_holds, kept_holder}
 
 module _ (start : Start) (client : ClientId) (on : Object) (rights : Rights) where
   -- a queue of the client's holds what its packet holds

@@ -21,7 +21,7 @@ use Rattle.core_model.specs.Legal.{IsLegal, entry_of, with_entry}
 use Rattle.core_model.proofs.More.{in_force-more, memory_at-more, signals-more, openings-more, with_some, next_id-more, errors-more, with_error, is_stopped-more, flight-more}
 use Rattle.core_model.proofs.Legality.{IsLegal-more}
 use Rattle.access_core.specs.declared.access.AccessCore.TheInside.{Inside}
-use Rattle.access_core.specs.Granted.{has_granted}
+use Rattle.grants.specs.Table.{has_granted}
 use Rattle.access_core.specs.Kept.{IsKept, start_of, kept_opening, kept_next, kept_errors, kept_stopped}
 use Rattle.access_core.specs.Reachable.{is_reachable}
 

@@ -2,7 +2,6 @@ pub mod KeptMore
 pub mod Calls
 pub mod QueueLemmas
 pub mod KeptFacts
-pub mod Verdicts
 pub mod TakeLemmas
 pub mod HandOver
 pub mod LookupLemmas
@@ -14,9 +13,6 @@ pub mod RunLemmas
 pub mod HostMemory
 pub mod Launches
 pub mod HeldMore
-pub mod RightsLeft
-pub mod RowLeft
-pub mod HeldKinds
 pub mod KeptHolder
 pub mod HolderKept
 pub mod Opened

@@ -13,7 +13,7 @@ use Rattle.queue_error.specs.declared.rule.Rule.{Rule}
 use Rattle.queue_error.specs.declared.rule.Rule.TheVariants as rule
 use Rattle.std.specs.List.{list_all}
 use Rattle.access_core.specs.Reachable.{is_reachable}
-use Rattle.access_core.proofs.Verdicts.{first_failing-decoded}
+use Rattle.packet_processor.proofs.FirstFailing.{first_failing-decoded}
 use Rattle.policy.specs.Policy.{numbered}
 use Rattle.core_model.specs.declared.event.Event.TheVariants.{Take}
 use Rattle.core_model.specs.declared.flight.InFlight.{InFlight}
@@ -31,7 +31,7 @@ use Rattle.core_model.specs.LaunchRules.{Facts, Range, ranges, may_use_range, ma
 use Rattle.core_model.specs.Owed.{Owed, refuses, owed, refuse_if, refuse_unless, decided, facts_of}
 use Rattle.access_core.specs.declared.queue.Queue.{Queue}
 use Rattle.access_core.specs.declared.access.AccessCore.TheInside.{Inside}
-use Rattle.access_core.specs.Granted.{has_granted}
+use Rattle.grants.specs.Table.{has_granted}
 use Rattle.access_core.specs.Judged.{facts_lent}
 use Rattle.access_core.specs.Kept.{IsKept, start_of, kept_opening, kept_next, kept_errors, kept_stopped, history_of}
 use Rattle.access_core.specs.Deciding.{TakesNext}

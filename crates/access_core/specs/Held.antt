@@ -1,18 +1,16 @@
 -- What packets in flight hold, as each packet and its queue's opening tell it, and which of them holds a right.
-use Rattle.std.specs.Prelude.{◌≡◌, ◌==◌, ◌&&◌, Bool, false, not, List, [], Option, Some, None, filter, fold}
+use Rattle.std.specs.Prelude.{◌≡◌, ◌==◌, ◌&&◌, Bool, false, List, [], Option, Some, None, filter, fold}
 use Rattle.std.specs.List.{list_any}
 use Rattle.aql_packet.specs.declared.ids.ClientId.{ClientId}
 use Rattle.policy.specs.declared.object.Object.{Object}
 use Rattle.policy.specs.declared.rights.Rights.{Rights}
-use Rattle.policy.specs.Object.{same_object}
-use Rattle.policy.specs.Rights.{has}
 use Rattle.policy.specs.Policy.{numbered}
 use Rattle.core_model.specs.declared.entry.Entry.{Entry}
 use Rattle.core_model.specs.declared.flight.InFlight.{InFlight}
 use Rattle.core_model.specs.History.{Start}
 use Rattle.core_model.specs.Queues.{Opening, owner}
-use Rattle.core_model.specs.LaunchRules.{Range}
-use Rattle.core_model.specs.Holds.{Held, Holder, held, held_at_launch, held_range, least_of}
+use Rattle.core_model.specs.Holds.{Holder, held, held_at_launch, least_of}
+use Rattle.packet_processor.specs.Holding.{is_among}
 use Rattle.access_core.specs.declared.queue.Queue.{Queue}
 use Rattle.access_core.specs.Kept.{kept_opening}
 
@@ -21,14 +19,6 @@ pub record IsHeld (start : Start) (entries : List Entry) (f : InFlight) : Type 0
   pub opening : Opening
   pub owner_is : owner start entries f.queue ≡ Some opening
   pub held_is : held start entries f.queue f.id ≡ held_at_launch start [] opening f.packet
-
--- whether a right that is held is one of these rights on the object
-abbrev pub is_among : Object → Rights → Held → Bool
-is_among on rights h = same_object h.0 on && has rights h.1
-
--- whether a range isn't empty, and its right is one of these rights on the object
-abbrev pub range_is_among : Object → Rights → Range → Bool
-range_is_among on rights r = not (r.size == 0) && is_among on rights (held_range r)
 
 -- whether a queue is there and the client's, and a packet of it holds one of these rights on the object
 abbrev pub queue_holds : Start → Option Queue → ClientId → Object → Rights → InFlight → Bool

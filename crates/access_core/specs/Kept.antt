@@ -20,7 +20,7 @@ use Rattle.core_model.specs.Flight.{flight}
 use Rattle.core_model.specs.LaunchRules.{ranges}
 use Rattle.core_model.specs.Legal.{IsLegal}
 use Rattle.access_core.specs.declared.access.AccessCore.TheInside.{Inside}
-use Rattle.access_core.specs.Granted.{has_granted}
+use Rattle.grants.specs.Table.{has_granted}
 pub use Rattle.access_core.specs.QueueShown.{kept_opening, kept_next, kept_errors, kept_stopped}
 use Rattle.access_core.specs.Reachable.{is_reachable}
 

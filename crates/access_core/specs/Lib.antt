@@ -1,4 +1,3 @@
-pub mod Granted
 pub mod Told
 pub mod Owing
 pub mod Judged
@@ -15,5 +14,4 @@ pub mod ToldWork
 pub mod ToldHost
 pub mod OwingHost
 pub mod Held
-pub mod Revoked
 pub mod OwingRevoke

@@ -15,9 +15,9 @@ mod running;
 mod taking;
 mod working;
 
-use crate::granted::Granted;
 use crate::queue::Queue;
 use core_model::{Effects, Entry, Event, InFlight, Outcome};
+use grants::RightsTable;
 use policy::Policy;
 use regions::Regions;
 use sequences::{Reserved, Sequence};
@@ -49,7 +49,7 @@ impl From<AllocError> for OpenFault {
 #[derive(Drop)]
 pub struct AccessCore {
     policy: Policy,
-    granted: Granted,
+    granted: RightsTable,
     memory: Regions,
     signals: Signals,
     queues: Vec<Queue>,

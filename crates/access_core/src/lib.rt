@@ -5,9 +5,7 @@
 #![tactic(auto)]
 
 mod access;
-mod granted;
 mod holding;
 mod queue;
-mod verdict;
 
 pub use access::{AccessCore, OpenFault};

@@ -1,17 +1,13 @@
 -- Lists of claims and of holds, by what is found in them.
-use Rattle.std.proofs.Common.{◌≡◌, ℕ, zero, suc, ◌+◌, ◌-◌, ◌<◌, ◌≤◌, ◌⊎◌, inl, inr, Bool, true, false, not, ◌&&◌, ◌||◌, ◌==◌, List, [], ◌∷◌, ◌++◌, map, filter, take, get_or, length, Option, Some, None, refl, sym, ap, subst, ◌∙◌, arith, true≢false, if◌then◌else◌}
+use Rattle.std.proofs.Common.{◌≡◌, ℕ, ◌+◌, ◌<◌, ◌⊎◌, inl, inr, Bool, true, false, not, ◌&&◌, ◌||◌, ◌==◌, List, [], ◌∷◌, ◌++◌, map, filter, take, get_or, length, Option, Some, None, refl, sym, ap, ◌∙◌, arith, true≢false, if◌then◌else◌}
 use Rattle.std.specs.List.{list_any, flat_map}
 use Rattle.std.proofs.lemmas.Bool.{false_from_ne_true}
-use Rattle.std.proofs.lemmas.Bool.Decides.{Decides-eqb, nat_tests}
+use Rattle.std.proofs.lemmas.Bool.Decides.{Decides-eqb}
 use Rattle.std.proofs.lemmas.List.Folds.{list_any-append, list_any_more}
 use Rattle.std.proofs.lemmas.Map.Views.{any-filter_same}
 use Rattle.aql_packet.specs.declared.ids.ClientId.{ClientId}
 use Rattle.aql_packet.specs.declared.ids.QueueId.{QueueId}
 use Rattle.aql_packet.specs.declared.ids.PacketId.{PacketId}
-use Rattle.aql_packet.specs.declared.ids.AgentHandle.{AgentHandle}
-use Rattle.aql_packet.specs.declared.ids.RegionHandle.{RegionHandle}
-use Rattle.aql_packet.specs.declared.ids.SignalHandle.{SignalHandle}
-use Rattle.aql_packet.specs.declared.ids.KernelObject.{KernelObject}
 use Rattle.policy.specs.declared.object.Object.{Object}
 use Rattle.policy.specs.declared.object.Object.TheVariants.{Agent, Region, Signal, Kernel}
 use Rattle.policy.specs.declared.rights.Right.{Right}
@@ -75,7 +71,7 @@ same_right_is Change Change e = refl
 same_right_is Launch Launch e = refl
 same_right_is _ _ e = absurd (true≢false (sym e))
 
-same_pair_is : (c : ClientId) (o : Object) (c' : ClientId) (o' : Object) → same_pair c o c' o' ≡ true → (c ≡ c') × (o ≡ o')
+pub same_pair_is : (c : ClientId) (o : Object) (c' : ClientId) (o' : Object) → same_pair c o c' o' ≡ true → (c ≡ c') × (o ≡ o')
 same_pair_is c o c' o' h =
     let parts = both (c.0 == c'.0) (same_object o o') h in
     (same_client c c' parts.0, same_object_is o o' parts.1)

@@ -1,2 +1,4 @@
 pub mod ClaimLemmas
 pub mod LedgerLemmas
+pub mod SetLemmas
+pub mod TableLemmas

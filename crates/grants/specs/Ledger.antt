@@ -1,6 +1,6 @@
 -- Grants as contracts see them: what is in force, and which packet holds what.
-use Rattle.std.specs.Prelude.{◌≡◌, Bool, true, false, not, ◌&&◌, ◌||◌, ◌==◌, ℕ, zero, suc, List, [], ◌++◌, ◌∷◌, Option, Some, None, Result, Ok, Err, if◌then◌else◌}
-use Rattle.std.specs.List.{list_any, list_all}
+use Rattle.std.specs.Prelude.{◌≡◌, Bool, true, false, not, ◌&&◌, ◌||◌, ◌==◌, ℕ, zero, suc, List, [], ◌++◌, ◌∷◌, Some, None, Result, Ok, Err, if◌then◌else◌}
+use Rattle.std.specs.List.{list_any}
 use Rattle.aql_packet.specs.declared.ids.ClientId.{ClientId}
 use Rattle.aql_packet.specs.declared.ids.QueueId.{QueueId}
 use Rattle.aql_packet.specs.declared.ids.PacketId.{PacketId}
@@ -10,7 +10,7 @@ use Rattle.policy.specs.declared.object.Object.{Object}
 use Rattle.policy.specs.declared.rights.Right.{Right}
 use Rattle.policy.specs.declared.rights.Rights.{Rights}
 use Rattle.policy.specs.Object.{object_of}
-use Rattle.policy.specs.Rights.{has, all_rights, each_right, rights_that}
+use Rattle.policy.specs.Rights.{has, all_rights, rights_that}
 use Rattle.grants.specs.declared.claim.Claim.{Claim}
 use Rattle.grants.specs.declared.hold.Hold.{Hold}
 use Rattle.grants.specs.declared.refusal.Refusal.{Refusal}
@@ -19,7 +19,7 @@ use Rattle.grants.specs.declared.refusal.GrantError.{GrantError}
 use Rattle.grants.specs.declared.refusal.GrantError.TheVariants.{OutOfMemory, Refused}
 use Rattle.grants.specs.Rules.{Rules, count, knows_client, knows, allows}
 use Rattle.grants.specs.Claims.{same_pair, claimed}
-use Rattle.grants.specs.Holds.{same_packet, held, IsUpTo, IsFirstTo}
+use Rattle.grants.specs.Holds.{same_packet, held, IsFirstTo}
 
 -- The policy's rules, what is in force, and what packets hold. Clauses speak of it by the look-ups below alone.
 pub record Ledger : Type 0 where

@@ -8,8 +8,10 @@ mod grants;
 mod hold;
 mod refusal;
 mod rules;
+mod table;
 #[cfg(test)]
 mod tests;
 
 pub use grants::Grants;
 pub use refusal::{GrantError, Refusal};
+pub use table::{RightsRow, RightsTable};

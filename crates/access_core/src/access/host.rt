@@ -10,9 +10,9 @@ ghost use Rattle.access_core.specs.ToldHost.{changed};
 ghost use Rattle.access_core.specs.OwingHost.{ChangeOwed, WriteOwed};
 
 use crate::access::{AccessCore, enter, lacks_room};
-use crate::granted::Granted;
 use aql_packet::{Address, ClientId, RegionHandle, SignalHandle};
 use core_model::{Effect, Effects, Event, Outcome, Refusal};
+use grants::RightsTable;
 use policy::{Object, Policy, Right};
 use regions::Regions;
 use sequences::Sequence;
@@ -101,7 +101,7 @@ impl AccessCore {
 #[tactic(auto, unfolding(core_model::specs::Owed::owed))]
 fn may_write(
     policy: &Policy,
-    granted: &Granted,
+    granted: &RightsTable,
     memory: &Regions,
     client: ClientId,
     address: Address,
@@ -146,7 +146,7 @@ fn lay(memory: &mut Regions, address: Address, bytes: &[u8])
 #[tactic(auto, unfolding(core_model::specs::Owed::owed))]
 fn may_change(
     policy: &Policy,
-    granted: &Granted,
+    granted: &RightsTable,
     signals: &Signals,
     client: ClientId,
     signal: SignalHandle,

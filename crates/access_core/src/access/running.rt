@@ -15,16 +15,10 @@ ghost use Rattle.access_core.specs.ToldWork.{GroupOwed, IsChanged, IsOwed, IsPla
 use crate::access::{AccessCore, enter, lacks_room};
 use aql_packet::{Address, AgentDispatch, Packet, PacketId, QueueId};
 use core_model::{Effect, Effects, Event, InFlight, Outcome, Refusal, Worked};
+use packet_processor::{ADD64, COPY, FILL};
 use regions::Regions;
 use sequences::Sequence;
 use std::alloc::{AllocError, Global};
-
-/// The functions that agents have built in: fill, copy, and add to a 64-bit number.
-const FILL: u16 = 0x8000;
-
-const COPY: u16 = 0x8001;
-
-const ADD64: u16 = 0x8002;
 
 /// Bytes that go to memory from an address on.
 #[derive(Drop)]

@@ -1,11 +1,10 @@
 //! Packets are handed over: they wait, are launched, or denied.
 
-ghost use Rattle.std.specs.Prelude.{◌≡◌, ◌==◌, ◌||◌, nat_lt, IfErr, IfOk, Some, None, [], ◌∷◌, filter, length};
-ghost use Rattle.std.specs.List.{list_any};
+ghost use Rattle.std.specs.Prelude.{◌≡◌, IfErr, IfOk, Some, None, [], ◌∷◌};
 ghost use Rattle.aql_packet.specs.Reading.{barrier_bit};
-ghost use Rattle.core_model.specs.LaunchRules.{is_barrier, may_start};
 ghost use Rattle.core_model.specs.Owed.{owed, refuses};
-ghost use Rattle.access_core.specs.Judged.{Judges, facts_lent};
+ghost use Rattle.packet_processor.specs.Judged.{Judges};
+ghost use Rattle.access_core.specs.Judged.{facts_lent};
 ghost use Rattle.access_core.specs.Deciding.{Decides};
 ghost use Rattle.access_core.specs.QueueShown.{kept_errors};
 ghost use Rattle.access_core.specs.Moves.{HandsOver, CanHandOver};
@@ -16,11 +15,11 @@ ghost use Rattle.policy.specs.Policy.{numbered};
 
 use crate::access::lookups::queue_of;
 use crate::access::{AccessCore, enter, lacks_room};
-use crate::granted::Granted;
 use crate::queue::Queue;
-use crate::verdict::{Facts, TAKES_NOTHING, judge};
-use aql_packet::{AgentHandle, ClientId, Packet, PacketId, QueueId, header_of};
+use aql_packet::{Packet, PacketId, QueueId, RawHeader, header_of};
 use core_model::{Cause, Effects, Event, InFlight, Outcome, Refusal, Seen, Taken};
+use grants::RightsTable;
+use packet_processor::{Facts, MayLaunch, QueueState, TAKES_NOTHING, Verdict, verdict};
 use policy::Policy;
 use queue_error::{QueueError, Rule};
 use regions::Regions;
@@ -30,63 +29,11 @@ use std::alloc::Global;
 // How many errors a queue can have at the most: that of a packet denied, and those of all in flight.
 const ERRORS: usize = 9;
 
-// Whether a queue launches nothing more.
-fn is_down(queue: &Queue) -> bool
-    ensures { result ≡ (nat_lt 0 (length queue.now.errors.items) || queue.now.stopped) }
+// What a packet's header says, which the first two bytes hold.
+fn header(bytes: &[u8; 64]) -> RawHeader
+    ensures { result.barrier ≡ barrier_bit bytes.now }
 {
-    queue.errors.len() > 0 || queue.stopped
-}
-
-// Whether a packet is a barrier packet.
-fn is_barrier(packet: &Packet) -> bool
-    ensures { result ≡ is_barrier packet.now }
-{
-    matches!(packet, Packet::BarrierAnd(_) | Packet::BarrierOr(_))
-}
-
-// Whether a barrier packet of a queue is in flight.
-fn has_barrier(flight: &[InFlight], queue: QueueId) -> bool
-    ensures { result ≡ list_any (λ f. is_barrier f.packet) (filter (λ f. f.queue.0 == queue.0) flight.now) }
-{
-    flight
-        .iter()
-        .filter(|flying| flying.queue.0 == queue.0)
-        .any(|flying| is_barrier(&flying.packet))
-}
-
-// How many packets of a queue are in flight.
-fn count_of(flight: &[InFlight], queue: QueueId) -> usize
-    ensures { result ≡ length (filter (λ f. f.queue.0 == queue.0) flight.now) }
-{
-    flight
-        .iter()
-        .filter(|flying| flying.queue.0 == queue.0)
-        .count()
-}
-
-// Why a queue's next packet may not start yet, by its barrier bit and what is in flight.
-#[tactic(auto, unfolding(core_model::specs::LaunchRules::may_start))]
-fn waits_for(flight: &[InFlight], queue: QueueId, barrier: bool) -> Option<Cause>
-    ensures { result ≡ may_start (filter (λ f. f.queue.0 == queue.0) flight.now) barrier }
-{
-    if has_barrier(flight, queue) {
-        return Some(Cause::Barrier);
-    }
-    let count = count_of(flight, queue);
-    if barrier && count > 0 {
-        return Some(Cause::Active);
-    }
-    if count >= 8 {
-        return Some(Cause::Slots);
-    }
-    None
-}
-
-// Whether the barrier bit of a packet's header is set.
-fn has_barrier_bit(bytes: &[u8; 64]) -> bool
-    ensures { result ≡ barrier_bit bytes.now }
-{
-    header_of(u64::from(bytes[0]) + 256 * u64::from(bytes[1])).barrier
+    header_of(u64::from(bytes[0]) + 256 * u64::from(bytes[1]))
 }
 
 // What is decided of a packet that is next.
@@ -97,26 +44,24 @@ enum Decision {
     Launch(Packet),
 }
 
-// Judges a packet of a client's queue on an agent.
+// Judges a packet of a queue.
 fn judged(
     policy: &Policy,
-    granted: &Granted,
+    granted: &RightsTable,
     regions: &Regions,
-    client: ClientId,
-    agent: AgentHandle,
+    kept: &Queue,
     bytes: &[u8; 64],
-) -> Result<Packet, Rule>
-    ensures { Judges (facts_lent policy.now granted.now regions.now client agent) bytes.now result }
+) -> Verdict
+    ensures { Judges (facts_lent policy.now granted.now regions.now kept.now.client kept.now.agent) bytes.now result }
 {
-    let takes = policy.takes(agent).unwrap_or(TAKES_NOTHING);
     let facts = Facts {
-        client,
-        agent,
-        takes,
+        client: kept.client,
+        agent: kept.agent,
+        takes: policy.takes(kept.agent).unwrap_or(TAKES_NOTHING),
         granted,
         regions,
     };
-    judge(bytes, &facts)
+    verdict(bytes, &facts)
 }
 
 // Counts the next packet of a queue as handed over.
@@ -156,25 +101,26 @@ impl AccessCore {
             None => return Err(Refusal::UnknownQueue),
             Some(kept) => kept,
         };
-        if is_down(kept) {
+        let state = QueueState {
+            queue,
+            flight: self.flight.as_slice(),
+            errors: kept.errors.as_slice(),
+            stopped: kept.stopped,
+        };
+        if state.is_down() {
             return Err(Refusal::QueueDown);
         }
         if packet.0 != kept.next {
             return Err(Refusal::OutOfStep(kept.next));
         }
-        match waits_for(self.flight.as_slice(), queue, has_barrier_bit(bytes)) {
-            Some(cause) => Ok(Decision::Wait(cause)),
-            None => match judged(
-                &self.policy,
-                &self.granted,
-                &self.memory,
-                kept.client,
-                kept.agent,
-                bytes,
-            ) {
-                Ok(packet) => Ok(Decision::Launch(packet)),
-                Err(rule) => Ok(Decision::Deny(rule)),
-            },
+        match state.may_launch(&header(bytes)) {
+            MayLaunch::Waiting(cause) => Ok(Decision::Wait(cause)),
+            MayLaunch::Go => {
+                match judged(&self.policy, &self.granted, &self.memory, kept, bytes) {
+                    Verdict::Launch(packet) => Ok(Decision::Launch(packet)),
+                    Verdict::Deny(rule) => Ok(Decision::Deny(rule)),
+                }
+            }
         }
     }
 

@@ -4,16 +4,15 @@ ghost use Rattle.std.specs.Prelude.{◌≡◌, IfErr, IfOk, find, fold, is_some}
 ghost use Rattle.core_model.specs.Memory.{signals_after};
 ghost use Rattle.core_model.specs.Queues.{owner};
 ghost use Rattle.core_model.specs.Flight.{is_packet};
-ghost use Rattle.core_model.specs.Work.{is_ready};
-ghost use Rattle.core_model.specs.LaunchRules.{completion};
 ghost use Rattle.core_model.specs.Owed.{refuses, is_finished};
 ghost use Rattle.core_model.specs.Legal.{Meets};
 ghost use Rattle.access_core.specs.Told.{accepted};
 ghost use Rattle.access_core.specs.ToldWork.{completion_of, finish_owed, IsFlying, IsOwed, OwedBy, Reaches, RefusedAt, without};
 
 use crate::access::{AccessCore, enter};
-use aql_packet::{Packet, PacketId, QueueId, SignalHandle};
-use core_model::{Effect, Effects, Event, InFlight, Outcome, Refusal, Seen};
+use aql_packet::{Packet, PacketId, QueueId};
+use core_model::{Effect, Effects, Event, InFlight, Outcome, Refusal};
+use packet_processor::{completion, is_ready};
 use sequences::Sequence;
 use signals::{SignalOp, Signals};
 
@@ -109,18 +108,6 @@ fn complete(signals: &mut Signals, flying: InFlight) -> Effects
     }
 }
 
-// The signal that a packet's completion decrements.
-fn completion(packet: &Packet) -> SignalHandle
-    ensures { result ≡ completion packet.now }
-{
-    match packet {
-        Packet::Kernel(dispatch) => dispatch.completion_signal,
-        Packet::Agent(dispatch) => dispatch.completion_signal,
-        Packet::BarrierAnd(barrier) => barrier.completion_signal,
-        Packet::BarrierOr(barrier) => barrier.completion_signal,
-    }
-}
-
 // Whether a packet's work is done.
 fn is_finished(flying: &InFlight) -> bool
     ensures { result ≡ is_finished flying.now }
@@ -129,24 +116,5 @@ fn is_finished(flying: &InFlight) -> bool
         Packet::Kernel(_) => true,
         Packet::Agent(_) => flying.groups_run >= 1,
         barrier => is_ready(barrier, &flying.seen),
-    }
-}
-
-// Whether a barrier packet is ready, by the dependencies that were seen as 0.
-pub(crate) fn is_ready(packet: &Packet, seen: &Seen) -> bool
-    ensures { result ≡ is_ready packet.now seen.now }
-{
-    match packet {
-        Packet::BarrierAnd(barrier) => barrier
-            .dependencies
-            .iter()
-            .zip(seen.0.iter())
-            .all(|(signal, seen)| signal.0 == 0 || *seen),
-        Packet::BarrierOr(barrier) => barrier
-            .dependencies
-            .iter()
-            .zip(seen.0.iter())
-            .any(|(signal, seen)| signal.0 != 0 && *seen),
-        _ => false,
     }
 }

@@ -1,11 +1,11 @@
 -- What is decided is what is owed, by what is kept.
-use Rattle.std.proofs.Common.{◌≡◌, ℕ, refl, sym, ◌∙◌, ap, subst, Bool, true, false, Option, Some, None, length, rules}
+use Rattle.std.proofs.Common.{◌≡◌, refl, ◌∙◌, true, false, Some, None, length, rules}
 use Rattle.std.specs.Prelude.{nat_lt, ◌||◌, ◌==◌, filter}
 use Rattle.aql_packet.specs.Reading.{barrier_bit}
 use Rattle.policy.specs.Policy.{numbered}
 use Rattle.core_model.specs.declared.flight.InFlight.{InFlight}
-use Rattle.core_model.specs.LaunchRules.{may_start, first_failing}
-use Rattle.access_core.specs.Judged.{facts_lent}
+use Rattle.core_model.specs.LaunchRules.{may_start}
+use Rattle.packet_processor.proofs.QueueingLemmas.{launching-waits, launching-goes}
 use Rattle.access_core.proofs.TakeLemmas.{take-unknown, take-known, reachable-launched, takes-next}
 use Rattle.access_core.proofs.access.AccessCore.may_take.Goals as goal
 
@@ -27,34 +27,37 @@ returns-then-packet-kept-clause-why c =
     let other : (c.args.packet.0 == c.in-Some.kept.now.next) ≡ false = search rules in
     rw (← c.self.view_is) (take-known c.self.inside c.self.invariant _ _ _ _ some ∙ (rw (down, other) refl))
 
-pub returns-in-Some-waits_for-clause-may : goal.returns-in-Some-waits_for-clause-may
-returns-in-Some-waits_for-clause-may c =
+pub returns-in-Waiting-clause-may : goal.returns-in-Waiting-clause-may
+returns-in-Waiting-clause-may c =
     let some : numbered c.self.inside.queues.items c.args.queue.0 ≡ Some c.in-Some.kept.now = cc c.in-Some.ensures in
     let down : (nat_lt 0 (length c.in-Some.kept.now.errors.items) || c.in-Some.kept.now.stopped) ≡ false = cc in
     let next : (c.args.packet.0 == c.in-Some.kept.now.next) ≡ true = search rules in
-    let waits : may_start (filter (λ (f : InFlight). f.queue.0 == c.args.queue.0) c.self.inside.flight) (barrier_bit c.args.bytes.now) ≡ Some c.in-Some-waits_for.cause = cc c.in-Some-waits_for.ensures in
+    let told : may_start (filter (λ (f : InFlight). f.queue.0 == c.args.queue.0) c.as_slice-2.result.now) c.header.result.barrier ≡ Some c.in-Waiting.cause = launching-waits _ c.in-Waiting.cause c.in-Waiting.ensures in
+    let waits : may_start (filter (λ (f : InFlight). f.queue.0 == c.args.queue.0) c.self.inside.flight) (barrier_bit c.args.bytes.now) ≡ Some c.in-Waiting.cause = cc (told, c.as_slice-2.ensures, c.header.ensures) in
     rw (← c.self.view_is) (take-known c.self.inside c.self.invariant _ _ _ _ some ∙ (rw (down, next, waits) refl))
 
-pub returns-in-Ok-clause-may : goal.returns-in-Ok-clause-may
-returns-in-Ok-clause-may c =
+pub returns-in-Launch-clause-may : goal.returns-in-Launch-clause-may
+returns-in-Launch-clause-may c =
     let some : numbered c.self.inside.queues.items c.args.queue.0 ≡ Some c.in-Some.kept.now = cc c.in-Some.ensures in
     let down : (nat_lt 0 (length c.in-Some.kept.now.errors.items) || c.in-Some.kept.now.stopped) ≡ false = cc in
     let next : (c.args.packet.0 == c.in-Some.kept.now.next) ≡ true = search rules in
-    let waits : may_start (filter (λ (f : InFlight). f.queue.0 == c.args.queue.0) c.self.inside.flight) (barrier_bit c.args.bytes.now) ≡ None = cc in
+    let told : may_start (filter (λ (f : InFlight). f.queue.0 == c.args.queue.0) c.as_slice-2.result.now) c.header.result.barrier ≡ None = launching-goes _ c.in-Go.ensures in
+    let waits : may_start (filter (λ (f : InFlight). f.queue.0 == c.args.queue.0) c.self.inside.flight) (barrier_bit c.args.bytes.now) ≡ None = cc (told, c.as_slice-2.ensures, c.header.ensures) in
     rw (← c.self.view_is) (
-      take-known c.self.inside c.self.invariant _ _ _ _ some ∙ (rw (down, next, waits, c.in-Ok.ensures.1) refl),
-      c.in-Ok.ensures.0,
-      reachable-launched c.self.inside c.in-Some.kept.now c.args.bytes.now c.in-Ok.packet c.self.invariant c.in-Ok.ensures.0 c.in-Ok.ensures.1,
+      take-known c.self.inside c.self.invariant _ _ _ _ some ∙ (rw (down, next, waits, c.in-Launch.ensures.1) refl),
+      c.in-Launch.ensures.0,
+      reachable-launched c.self.inside c.in-Some.kept.now c.args.bytes.now c.in-Launch.packet c.self.invariant c.in-Launch.ensures.0 c.in-Launch.ensures.1,
       takes-next c.self.inside c.self.invariant _ _ some down,
     )
 
-pub returns-in-Err-clause-may : goal.returns-in-Err-clause-may
-returns-in-Err-clause-may c =
+pub returns-in-Deny-clause-may : goal.returns-in-Deny-clause-may
+returns-in-Deny-clause-may c =
     let some : numbered c.self.inside.queues.items c.args.queue.0 ≡ Some c.in-Some.kept.now = cc c.in-Some.ensures in
     let down : (nat_lt 0 (length c.in-Some.kept.now.errors.items) || c.in-Some.kept.now.stopped) ≡ false = cc in
     let next : (c.args.packet.0 == c.in-Some.kept.now.next) ≡ true = search rules in
-    let waits : may_start (filter (λ (f : InFlight). f.queue.0 == c.args.queue.0) c.self.inside.flight) (barrier_bit c.args.bytes.now) ≡ None = cc in
+    let told : may_start (filter (λ (f : InFlight). f.queue.0 == c.args.queue.0) c.as_slice-2.result.now) c.header.result.barrier ≡ None = launching-goes _ c.in-Go.ensures in
+    let waits : may_start (filter (λ (f : InFlight). f.queue.0 == c.args.queue.0) c.self.inside.flight) (barrier_bit c.args.bytes.now) ≡ None = cc (told, c.as_slice-2.ensures, c.header.ensures) in
     rw (← c.self.view_is) (
-      take-known c.self.inside c.self.invariant _ _ _ _ some ∙ (rw (down, next, waits, c.in-Err.ensures) refl),
+      take-known c.self.inside c.self.invariant _ _ _ _ some ∙ (rw (down, next, waits, c.in-Deny.ensures) refl),
       takes-next c.self.inside c.self.invariant _ _ some down,
     )

@@ -1,0 +1,3 @@
+pub mod FirstFailing
+pub mod HeldByKind
+pub mod QueueingLemmas

@@ -1,0 +1,37 @@
+//! What a packet is judged by, and the verdict.
+
+use aql_packet::{AgentHandle, ClientId, Packet};
+use grants::RightsTable;
+use policy::Takes;
+use queue_error::Rule;
+use regions::Regions;
+
+/// An agent that takes no dispatch.
+pub const TAKES_NOTHING: Takes = Takes {
+    kernel: false,
+    agent: false,
+};
+
+/// What a packet is judged by: its queue's client and agent, and what is in force at that moment.
+#[derive(Drop)]
+pub struct Facts<'a> {
+    /// Whose queue it is.
+    pub client: ClientId,
+    /// The agent that runs the queue's packets.
+    pub agent: AgentHandle,
+    /// Which kinds of dispatch the agent takes.
+    pub takes: Takes,
+    /// The rights in force.
+    pub granted: &'a RightsTable,
+    /// The memory, for its regions' lengths.
+    pub regions: &'a Regions,
+}
+
+/// What is found of 64 bytes that are to be launched.
+#[derive(Clone, Copy, Debug, PartialEq, Eq)]
+pub enum Verdict {
+    /// No launch rule fails, and the bytes lay out this packet.
+    Launch(Packet),
+    /// This is the first launch rule that fails.
+    Deny(Rule),
+}

@@ -1,0 +1,48 @@
+//! What a packet's kind says of its completion.
+
+ghost use Rattle.std.specs.Prelude.{◌≡◌};
+ghost use Rattle.core_model.specs.LaunchRules.{completion, is_barrier};
+ghost use Rattle.core_model.specs.Work.{is_ready};
+
+use aql_packet::{Packet, SignalHandle};
+use core_model::Seen;
+
+/// The signal that is decremented when a packet completes (PSA, Architected Queuing Language); 0 is
+/// the null signal.
+pub fn completion(packet: &Packet) -> SignalHandle
+    ensures { result ≡ completion packet.now }
+{
+    match packet {
+        Packet::Kernel(dispatch) => dispatch.completion_signal,
+        Packet::Agent(dispatch) => dispatch.completion_signal,
+        Packet::BarrierAnd(barrier) => barrier.completion_signal,
+        Packet::BarrierOr(barrier) => barrier.completion_signal,
+    }
+}
+
+/// Whether a packet is a barrier packet.
+pub fn is_barrier(packet: &Packet) -> bool
+    ensures { result ≡ is_barrier packet.now }
+{
+    matches!(packet, Packet::BarrierAnd(_) | Packet::BarrierOr(_))
+}
+
+/// Whether a barrier packet is ready, by which of its dependencies were seen as 0 (PSA, Architected
+/// Queuing Language): a barrier-AND when all that aren't null were, a barrier-OR when one was.
+pub fn is_ready(packet: &Packet, seen: &Seen) -> bool
+    ensures { result ≡ is_ready packet.now seen.now }
+{
+    match packet {
+        Packet::BarrierAnd(barrier) => barrier
+            .dependencies
+            .iter()
+            .zip(seen.0.iter())
+            .all(|(signal, seen)| signal.0 == 0 || *seen),
+        Packet::BarrierOr(barrier) => barrier
+            .dependencies
+            .iter()
+            .zip(seen.0.iter())
+            .any(|(signal, seen)| signal.0 != 0 && *seen),
+        _ => false,
+    }
+}

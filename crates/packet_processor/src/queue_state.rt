@@ -1,0 +1,109 @@
+//! What is known of one queue at a moment.
+
+ghost use Rattle.std.specs.Prelude.{◌≡◌, ◌||◌, length, nat_lt};
+ghost use Rattle.std.specs.List.{list_any};
+ghost use Rattle.core_model.specs.LaunchRules.{is_barrier, may_start};
+ghost use Rattle.packet_processor.specs.Queueing.{flying, launching, state_of};
+
+use crate::packets::is_barrier;
+use aql_packet::{QueueId, RawHeader};
+use core_model::{Cause, InFlight};
+use queue_error::QueueError;
+
+// How many packets of one queue are in flight at the most.
+const SLOTS: usize = 8;
+
+/// Whether a queue's packets are launched.
+#[derive(Clone, Copy, Debug, PartialEq, Eq)]
+pub enum State {
+    /// They are.
+    Running,
+    /// The queue has an error: none is launched any more.
+    Error,
+    /// The queue was stopped: none is launched any more.
+    Stopped,
+}
+
+/// Whether a queue's next packet may be launched now.
+#[derive(Clone, Copy, Debug, PartialEq, Eq)]
+pub enum MayLaunch {
+    /// It may start.
+    Go,
+    /// It has to wait, and why.
+    Waiting(Cause),
+}
+
+/// What is known of one queue at a moment, lent by who keeps it.
+#[derive(Drop)]
+pub struct QueueState<'a> {
+    /// The queue.
+    pub queue: QueueId,
+    /// The packets in flight of all queues, in the order of their launches.
+    pub flight: &'a [InFlight],
+    /// The queue's errors, in order.
+    pub errors: &'a [QueueError],
+    /// Whether the queue was stopped.
+    pub stopped: bool,
+}
+
+impl QueueState<'_> {
+    /// Whether the queue's packets are launched: not once it was stopped or has an error.
+    pub fn state(&self) -> State
+        ensures { result ≡ state_of self.now }
+    {
+        if self.stopped {
+            State::Stopped
+        } else if self.errors.is_empty() {
+            State::Running
+        } else {
+            State::Error
+        }
+    }
+
+    /// Whether the queue launches nothing more.
+    pub fn is_down(&self) -> bool
+        ensures { result ≡ (nat_lt 0 (length self.now.errors.now) || self.now.stopped) }
+    {
+        !matches!(self.state(), State::Running)
+    }
+
+    /// Whether the queue's next packet may start, by its header's barrier bit, whatever its type
+    /// (PSA, Architected Queuing Language): not while a barrier packet of the queue is in flight, nor,
+    /// where the bit is set, while any packet of it is, nor while eight are (own).
+    #[tactic(auto, unfolding(core_model::specs::LaunchRules::may_start))]
+    pub fn may_launch(&self, header: &RawHeader) -> MayLaunch
+        ensures { result ≡ launching (may_start (flying self.now) header.now.barrier) }
+    {
+        if self.has_barrier() {
+            return MayLaunch::Waiting(Cause::Barrier);
+        }
+        let count = self.count();
+        if header.barrier && count > 0 {
+            return MayLaunch::Waiting(Cause::Active);
+        }
+        if count >= SLOTS {
+            return MayLaunch::Waiting(Cause::Slots);
+        }
+        MayLaunch::Go
+    }
+
+    // Whether a barrier packet of the queue is in flight.
+    fn has_barrier(&self) -> bool
+        ensures { result ≡ list_any (λ f. is_barrier f.packet) (flying self.now) }
+    {
+        self.flight
+            .iter()
+            .filter(|flying| flying.queue.0 == self.queue.0)
+            .any(|flying| is_barrier(&flying.packet))
+    }
+
+    // How many packets of the queue are in flight.
+    fn count(&self) -> usize
+        ensures { result ≡ length (flying self.now) }
+    {
+        self.flight
+            .iter()
+            .filter(|flying| flying.queue.0 == self.queue.0)
+            .count()
+    }
+}
