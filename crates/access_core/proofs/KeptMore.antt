@@ -24,6 +24,7 @@ use Rattle.access_core.specs.declared.access.AccessCore.TheInside.{Inside}
 use Rattle.access_core.specs.Granted.{has_granted}
 use Rattle.access_core.specs.Kept.{IsKept, start_of, kept_opening, kept_next, kept_errors, kept_stopped}
 use Rattle.access_core.specs.Reachable.{is_reachable}
+use Rattle.access_core.specs.ErrorRoom.{HasErrorRoom}
 
 -- How the fields move along with an entry.
 pub record MovesAlong (a b : Inside) (event : Event) (outcome : Outcome) (effects : List Effect) : Type 0 where
@@ -38,6 +39,7 @@ pub record MovesAlong (a b : Inside) (event : Event) (outcome : Outcome) (effect
   pub few_queues : length b.queues.items ≤ 64
   pub flight : b.flight ≡ flight_after a.flight (entry_of event outcome effects)
   pub reachable : All (λ f. is_reachable (region_lengths (start_of a)) f.packet ≡ true) b.flight
+  pub error_room : HasErrorRoom b.queues.items b.flight
 
 -- The audit has one entry more, and there was room for it.
 pub record AuditMore (a b : Inside) (event : Event) (outcome : Outcome) (effects : List Effect) : Type 0 where
@@ -74,6 +76,7 @@ module _ (a b : Inside) (event : Event) (outcome : Outcome) (effects : List Effe
     few_queues = moved.few_queues;
     flight = rw (more.policy, more.entries, flight-more, ← kept.flight) moved.flight;
     reachable = rw more.policy moved.reachable;
+    error_room = moved.error_room;
     room = omega (arith, longer, more.room, more.capacity);
     places = omega (arith, longer, more.place, more.capacity, kept.places);
     few = omega (arith, more.capacity, kept.few);

@@ -5,6 +5,7 @@ pub mod KeptFacts
 pub mod Verdicts
 pub mod TakeLemmas
 pub mod HandOver
+pub mod ErrorRooms
 pub mod LookupLemmas
 pub mod ReadLemmas
 pub mod ListLemmas

@@ -23,6 +23,7 @@ use Rattle.access_core.specs.declared.access.AccessCore.TheInside.{Inside}
 use Rattle.access_core.specs.Granted.{has_granted}
 pub use Rattle.access_core.specs.QueueShown.{kept_opening, kept_next, kept_errors, kept_stopped}
 use Rattle.access_core.specs.Reachable.{is_reachable}
+use Rattle.access_core.specs.ErrorRoom.{HasErrorRoom}
 
 -- what the history begins from
 abbrev pub start_of : Inside → Start
@@ -50,6 +51,8 @@ pub record IsKept (a : Inside) : Type 0 where
   -- the packets in flight, none of which reaches past a region
   pub flight : a.flight ≡ flight (start_of a) a.audit.items
   pub reachable : All (λ f. is_reachable (region_lengths (start_of a)) f.packet ≡ true) a.flight
+  -- room for an error of each packet in flight
+  pub error_room : HasErrorRoom a.queues.items a.flight
   -- room for an entry of each packet in flight, and memory for all entries
   pub room : length a.audit.items + length a.flight ≤ a.capacity
   pub places : a.capacity ≤ length a.audit.items + a.audit.room

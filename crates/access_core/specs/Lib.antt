@@ -4,6 +4,7 @@ pub mod Owing
 pub mod Judged
 pub mod QueueShown
 pub mod Moves
+pub mod ErrorRoom
 pub mod Reachable
 pub mod Deciding
 pub mod Kept

@@ -42,6 +42,7 @@ invariant_of-self c =
       few_queues = c.self.invariant.few_queues;
       flight = refl;
       reachable = c.self.invariant.reachable;
+      error_room = c.self.invariant.error_room;
     })
     (c.in_ok-old.ensures.may _ c.self.invariant.granted c.self.invariant.values)
 

@@ -30,6 +30,7 @@ invariant_of-self-2 c =
       few_queues = c.self.invariant.few_queues;
       flight = refl;
       reachable = c.self.invariant.reachable;
+      error_room = c.self.invariant.error_room;
     })
     (c.in_ok-may_grant.ensures.may _)
 

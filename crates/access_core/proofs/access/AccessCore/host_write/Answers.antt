@@ -38,6 +38,7 @@ invariant_of-self c =
       few_queues = c.self.invariant.few_queues;
       flight = refl;
       reachable = c.self.invariant.reachable;
+      error_room = c.self.invariant.error_room;
     })
     (c.in_ok-may_write.ensures.may _ c.self.invariant.granted c.self.invariant.lengths)
 

@@ -45,7 +45,7 @@ returns-in-Ok-clause-may c =
       take-known c.self.inside c.self.invariant _ _ _ _ some ∙ (rw (down, next, waits, c.in-Ok.ensures.1) refl),
       c.in-Ok.ensures.0,
       reachable-launched c.self.inside c.in-Some.kept.now c.args.bytes.now c.in-Ok.packet c.self.invariant c.in-Ok.ensures.0 c.in-Ok.ensures.1,
-      takes-next c.self.inside c.self.invariant _ _ some down,
+      takes-next c.self.inside c.self.invariant _ _ _ some down waits,
     )
 
 pub returns-in-Err-clause-may : goal.returns-in-Err-clause-may
@@ -56,5 +56,5 @@ returns-in-Err-clause-may c =
     let waits : may_start (filter (λ (f : InFlight). f.queue.0 == c.args.queue.0) c.self.inside.flight) (barrier_bit c.args.bytes.now) ≡ None = cc in
     rw (← c.self.view_is) (
       take-known c.self.inside c.self.invariant _ _ _ _ some ∙ (rw (down, next, waits, c.in-Err.ensures) refl),
-      takes-next c.self.inside c.self.invariant _ _ some down,
+      takes-next c.self.inside c.self.invariant _ _ _ some down waits,
     )
