@@ -14,10 +14,11 @@ use Rattle.core_model.specs.declared.outcome.Seen.{Seen}
 use Rattle.core_model.specs.Flight.{flight_after_effect, group_ran, has_seen, is_packet, seen_with}
 use Rattle.access_core.specs.declared.queue.Queue.{Queue}
 use Rattle.access_core.specs.QueueShown.{kept_errors, kept_places}
-use Rattle.access_core.specs.Moves.{HandsOver, HasPlace, errors_with}
+use Rattle.access_core.specs.Moves.{HandsOver, HasFailed, HasPlace, errors_with}
 use Rattle.access_core.specs.ErrorRoom.{HasErrorRoom}
 use Rattle.access_core.specs.ToldWork.{without}
 use Rattle.access_core.proofs.QueueLemmas.{numbered-push}
+use Rattle.access_core.proofs.WorkLemmas.{is_packet-itself}
 
 -- whether a packet is of a queue
 abbrev pub of_queue : ℕ → InFlight → Bool
@@ -178,3 +179,35 @@ module _ (old new : List Queue) (fs : List InFlight) (room : HasErrorRoom old fs
       either : (q : QueueId) (b : Bool) → (error.queue.0 == q.0) ≡ b → (if b then length (kept_errors (numbered old q.0)) + 1 else length (kept_errors (numbered old q.0))) + length (filter (of_queue q.0) fs) ≤ 8
       either q true is = let at = at_queue q.0 (sym mine ∙ eqb-true _ _ is) in rw at.0 (omega (arith, at.1))
       either q false is = room.free q
+
+-- ---- a packet in flight fails
+
+module _ (old new : List Queue) (fs : List InFlight) (room : HasErrorRoom old fs) (queue : QueueId) (id : PacketId) (f : InFlight) (found : find (is_packet queue id) fs ≡ Some f) where
+  -- its queue has one packet in flight less
+  count-fewer : (n : ℕ) → (f.queue.0 == n) ≡ true → length (filter (of_queue n) (without f.queue f.id fs)) + 1 ≤ length (filter (of_queue n) fs)
+  count-fewer n mine =
+      filter-filter-fewer (is_packet queue id) (of_queue n) (λ (g : InFlight). not (is_packet f.queue f.id g)) fs f found mine (ap (λ (b : Bool). not b) (is_packet-itself f))
+
+  -- its queue has a place free
+  pub HasPlace-flying : HasPlace old f.queue
+  HasPlace-flying =
+      let fewer = count-fewer f.queue.0 (eq-eqb f.queue.0 f.queue.0 refl) in
+      let free = room.free f.queue in
+      rw (room.places f.queue) (omega arith)
+
+  -- the failure leaves the room
+  pub ErrorRoom-failed : (error : QueueError) → error.queue.0 ≡ f.queue.0 → HasFailed old new error → HasErrorRoom new (without f.queue f.id fs)
+  ErrorRoom-failed error mine failed = record {
+    places = λ q. failed.places q ∙ room.places q;
+    free = λ q. rw (failed.errors q, length-with q _ error) (either q (error.queue.0 == q.0) refl);
+  }
+    where
+      either : (q : QueueId) (b : Bool) → (error.queue.0 == q.0) ≡ b → (if b then length (kept_errors (numbered old q.0)) + 1 else length (kept_errors (numbered old q.0))) + length (filter (of_queue q.0) (without f.queue f.id fs)) ≤ 8
+      either q true is =
+          let fewer = count-fewer q.0 (ap (λ n. n == q.0) (sym mine) ∙ is) in
+          let free = room.free q in
+          omega arith
+      either q false is =
+          let less = filter-filter-le (of_queue q.0) (λ (g : InFlight). not (is_packet f.queue f.id g)) fs in
+          let free = room.free q in
+          omega arith

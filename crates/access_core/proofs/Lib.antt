@@ -6,6 +6,8 @@ pub mod Verdicts
 pub mod TakeLemmas
 pub mod HandOver
 pub mod ErrorRooms
+pub mod PollLemmas
+pub mod StopLemmas
 pub mod LookupLemmas
 pub mod ReadLemmas
 pub mod ListLemmas

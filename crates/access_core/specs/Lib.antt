@@ -14,6 +14,8 @@ pub mod ToldQueries
 pub mod Listed
 pub mod ToldWork
 pub mod ToldHost
+pub mod Polling
+pub mod Stopping
 pub mod OwingHost
 pub mod Held
 pub mod Revoked

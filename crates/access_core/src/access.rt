@@ -7,10 +7,12 @@ mod granting;
 mod host;
 mod listing;
 mod lookups;
+mod polling;
 mod queries;
 mod queueing;
 mod revoking;
 mod running;
+mod stopping;
 mod taking;
 mod working;
 

@@ -31,7 +31,7 @@ fn is_down(queue: &Queue) -> bool
 }
 
 // Whether a packet is a barrier packet.
-fn is_barrier(packet: &Packet) -> bool
+pub(crate) fn is_barrier(packet: &Packet) -> bool
     ensures { result ≡ is_barrier packet.now }
 {
     matches!(packet, Packet::BarrierAnd(_) | Packet::BarrierOr(_))
