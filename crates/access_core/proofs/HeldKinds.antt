@@ -1,6 +1,6 @@
 -- What a packet holds, item by item.
-use Rattle.std.proofs.Common.{◌≡◌, ℕ, List, [], ◌∷◌, ◌++◌, refl, sym, ◌∙◌, ap, Bool, true, false}
-use Rattle.std.specs.Prelude.{◌||◌, ◌&&◌, not, ◌==◌, map, filter, if◌then◌else◌}
+use Rattle.std.proofs.Common.{◌≡◌, List, [], ◌∷◌, ◌++◌, refl, ◌∙◌, ap, Bool, true, false}
+use Rattle.std.specs.Prelude.{◌||◌, not, ◌==◌, map, filter}
 use Rattle.std.specs.List.{list_any}
 use Rattle.std.proofs.lemmas.List.Folds.{list_any-append}
 use Rattle.aql_packet.specs.declared.ids.SignalHandle.{SignalHandle}

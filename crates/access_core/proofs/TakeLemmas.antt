@@ -1,5 +1,5 @@
 -- What is owed to a packet that is handed over, by what is kept.
-use Rattle.std.proofs.Common.{◌≡◌, ℕ, ◌+◌, ◌-◌, ◌<◌, ◌≤◌, ◌^◌, List, [], ◌∷◌, ◌++◌, length, refl, sym, ◌∙◌, ap, subst, Bool, true, false, Option, Some, None, arith}
+use Rattle.std.proofs.Common.{◌≡◌, ℕ, ◌-◌, ◌<◌, ◌≤◌, ◌^◌, List, [], ◌∷◌, ◌++◌, length, refl, sym, ◌∙◌, ap, Bool, true, false, Option, Some, None, arith}
 use Rattle.std.specs.Prelude.{nat_lt, nat_le, All, not, ◌||◌, ◌&&◌, ◌==◌, map, slice_get, filter, option_map, if◌then◌else◌}
 use Rattle.std.proofs.lemmas.Option.{slice_get-map}
 use Rattle.std.proofs.lemmas.List.Elements.{All-append, All-cons}
@@ -21,20 +21,18 @@ use Rattle.core_model.specs.declared.outcome.Cause.TheVariants as cause
 use Rattle.core_model.specs.declared.refusal.Refusal.TheVariants as refusal
 use Rattle.core_model.specs.History.{Start}
 use Rattle.core_model.specs.Memory.{region_lengths}
-use Rattle.core_model.specs.Queues.{Opening, openings, owner, next_id, hands_over, errors}
+use Rattle.core_model.specs.Queues.{Opening, owner, next_id, hands_over, errors}
 use Rattle.core_model.specs.declared.entry.Entry.{Entry}
 use Rattle.queue_error.specs.declared.error.QueueError.{QueueError}
 use Rattle.std.proofs.lemmas.List.Sums.{count_by-le-length}
 use Rattle.std.proofs.lemmas.Bool.{leb-false, lt-ltb}
 use Rattle.access_core.specs.Moves.{CanHandOver}
-use Rattle.core_model.specs.Flight.{flight}
 use Rattle.core_model.specs.LaunchRules.{Facts, Range, ranges, may_use_range, may_use_ranges, first_failing, is_barrier, may_start}
-use Rattle.core_model.specs.Owed.{Owed, refuses, owed, refuse_if, refuse_unless, decided, facts_of}
+use Rattle.core_model.specs.Owed.{refuses, owed, refuse_if, refuse_unless, decided, facts_of}
 use Rattle.access_core.specs.declared.queue.Queue.{Queue}
 use Rattle.access_core.specs.declared.access.AccessCore.TheInside.{Inside}
-use Rattle.access_core.specs.Granted.{has_granted}
 use Rattle.access_core.specs.Judged.{facts_lent}
-use Rattle.access_core.specs.Kept.{IsKept, start_of, kept_opening, kept_next, kept_errors, kept_stopped, history_of}
+use Rattle.access_core.specs.Kept.{IsKept, start_of, kept_opening, kept_next, kept_errors, history_of}
 use Rattle.access_core.specs.Deciding.{TakesNext}
 
 numbered-map : (queues : List Queue) (n : ℕ) → numbered (map kept_opening queues) n ≡ option_map kept_opening (numbered queues n)

@@ -1,6 +1,6 @@
 -- The launch rules are those of the layout, and then those of the fields.
-use Rattle.std.proofs.Common.{◌≡◌, ℕ, List, [], refl, sym, ◌∙◌, ap, Bool, true, false, Option, Some, None}
-use Rattle.std.specs.Prelude.{not, find, if◌then◌else◌}
+use Rattle.std.proofs.Common.{◌≡◌, ℕ, List, refl, sym, ◌∙◌, ap, Bool, true, false, Option, Some, None}
+use Rattle.std.specs.Prelude.{not, if◌then◌else◌}
 use Rattle.aql_packet.specs.declared.packet.Packet.{Packet}
 use Rattle.aql_packet.specs.declared.packet.CodecRule.{CodecRule}
 use Rattle.aql_packet.specs.declared.packet.CodecRule.TheVariants as codec
@@ -9,7 +9,7 @@ use Rattle.aql_packet.proofs.ReadingLemmas.{decoded_is}
 use Rattle.queue_error.specs.declared.rule.Rule.{Rule}
 use Rattle.queue_error.specs.declared.rule.Rule.TheVariants as rule
 use Rattle.queue_error.specs.Texts.{rule_of}
-use Rattle.core_model.specs.LaunchRules.{Facts, holds_rule, first_failing}
+use Rattle.core_model.specs.LaunchRules.{Facts, first_failing}
 use Rattle.access_core.specs.Judged.{later_failing}
 
 -- the first codec rule that fails, by what each answers

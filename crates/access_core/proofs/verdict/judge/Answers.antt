@@ -1,5 +1,5 @@
 -- The rules of the layout come first, then those of the packet's fields.
-use Rattle.std.proofs.Common.{◌≡◌, sym, ◌∙◌, ap, Some}
+use Rattle.std.proofs.Common.{sym, ◌∙◌, ap, Some}
 use Rattle.access_core.proofs.Verdicts.{first_failing-refused, first_failing-decoded}
 use Rattle.access_core.proofs.verdict.judge.Goals as goal
 

@@ -1,19 +1,15 @@
 -- The packet is in flight, and the entry tells it.
-use Rattle.std.proofs.Common.{◌≡◌, ◌+◌, ◌≤◌, refl, sym, ◌∙◌, ap, subst, inl, Bool, true, false, Some, None, [], ◌∷◌, ◌++◌, length, length-append, arith}
-use Rattle.std.specs.Prelude.{nat_lt, ◌==◌, All, slice_index_or}
+use Rattle.std.proofs.Common.{◌≡◌, ◌+◌, refl, sym, subst, inl, true, false, [], length, length-append, arith}
+use Rattle.std.specs.Prelude.{nat_lt}
 use Rattle.std.proofs.lemmas.Bool.{ltb-false}
-use Rattle.aql_packet.specs.Reading.{decoded}
 use Rattle.core_model.specs.declared.event.Event.TheVariants.{Take}
 use Rattle.core_model.specs.declared.outcome.Outcome.TheVariants as outcome
-use Rattle.core_model.specs.declared.outcome.Taken.TheVariants.{Launched, Denied}
-use Rattle.core_model.specs.Owed.{error_at}
-use Rattle.core_model.specs.Flight.{flight_after}
-use Rattle.core_model.specs.Legal.{entry_of}
+use Rattle.core_model.specs.declared.outcome.Taken.TheVariants.{Launched}
 use Rattle.access_core.specs.Deciding.{TakesNext}
 use Rattle.core_model.specs.Memory.{region_lengths}
 use Rattle.access_core.specs.Reachable.{is_reachable}
 use Rattle.access_core.specs.Kept.{history_of, start_of}
-use Rattle.access_core.proofs.KeptMore.{IsKept-more, AuditMore, MovesAlong}
+use Rattle.access_core.proofs.KeptMore.{IsKept-more}
 use Rattle.access_core.proofs.TakeLemmas.{few-flying, kept-next, reachable-more}
 use Rattle.access_core.proofs.ErrorRooms.{ErrorRoom-launched}
 use Rattle.access_core.proofs.Calls.{full, entered, owed-inside}

@@ -1,11 +1,10 @@
 -- What is decided is what is owed, by what is kept.
-use Rattle.std.proofs.Common.{◌≡◌, ℕ, refl, sym, ◌∙◌, ap, subst, Bool, true, false, Option, Some, None, length, rules}
+use Rattle.std.proofs.Common.{◌≡◌, refl, ◌∙◌, true, false, Some, None, length, rules}
 use Rattle.std.specs.Prelude.{nat_lt, ◌||◌, ◌==◌, filter}
 use Rattle.aql_packet.specs.Reading.{barrier_bit}
 use Rattle.policy.specs.Policy.{numbered}
 use Rattle.core_model.specs.declared.flight.InFlight.{InFlight}
-use Rattle.core_model.specs.LaunchRules.{may_start, first_failing}
-use Rattle.access_core.specs.Judged.{facts_lent}
+use Rattle.core_model.specs.LaunchRules.{may_start}
 use Rattle.access_core.proofs.TakeLemmas.{take-unknown, take-known, reachable-launched, takes-next}
 use Rattle.access_core.proofs.access.AccessCore.may_take.Goals as goal
 

@@ -1,10 +1,10 @@
 -- What is kept moves along with the opening, which is entered where there is room.
-use Rattle.std.proofs.Common.{◌≡◌, refl, sym, subst, inl, Bool, true, false, [], ◌+◌, ◌≤◌, ◌<◌, length}
+use Rattle.std.proofs.Common.{◌≡◌, refl, sym, subst, inl, true, false, [], ◌+◌, ◌<◌, length}
 use Rattle.std.specs.Prelude.{nat_lt}
 use Rattle.std.proofs.lemmas.Bool.{ltb-false}
 use Rattle.core_model.specs.declared.event.Event.TheVariants.{OpenQueue}
 use Rattle.core_model.specs.declared.outcome.Outcome.TheVariants as outcome
-use Rattle.access_core.proofs.KeptMore.{IsKept-more, AuditMore, MovesAlong}
+use Rattle.access_core.proofs.KeptMore.{IsKept-more}
 use Rattle.std.proofs.lemmas.List.{map-append}
 use Rattle.access_core.specs.Kept.{kept_opening, kept_next, kept_errors, kept_stopped}
 use Rattle.core_model.specs.Queues.{openings}

@@ -1,5 +1,5 @@
 -- One row more is without the rights.
-use Rattle.std.proofs.Common.{◌≡◌, ◌<◌, length, arith}
+use Rattle.std.proofs.Common.{◌<◌, length, arith}
 use Rattle.access_core.proofs.RowLeft.{AreWithout-more}
 use Rattle.access_core.proofs.granted.Granted.revoke.Goals as goal
 

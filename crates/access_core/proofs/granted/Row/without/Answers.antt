@@ -1,5 +1,5 @@
 -- A row for others stays; a row for these keeps the rights that aren't named.
-use Rattle.std.proofs.Common.{◌≡◌, Bool, true, false, ◌∙◌, sym, refl}
+use Rattle.std.proofs.Common.{◌≡◌, true, false, ◌∙◌, sym}
 use Rattle.access_core.proofs.RowLeft.{are_these, IsWithout-other, IsWithout-these}
 use Rattle.access_core.proofs.granted.Row.without.Goals as goal
 

@@ -1,7 +1,6 @@
 -- The rights of the one set that aren't in the other.
-use Rattle.std.proofs.Common.{◌≡◌, ap, ◌∙◌, ◌&&◌, not, Bool, ◌<◌, ◌^◌, arith, rules}
+use Rattle.std.proofs.Common.{◌≡◌, ap, ◌∙◌, ◌<◌, ◌^◌, rules}
 use Rattle.bitflags.specs.Sets.{without}
-use Rattle.policy.specs.declared.rights.Rights.{Rights}
 use Rattle.policy.specs.Rights.{has}
 use Rattle.access_core.proofs.RightsLeft.{has-without}
 use Rattle.access_core.proofs.granted.revoking.left.Goals as goal
