@@ -1,5 +1,5 @@
 -- The exits of a call: refused, or with an entry.
-use Rattle.std.proofs.Common.{◌≡◌, ℕ, ◌+◌, ◌≤◌, ◌<◌, List, [], ◌∷◌, ◌++◌, length, refl, sym, ◌∙◌, ap, subst, Bool, true, false, inl, inr, arith, Result, Ok, Err, length-append}
+use Rattle.std.proofs.Common.{◌≡◌, ◌+◌, List, length, refl, sym, ◌∙◌, subst, true, false, Ok, Err, length-append}
 use Rattle.std.specs.Prelude.{nat_lt}
 use Rattle.core_model.specs.declared.entry.Entry.{Entry}
 use Rattle.core_model.specs.declared.entry.Effect.{Effect}
@@ -8,7 +8,7 @@ use Rattle.core_model.specs.declared.outcome.Outcome.{Outcome}
 use Rattle.core_model.specs.declared.refusal.Refusal.{Refusal}
 use Rattle.core_model.specs.declared.refusal.Refusal.TheVariants as refusal
 use Rattle.core_model.specs.History.{History}
-use Rattle.core_model.specs.Flight.{flight, flight_after}
+use Rattle.core_model.specs.Flight.{flight_after}
 use Rattle.core_model.specs.Owed.{Owed, refuses, answers, enters, owed}
 use Rattle.core_model.specs.Legal.{Meets, lacks_room, with_entry, entry_of}
 use Rattle.core_model.proofs.Meeting.{Meets-refused, Meets-answered, Meets-full, Meets-entered}

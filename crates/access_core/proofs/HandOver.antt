@@ -1,14 +1,15 @@
 -- One queue of the list changed: what is kept of it, and of the others.
-use Rattle.std.proofs.Common.{◌≡◌, ◌≢◌, ℕ, zero, suc, ◌+◌, ◌-◌, ◌<◌, ◌≤◌, List, [], ◌∷◌, ◌++◌, length, refl, sym, ◌∙◌, ap, subst, rules, Bool, true, false, Option, Some, None, arith, inl, inr, ◌⊎◌}
-use Rattle.std.specs.Prelude.{◌==◌, map, slice_get, slice_set, slice_index_or, nat_lt, if◌then◌else◌}
+use Rattle.std.proofs.Common.{◌≡◌, ℕ, zero, suc, ◌+◌, ◌-◌, ◌<◌, List, [], ◌∷◌, ◌++◌, length, length-append, refl, sym, ◌∙◌, ap, subst, rules, Bool, true, false, Option, Some, None, arith, inl, inr}
+use Rattle.std.specs.Prelude.{◌==◌, map, slice_get, slice_set, nat_lt, if◌then◌else◌}
 use Rattle.std.proofs.lemmas.Bool.{cases_eq, ltb-true, lt-ltb}
 use Rattle.std.proofs.Common.{eq-eqb}
 use Rattle.aql_packet.specs.declared.ids.QueueId.{QueueId}
 use Rattle.queue_error.specs.declared.error.QueueError.{QueueError}
 use Rattle.policy.specs.Policy.{numbered}
 use Rattle.access_core.specs.declared.queue.Queue.{Queue}
-use Rattle.access_core.specs.QueueShown.{kept_opening, kept_next, kept_errors, kept_stopped}
-use Rattle.access_core.specs.Moves.{HandsOver, errors_with}
+use Rattle.access_core.specs.QueueShown.{kept_opening, kept_next, kept_errors, kept_stopped, kept_places}
+use Rattle.sequences.specs.Room.{Roomy}
+use Rattle.access_core.specs.Moves.{HandsOver, HasFailed, IsHalted, errors_with}
 
 -- what is read of every place stays where the changed item reads alike
 attr-kept : {X : Type 0} (f : Option Queue → X) (qs : List Queue) (i : ℕ) (q v : Queue) → slice_get qs i ≡ Some q → f (Some v) ≡ f (Some q) → (k : ℕ) → f (slice_get (slice_set qs i v) k) ≡ f (slice_get qs k)
@@ -101,34 +102,77 @@ module _ (qs : List Queue) (n : ℕ) (q v : Queue) (above : 0 < n) (at : slice_g
   ]
 
   -- the errors change at the changed number alone
-  numbered-errors : (error : QueueError) → error.queue.0 ≡ n → q.errors.items ≡ [] → v.errors.items ≡ error ∷ [] → (m : QueueId) → kept_errors (numbered (slice_set qs (n - 1) v) m.0) ≡ errors_with m (kept_errors (numbered qs m.0)) (Some error)
-  numbered-errors error mine none one m = elim (cases_eq n m.0) [
+  numbered-errors : (error : QueueError) → error.queue.0 ≡ n → v.errors.items ≡ q.errors.items ++ error ∷ [] → (m : QueueId) → kept_errors (numbered (slice_set qs (n - 1) v) m.0) ≡ errors_with m (kept_errors (numbered qs m.0)) (Some error)
+  numbered-errors error mine more m = elim (cases_eq n m.0) [
     | inl same ↦
         let here : numbered qs m.0 ≡ Some q = numbered-at qs n m.0 q above same at in
         let now : numbered (slice_set qs (n - 1) v) m.0 ≡ Some v = numbered-at (slice_set qs (n - 1) v) n m.0 v above same (attr-changed kept_next qs (n - 1) q v at) in
         let eq : (error.queue.0 == m.0) ≡ true = eq-eqb error.queue.0 m.0 (mine ∙ same) in
-        rw (now, here, eq, none) one
+        rw (now, here, eq) more
     | inr other ↦
         let eq : (error.queue.0 == m.0) ≡ false = not_same error.queue.0 m.0 (λ e. other (sym mine ∙ e)) in
         rw eq (ap kept_errors (numbered-other qs n v m.0 above other))
   ]
 
+  -- the changed number alone is stopped
+  numbered-stopped : v.stopped ≡ true → (m : ℕ) → kept_stopped (numbered (slice_set qs (n - 1) v) m) ≡ (if n == m then true else kept_stopped (numbered qs m))
+  numbered-stopped stopped m = elim (cases_eq n m) [
+    | inl same ↦
+        let now : numbered (slice_set qs (n - 1) v) m ≡ Some v = numbered-at (slice_set qs (n - 1) v) n m v above same (attr-changed kept_next qs (n - 1) q v at) in
+        let eq : (n == m) ≡ true = eq-eqb n m same in
+        rw (now, eq) stopped
+    | inr other ↦
+        let eq : (n == m) ≡ false = not_same n m other in
+        rw eq (ap kept_stopped (numbered-other qs n v m above other))
+  ]
+
+  -- an error more takes a place that was free
+  places-with : (error : QueueError) → v.errors.items ≡ q.errors.items ++ error ∷ [] → v.errors.room + 1 ≡ q.errors.room → kept_places (Some v) ≡ kept_places (Some q)
+  places-with error more room = let longer : length v.errors.items ≡ length q.errors.items + 1 = ap length more ∙ length-append q.errors.items (error ∷ []) in omega arith
+
+  places-same : v.errors ≡ q.errors → kept_places (Some v) ≡ kept_places (Some q)
+  places-same errors = ap (λ (l : Roomy QueueError). length l.items + l.room) errors
+
   -- one packet more was handed over
-  pub HandsOver-next : (queue : QueueId) → queue.0 ≡ n → v.next ≡ q.next + 1 → kept_opening v ≡ kept_opening q → v.errors.items ≡ q.errors.items → v.stopped ≡ q.stopped → HandsOver qs (slice_set qs (n - 1) v) queue None
+  pub HandsOver-next : (queue : QueueId) → queue.0 ≡ n → v.next ≡ q.next + 1 → kept_opening v ≡ kept_opening q → v.errors ≡ q.errors → v.stopped ≡ q.stopped → HandsOver qs (slice_set qs (n - 1) v) queue None
   HandsOver-next queue is rises opening errors stopped = record {
     openings = openings-kept qs (n - 1) q v at opening;
     next_ids = λ m. rw is (numbered-next rises m.0);
-    errors = λ m. numbered-kept kept_errors qs n q v at errors m.0;
+    errors = λ m. numbered-kept kept_errors qs n q v at (ap (λ (l : Roomy QueueError). l.items) errors) m.0;
     stops = λ m. numbered-kept kept_stopped qs n q v at stopped m.0;
+    places = λ m. numbered-kept kept_places qs n q v at (places-same errors) m.0;
     count = count-kept qs (n - 1) v;
   }
 
-  -- one packet more was handed over, and the queue has its first error
-  pub HandsOver-error : (queue : QueueId) (error : QueueError) → queue.0 ≡ n → error.queue.0 ≡ n → v.next ≡ q.next + 1 → kept_opening v ≡ kept_opening q → q.errors.items ≡ [] → v.errors.items ≡ error ∷ [] → v.stopped ≡ q.stopped → HandsOver qs (slice_set qs (n - 1) v) queue (Some error)
-  HandsOver-error queue error is mine rises opening none one stopped = record {
+  -- one packet more was handed over, and the queue has an error more
+  pub HandsOver-error : (queue : QueueId) (error : QueueError) → queue.0 ≡ n → error.queue.0 ≡ n → v.next ≡ q.next + 1 → kept_opening v ≡ kept_opening q → v.errors.items ≡ q.errors.items ++ error ∷ [] → v.errors.room + 1 ≡ q.errors.room → v.stopped ≡ q.stopped → HandsOver qs (slice_set qs (n - 1) v) queue (Some error)
+  HandsOver-error queue error is mine rises opening more room stopped = record {
     openings = openings-kept qs (n - 1) q v at opening;
     next_ids = λ m. rw is (numbered-next rises m.0);
-    errors = λ m. numbered-errors error mine none one m;
+    errors = λ m. numbered-errors error mine more m;
     stops = λ m. numbered-kept kept_stopped qs n q v at stopped m.0;
+    places = λ m. numbered-kept kept_places qs n q v at (places-with error more room) m.0;
+    count = count-kept qs (n - 1) v;
+  }
+
+  -- the queue has an error more
+  pub HasFailed-error : (error : QueueError) → error.queue.0 ≡ n → v.next ≡ q.next → kept_opening v ≡ kept_opening q → v.errors.items ≡ q.errors.items ++ error ∷ [] → v.errors.room + 1 ≡ q.errors.room → v.stopped ≡ q.stopped → HasFailed qs (slice_set qs (n - 1) v) error
+  HasFailed-error error mine next opening more room stopped = record {
+    openings = openings-kept qs (n - 1) q v at opening;
+    next_ids = λ m. numbered-kept kept_next qs n q v at next m.0;
+    errors = λ m. numbered-errors error mine more m;
+    stops = λ m. numbered-kept kept_stopped qs n q v at stopped m.0;
+    places = λ m. numbered-kept kept_places qs n q v at (places-with error more room) m.0;
+    count = count-kept qs (n - 1) v;
+  }
+
+  -- the queue is stopped
+  pub IsHalted-stopped : (queue : QueueId) → queue.0 ≡ n → v.next ≡ q.next → kept_opening v ≡ kept_opening q → v.errors ≡ q.errors → v.stopped ≡ true → IsHalted qs (slice_set qs (n - 1) v) queue
+  IsHalted-stopped queue is next opening errors stopped = record {
+    openings = openings-kept qs (n - 1) q v at opening;
+    next_ids = λ m. numbered-kept kept_next qs n q v at next m.0;
+    errors = λ m. numbered-kept kept_errors qs n q v at (ap (λ (l : Roomy QueueError). l.items) errors) m.0;
+    stops = λ m. rw is (numbered-stopped stopped m.0);
+    places = λ m. numbered-kept kept_places qs n q v at (places-same errors) m.0;
     count = count-kept qs (n - 1) v;
   }

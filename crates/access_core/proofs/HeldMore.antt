@@ -1,11 +1,9 @@
 -- What packets in flight hold stays as it was at their launch, whatever entry comes behind.
-use Rattle.std.proofs.Common.{◌≡◌, ℕ, ◌+◌, ◌-◌, ◌<◌, ◌≤◌, List, [], ◌∷◌, ◌++◌, length, refl, sym, ◌∙◌, ap, subst, Bool, true, false, Option, Some, None, arith, append_assoc, inl, inr, zero, suc}
-use Rattle.std.specs.Prelude.{All, ◌==◌, ◌&&◌, ◌||◌, if◌then◌else◌, slice_get, nat_lt, fold, map, filter, not}
-use Rattle.std.specs.List.{list_any}
+use Rattle.std.proofs.Common.{◌≡◌, ℕ, ◌-◌, ◌<◌, List, [], ◌∷◌, ◌++◌, refl, ◌∙◌, ap, subst, Bool, true, false, Option, Some, None, arith, append_assoc, zero, suc}
+use Rattle.std.specs.Prelude.{All, slice_get, nat_lt, fold, map, filter, not}
 use Rattle.std.proofs.lemmas.Bool.{and_from, eq-eqb}
 use Rattle.std.proofs.lemmas.List.{append-nil}
-use Rattle.std.proofs.lemmas.List.Elements.{All-nil, All-append, All-push, All-map, All-filter, All-weaker, All-same}
-use Rattle.std.proofs.lemmas.List.Folds.{list_any-append}
+use Rattle.std.proofs.lemmas.List.Elements.{All-nil, All-push, All-map, All-filter, All-weaker}
 use Rattle.aql_packet.specs.declared.ids.QueueId.{QueueId}
 use Rattle.aql_packet.specs.declared.ids.PacketId.{PacketId}
 use Rattle.aql_packet.specs.declared.packet.Packet.{Packet}
@@ -26,13 +24,13 @@ use Rattle.core_model.specs.declared.flight.InFlight.{InFlight}
 use Rattle.core_model.specs.History.{Start}
 use Rattle.core_model.specs.Queues.{Opening, owner, openings, opening_of, next_id}
 use Rattle.core_model.specs.Flight.{flight, flight_after, flight_moved, flight_after_effect, with_launched, as_launched, is_packet, group_ran, has_seen}
-use Rattle.core_model.specs.Holds.{held, held_from, held_if, held_at_launch, launches, bytes_taken, Held}
+use Rattle.core_model.specs.Holds.{held_from, held_if, launches, bytes_taken}
 use Rattle.core_model.specs.Owed.{owed, enters}
 use Rattle.core_model.specs.Legal.{IsLegal, IsLegalAfter, entry_of, with_entry}
 use Rattle.core_model.proofs.More.{openings-more, with_some, flight-more}
 use Rattle.core_model.proofs.Legality.{IsLegal-more}
 use Rattle.access_core.specs.Held.{IsHeld}
-use Rattle.access_core.proofs.Launches.{was_launched, IsLaunch, IsNext, IsNext-from_owed, AreBelowNext-legal}
+use Rattle.access_core.proofs.Launches.{was_launched, IsNext-from_owed, AreBelowNext-legal}
 
 -- ---- one entry more
 

@@ -11,7 +11,7 @@ use Rattle.policy.specs.Policy.{numbered}
 use Rattle.core_model.specs.declared.entry.Entry.{Entry}
 use Rattle.core_model.specs.declared.flight.InFlight.{InFlight}
 use Rattle.core_model.specs.History.{Start}
-use Rattle.core_model.specs.Queues.{Opening, owner, openings}
+use Rattle.core_model.specs.Queues.{Opening, openings}
 use Rattle.core_model.specs.Flight.{flight}
 use Rattle.core_model.specs.Holds.{Held, holder, least_of, is_owned, holds_one_of, held_at_launch}
 use Rattle.core_model.specs.Legal.{IsLegal}

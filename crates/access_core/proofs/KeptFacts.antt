@@ -1,5 +1,5 @@
 -- What follows from what is kept.
-use Rattle.std.proofs.Common.{◌≡◌, ℕ, ◌+◌, ◌<◌, ◌≤◌, List, length, arith, ap, sym, ◌∙◌, Option, Some, None}
+use Rattle.std.proofs.Common.{◌≡◌, ◌<◌, length, ap, sym, ◌∙◌}
 use Rattle.std.proofs.lemmas.List.{length-map}
 use Rattle.core_model.specs.Queues.{openings}
 use Rattle.access_core.specs.declared.access.AccessCore.TheInside.{Inside}

@@ -1,5 +1,5 @@
 -- What is kept stays what the history says when an entry is put behind it and the fields move along.
-use Rattle.std.proofs.Common.{◌≡◌, ℕ, ◌+◌, ◌≤◌, ◌^◌, List, [], ◌∷◌, ◌++◌, length, refl, sym, ◌∙◌, ap, subst, Bool, true, false, Option, Some, None, arith, length-append}
+use Rattle.std.proofs.Common.{◌≡◌, ℕ, ◌+◌, ◌≤◌, List, [], ◌∷◌, length, sym, ◌∙◌, ap, subst, true, Some, arith, length-append}
 use Rattle.std.specs.Prelude.{map, fold, if◌then◌else◌, All}
 use Rattle.aql_packet.specs.declared.ids.ClientId.{ClientId}
 use Rattle.aql_packet.specs.declared.ids.QueueId.{QueueId}
@@ -7,23 +7,22 @@ use Rattle.policy.specs.declared.object.Object.{Object}
 use Rattle.policy.specs.declared.rights.Right.{Right}
 use Rattle.policy.specs.Policy.{numbered}
 use Rattle.regions.specs.Memory.{byte_at, lengths_of, lies_in_region}
-use Rattle.core_model.specs.declared.entry.Entry.{Entry}
 use Rattle.core_model.specs.declared.entry.Effect.{Effect}
 use Rattle.core_model.specs.declared.event.Event.{Event}
 use Rattle.core_model.specs.declared.outcome.Outcome.{Outcome}
-use Rattle.core_model.specs.History.{Start}
 use Rattle.core_model.specs.Grants.{in_force, in_force_after}
-use Rattle.core_model.specs.Memory.{memory_at, byte_after, signals, signals_after, region_lengths}
-use Rattle.core_model.specs.Queues.{Opening, opening_of, openings, next_id, hands_over, errors, error_of, is_stopped, stops}
-use Rattle.core_model.specs.Flight.{flight, flight_after}
+use Rattle.core_model.specs.Memory.{memory_at, byte_after, signals_after, region_lengths}
+use Rattle.core_model.specs.Queues.{opening_of, hands_over, error_of, stops}
+use Rattle.core_model.specs.Flight.{flight_after}
 use Rattle.core_model.specs.Owed.{enters, owed}
-use Rattle.core_model.specs.Legal.{IsLegal, entry_of, with_entry}
+use Rattle.core_model.specs.Legal.{entry_of, with_entry}
 use Rattle.core_model.proofs.More.{in_force-more, memory_at-more, signals-more, openings-more, with_some, next_id-more, errors-more, with_error, is_stopped-more, flight-more}
 use Rattle.core_model.proofs.Legality.{IsLegal-more}
 use Rattle.access_core.specs.declared.access.AccessCore.TheInside.{Inside}
 use Rattle.grants.specs.Table.{has_granted}
 use Rattle.access_core.specs.Kept.{IsKept, start_of, kept_opening, kept_next, kept_errors, kept_stopped}
 use Rattle.access_core.specs.Reachable.{is_reachable}
+use Rattle.access_core.specs.ErrorRoom.{HasErrorRoom}
 
 -- How the fields move along with an entry.
 pub record MovesAlong (a b : Inside) (event : Event) (outcome : Outcome) (effects : List Effect) : Type 0 where
@@ -38,6 +37,7 @@ pub record MovesAlong (a b : Inside) (event : Event) (outcome : Outcome) (effect
   pub few_queues : length b.queues.items ≤ 64
   pub flight : b.flight ≡ flight_after a.flight (entry_of event outcome effects)
   pub reachable : All (λ f. is_reachable (region_lengths (start_of a)) f.packet ≡ true) b.flight
+  pub error_room : HasErrorRoom b.queues.items b.flight
 
 -- The audit has one entry more, and there was room for it.
 pub record AuditMore (a b : Inside) (event : Event) (outcome : Outcome) (effects : List Effect) : Type 0 where
@@ -74,6 +74,7 @@ module _ (a b : Inside) (event : Event) (outcome : Outcome) (effects : List Effe
     few_queues = moved.few_queues;
     flight = rw (more.policy, more.entries, flight-more, ← kept.flight) moved.flight;
     reachable = rw more.policy moved.reachable;
+    error_room = moved.error_room;
     room = omega (arith, longer, more.room, more.capacity);
     places = omega (arith, longer, more.place, more.capacity, kept.places);
     few = omega (arith, more.capacity, kept.few);

@@ -18,7 +18,7 @@ use Rattle.core_model.specs.declared.refusal.Refusal.{Refusal}
 use Rattle.core_model.specs.History.{Start}
 use Rattle.core_model.specs.Queues.{Opening, owner, next_id, hands_over, is_down}
 use Rattle.core_model.specs.Holds.{launches}
-use Rattle.core_model.specs.Owed.{Owed, owed, enters, refuses, refuse_if, refuse_unless, for_some, owed_take}
+use Rattle.core_model.specs.Owed.{Owed, owed, enters, refuse_if, refuse_unless, for_some, owed_take}
 use Rattle.core_model.specs.Legal.{IsLegal, IsLegalAfter}
 use Rattle.core_model.proofs.More.{next_id-more}
 

@@ -4,6 +4,9 @@ pub mod QueueLemmas
 pub mod KeptFacts
 pub mod TakeLemmas
 pub mod HandOver
+pub mod ErrorRooms
+pub mod PollLemmas
+pub mod StopLemmas
 pub mod LookupLemmas
 pub mod ReadLemmas
 pub mod ListLemmas

@@ -21,7 +21,7 @@ use Rattle.core_model.specs.Flight.{flight}
 use Rattle.queue_error.specs.declared.error.QueueError.{QueueError}
 use Rattle.access_core.specs.declared.queue.Queue.{Queue}
 use Rattle.access_core.specs.declared.access.AccessCore.TheInside.{Inside}
-use Rattle.access_core.specs.Granted.{has_granted}
+use Rattle.grants.specs.Table.{has_granted}
 use Rattle.access_core.specs.Kept.{IsKept, start_of, kept_opening, kept_next, kept_errors, kept_stopped}
 use Rattle.access_core.specs.Reachable.{is_reachable}
 use Rattle.access_core.specs.Opening.{lengths_of_rows, values_of_rows}

@@ -180,7 +180,7 @@ if-err P Q (Err e) step holds = step e holds
 
 -- ---- what is kept, and what is owed by it
 
-all-found : {X : Type 0} (P : X → Type 0) (test : X → Bool) (xs : List X) (f : X) → All P xs → find test xs ≡ Some f → P f
+pub all-found : {X : Type 0} (P : X → Type 0) (test : X → Bool) (xs : List X) (f : X) → All P xs → find test xs ≡ Some f → P f
 all-found P test [] f all found = absurd cc
 all-found P test (x ∷ xs) f all found = first (test x) found (all-found P test xs f (All-tail P x xs all))
   where

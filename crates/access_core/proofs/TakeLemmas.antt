@@ -1,6 +1,6 @@
 -- What is owed to a packet that is handed over, by what is kept.
-use Rattle.std.proofs.Common.{◌≡◌, ℕ, ◌+◌, ◌-◌, ◌<◌, ◌≤◌, ◌^◌, List, [], ◌∷◌, ◌++◌, length, refl, sym, ◌∙◌, ap, subst, Bool, true, false, Option, Some, None, arith}
-use Rattle.std.specs.Prelude.{nat_lt, All, not, ◌||◌, ◌&&◌, ◌==◌, map, slice_get, filter, option_map, if◌then◌else◌}
+use Rattle.std.proofs.Common.{◌≡◌, ℕ, ◌-◌, ◌<◌, ◌≤◌, ◌^◌, List, [], ◌∷◌, ◌++◌, length, refl, sym, ◌∙◌, ap, Bool, true, false, Option, Some, None, arith}
+use Rattle.std.specs.Prelude.{nat_lt, nat_le, All, not, ◌||◌, ◌&&◌, ◌==◌, map, slice_get, filter, option_map, if◌then◌else◌}
 use Rattle.std.proofs.lemmas.Option.{slice_get-map}
 use Rattle.std.proofs.lemmas.List.Elements.{All-append, All-cons}
 use Rattle.aql_packet.specs.declared.ids.QueueId.{QueueId}
@@ -11,29 +11,29 @@ use Rattle.aql_packet.specs.Reading.{barrier_bit, decoded}
 use Rattle.regions.specs.Memory.{is_within}
 use Rattle.queue_error.specs.declared.rule.Rule.{Rule}
 use Rattle.queue_error.specs.declared.rule.Rule.TheVariants as rule
-use Rattle.std.specs.List.{list_all}
+use Rattle.std.specs.List.{list_all, list_any}
 use Rattle.access_core.specs.Reachable.{is_reachable}
 use Rattle.packet_processor.proofs.FirstFailing.{first_failing-decoded}
 use Rattle.policy.specs.Policy.{numbered}
 use Rattle.core_model.specs.declared.event.Event.TheVariants.{Take}
 use Rattle.core_model.specs.declared.flight.InFlight.{InFlight}
+use Rattle.core_model.specs.declared.outcome.Cause.TheVariants as cause
 use Rattle.core_model.specs.declared.refusal.Refusal.TheVariants as refusal
 use Rattle.core_model.specs.History.{Start}
 use Rattle.core_model.specs.Memory.{region_lengths}
-use Rattle.core_model.specs.Queues.{Opening, openings, owner, next_id, hands_over, errors}
+use Rattle.core_model.specs.Queues.{Opening, owner, next_id, hands_over, errors}
 use Rattle.core_model.specs.declared.entry.Entry.{Entry}
 use Rattle.queue_error.specs.declared.error.QueueError.{QueueError}
 use Rattle.std.proofs.lemmas.List.Sums.{count_by-le-length}
-use Rattle.std.proofs.lemmas.Bool.{lt-ltb}
+use Rattle.std.proofs.lemmas.Bool.{leb-false, lt-ltb}
 use Rattle.access_core.specs.Moves.{CanHandOver}
-use Rattle.core_model.specs.Flight.{flight}
-use Rattle.core_model.specs.LaunchRules.{Facts, Range, ranges, may_use_range, may_use_ranges, first_failing, may_start}
-use Rattle.core_model.specs.Owed.{Owed, refuses, owed, refuse_if, refuse_unless, decided, facts_of}
+use Rattle.core_model.specs.LaunchRules.{Facts, Range, ranges, may_use_range, may_use_ranges, first_failing, is_barrier, may_start}
+use Rattle.core_model.specs.Owed.{refuses, owed, refuse_if, refuse_unless, decided, facts_of}
 use Rattle.access_core.specs.declared.queue.Queue.{Queue}
 use Rattle.access_core.specs.declared.access.AccessCore.TheInside.{Inside}
 use Rattle.grants.specs.Table.{has_granted}
 use Rattle.access_core.specs.Judged.{facts_lent}
-use Rattle.access_core.specs.Kept.{IsKept, start_of, kept_opening, kept_next, kept_errors, kept_stopped, history_of}
+use Rattle.access_core.specs.Kept.{IsKept, start_of, kept_opening, kept_next, kept_errors, history_of}
 use Rattle.access_core.specs.Deciding.{TakesNext}
 
 numbered-map : (queues : List Queue) (n : ℕ) → numbered (map kept_opening queues) n ≡ option_map kept_opening (numbered queues n)
@@ -106,10 +106,29 @@ reachable-launched a q bytes p kept found none =
     rw (← kept.lengths) (reachable-used (facts_lent a.policy a.granted a.memory q.client q.agent) p
     (passed-ranges _ _ (may_use_ranges (facts_lent a.policy a.granted a.memory q.client q.agent) p) _ (sym (first_failing-decoded _ bytes p found) ∙ none)))
 
--- a queue that is kept and not down takes its next packet
-pub takes-next : (a : Inside) (kept : IsKept a) (queue : QueueId) (q : Queue) → numbered a.queues.items queue.0 ≡ Some q → (nat_lt 0 (length q.errors.items) || q.stopped) ≡ false → TakesNext (history_of a) queue
-takes-next a kept queue q some down =
-    (kept_opening q, owner-kept a queue kept ∙ ap (option_map kept_opening) some, rw (kept.errors queue, kept.stops queue, some) down)
+-- a packet that may start finds a slot free
+may_start-few : (fs : List InFlight) (barrier : Bool) → may_start fs barrier ≡ None → length fs < 8
+unfolding may_start
+may_start-few fs barrier none = by_tests (list_any (λ (f : InFlight). is_barrier f.packet) fs) (barrier && nat_lt 0 (length fs)) (nat_le 8 (length fs)) refl none
+  where
+    by_tests : (first second third : Bool) → nat_le 8 (length fs) ≡ third → (if first then Some cause.Barrier else if second then Some cause.Active else if third then Some cause.Slots else None) ≡ None → length fs < 8
+    by_tests true second third is none = absurd (cc)
+    by_tests false true third is none = absurd (cc)
+    by_tests false false true is none = absurd (cc)
+    by_tests false false false is none = leb-false 8 (length fs) is
+
+-- a queue that is kept, and not down, and where a packet may start takes its next packet
+pub takes-next : (a : Inside) (kept : IsKept a) (queue : QueueId) (q : Queue) (barrier : Bool) → numbered a.queues.items queue.0 ≡ Some q → (nat_lt 0 (length q.errors.items) || q.stopped) ≡ false → may_start (filter (λ (f : InFlight). f.queue.0 == queue.0) a.flight) barrier ≡ None → TakesNext (history_of a) queue
+takes-next a kept queue q barrier some down starts = (
+  kept_opening q,
+  owner-kept a queue kept ∙ ap (option_map kept_opening) some,
+  rw (kept.errors queue, kept.stops queue, some) down,
+  rw (← kept.flight) (may_start-few _ barrier starts),
+)
+
+-- the packets of a queue in flight that are kept are those of the history
+pub few-flying : (a : Inside) (kept : IsKept a) (queue : QueueId) → TakesNext (history_of a) queue → length (filter (λ (f : InFlight). f.queue.0 == queue.0) a.flight) < 8
+few-flying a kept queue takes = rw kept.flight takes.3
 
 none_opening : (o : Opening) → None ≡ Some o → ⊥
 none_opening o e = cc

@@ -1,5 +1,5 @@
 -- What was decided of a packet that is handed over.
-use Rattle.std.specs.Prelude.{◌≡◌, ℕ, List, [], Some}
+use Rattle.std.specs.Prelude.{◌≡◌, ◌<◌, ℕ, List, [], length, Some}
 use Rattle.aql_packet.specs.declared.ids.QueueId.{QueueId}
 use Rattle.aql_packet.specs.declared.ids.PacketId.{PacketId}
 use Rattle.aql_packet.specs.Reading.{decoded}
@@ -9,16 +9,18 @@ use Rattle.core_model.specs.declared.outcome.Taken.TheVariants.{Launched, Denied
 use Rattle.core_model.specs.History.{History}
 use Rattle.core_model.specs.Memory.{region_lengths}
 use Rattle.core_model.specs.Queues.{Opening, owner, is_down}
-use Rattle.core_model.specs.Owed.{owed, answers, enters, error_at}
+use Rattle.core_model.specs.Owed.{owed, answers, enters, error_at, flight_of}
+use Rattle.core_model.specs.LaunchRules.{SLOTS}
 use Rattle.access_core.specs.Reachable.{is_reachable}
 use Rattle.access_core.specs.declared.access.taking.Decision.{Decision}
 use Rattle.access_core.specs.declared.access.taking.Decision.TheVariants.{Wait, Deny, Launch}
 use Rattle.std.specs.Prelude.{true, false}
 
--- a queue takes its next packet: it was opened, and launches packets yet
+-- a queue takes its next packet: it was opened, launches packets yet, and has a slot free
 abbrev pub TakesNext : History → QueueId → Type 0
 TakesNext history queue =
     (opening : Opening) × (owner history.start history.entries queue ≡ Some opening) × (is_down history.start history.entries queue ≡ false)
+    × (length (flight_of history.start history.entries queue) < SLOTS)
 
 -- what is owed to the packet is what was decided; a packet that is launched is the one that the bytes lay out, and reaches
 -- only what lies whole in a region

@@ -1,28 +1,22 @@
 -- What the core keeps beside its audit, and that it is what the audit says.
-use Rattle.std.specs.Prelude.{◌≡◌, ℕ, ◌+◌, ◌^◌, ◌≤◌, Bool, true, false, List, [], map, length, Option, Some, None, All}
-use Rattle.std.specs.List.{list_all}
+use Rattle.std.specs.Prelude.{◌≡◌, ℕ, ◌+◌, ◌^◌, ◌≤◌, true, map, length, Some, All}
 use Rattle.aql_packet.specs.declared.ids.ClientId.{ClientId}
 use Rattle.aql_packet.specs.declared.ids.QueueId.{QueueId}
-use Rattle.aql_packet.specs.declared.packet.Packet.{Packet}
-use Rattle.aql_packet.specs.declared.packet.Packet.TheVariants as packet
 use Rattle.policy.specs.declared.object.Object.{Object}
 use Rattle.policy.specs.declared.rights.Right.{Right}
-use Rattle.policy.specs.Policy.{Declared, numbered}
-use Rattle.regions.specs.Memory.{byte_at, lengths_of, lies_in_region, is_within}
-use Rattle.core_model.specs.declared.entry.Entry.{Entry}
-use Rattle.core_model.specs.declared.flight.InFlight.{InFlight}
+use Rattle.policy.specs.Policy.{numbered}
+use Rattle.regions.specs.Memory.{byte_at, lengths_of, lies_in_region}
 use Rattle.core_model.specs.History.{Start, History}
 use Rattle.core_model.specs.Grants.{in_force}
 use Rattle.core_model.specs.Memory.{memory_at, signals, region_lengths}
-use Rattle.core_model.specs.Queues.{Opening, openings, next_id, errors, is_stopped}
-use Rattle.queue_error.specs.declared.error.QueueError.{QueueError}
+use Rattle.core_model.specs.Queues.{openings, next_id, errors, is_stopped}
 use Rattle.core_model.specs.Flight.{flight}
-use Rattle.core_model.specs.LaunchRules.{ranges}
 use Rattle.core_model.specs.Legal.{IsLegal}
 use Rattle.access_core.specs.declared.access.AccessCore.TheInside.{Inside}
 use Rattle.grants.specs.Table.{has_granted}
 pub use Rattle.access_core.specs.QueueShown.{kept_opening, kept_next, kept_errors, kept_stopped}
 use Rattle.access_core.specs.Reachable.{is_reachable}
+use Rattle.access_core.specs.ErrorRoom.{HasErrorRoom}
 
 -- what the history begins from
 abbrev pub start_of : Inside → Start
@@ -50,6 +44,8 @@ pub record IsKept (a : Inside) : Type 0 where
   -- the packets in flight, none of which reaches past a region
   pub flight : a.flight ≡ flight (start_of a) a.audit.items
   pub reachable : All (λ f. is_reachable (region_lengths (start_of a)) f.packet ≡ true) a.flight
+  -- room for an error of each packet in flight
+  pub error_room : HasErrorRoom a.queues.items a.flight
   -- room for an entry of each packet in flight, and memory for all entries
   pub room : length a.audit.items + length a.flight ≤ a.capacity
   pub places : a.capacity ≤ length a.audit.items + a.audit.room

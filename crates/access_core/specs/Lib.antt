@@ -3,6 +3,7 @@ pub mod Owing
 pub mod Judged
 pub mod QueueShown
 pub mod Moves
+pub mod ErrorRoom
 pub mod Reachable
 pub mod Deciding
 pub mod Kept
@@ -12,6 +13,8 @@ pub mod ToldQueries
 pub mod Listed
 pub mod ToldWork
 pub mod ToldHost
+pub mod Polling
+pub mod Stopping
 pub mod OwingHost
 pub mod Held
 pub mod OwingRevoke

@@ -1,7 +1,8 @@
 -- What is kept of queues.
-use Rattle.std.specs.Prelude.{ℕ, Bool, false, List, [], Option, Some, None}
+use Rattle.std.specs.Prelude.{ℕ, ◌+◌, Bool, false, List, [], length, Option, Some, None}
 use Rattle.queue_error.specs.declared.error.QueueError.{QueueError}
 use Rattle.core_model.specs.Queues.{Opening}
+use Rattle.core_model.specs.LaunchRules.{SLOTS}
 use Rattle.access_core.specs.declared.queue.Queue.{Queue}
 
 -- the opening of a queue that is kept
@@ -20,3 +21,8 @@ kept_errors (Some q) = q.errors.items
 abbrev pub kept_stopped : Option Queue → Bool
 kept_stopped None = false
 kept_stopped (Some q) = q.stopped
+
+-- how many places a queue has for errors, taken or free: as many as packets of it can be in flight (own)
+abbrev pub kept_places : Option Queue → ℕ
+kept_places None = SLOTS
+kept_places (Some q) = length q.errors.items + q.errors.room

@@ -8,11 +8,15 @@ mod host;
 mod listing;
 mod lookups;
 mod opening;
+mod polling;
 mod queries;
 mod queueing;
 mod revoking;
 mod running;
+mod serving;
+mod stopping;
 mod taking;
+mod told;
 mod working;
 
 use crate::queue::Queue;

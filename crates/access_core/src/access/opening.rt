@@ -6,9 +6,9 @@ ghost use Rattle.core_model.specs.Legal.{opened};
 ghost use Rattle.access_core.specs.Opening.{is_capacity, lengths_of_rows, Opens, values_of_rows};
 
 use crate::access::{AccessCore, OpenFault};
-use crate::granted::Granted;
 use aql_packet::{RegionHandle, SignalHandle};
 use core_model::Entry;
+use grants::RightsTable;
 use policy::{Kind, Policy};
 use regions::Regions;
 use sequences::{Reserved, Sequence};
@@ -94,7 +94,7 @@ fn blank(
 {
     AccessCore {
         policy,
-        granted: Granted::new(alloc),
+        granted: RightsTable::new(alloc),
         memory,
         signals,
         queues: Vec::new(alloc),

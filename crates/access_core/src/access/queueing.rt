@@ -16,6 +16,10 @@ use std::alloc::Global;
 
 const QUEUES: usize = 64;
 
+/// How many packets of a queue are in flight at the most, and so how many errors it can have: it
+/// launches nothing more after the first, and each packet in flight can leave one.
+const SLOTS: usize = 8;
+
 // Whether a ring may have so many slots: a power of two from 2 to 4,096.
 fn is_ring_size(size: u64) -> bool
     ensures { result ≡ is_ring_size size }
@@ -41,12 +45,13 @@ impl AccessCore {
         if lacks_room(self.capacity, self.audit.len(), self.flight.len()) {
             return Err(Refusal::AuditFull);
         }
+        let errors = Reserved::with_room(alloc, SLOTS)?;
         self.queues.push(Queue {
             client,
             agent,
             next: 0,
             stopped: false,
-            errors: Reserved::new(alloc),
+            errors,
         })?;
         let event = Event::OpenQueue {
             client,

@@ -6,12 +6,9 @@ ghost use Rattle.core_model.specs.Owed.{owed, refuses};
 ghost use Rattle.packet_processor.specs.Judged.{Judges};
 ghost use Rattle.access_core.specs.Judged.{facts_lent};
 ghost use Rattle.access_core.specs.Deciding.{Decides};
-ghost use Rattle.access_core.specs.QueueShown.{kept_errors};
-ghost use Rattle.access_core.specs.Moves.{HandsOver, CanHandOver};
-ghost use Rattle.queue_error.specs.declared.error.QueueError.{QueueError};
+ghost use Rattle.access_core.specs.Moves.{HandsOver, CanHandOver, HasPlace};
 ghost use Rattle.core_model.specs.Legal.{MeetsOrLacks};
 ghost use Rattle.access_core.specs.Told.{taken};
-ghost use Rattle.policy.specs.Policy.{numbered};
 
 use crate::access::lookups::queue_of;
 use crate::access::{AccessCore, enter, lacks_room};
@@ -23,11 +20,8 @@ use packet_processor::{Facts, MayLaunch, QueueState, TAKES_NOTHING, Verdict, ver
 use policy::Policy;
 use queue_error::{QueueError, Rule};
 use regions::Regions;
-use sequences::Reserved;
 use std::alloc::Global;
 
-// How many errors a queue can have at the most: that of a packet denied, and those of all in flight.
-const ERRORS: usize = 9;
 
 // What a packet's header says, which the first two bytes hold.
 fn header(bytes: &[u8; 64]) -> RawHeader
@@ -74,16 +68,17 @@ fn advance(queues: &mut Vec<Queue>, queue: QueueId)
     kept.next += 1;
 }
 
-// Counts the next packet of a queue as handed over, and puts the queue's first error in place.
-fn fail_next(queues: &mut Vec<Queue>, queue: QueueId, errors: Reserved<QueueError>)
+// Counts the next packet of a queue as handed over, and puts an error behind the queue's others.
+fn fail_next(queues: &mut Vec<Queue>, queue: QueueId, error: QueueError)
     requires there { CanHandOver queues.old.items queue }
-    requires first { kept_errors (numbered queues.old.items queue.0) ≡ [] }
-    ensures { (error : QueueError) → error.queue.0 ≡ queue.0 → errors.items ≡ error ∷ [] → HandsOver queues.old.items queues.new.items queue (Some error) }
+    requires place { HasPlace queues.old.items queue }
+    requires named { error.queue.0 ≡ queue.0 }
+    ensures { HandsOver queues.old.items queues.new.items queue (Some error) }
 {
     let place = queue.0 as usize - 1;
     let kept = &mut queues[place];
     kept.next += 1;
-    kept.errors = errors;
+    kept.errors.push(error);
 }
 
 impl AccessCore {
@@ -137,7 +132,7 @@ impl AccessCore {
     {
         match self.may_take(queue, packet, bytes)? {
             Decision::Wait(cause) => Ok(Taken::Waiting(cause)),
-            Decision::Deny(rule) => self.deny(alloc, queue, packet, bytes, rule),
+            Decision::Deny(rule) => self.deny(queue, packet, bytes, rule),
             Decision::Launch(laid_out) => self.launch(queue, packet, bytes, laid_out),
         }
     }
@@ -145,7 +140,6 @@ impl AccessCore {
     // Denies the next packet of a queue.
     fn deny(
         &mut self,
-        alloc: Global,
         queue: QueueId,
         packet: PacketId,
         bytes: &[u8; 64],
@@ -163,9 +157,7 @@ impl AccessCore {
             rule,
             place: None,
         };
-        let mut errors = Reserved::with_room(alloc, ERRORS)?;
-        errors.push(error);
-        fail_next(&mut self.queues, queue, errors);
+        fail_next(&mut self.queues, queue, error);
         let event = Event::Take {
             queue,
             packet,

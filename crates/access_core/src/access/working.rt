@@ -79,7 +79,7 @@ fn find_packet(flight: &[InFlight], queue: QueueId, packet: PacketId) -> Option<
 }
 
 // Takes a packet out of flight.
-fn release(flight: &mut Sequence<InFlight>, queue: QueueId, packet: PacketId)
+pub(crate) fn release(flight: &mut Sequence<InFlight>, queue: QueueId, packet: PacketId)
     ensures { flight.new ≡ without queue packet flight.old }
 {
     flight.retain(|f| !(f.queue.0 == queue.0 && f.id.0 == packet.0));

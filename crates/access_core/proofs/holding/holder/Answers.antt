@@ -1,5 +1,5 @@
 -- The least of the packets that hold, with one packet more.
-use Rattle.std.proofs.Common.{◌≡◌, ◌∙◌, sym, ap, ◌<◌, length, arith}
+use Rattle.std.proofs.Common.{◌∙◌, sym, ap, ◌<◌, length, arith}
 use Rattle.std.specs.Prelude.{option_map}
 use Rattle.core_model.specs.Holds.{as_holder}
 use Rattle.access_core.proofs.KeptHolder.{found-with, kept_holder-without}

@@ -1,5 +1,4 @@
 -- A packet of one of the client's queues holds what its packet and the queue's agent tell.
-use Rattle.std.proofs.Common.{◌≡◌}
 use Rattle.access_core.proofs.KeptHolder.{queue_holds-some}
 use Rattle.access_core.proofs.holding.is_holder.Goals as goal
 

@@ -1,14 +1,13 @@
 -- What is kept moves along with the change of a signal, which is entered where there is room.
-use Rattle.std.proofs.Common.{◌≡◌, ℤ, refl, Bool, true, false, [], ◌∷◌, ◌+◌, length, w64, to_z, of_z, to_z-of_z, SFits, rules}
-use Rattle.std.specs.Prelude.{nat_lt, List}
+use Rattle.std.proofs.Common.{◌≡◌, refl, true, false, [], ◌∷◌, ◌+◌, length, w64, to_z-of_z, SFits, rules}
+use Rattle.std.specs.Prelude.{nat_lt}
 use Rattle.std.proofs.lemmas.Bool.{ltb-false}
 use Rattle.signals.specs.Values.{applied}
 use Rattle.core_model.specs.declared.event.Event.TheVariants.{ChangeSignal}
-use Rattle.core_model.specs.declared.entry.Effect.{Effect}
 use Rattle.core_model.specs.declared.entry.Effect.TheVariants as effect
 use Rattle.core_model.specs.declared.outcome.Outcome.TheVariants as outcome
 use Rattle.core_model.specs.Owed.{old_if_asked}
-use Rattle.access_core.proofs.KeptMore.{IsKept-more, AuditMore, MovesAlong}
+use Rattle.access_core.proofs.KeptMore.{IsKept-more}
 use Rattle.access_core.proofs.Calls.{full, entered}
 use Rattle.access_core.proofs.access.AccessCore.change_signal.Goals as goal
 
@@ -42,6 +41,7 @@ invariant_of-self c =
       few_queues = c.self.invariant.few_queues;
       flight = refl;
       reachable = c.self.invariant.reachable;
+      error_room = c.self.invariant.error_room;
     })
     (c.in_ok-old.ensures.may _ c.self.invariant.granted c.self.invariant.values)
 

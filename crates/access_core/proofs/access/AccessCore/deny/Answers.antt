@@ -1,18 +1,16 @@
 -- The queue has its first error, and the entry tells it.
-use Rattle.std.proofs.Common.{◌≡◌, ◌+◌, ◌≤◌, refl, sym, ◌∙◌, ap, subst, inl, Bool, true, false, Some, None, [], ◌∷◌, ◌++◌, length, length-append, arith}
-use Rattle.std.specs.Prelude.{nat_lt, ◌==◌, All, slice_index_or}
+use Rattle.std.proofs.Common.{◌≡◌, ◌+◌, refl, sym, subst, inl, true, false, [], length, arith}
+use Rattle.std.specs.Prelude.{nat_lt}
 use Rattle.std.proofs.lemmas.Bool.{ltb-false}
-use Rattle.aql_packet.specs.Reading.{decoded}
 use Rattle.core_model.specs.declared.event.Event.TheVariants.{Take}
 use Rattle.core_model.specs.declared.outcome.Outcome.TheVariants as outcome
-use Rattle.core_model.specs.declared.outcome.Taken.TheVariants.{Launched, Denied}
+use Rattle.core_model.specs.declared.outcome.Taken.TheVariants.{Denied}
 use Rattle.core_model.specs.Owed.{error_at}
-use Rattle.core_model.specs.Flight.{flight_after}
-use Rattle.core_model.specs.Legal.{entry_of}
 use Rattle.access_core.specs.Deciding.{TakesNext}
 use Rattle.access_core.specs.Kept.{history_of}
-use Rattle.access_core.proofs.KeptMore.{IsKept-more, AuditMore, MovesAlong}
-use Rattle.access_core.proofs.TakeLemmas.{kept-next}
+use Rattle.access_core.proofs.KeptMore.{IsKept-more}
+use Rattle.access_core.proofs.TakeLemmas.{few-flying, kept-next}
+use Rattle.access_core.proofs.ErrorRooms.{ErrorRoom-denied, HasPlace-first}
 use Rattle.access_core.proofs.Calls.{full, entered, owed-inside}
 use Rattle.access_core.proofs.access.AccessCore.deny.Goals as goal
 
@@ -25,15 +23,18 @@ pub fail_next-requires-clause-there : goal.fail_next-requires-clause-there
 fail_next-requires-clause-there c =
     (kept-next c.self.inside c.self.invariant c.args.queue (subst (λ h. TakesNext h c.args.queue) (sym c.self.view_is) c.requires.1)).0
 
-pub fail_next-requires-clause-first : goal.fail_next-requires-clause-first
-fail_next-requires-clause-first c =
-    (kept-next c.self.inside c.self.invariant c.args.queue (subst (λ h. TakesNext h c.args.queue) (sym c.self.view_is) c.requires.1)).1
+pub fail_next-requires-clause-place : goal.fail_next-requires-clause-place
+fail_next-requires-clause-place c =
+    let a = c.self.inside in
+    let takes : TakesNext (history_of a) c.args.queue = subst (λ h. TakesNext h c.args.queue) (sym c.self.view_is) c.requires.1 in
+    HasPlace-first a.queues.items a.queues.items a.flight c.self.invariant.error_room c.args.queue
+    (kept-next a c.self.invariant c.args.queue takes).1 (few-flying a c.self.invariant c.args.queue takes)
 
 pub invariant_of-self : goal.invariant_of-self
 invariant_of-self c =
     let room : nat_lt c.self.inside.capacity (length c.self.inside.audit.items + 1 + length c.self.inside.flight) ≡ false = cc in
-    let one : c.push.new.self.items ≡ error_at c.args.queue c.args.packet.0 c.args.rule ∷ [] = rw c.in_ok-errors.ensures.empty at c.push.ensures.items in
-    let over = c.fail_next.ensures (error_at c.args.queue c.args.packet.0 c.args.rule) refl one in
+    let takes : TakesNext (history_of c.self.inside) c.args.queue = subst (λ h. TakesNext h c.args.queue) (sym c.self.view_is) c.requires.1 in
+    let over = c.fail_next.ensures in
     IsKept-more c.self.inside _ (Take c.args.queue c.args.packet c.args.bytes.now) (outcome.Taken (Denied (error_at c.args.queue c.args.packet.0 c.args.rule))) [] c.self.invariant
     (record { policy = refl; capacity = refl; entries = rw c.none.ensures at c.enter.ensures.entries; place = c.enter.ensures.place; room = ltb-false _ _ room })
     (record {
@@ -48,6 +49,9 @@ invariant_of-self c =
       few_queues = omega (arith, over.count, c.self.invariant.few_queues);
       flight = refl;
       reachable = c.self.invariant.reachable;
+      error_room = ErrorRoom-denied c.self.inside.queues.items _ c.self.inside.flight c.self.invariant.error_room c.args.queue
+          (kept-next c.self.inside c.self.invariant c.args.queue takes).1 (few-flying c.self.inside c.self.invariant c.args.queue takes)
+          _ refl over;
     })
     (owed-inside _ c.self.inside _ c.self.view_is _ c.requires.0)
 

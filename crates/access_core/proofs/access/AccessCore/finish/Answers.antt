@@ -1,5 +1,5 @@
 -- What is kept moves along with the completion, which always finds room: a packet leaves flight for its entry.
-use Rattle.std.proofs.Common.{◌≡◌, ◌∙◌, refl, sym, true, [], ◌∷◌, ◌++◌}
+use Rattle.std.proofs.Common.{◌≡◌, ◌∙◌, refl, sym, subst, true, [], ◌∷◌, ◌++◌}
 use Rattle.std.specs.Prelude.{not}
 use Rattle.std.proofs.lemmas.Bool.{le-ltb}
 use Rattle.std.proofs.lemmas.List.Elements.{All-filter}
@@ -12,8 +12,10 @@ use Rattle.core_model.specs.LaunchRules.{completion}
 use Rattle.core_model.specs.Owed.{completed}
 use Rattle.access_core.specs.Kept.{start_of}
 use Rattle.access_core.specs.Reachable.{is_reachable}
+use Rattle.access_core.specs.ErrorRoom.{HasErrorRoom}
 use Rattle.access_core.proofs.KeptMore.{IsKept-more}
 use Rattle.access_core.proofs.Calls.{entered}
+use Rattle.access_core.proofs.ErrorRooms.{ErrorRoom-released}
 use Rattle.access_core.proofs.WorkLemmas.{flight-completed, memory-completed, finish-inside, release-room, place-for_entry}
 use Rattle.access_core.proofs.access.AccessCore.finish.Goals as goal
 
@@ -40,6 +42,7 @@ invariant_of-self c =
       few_queues = c.self.invariant.few_queues;
       flight = c.release.ensures ∙ sym quiet;
       reachable = rw c.release.ensures (All-filter (λ g. not (is_packet f.queue f.id g)) (λ g. is_reachable (region_lengths (start_of a)) g.packet ≡ true) a.flight c.self.invariant.reachable);
+      error_room = rw c.release.ensures (subst (HasErrorRoom a.queues.items) quiet (ErrorRoom-released a.queues.items a.flight c.self.invariant.error_room (completed a.signals (completion f.packet) ++ effect.Release f.queue f.id ∷ [])));
     })
     (finish-inside a c.self.invariant _ c.self.view_is _ (completion f.packet) f.queue f.id c.in_ok-flying.ensures.may)
 

@@ -1,10 +1,10 @@
 -- What is kept moves along with the grant, which is entered where there is room.
-use Rattle.std.proofs.Common.{◌≡◌, refl, inl, Bool, true, false, [], ◌+◌, length}
+use Rattle.std.proofs.Common.{◌≡◌, refl, inl, true, false, [], ◌+◌, length}
 use Rattle.std.specs.Prelude.{nat_lt}
 use Rattle.std.proofs.lemmas.Bool.{ltb-false}
 use Rattle.core_model.specs.declared.event.Event.TheVariants.{Grant}
 use Rattle.core_model.specs.declared.outcome.Outcome.TheVariants as outcome
-use Rattle.access_core.proofs.KeptMore.{IsKept-more, AuditMore, MovesAlong}
+use Rattle.access_core.proofs.KeptMore.{IsKept-more}
 use Rattle.access_core.proofs.Calls.{full, entered}
 use Rattle.access_core.proofs.access.AccessCore.grant.Goals as goal
 
@@ -30,6 +30,7 @@ invariant_of-self-2 c =
       few_queues = c.self.invariant.few_queues;
       flight = refl;
       reachable = c.self.invariant.reachable;
+      error_room = c.self.invariant.error_room;
     })
     (c.in_ok-may_grant.ensures.may _)
 

@@ -1,11 +1,11 @@
 -- What is kept moves along with a client's write, which is entered where there is room.
-use Rattle.std.proofs.Common.{◌≡◌, refl, inl, Bool, true, false, [], ◌∷◌, ◌+◌, length}
+use Rattle.std.proofs.Common.{◌≡◌, refl, inl, true, false, [], ◌∷◌, ◌+◌, length}
 use Rattle.std.specs.Prelude.{nat_lt}
 use Rattle.std.proofs.lemmas.Bool.{ltb-false}
 use Rattle.core_model.specs.declared.event.Event.TheVariants.{HostWrite}
 use Rattle.core_model.specs.declared.entry.Effect.TheVariants.{Write}
 use Rattle.core_model.specs.declared.outcome.Outcome.TheVariants as outcome
-use Rattle.access_core.proofs.KeptMore.{IsKept-more, AuditMore, MovesAlong}
+use Rattle.access_core.proofs.KeptMore.{IsKept-more}
 use Rattle.access_core.proofs.Calls.{full, entered}
 use Rattle.access_core.proofs.HostMemory.{byte_at-written}
 use Rattle.access_core.proofs.access.AccessCore.host_write.Goals as goal
@@ -38,6 +38,7 @@ invariant_of-self c =
       few_queues = c.self.invariant.few_queues;
       flight = refl;
       reachable = c.self.invariant.reachable;
+      error_room = c.self.invariant.error_room;
     })
     (c.in_ok-may_write.ensures.may _ c.self.invariant.granted c.self.invariant.lengths)
 

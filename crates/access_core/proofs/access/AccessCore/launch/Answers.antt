@@ -1,20 +1,17 @@
 -- The packet is in flight, and the entry tells it.
-use Rattle.std.proofs.Common.{◌≡◌, ◌+◌, ◌≤◌, refl, sym, ◌∙◌, ap, subst, inl, Bool, true, false, Some, None, [], ◌∷◌, ◌++◌, length, length-append, arith}
-use Rattle.std.specs.Prelude.{nat_lt, ◌==◌, All, slice_index_or}
+use Rattle.std.proofs.Common.{◌≡◌, ◌+◌, refl, sym, subst, inl, true, false, [], length, length-append, arith}
+use Rattle.std.specs.Prelude.{nat_lt}
 use Rattle.std.proofs.lemmas.Bool.{ltb-false}
-use Rattle.aql_packet.specs.Reading.{decoded}
 use Rattle.core_model.specs.declared.event.Event.TheVariants.{Take}
 use Rattle.core_model.specs.declared.outcome.Outcome.TheVariants as outcome
-use Rattle.core_model.specs.declared.outcome.Taken.TheVariants.{Launched, Denied}
-use Rattle.core_model.specs.Owed.{error_at}
-use Rattle.core_model.specs.Flight.{flight_after}
-use Rattle.core_model.specs.Legal.{entry_of}
+use Rattle.core_model.specs.declared.outcome.Taken.TheVariants.{Launched}
 use Rattle.access_core.specs.Deciding.{TakesNext}
 use Rattle.core_model.specs.Memory.{region_lengths}
 use Rattle.access_core.specs.Reachable.{is_reachable}
 use Rattle.access_core.specs.Kept.{history_of, start_of}
-use Rattle.access_core.proofs.KeptMore.{IsKept-more, AuditMore, MovesAlong}
-use Rattle.access_core.proofs.TakeLemmas.{kept-next, reachable-more}
+use Rattle.access_core.proofs.KeptMore.{IsKept-more}
+use Rattle.access_core.proofs.TakeLemmas.{few-flying, kept-next, reachable-more}
+use Rattle.access_core.proofs.ErrorRooms.{ErrorRoom-launched}
 use Rattle.access_core.proofs.Calls.{full, entered, owed-inside}
 use Rattle.access_core.proofs.access.AccessCore.launch.Goals as goal
 
@@ -32,6 +29,7 @@ invariant_of-self-2 c =
     let room : nat_lt c.self.inside.capacity (length c.self.inside.audit.items + 1 + (length c.self.inside.flight + 1)) ≡ false = cc in
     let flying = c.in_ok-push.ensures.items in
     let over = c.advance.ensures in
+    let takes : TakesNext (history_of c.self.inside) c.args.queue = subst (λ h. TakesNext h c.args.queue) (sym c.self.view_is) c.requires.3 in
     let reaches : is_reachable (region_lengths (start_of c.self.inside)) c.args.laid_out ≡ true = subst (λ h. is_reachable (region_lengths h.start) c.args.laid_out ≡ true) (sym c.self.view_is) c.requires.2 in
     IsKept-more c.self.inside _ (Take c.args.queue c.args.packet c.args.bytes.now) (outcome.Taken Launched) [] c.self.invariant
     (record { policy = refl; capacity = refl; entries = rw c.none.ensures at c.enter.ensures.entries; place = c.enter.ensures.place; room = rw (flying, length-append) (ltb-false _ _ room) })
@@ -47,6 +45,9 @@ invariant_of-self-2 c =
       few_queues = omega (arith, over.count, c.self.invariant.few_queues);
       flight = rw (flying, c.requires.1) refl;
       reachable = rw flying (reachable-more _ c.self.inside.flight _ c.self.invariant.reachable reaches);
+      error_room = rw flying (ErrorRoom-launched c.self.inside.queues.items _ c.self.inside.flight c.self.invariant.error_room c.args.queue
+          (kept-next c.self.inside c.self.invariant c.args.queue takes).1 (few-flying c.self.inside c.self.invariant c.args.queue takes)
+          _ refl over);
     })
     (owed-inside _ c.self.inside _ c.self.view_is _ c.requires.0)
 

@@ -47,7 +47,7 @@ returns-in-Launch-clause-may c =
       take-known c.self.inside c.self.invariant _ _ _ _ some ∙ (rw (down, next, waits, c.in-Launch.ensures.1) refl),
       c.in-Launch.ensures.0,
       reachable-launched c.self.inside c.in-Some.kept.now c.args.bytes.now c.in-Launch.packet c.self.invariant c.in-Launch.ensures.0 c.in-Launch.ensures.1,
-      takes-next c.self.inside c.self.invariant _ _ some down,
+      takes-next c.self.inside c.self.invariant _ _ _ some down waits,
     )
 
 pub returns-in-Deny-clause-may : goal.returns-in-Deny-clause-may
@@ -59,5 +59,5 @@ returns-in-Deny-clause-may c =
     let waits : may_start (filter (λ (f : InFlight). f.queue.0 == c.args.queue.0) c.self.inside.flight) (barrier_bit c.args.bytes.now) ≡ None = cc (told, c.as_slice-2.ensures, c.header.ensures) in
     rw (← c.self.view_is) (
       take-known c.self.inside c.self.invariant _ _ _ _ some ∙ (rw (down, next, waits, c.in-Deny.ensures) refl),
-      takes-next c.self.inside c.self.invariant _ _ some down,
+      takes-next c.self.inside c.self.invariant _ _ _ some down waits,
     )

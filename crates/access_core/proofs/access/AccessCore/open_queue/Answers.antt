@@ -1,15 +1,16 @@
 -- What is kept moves along with the opening, which is entered where there is room.
-use Rattle.std.proofs.Common.{◌≡◌, refl, sym, subst, inl, Bool, true, false, [], ◌+◌, ◌≤◌, ◌<◌, length}
+use Rattle.std.proofs.Common.{◌≡◌, refl, sym, subst, inl, true, false, [], ◌+◌, ◌<◌, length}
 use Rattle.std.specs.Prelude.{nat_lt}
 use Rattle.std.proofs.lemmas.Bool.{ltb-false}
 use Rattle.core_model.specs.declared.event.Event.TheVariants.{OpenQueue}
 use Rattle.core_model.specs.declared.outcome.Outcome.TheVariants as outcome
-use Rattle.access_core.proofs.KeptMore.{IsKept-more, AuditMore, MovesAlong}
+use Rattle.access_core.proofs.KeptMore.{IsKept-more}
 use Rattle.std.proofs.lemmas.List.{map-append}
 use Rattle.access_core.specs.Kept.{kept_opening, kept_next, kept_errors, kept_stopped}
 use Rattle.core_model.specs.Queues.{openings}
 use Rattle.access_core.proofs.QueueLemmas.{numbered-push, few_after}
 use Rattle.access_core.proofs.KeptFacts.{openings-count}
+use Rattle.access_core.proofs.ErrorRooms.{ErrorRoom-opened}
 use Rattle.access_core.proofs.Calls.{full, entered, owed-inside}
 use Rattle.access_core.proofs.access.AccessCore.open_queue.Goals as goal
 
@@ -31,11 +32,12 @@ invariant_of-self-2 c =
       values = refl;
       openings = rw push (map-append kept_opening c.self.inside.queues.items _);
       next_ids = λ queue. rw push (numbered-push kept_next c.self.inside.queues.items _ refl queue.0);
-      errors = λ queue. rw push (numbered-push kept_errors c.self.inside.queues.items _ c.new.ensures queue.0);
+      errors = λ queue. rw push (numbered-push kept_errors c.self.inside.queues.items _ c.in_ok-errors.ensures.empty queue.0);
       stops = λ queue. rw push (numbered-push kept_stopped c.self.inside.queues.items _ refl queue.0);
       few_queues = rw push (few_after c.self.inside.queues.items _ (openings-count c.self.inside c.self.invariant (subst (λ h. length (openings h.start h.entries) < 64) (sym c.self.view_is) c.in_ok-queue.ensures.few)));
       flight = refl;
       reachable = c.self.invariant.reachable;
+      error_room = rw push (ErrorRoom-opened c.self.inside.queues.items c.self.inside.flight c.self.invariant.error_room _ c.in_ok-errors.ensures.empty c.in_ok-errors.ensures.room);
     })
     (owed-inside _ c.self.inside _ c.self.view_is _ c.in_ok-queue.ensures.may)
 

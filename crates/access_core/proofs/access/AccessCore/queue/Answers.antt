@@ -1,5 +1,5 @@
 -- The queue found is the one of the history.
-use Rattle.std.proofs.Common.{◌≡◌, ap, ◌∙◌, List}
+use Rattle.std.proofs.Common.{ap, ◌∙◌, List}
 use Rattle.policy.specs.Policy.{numbered}
 use Rattle.access_core.specs.declared.queue.Queue.{Queue}
 use Rattle.access_core.proofs.LookupLemmas.{IsQueue-kept}

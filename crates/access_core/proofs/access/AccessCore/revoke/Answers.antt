@@ -1,11 +1,11 @@
 -- What is kept moves along with a revocation, which is entered where there is room.
-use Rattle.std.proofs.Common.{◌≡◌, refl, sym, Bool, true, false, [], ◌+◌, length}
+use Rattle.std.proofs.Common.{◌≡◌, refl, true, false, [], ◌+◌, length}
 use Rattle.std.specs.Prelude.{nat_lt}
 use Rattle.std.proofs.lemmas.Bool.{ltb-false}
 use Rattle.std.proofs.lemmas.Result.{err_from_is_err_and}
 use Rattle.core_model.specs.declared.event.Event.TheVariants.{Revoke}
 use Rattle.core_model.specs.declared.outcome.Outcome.TheVariants as outcome
-use Rattle.access_core.proofs.KeptMore.{IsKept-more, AuditMore, MovesAlong}
+use Rattle.access_core.proofs.KeptMore.{IsKept-more}
 use Rattle.access_core.proofs.Calls.{refused, full, entered}
 use Rattle.access_core.proofs.HolderKept.{holder-kept}
 use Rattle.access_core.proofs.access.AccessCore.revoke.Goals as goal
@@ -40,6 +40,7 @@ invariant_of-self c =
       few_queues = c.self.invariant.few_queues;
       flight = refl;
       reachable = c.self.invariant.reachable;
+      error_room = c.self.invariant.error_room;
     })
     (c.in_ok-may_revoke.ensures.may _ found)
 

@@ -14,6 +14,7 @@ use Rattle.access_core.specs.Kept.{start_of}
 use Rattle.access_core.specs.ToldWork.{IsChanged}
 use Rattle.access_core.proofs.KeptMore.{IsKept-more}
 use Rattle.access_core.proofs.Calls.{full, entered}
+use Rattle.access_core.proofs.ErrorRooms.{ErrorRoom-ran}
 use Rattle.access_core.proofs.RunLemmas.{agent-writes, groups-below, reachable-ran, run-inside, pieces-inside}
 use Rattle.access_core.proofs.access.AccessCore.run_next.Goals as goal
 
@@ -55,6 +56,7 @@ invariant_of-self c =
       few_queues = c.self.invariant.few_queues;
       flight = c.count_group.ensures ∙ sym (writes.flight (map (group_ran c.args.queue c.args.packet) a.flight));
       reachable = rw c.count_group.ensures (reachable-ran (region_lengths (start_of a)) c.args.queue c.args.packet a.flight c.self.invariant.reachable);
+      error_room = rw c.count_group.ensures (ErrorRoom-ran a.queues.items a.flight c.self.invariant.error_room c.args.queue c.args.packet);
     })
     (run-inside a c.self.invariant _ c.self.view_is _ _ c.in-Some.dispatch c.in_ok-dispatch.ensures.may c.in-Some.is)
 
