@@ -19,3 +19,4 @@ pub mod HeldMore
 pub mod KeptHolder
 pub mod HolderKept
 pub mod Opened
+pub mod Serving

@@ -1,6 +1,6 @@
 -- What is kept of a core in which nothing has happened, and the rows of a policy one by one.
 use Rattle.std.proofs.Common.{◌≡◌, ℕ, zero, suc, ◌+◌, ◌<◌, ◌≤◌, ◌^◌, List, [], ◌∷◌, ◌++◌, length, refl, sym, ◌∙◌, ap, subst, Bool, true, false, Option, Some, None, arith}
-use Rattle.std.specs.Prelude.{map, take, slice_get, nat_lt, option_map, All, if◌then◌else◌}
+use Rattle.std.specs.Prelude.{map, take, filter, slice_get, nat_lt, ◌==◌, option_map, All, if◌then◌else◌}
 use Rattle.std.proofs.lemmas.List.Elements.{All-nil}
 use Rattle.aql_packet.specs.declared.ids.QueueId.{QueueId}
 use Rattle.policy.specs.Policy.{Name, numbered, row_of}
@@ -23,6 +23,8 @@ use Rattle.access_core.specs.declared.queue.Queue.{Queue}
 use Rattle.access_core.specs.declared.access.AccessCore.TheInside.{Inside}
 use Rattle.grants.specs.Table.{has_granted}
 use Rattle.access_core.specs.Kept.{IsKept, start_of, kept_opening, kept_next, kept_errors, kept_stopped}
+use Rattle.access_core.specs.QueueShown.{kept_places}
+use Rattle.access_core.specs.ErrorRoom.{HasErrorRoom}
 use Rattle.access_core.specs.Reachable.{is_reachable}
 use Rattle.access_core.specs.Opening.{lengths_of_rows, values_of_rows}
 
@@ -108,6 +110,15 @@ module _ (a : Inside) (granted : a.granted ≡ []) (memory : a.memory ≡ zeros 
   reachable-opened : All (λ (f : InFlight). is_reachable (region_lengths (start_of a)) f.packet ≡ true) a.flight
   reachable-opened = subst (All (λ (f : InFlight). is_reachable (region_lengths (start_of a)) f.packet ≡ true)) (sym flying) (All-nil _)
 
+  error_room-opened : HasErrorRoom a.queues.items a.flight
+  error_room-opened = record {
+    places = λ queue. ap kept_places (no_queue queue);
+    free = λ queue.
+      let no_errors : length (kept_errors (numbered a.queues.items queue.0)) ≡ 0 = ap (λ q. length (kept_errors q)) (no_queue queue) in
+      let none : length (filter (λ (f : InFlight). f.queue.0 == queue.0) a.flight) ≡ 0 = ap (λ fs. length (filter (λ (f : InFlight). f.queue.0 == queue.0) fs)) flying in
+      omega (arith, no_errors, none);
+  }
+
   none_queues : length a.queues.items ≡ 0
   none_queues = ap length queues
 
@@ -133,6 +144,7 @@ module _ (a : Inside) (granted : a.granted ≡ []) (memory : a.memory ≡ zeros 
     few_queues = omega (arith, none_queues);
     flight = flight-opened;
     reachable = reachable-opened;
+    error_room = error_room-opened;
     room = omega (arith, none_flying, none_entries);
     places = omega (arith, none_entries, places);
     few = few;

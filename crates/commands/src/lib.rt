@@ -6,7 +6,6 @@
 mod check;
 mod run;
 mod status;
-
 #[cfg(test)]
 mod tests;
 

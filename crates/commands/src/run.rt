@@ -38,7 +38,10 @@ fn run_over<R: io::Read, O: io::Write, E: io::Write>(
         }
         Err(OpenFault::OutOfMemory) => told(writeln!(err, "no memory"), Status::Failed),
         Err(OpenFault::BadCapacity) => {
-            told(writeln!(err, "audit: 1 to 1048576 entries"), Status::Refused)
+            told(
+                writeln!(err, "audit: 1 to 1048576 entries"),
+                Status::Refused,
+            )
         }
     }
 }

@@ -1,5 +1,6 @@
 //! Scripts over the sample policy, from their text to their replies.
 
+mod calls;
 mod files;
 mod first_path;
 mod packets;

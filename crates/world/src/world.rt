@@ -163,11 +163,13 @@ fn opening_asked(request: &Request) -> Option<(ClientId, AgentHandle, u64)>
     ensures { result ≡ opening_asked request.now }
 {
     match request {
-        Request::Event(Event::OpenQueue {
-            client,
-            agent,
-            size,
-        }) => Some((*client, *agent, *size)),
+        Request::Event(
+            Event::OpenQueue {
+                client,
+                agent,
+                size,
+            },
+        ) => Some((*client, *agent, *size)),
         _ => None,
     }
 }

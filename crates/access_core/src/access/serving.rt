@@ -5,7 +5,7 @@ ghost use Rattle.core_model.specs.Legal.{AreReplies, IsServed, MeetsOrLacks, Rep
 
 use crate::access::AccessCore;
 use crate::access::told::{
-    accepted, bytes_told, changed, errors_told, listing_told, opened, polled, taken, test_told,
+    accepted, as_reply, bytes_told, changed, errors_told, listing_told, opened, polled, taken, test_told,
     value_told, worked,
 };
 use core_model::{Answer, Entry, Event, Outcome, Query, Refusal, Reply, Request};
@@ -18,10 +18,7 @@ impl AccessCore {
         ensures { IsServed self.old request result self.new }
     {
         match request {
-            Request::Event(event) => match self.make(alloc, event) {
-                Ok(outcome) => Ok(Answer::Outcome(outcome)),
-                Err(why) => Err(why),
-            },
+            Request::Event(event) => as_reply(self.make(alloc, event)),
             Request::Query(query) => self.answer(alloc, query),
         }
     }

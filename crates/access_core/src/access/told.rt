@@ -1,6 +1,7 @@
 //! What the core's calls answer, as the outcomes and answers of requests.
 
 ghost use Rattle.std.specs.Prelude.{◌≡◌};
+ghost use Rattle.core_model.specs.Legal.{as_reply};
 ghost use Rattle.access_core.specs.Polling.{polled};
 ghost use Rattle.access_core.specs.Told.{accepted, opened, taken};
 ghost use Rattle.access_core.specs.ToldWork.{worked};
@@ -119,6 +120,16 @@ pub(crate) fn errors_told(made: Result<Sequence<QueueError>, Refusal>) -> Reply
 {
     match made {
         Ok(told) => Ok(Answer::Errors(told)),
+        Err(why) => Err(why),
+    }
+}
+
+// What an event came to.
+pub(crate) fn as_reply(made: Result<Outcome, Refusal>) -> Reply
+    ensures { result ≡ as_reply made }
+{
+    match made {
+        Ok(outcome) => Ok(Answer::Outcome(outcome)),
         Err(why) => Err(why),
     }
 }

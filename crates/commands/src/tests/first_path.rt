@@ -7,7 +7,8 @@ use crate::tests::*;
 #[test]
 fn fill_writes_its_bytes_and_completes(rt: HostRuntime) -> Result<(), Fail> {
     let script = format!(in rt.alloc();
-        "submit 1 1 {FILL}\nserve 1\nrun 1 0\nfinish 1 0\nread alice 0000000100000000 8\nload alice done\naudit\n")?;
+        "submit 1 1 {FILL}\nserve 1\nrun 1 0\nfinish 1 0\nread alice 0000000100000000 8\nload alice done\naudit\n"
+    )?;
     let replies = "published 0
 launched 0
 ran 0 left 0
@@ -44,7 +45,8 @@ submit 1 1 {FILL}
 serve 1
 grant alice region buf READ
 read alice 0000000100000000 4
-")?;
+"
+    )?;
     let replies = "ok
 ok
 queue 1
@@ -66,9 +68,9 @@ bytes 00000000
 #[test]
 fn copy_reads_its_source_before_it_writes(rt: HostRuntime) -> Result<(), Fail> {
     let script = format!(in rt.alloc();
-        "write alice 0000000100000000 0102030405060708090a0b0c\nsubmit 1 1 {COPY}\nserve 1\nrun 1 0\nfinish 1 0\nread alice 0000000100000000 12\n")?;
-    let replies =
-        "ok\npublished 0\nlaunched 0\nran 0 left 0\nok\nbytes 010203040102030405060708\n";
+        "write alice 0000000100000000 0102030405060708090a0b0c\nsubmit 1 1 {COPY}\nserve 1\nrun 1 0\nfinish 1 0\nread alice 0000000100000000 12\n"
+    )?;
+    let replies = "ok\npublished 0\nlaunched 0\nran 0 left 0\nok\nbytes 010203040102030405060708\n";
     assert!(rt; told(rt.alloc(), script.as_str(), replies)?);
     Ok(())
 }
@@ -76,8 +78,10 @@ fn copy_reads_its_source_before_it_writes(rt: HostRuntime) -> Result<(), Fail> {
 #[test]
 fn add64_wraps_and_leaves_the_old_number(rt: HostRuntime) -> Result<(), Fail> {
     let script = format!(in rt.alloc();
-        "write alice 0000000100000000 ffffffffffffffff\nsubmit 1 1 {ADD64}\nserve 1\nrun 1 0\nfinish 1 0\nread alice 0000000100000000 16\n")?;
-    let replies = "ok\npublished 0\nlaunched 0\nran 0 left 0\nok\nbytes 0000000000000000ffffffffffffffff\n";
+        "write alice 0000000100000000 ffffffffffffffff\nsubmit 1 1 {ADD64}\nserve 1\nrun 1 0\nfinish 1 0\nread alice 0000000100000000 16\n"
+    )?;
+    let replies =
+        "ok\npublished 0\nlaunched 0\nran 0 left 0\nok\nbytes 0000000000000000ffffffffffffffff\n";
     assert!(rt; told(rt.alloc(), script.as_str(), replies)?);
     Ok(())
 }
@@ -94,7 +98,10 @@ fn a_packet_is_denied_by_the_first_rule_it_breaks(rt: HostRuntime) -> Result<(),
     ] {
         let script = format!(in rt.alloc(); "submit 1 1 {packet}\nserve 1\n")?;
         let replies = format!(in rt.alloc(); "published 0\ndenied queue 1 packet 0 rule {rule}\n")?;
-        assert!(rt; told(rt.alloc(), script.as_str(), replies.as_str())?, "{name}");
+        assert!(rt;
+            told(rt.alloc(), script.as_str(), replies.as_str())?,
+            "{name}"
+        );
     }
     Ok(())
 }

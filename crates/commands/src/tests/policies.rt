@@ -37,11 +37,16 @@ fn the_sample_policy_is_counted(rt: HostRuntime) {
 
 #[test]
 fn the_first_fault_of_a_policy_is_named(rt: HostRuntime) -> Result<(), Fail> {
-    let more = "[[allow]]\nclient = \"bob\"\nkind = \"region\"\nobject = \"nosuch\"\nrights = [\"READ\"]\n";
+    let more =
+        "[[allow]]\nclient = \"bob\"\nkind = \"region\"\nobject = \"nosuch\"\nrights = [\"READ\"]\n";
     let sample = format!(in rt.alloc(); "{SAMPLE}{more}")?;
     let twice = "[[region]]\nname = \"buf\"\nlength = 1\n[[region]]\nname = \"buf\"\nlength = 1\n";
     for (name, text, fault) in [
-        ("unknown_object", sample.as_str(), "policy: 4 UnknownName allow 7\n"),
+        (
+            "unknown_object",
+            sample.as_str(),
+            "policy: 4 UnknownName allow 7\n",
+        ),
         ("double_name", twice, "policy: 5 DoubleName region 2\n"),
         ("no_toml", "[[region", "policy: 1 NotToml\n"),
     ] {

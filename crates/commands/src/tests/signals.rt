@@ -18,7 +18,8 @@ revoke alice region buf WRITE
 run 1 1
 finish 1 1
 revoke alice region buf WRITE
-")?;
+"
+    )?;
     let replies = "published 0
 launched 0
 published 1
@@ -48,7 +49,8 @@ revoke alice region buf WRITE
 run 1 0
 finish 1 0
 revoke alice region buf WRITE
-")?;
+"
+    )?;
     let replies = "queue 2
 published 0
 launched 0
@@ -76,7 +78,8 @@ signal alice go store 0
 poll 1 0
 finish 1 0
 audit
-")?;
+"
+    )?;
     let replies = "published 0
 launched 0
 pending
@@ -109,8 +112,10 @@ audit 14
 #[test]
 fn a_negative_signal_fails_its_barrier(rt: HostRuntime) -> Result<(), Fail> {
     let script = format!(in rt.alloc();
-        "submit 1 1 {BARRIER_AND_OF_GO}\nserve 1\nsignal alice go store -1\npoll 1 0\nfinish 1 0\nerrors 1\n")?;
-    let replies = "published 0\nlaunched 0\nok\nfailed queue 1 packet 0 rule B1\nrefused 8 NotInFlight\nerrors 1\nqueue 1 packet 0 rule B1\n";
+        "submit 1 1 {BARRIER_AND_OF_GO}\nserve 1\nsignal alice go store -1\npoll 1 0\nfinish 1 0\nerrors 1\n"
+    )?;
+    let replies =
+        "published 0\nlaunched 0\nok\nfailed queue 1 packet 0 rule B1\nrefused 8 NotInFlight\nerrors 1\nqueue 1 packet 0 rule B1\n";
     assert!(rt; told(rt.alloc(), script.as_str(), replies)?);
     Ok(())
 }
@@ -125,7 +130,8 @@ revoke alice signal done CHANGE
 stop 1
 revoke alice signal done CHANGE
 load alice done
-")?;
+"
+    )?;
     let replies = "published 0
 launched 0
 pending

@@ -1,0 +1,29 @@
+-- Requests that are served one behind the other.
+use Rattle.std.proofs.Common.{◌≡◌, List, [], ◌∷◌, ◌++◌, refl, ap, subst, inl, inr, Result}
+use Rattle.core_model.specs.declared.event.Event.{Event}
+use Rattle.core_model.specs.declared.event.Query.{Query}
+use Rattle.core_model.specs.declared.event.Request.{Request}
+use Rattle.core_model.specs.declared.event.Request.TheVariants as request
+use Rattle.core_model.specs.declared.outcome.Outcome.{Outcome}
+use Rattle.core_model.specs.declared.refusal.Refusal.{Refusal}
+use Rattle.core_model.specs.History.{History}
+use Rattle.core_model.specs.Legal.{AreReplies, as_reply, IsServed, MeetsOrLacks, Replying, RepliesOrLacks}
+
+-- an event that got what was due, or wanted memory, was served
+pub served-event : (event : Event) (old new : History) (made : Result Outcome Refusal) → MeetsOrLacks event old new made → IsServed old (request.Event event) (as_reply made) new
+served-event event old new made (inl meets) = inl (ap as_reply meets.reply_is, meets.history_is)
+served-event event old new made (inr lacks) = inr (lacks.may, ap as_reply lacks.reply_is, lacks.history_is)
+
+-- a query that got its answer, or wanted memory, was served
+pub served-query : (asked : Query) (old : History) (reply : Replying) → RepliesOrLacks asked old reply → IsServed old (request.Query asked) reply old
+served-query asked old reply (inl replies) = inl (replies, refl)
+served-query asked old reply (inr lacks) = inr (lacks.0, lacks.1, refl)
+
+-- one request more is served behind others
+pub AreReplies-more : (old mid new : History) (requests : List Request) (replies : List Replying) (asked : Request) (reply : Replying)
+    → AreReplies old requests replies mid → IsServed mid asked reply new → AreReplies old (requests ++ asked ∷ []) (replies ++ reply ∷ []) new
+AreReplies-more old mid new [] [] asked reply so_far served = (new, subst (λ h. IsServed h asked reply new) so_far served, refl)
+AreReplies-more old mid new (r ∷ requests) (p ∷ replies) asked reply so_far served =
+    (so_far.0, so_far.1, AreReplies-more so_far.0 mid new requests replies asked reply so_far.2 served)
+AreReplies-more old mid new [] (p ∷ replies) asked reply so_far served = absurd so_far
+AreReplies-more old mid new (r ∷ requests) [] asked reply so_far served = absurd so_far
