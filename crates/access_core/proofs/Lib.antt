@@ -20,3 +20,4 @@ pub mod KeptHolder
 pub mod HolderKept
 pub mod Opened
 pub mod Serving
+pub mod PolicyRows

@@ -1,6 +1,6 @@
--- What is kept of a core in which nothing has happened, and the rows of a policy one by one.
+-- What is kept of a core in which nothing has happened.
 use Rattle.std.proofs.Common.{◌≡◌, ℕ, zero, suc, ◌+◌, ◌<◌, ◌≤◌, ◌^◌, List, [], ◌∷◌, ◌++◌, length, refl, sym, ◌∙◌, ap, subst, Bool, true, false, Option, Some, None, arith}
-use Rattle.std.specs.Prelude.{map, take, filter, slice_get, nat_lt, ◌==◌, option_map, All, if◌then◌else◌}
+use Rattle.std.specs.Prelude.{map, take, ◌-◌, filter, slice_get, nat_lt, ◌==◌, option_map, All, if◌then◌else◌}
 use Rattle.std.proofs.lemmas.List.Elements.{All-nil}
 use Rattle.aql_packet.specs.declared.ids.QueueId.{QueueId}
 use Rattle.policy.specs.Policy.{Name, numbered, row_of}
@@ -12,7 +12,7 @@ use Rattle.policy.specs.declared.object.Object.{Object}
 use Rattle.policy.specs.declared.rights.Right.{Right}
 use Rattle.core_model.specs.declared.entry.Entry.{Entry}
 use Rattle.core_model.specs.declared.flight.InFlight.{InFlight}
-use Rattle.core_model.specs.History.{Start}
+use Rattle.core_model.specs.History.{Start, effects_of}
 use Rattle.core_model.specs.Legal.{IsLegal}
 use Rattle.core_model.specs.Grants.{in_force}
 use Rattle.core_model.specs.Memory.{initial_values, memory_at, signals, region_lengths}
@@ -29,10 +29,10 @@ use Rattle.access_core.specs.Reachable.{is_reachable}
 use Rattle.access_core.specs.Opening.{lengths_of_rows, values_of_rows}
 
 -- no queue has a number where there is none
-numbered-none : (n : ℕ) → numbered {Queue} [] n ≡ None
+numbered-none : (n : ℕ) → numbered {X = Queue} [] n ≡ None
 numbered-none n = either (nat_lt 0 n)
   where
-    either : (b : Bool) → (if b then slice_get {Queue} [] (n - 1) else None) ≡ None
+    either : (b : Bool) → (if b then slice_get {X = Queue} [] (n - 1) else None) ≡ None
     either true = refl
     either false = refl
 
@@ -43,11 +43,11 @@ module _ (start : Start) where
   no_right client on right = refl
 
   no_write : (x : ℕ) → memory_at start [] x ≡ 0
-  unfolding memory_at
+  unfolding memory_at effects_of
   no_write x = refl
 
   no_change : initial_values start ≡ signals start []
-  unfolding signals
+  unfolding signals effects_of
   no_change = refl
 
   no_opening : [] ≡ openings start []
@@ -150,23 +150,3 @@ module _ (a : Inside) (granted : a.granted ≡ []) (memory : a.memory ≡ zeros 
     few = few;
     legal = legal-opened;
   }
-
--- what the next row holds follows what the rows before hold
-next-at : {X : Type 0} (rows : List (Name × X)) (i : ℕ) (x : X) → option_map (λ (row : Name × X). row.1) (slice_get rows i) ≡ Some x
-    → map (λ (row : Name × X). row.1) (take i rows) ++ x ∷ [] ≡ map (λ (row : Name × X). row.1) (take (suc i) rows)
-next-at [] i x found = cc
-next-at (r ∷ rows) zero x found = let same : r.1 ≡ x = cc in ap (λ y. y ∷ []) (sym same)
-next-at (r ∷ rows) (suc i) x found = ap (λ xs. r.1 ∷ xs) (next-at rows i x found)
-
-pub rows-next : {X : Type 0} (rows : List (Name × X)) (i : ℕ) (x : X) → row_of rows (i + 1) ≡ Some x
-    → map (λ (row : Name × X). row.1) (take i rows) ++ x ∷ [] ≡ map (λ (row : Name × X). row.1) (take (i + 1) rows)
-rows-next rows i x found = rw add-one (next-at rows i x (sym (ap (option_map (λ row. row.1)) (numbered-next rows i)) ∙ found))
-
--- there is a next row
-none-at : {X : Type 0} (rows : List (Name × X)) (i : ℕ) → option_map (λ (row : Name × X). row.1) (slice_get rows i) ≡ None → i < length rows → ⊥
-none-at [] i found below = omega below
-none-at (r ∷ rows) zero found below = cc
-none-at (r ∷ rows) (suc i) found below = none-at rows i found (omega below)
-
-pub rows-none : {X : Type 0} (rows : List (Name × X)) (i : ℕ) → row_of rows (i + 1) ≡ None → i < length rows → ⊥
-rows-none rows i found = none-at rows i (sym (ap (option_map (λ row. row.1)) (numbered-next rows i)) ∙ found)

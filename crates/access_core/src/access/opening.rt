@@ -1,6 +1,7 @@
 //! A core is opened.
 
-ghost use Rattle.std.specs.Prelude.{◌≡◌, ◌≤◌, ◌^◌, [], IfOk, IsTrue};
+ghost use Rattle.std.specs.Prelude.{◌≡◌, ◌+◌, ◌<◌, ◌≤◌, ◌^◌, [], IfOk, IsTrue, Some, length};
+ghost use Rattle.policy.specs.Policy.{initial_of, length_of};
 ghost use Rattle.regions.specs.Memory.{are_region_lengths, zeros};
 ghost use Rattle.core_model.specs.Legal.{opened};
 ghost use Rattle.access_core.specs.Opening.{is_capacity, lengths_of_rows, Opens, values_of_rows};
@@ -29,6 +30,7 @@ impl AccessCore {
             return Err(OpenFault::BadCapacity);
         }
         let lengths = region_lengths(alloc, &policy)?;
+        lengths_fit(&policy, lengths.as_slice());
         let memory = Regions::new(alloc, lengths.as_slice())?;
         let values = signal_values(alloc, &policy)?;
         let signals = Signals::new(alloc, values.as_slice())?;
@@ -45,34 +47,60 @@ fn is_capacity(capacity: usize) -> bool
 }
 
 // The lengths of a policy's regions, in order.
-#[tactic(none)]
 fn region_lengths(alloc: Global, policy: &Policy) -> Result<Sequence<u32>, AllocError>
-    ensures all { IfOk result (λ lengths. lengths ≡ lengths_of_rows policy.now) }
-    ensures fit { IfOk result (λ lengths. IsTrue (are_region_lengths lengths)) }
+    ensures { IfOk result (λ lengths. lengths ≡ lengths_of_rows policy.now) }
 {
     let mut lengths = Sequence::new(alloc);
     for before in 0..policy.object_count(Kind::Region) {
-        match policy.region_length(RegionHandle(before as u32 + 1)) {
-            Some(length) => lengths.push(length)?,
-            None => {}
-        }
+        lengths.push(length_behind(policy, before))?;
     }
     Ok(lengths)
 }
 
-// The initial values of a policy's signals, in order.
+// The length of the region behind so many others.
+#[tactic(auto, using(crate::proofs::PolicyRows::rows_none))]
+fn length_behind(policy: &Policy, before: usize) -> u32
+    requires there { before < length policy.now.regions }
+    requires small { before < 1024 }
+    ensures { length_of policy.now (before + 1) ≡ Some result }
+{
+    match policy.region_length(RegionHandle(before as u32 + 1)) {
+        Some(length) => length,
+        None => unreachable!(),
+    }
+}
+
+// Memory takes the lengths of a policy's regions: each policy is within its limits.
 #[tactic(none)]
+fn lengths_fit(policy: &Policy, lengths: &[u32])
+    requires { lengths.now ≡ lengths_of_rows policy.now }
+    ensures { IsTrue (are_region_lengths lengths.now) }
+{
+    policy.object_count(Kind::Region);
+}
+
+// The initial values of a policy's signals, in order.
 fn signal_values(alloc: Global, policy: &Policy) -> Result<Sequence<i64>, AllocError>
     ensures { IfOk result (λ values. values ≡ values_of_rows policy.now) }
 {
     let mut values = Sequence::new(alloc);
     for before in 0..policy.object_count(Kind::Signal) {
-        match policy.signal_initial(SignalHandle(before as u64 + 1)) {
-            Some(value) => values.push(value)?,
-            None => {}
-        }
+        values.push(value_behind(policy, before))?;
     }
     Ok(values)
+}
+
+// The initial value of the signal behind so many others.
+#[tactic(auto, using(crate::proofs::PolicyRows::rows_none))]
+fn value_behind(policy: &Policy, before: usize) -> i64
+    requires there { before < length policy.now.signals }
+    requires small { before < 1024 }
+    ensures { initial_of policy.now (before + 1) ≡ Some result }
+{
+    match policy.signal_initial(SignalHandle(before as u64 + 1)) {
+        Some(value) => value,
+        None => unreachable!(),
+    }
 }
 
 // A core in which nothing has happened.

@@ -5,7 +5,7 @@ use Rattle.access_core.proofs.access.opening.blank.Goals as goal
 
 pub invariant_of-result : goal.invariant_of-result
 invariant_of-result c =
-    IsKept-opened _ refl c.requires.memory c.requires.signals refl refl c.requires.empty c.requires.places c.requires.few
+    IsKept-opened _ c.new.ensures c.requires.memory c.requires.signals c.new-2.ensures.items c.new-3.ensures c.requires.empty c.requires.places c.requires.few
 
 pub returns : goal.returns
 returns c = rw c.requires.empty refl
