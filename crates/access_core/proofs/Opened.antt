@@ -26,7 +26,8 @@ use Rattle.access_core.specs.Kept.{IsKept, start_of, kept_opening, kept_next, ke
 use Rattle.access_core.specs.QueueShown.{kept_places}
 use Rattle.access_core.specs.ErrorRoom.{HasErrorRoom}
 use Rattle.access_core.specs.Reachable.{is_reachable}
-use Rattle.access_core.specs.Opening.{lengths_of_rows, values_of_rows}
+use Rattle.access_core.specs.Opening.{is_capacity, lengths_of_rows, values_of_rows}
+use Rattle.std.proofs.lemmas.Bool.Decides.{nat_tests}
 
 -- no queue has a number where there is none
 numbered-none : (n : ℕ) → numbered {X = Queue} [] n ≡ None
@@ -150,3 +151,11 @@ module _ (a : Inside) (granted : a.granted ≡ []) (memory : a.memory ≡ zeros 
     few = few;
     legal = legal-opened;
   }
+
+-- room for just as many entries as there may be
+pub by_room : (capacity room : ℕ) → room ≡ capacity → capacity ≤ room
+by_room capacity room is = omega (arith, is)
+
+-- a capacity is at most 2^20
+pub few_places : (capacity : ℕ) → is_capacity capacity ≡ true → capacity ≤ 2 ^ 20
+few_places capacity is = grind (arith, nat_tests)

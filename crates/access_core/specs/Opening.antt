@@ -1,8 +1,10 @@
 -- When a core is opened, and what a policy says of regions and signals, as lists.
-use Rattle.std.specs.Prelude.{ℕ, ℤ, ◌≡◌, ◌^◌, ◌&&◌, Bool, true, false, nat_le, List, map, Result, Ok, Err}
+use Rattle.std.specs.Prelude.{ℕ, ℤ, ◌≡◌, ◌^◌, ◌&&◌, Bool, true, false, nat_le, List, [], map, Result, Ok, Err}
 use Rattle.policy.specs.Policy.{Declared}
 use Rattle.core_model.specs.History.{History}
 use Rattle.core_model.specs.Legal.{opened}
+use Rattle.regions.specs.Memory.{zeros}
+use Rattle.access_core.specs.declared.access.opening.Parts.{Parts}
 use Rattle.access_core.specs.declared.access.OpenFault.{OpenFault}
 use Rattle.access_core.specs.declared.access.OpenFault.TheVariants as fault
 
@@ -23,3 +25,10 @@ abbrev pub Opens : Declared → ℕ → Result History OpenFault → Type 0
 Opens policy capacity (Ok core) = (is_capacity capacity ≡ true) × (core ≡ opened policy capacity)
 Opens policy capacity (Err fault.OutOfMemory) = is_capacity capacity ≡ true
 Opens policy capacity (Err fault.BadCapacity) = is_capacity capacity ≡ false
+
+-- what a core begins with: memory of zeros, the policy's signal values, and an empty audit with room for its entries
+pub record IsUntouched (policy : Declared) (capacity : ℕ) (parts : Parts) : Type 0 where
+  pub memory : parts.memory ≡ zeros (lengths_of_rows policy)
+  pub signals : parts.signals ≡ values_of_rows policy
+  pub empty : parts.audit.items ≡ []
+  pub places : parts.audit.room ≡ capacity

@@ -1,10 +1,10 @@
 //! A core is opened.
 
-ghost use Rattle.std.specs.Prelude.{◌≡◌, ◌+◌, ◌<◌, ◌≤◌, ◌^◌, [], IfOk, IsTrue, Some, length};
+ghost use Rattle.std.specs.Prelude.{◌≡◌, ◌+◌, ◌<◌, IfOk, IsTrue, Some, length, true};
 ghost use Rattle.policy.specs.Policy.{initial_of, length_of};
 ghost use Rattle.regions.specs.Memory.{are_region_lengths, zeros};
 ghost use Rattle.core_model.specs.Legal.{opened};
-ghost use Rattle.access_core.specs.Opening.{is_capacity, lengths_of_rows, Opens, values_of_rows};
+ghost use Rattle.access_core.specs.Opening.{is_capacity, IsUntouched, lengths_of_rows, Opens, values_of_rows};
 
 use crate::access::{AccessCore, OpenFault};
 use aql_packet::{RegionHandle, SignalHandle};
@@ -19,6 +19,14 @@ use std::alloc::{AllocError, Global};
 // How many entries an audit can have at the most.
 const MOST_ENTRIES: usize = 1 << 20;
 
+/// What a core gets memory for when it is opened.
+#[derive(Drop)]
+struct Parts {
+    memory: Regions,
+    signals: Signals,
+    audit: Reserved<Entry>,
+}
+
 impl AccessCore {
     /// Opens a core over a policy: no right is in force, memory is all zeros, each signal has its
     /// initial value, no queue is open, and the audit is empty, with places for `capacity` entries.
@@ -29,14 +37,42 @@ impl AccessCore {
         if !is_capacity(capacity) {
             return Err(OpenFault::BadCapacity);
         }
-        let lengths = region_lengths(alloc, &policy)?;
-        lengths_fit(&policy, lengths.as_slice());
-        let memory = Regions::new(alloc, lengths.as_slice())?;
-        let values = signal_values(alloc, &policy)?;
-        let signals = Signals::new(alloc, values.as_slice())?;
-        let audit = Reserved::with_room(alloc, capacity)?;
-        Ok(blank(alloc, policy, memory, signals, capacity, audit))
+        match get_parts(alloc, &policy, capacity) {
+            Ok(parts) => Ok(blank(alloc, policy, capacity, parts)),
+            Err(_) => Err(OpenFault::OutOfMemory),
+        }
     }
+}
+
+// Gets memory for what a policy declares, and for an audit with so many places.
+fn get_parts(alloc: Global, policy: &Policy, capacity: usize) -> Result<Parts, AllocError>
+    ensures { IfOk result (IsUntouched policy.now capacity) }
+{
+    let memory = zeroed(alloc, policy)?;
+    let signals = begun(alloc, policy)?;
+    let audit = Reserved::with_room(alloc, capacity)?;
+    Ok(Parts {
+        memory,
+        signals,
+        audit,
+    })
+}
+
+// A policy's regions, all zeros.
+fn zeroed(alloc: Global, policy: &Policy) -> Result<Regions, AllocError>
+    ensures { IfOk result (λ memory. memory ≡ zeros (lengths_of_rows policy.now)) }
+{
+    let lengths = region_lengths(alloc, policy)?;
+    lengths_fit(policy, lengths.as_slice());
+    Regions::new(alloc, lengths.as_slice())
+}
+
+// A policy's signals, with their initial values.
+fn begun(alloc: Global, policy: &Policy) -> Result<Signals, AllocError>
+    ensures { IfOk result (λ signals. signals ≡ values_of_rows policy.now) }
+{
+    let values = signal_values(alloc, policy)?;
+    Signals::new(alloc, values.as_slice())
 }
 
 // Whether an audit may have so many places: 1 to 2^20.
@@ -105,21 +141,16 @@ fn value_behind(policy: &Policy, before: usize) -> i64
 
 // A core in which nothing has happened.
 #[tactic(none)]
-fn blank(
-    alloc: Global,
-    policy: Policy,
-    memory: Regions,
-    signals: Signals,
-    capacity: usize,
-    audit: Reserved<Entry>,
-) -> AccessCore
-    requires memory { memory ≡ zeros (lengths_of_rows policy) }
-    requires signals { signals ≡ values_of_rows policy }
-    requires few { capacity ≤ 2 ^ 20 }
-    requires empty { audit.items ≡ [] }
-    requires places { capacity ≤ audit.room }
+fn blank(alloc: Global, policy: Policy, capacity: usize, parts: Parts) -> AccessCore
+    requires untouched { IsUntouched policy capacity parts }
+    requires few { is_capacity capacity ≡ true }
     ensures { result ≡ opened policy capacity }
 {
+    let Parts {
+        memory,
+        signals,
+        audit,
+    } = parts;
     AccessCore {
         policy,
         granted: RightsTable::new(alloc),

@@ -1,11 +1,12 @@
 -- A core in which nothing has happened is as opened.
 use Rattle.std.proofs.Common.{◌≡◌, refl}
-use Rattle.access_core.proofs.Opened.{IsKept-opened}
+use Rattle.access_core.proofs.Opened.{IsKept-opened, by_room, few_places}
 use Rattle.access_core.proofs.access.opening.blank.Goals as goal
 
 pub invariant_of-result : goal.invariant_of-result
 invariant_of-result c =
-    IsKept-opened _ c.new.ensures c.requires.memory c.requires.signals c.new-2.ensures.items c.new-3.ensures c.requires.empty c.requires.places c.requires.few
+    IsKept-opened _ c.new.ensures c.requires.untouched.memory c.requires.untouched.signals c.new-2.ensures.items c.new-3.ensures c.requires.untouched.empty
+    (by_room _ _ c.requires.untouched.places) (few_places c.args.capacity c.requires.few)
 
 pub returns : goal.returns
-returns c = rw c.requires.empty refl
+returns c = rw c.requires.untouched.empty refl
