@@ -1,6 +1,6 @@
 //! Requests are served, one or many: each call by its name.
 
-ghost use Rattle.std.specs.Prelude.{◌≡◌, IfOk, OnErr};
+ghost use Rattle.std.specs.Prelude.{◌≡◌, ◌≤◌, [], IfOk, OnErr, length};
 ghost use Rattle.core_model.specs.Legal.{AreReplies, IsServed, MeetsOrLacks, RepliesOrLacks};
 
 use crate::access::AccessCore;
@@ -33,11 +33,28 @@ impl AccessCore {
         ensures replies { IfOk result (λ replies. AreReplies self.old requests.items replies.items self.new) }
         ensures err { OnErr result (self.new ≡ self.old) }
     {
-        let mut replies = Reserved::with_room(alloc, requests.len())?;
-        for request in requests {
-            replies.push(self.serve(alloc, request));
+        match Reserved::with_room(alloc, requests.len()) {
+            Ok(replies) => Ok(self.serve_each(alloc, requests, replies)),
+            Err(want) => Err(want),
         }
-        Ok(replies)
+    }
+
+    // Serves requests in turn, and puts the replies in a list with room for them.
+    fn serve_each(
+        &mut self,
+        alloc: Global,
+        requests: Vec<Request>,
+        mut replies: Reserved<Reply>,
+    ) -> Reserved<Reply>
+        requires room { length requests.items ≤ replies.room }
+        requires empty { replies.items ≡ [] }
+        ensures { AreReplies self.old requests.items result.items self.new }
+    {
+        for request in requests {
+            let reply = self.serve(alloc, request);
+            replies.push(reply);
+        }
+        replies
     }
 
     // Makes the call of an event.
