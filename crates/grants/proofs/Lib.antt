@@ -1,4 +1,5 @@
-pub mod ClaimLemmas
-pub mod LedgerLemmas
+pub mod PairLemmas
+pub mod HoldLemmas
 pub mod SetLemmas
 pub mod TableLemmas
+pub mod LedgerLemmas

@@ -9,7 +9,7 @@ use Rattle.policy.specs.declared.rights.Right.{Right}
 use Rattle.policy.specs.declared.rights.Rights.{Rights}
 use Rattle.policy.specs.Rights.{has, all_rights}
 use Rattle.grants.specs.declared.hold.Hold.{Hold}
-use Rattle.grants.specs.Claims.{same_pair}
+use Rattle.grants.specs.Table.{same_pair}
 
 -- the packet is this one
 abbrev pub same_packet : QueueId → PacketId → QueueId → PacketId → Bool

@@ -11,25 +11,25 @@ use Rattle.policy.specs.declared.rights.Right.{Right}
 use Rattle.policy.specs.declared.rights.Rights.{Rights}
 use Rattle.policy.specs.Object.{object_of}
 use Rattle.policy.specs.Rights.{has, all_rights, rights_that}
-use Rattle.grants.specs.declared.claim.Claim.{Claim}
+use Rattle.grants.specs.declared.table.RightsRow.{RightsRow}
 use Rattle.grants.specs.declared.hold.Hold.{Hold}
 use Rattle.grants.specs.declared.refusal.Refusal.{Refusal}
 use Rattle.grants.specs.declared.refusal.Refusal.TheVariants.{NotAllowed, Busy, UnknownObject, UnknownClient}
 use Rattle.grants.specs.declared.refusal.GrantError.{GrantError}
 use Rattle.grants.specs.declared.refusal.GrantError.TheVariants.{OutOfMemory, Refused}
 use Rattle.grants.specs.Rules.{Rules, count, knows_client, knows, allows}
-use Rattle.grants.specs.Claims.{same_pair, claimed}
+use Rattle.grants.specs.Table.{same_pair, has_granted}
 use Rattle.grants.specs.Holds.{same_packet, held, IsFirstTo}
 
 -- The policy's rules, what is in force, and what packets hold. Clauses speak of it by the look-ups below alone.
 pub record Ledger : Type 0 where
   pub rules : Rules
-  pub claims : List Claim
+  pub rows : List RightsRow
   pub holds : List Hold
 
 -- the client has the right on the object
 abbrev pub in_force : Ledger → ClientId → Object → Right → Bool
-in_force grants client object right = claimed grants.claims client object right
+in_force grants client object right = has_granted grants.rows client object right
 
 -- the packet, of a queue of the client, holds the right on the object
 abbrev pub holds : Ledger → QueueId → PacketId → ClientId → Object → Right → Bool

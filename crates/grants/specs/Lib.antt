@@ -1,5 +1,4 @@
-pub mod Claims
+pub mod Table
 pub mod Holds
 pub mod Rules
 pub mod Ledger
-pub mod Table

@@ -5,10 +5,10 @@ ghost use Rattle.std.specs.List.{list_all};
 ghost use Rattle.policy.specs.Rights.{has, each_right};
 ghost use Rattle.grants.specs.Rules.{rules_of, count};
 
-use crate::claim::{Claim, drop_claims, push_claims, rights_in};
 use crate::hold::{Hold, drop_holds, first_holder, has_holds, push_holds};
 use crate::refusal::{GrantError, Refusal};
 use crate::rules::Rules;
+use crate::table::RightsTable;
 use aql_packet::{ClientId, PacketId, QueueId};
 use bitflags::Flags;
 use policy::{Kind, Object, Policy, Rights};
@@ -21,7 +21,7 @@ use std::marker::Model;
 #[derive(Drop)]
 pub struct Grants {
     rules: Rules,
-    claims: Vec<Claim>,
+    table: RightsTable,
     holds: Vec<Hold>,
 }
 
@@ -30,7 +30,7 @@ impl Model for Grants {
 
     ghost Value = { Ledger };
 
-    ghost view = { λ grants. record { rules = grants.rules; claims = grants.claims.items; holds = grants.holds.items } };
+    ghost view = { λ grants. record { rules = grants.rules; rows = grants.table; holds = grants.holds.items } };
 }
 
 impl Grants {
@@ -44,7 +44,7 @@ impl Grants {
     {
         Ok(Grants {
             rules: Rules::of(alloc, policy)?,
-            claims: Vec::new(alloc),
+            table: RightsTable::new(alloc),
             holds: Vec::new(alloc),
         })
     }
@@ -64,11 +64,9 @@ impl Grants {
         if let Err(refusal) = self.may_grant(client, object, rights) {
             return Err(GrantError::Refused(refusal));
         }
-        let Ok(()) = self.claims.reserve(6) else {
+        let Ok(()) = self.table.grant(client, object, rights) else {
             return Err(GrantError::OutOfMemory);
         };
-        drop_claims(&mut self.claims, client, object, rights);
-        push_claims(&mut self.claims, client, object, rights);
         Ok(())
     }
 
@@ -102,7 +100,7 @@ impl Grants {
         ensures err { OnErr result (self.new ≡ self.old) }
     {
         self.may_revoke(client, object, rights)?;
-        drop_claims(&mut self.claims, client, object, rights);
+        self.table.revoke(client, object, rights);
         Ok(())
     }
 
@@ -127,7 +125,7 @@ impl Grants {
         ensures set { result ≡ rights_on self.now client object }
         ensures each { (right : Right) → has result right ≡ in_force self.now client object right }
     {
-        rights_in(self.claims.as_slice(), client, object)
+        self.table.rights_on(client, object)
     }
 
     /// Whether each of some rights on objects is in force for a client.

@@ -2,7 +2,7 @@
 
 ghost use Rattle.std.specs.Prelude.{◌≡◌, ◌+◌, ◌≤◌, ◌++◌, ◌⊎◌, ◌&&◌, not, filter, map, length, vec_len, vec_capacity};
 ghost use Rattle.std.specs.List.{list_any};
-ghost use Rattle.grants.specs.Claims.{same_pair};
+ghost use Rattle.grants.specs.Table.{same_pair};
 ghost use Rattle.grants.specs.Holds.{is_of, hold_of, meet, holds_one, IsUpTo, IsFirstTo};
 
 use aql_packet::{ClientId, PacketId, QueueId};

@@ -3,7 +3,6 @@
 // The check tries its tactics on what is left of each proof.
 #![tactic(auto)]
 
-mod claim;
 mod grants;
 mod hold;
 mod refusal;

@@ -3,7 +3,7 @@ use aql_packet::{
     AgentHandle, ClientId, KernelObject, PacketId, QueueId, RegionHandle, SignalHandle,
 };
 use bitflags::Flags;
-use policy::{Object, Rights, read_policy};
+use policy::{Object, Right, Rights, read_policy};
 use std::alloc::Global;
 use std::test::*;
 
@@ -194,5 +194,23 @@ fn a_listing_has_what_is_in_force_in_order(rt: HostRuntime) -> Result<(), Fail> 
     assert!(rt; grants.list(rt.alloc(), ALICE)?.as_slice() == wanted.as_slice());
     assert!(rt; grants.list(rt.alloc(), BOB)?.as_slice() == [(BUF, Rights::READ)].as_slice());
     assert!(rt; grants.list(rt.alloc(), ClientId(3))?.is_empty());
+    Ok(())
+}
+
+#[test]
+fn a_table_has_what_was_granted_and_not_revoked(rt: HostRuntime) -> Result<(), Fail> {
+    let mut table = RightsTable::new(rt.alloc());
+    assert!(rt; !table.has(ALICE, BUF, Right::Read));
+    table.grant(ALICE, BUF, Rights::READ)?;
+    table.grant(ALICE, GPU, Rights::USE)?;
+    table.grant(ALICE, BUF, Rights::WRITE)?;
+    table.grant(BOB, BUF, Rights::READ)?;
+    assert!(rt; table.rights_on(ALICE, BUF) == both());
+    assert!(rt; !table.has(ALICE, ARGS, Right::Read));
+    table.revoke(ALICE, BUF, Rights::READ);
+    table.revoke(BOB, BUF, Rights::WRITE);
+    assert!(rt; table.rights_on(ALICE, BUF) == Rights::WRITE);
+    assert!(rt; table.has(ALICE, GPU, Right::Use));
+    assert!(rt; table.has(BOB, BUF, Right::Read));
     Ok(())
 }

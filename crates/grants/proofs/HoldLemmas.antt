@@ -1,6 +1,6 @@
--- Lists of claims and of holds, by what is found in them.
-use Rattle.std.proofs.Common.{◌≡◌, ℕ, ◌+◌, ◌<◌, ◌⊎◌, inl, inr, Bool, true, false, not, ◌&&◌, ◌||◌, ◌==◌, List, [], ◌∷◌, ◌++◌, map, filter, take, get_or, length, Option, Some, None, refl, sym, ap, ◌∙◌, arith, true≢false, if◌then◌else◌}
-use Rattle.std.specs.List.{list_any, flat_map}
+-- Lists of holds, by what is found in them.
+use Rattle.std.proofs.Common.{◌≡◌, ℕ, ◌+◌, ◌<◌, ◌⊎◌, inl, inr, Bool, true, false, not, ◌&&◌, ◌||◌, ◌==◌, List, [], ◌∷◌, ◌++◌, map, filter, take, get_or, length, Option, Some, None, refl, sym, ap, ◌∙◌, arith, true≢false}
+use Rattle.std.specs.List.{list_any}
 use Rattle.std.proofs.lemmas.Bool.{false_from_ne_true}
 use Rattle.std.proofs.lemmas.Bool.Decides.{Decides-eqb}
 use Rattle.std.proofs.lemmas.List.Folds.{list_any-append, list_any_more}
@@ -9,22 +9,15 @@ use Rattle.aql_packet.specs.declared.ids.ClientId.{ClientId}
 use Rattle.aql_packet.specs.declared.ids.QueueId.{QueueId}
 use Rattle.aql_packet.specs.declared.ids.PacketId.{PacketId}
 use Rattle.policy.specs.declared.object.Object.{Object}
-use Rattle.policy.specs.declared.object.Object.TheVariants.{Agent, Region, Signal, Kernel}
 use Rattle.policy.specs.declared.rights.Right.{Right}
-use Rattle.policy.specs.declared.rights.Right.TheVariants.{Use, Read, Write, Wait, Change, Launch}
 use Rattle.policy.specs.declared.rights.Rights.{Rights}
-use Rattle.policy.specs.Object.{same_object}
 use Rattle.policy.specs.Rights.{has, all_rights}
-use Rattle.grants.specs.declared.claim.Claim.{Claim}
 use Rattle.grants.specs.declared.hold.Hold.{Hold}
-use Rattle.grants.specs.Claims.{same_pair, same_right, is_claim, is_among, claimed, claim_of, claims_of}
 use Rattle.grants.specs.Holds.{same_packet, is_of, is_on, is_hold, held, hold_of, meet, holds_one, IsUpTo, IsFirstTo}
+use Rattle.grants.specs.Table.{same_pair}
+use Rattle.grants.proofs.PairLemmas.{both, same_number}
 
 -- ---- tests
-
-both : (a b : Bool) → (a && b) ≡ true → (a ≡ true) × (b ≡ true)
-both true b h = (refl, h)
-both false b h = absurd (true≢false (sym h))
 
 and-true : (a : Bool) → (a && true) ≡ a
 and-true true = refl
@@ -46,35 +39,8 @@ and_assoc : (a b c : Bool) → ((a && b) && c) ≡ (a && (b && c))
 and_assoc true b c = refl
 and_assoc false b c = refl
 
-same_number : (m n : ℕ) → (m == n) ≡ true → m ≡ n
-same_number m n h = (Decides-eqb m n).0 h
-
 itself : (n : ℕ) → (n == n) ≡ true
 itself n = (Decides-eqb n n).1 refl
-
-same_client : (a b : ClientId) → (a.0 == b.0) ≡ true → a ≡ b
-same_client a b h = ap (λ n. record { 0 = n }) (same_number a.0 b.0 h)
-
-same_object_is : (a b : Object) → same_object a b ≡ true → a ≡ b
-same_object_is (Agent h) (Agent k) e = ap (λ n. Agent (record { 0 = n })) (same_number h.0 k.0 e)
-same_object_is (Region h) (Region k) e = ap (λ n. Region (record { 0 = n })) (same_number h.0 k.0 e)
-same_object_is (Signal h) (Signal k) e = ap (λ n. Signal (record { 0 = n })) (same_number h.0 k.0 e)
-same_object_is (Kernel h) (Kernel k) e = ap (λ n. Kernel (record { 0 = n })) (same_number h.0 k.0 e)
-same_object_is _ _ e = absurd (true≢false (sym e))
-
-same_right_is : (a b : Right) → same_right a b ≡ true → a ≡ b
-same_right_is Use Use e = refl
-same_right_is Read Read e = refl
-same_right_is Write Write e = refl
-same_right_is Wait Wait e = refl
-same_right_is Change Change e = refl
-same_right_is Launch Launch e = refl
-same_right_is _ _ e = absurd (true≢false (sym e))
-
-pub same_pair_is : (c : ClientId) (o : Object) (c' : ClientId) (o' : Object) → same_pair c o c' o' ≡ true → (c ≡ c') × (o ≡ o')
-same_pair_is c o c' o' h =
-    let parts = both (c.0 == c'.0) (same_object o o') h in
-    (same_client c c' parts.0, same_object_is o o' parts.1)
 
 same_packet_is : (q : QueueId) (p : PacketId) (q' : QueueId) (p' : PacketId) → same_packet q p q' p' ≡ true → (q ≡ q') × (p ≡ p')
 same_packet_is q p q' p' h =
@@ -87,62 +53,6 @@ same_packet_itself q p = rw (itself q.0, itself p.0)
 list_any-map : {X Y : Type 0} (p : X → Bool) (h : Y → X) (ys : List Y) → list_any p (map h ys) ≡ list_any (λ y. p (h y)) ys
 list_any-map p h [] = refl
 list_any-map p h (y ∷ ys) = ap (λ b. p (h y) || b) (list_any-map p h ys)
-
--- ---- claims
-
--- what is left where the rights of a set are taken out
-pub claimed-dropped : (c : ClientId) (o : Object) (rights : Rights) (c' : ClientId) (o' : Object) (right : Right) (claims : List Claim)
-    → claimed (filter (λ claim. not (is_among c o rights claim)) claims) c' o' right ≡ (not (same_pair c' o' c o && has rights right) && claimed claims c' o' right)
-claimed-dropped c o rights c' o' right claims =
-    any-filter_same (is_claim c' o' right) (λ claim. not (is_among c o rights claim)) (not (same_pair c' o' c o && has rights right))
-    (λ claim e.
-    let parts = both (same_pair c' o' claim.client claim.object) (same_right claim.right right) e in
-    let pair = same_pair_is c' o' claim.client claim.object parts.0 in
-    let one = same_right_is claim.right right parts.1 in
-    λ i. not (same_pair (sym pair.0 i) (sym pair.1 i) c o && has rights (one i)))
-    claims
-
-any-flat_map : {X Y : Type 0} (p : Y → Bool) (f : X → List Y) (xs : List X) → list_any p (flat_map f xs) ≡ list_any (λ x. list_any p (f x)) xs
-any-flat_map p f [] = refl
-any-flat_map p f (x ∷ xs) = list_any-append p (f x) (flat_map f xs) ∙ ap (λ b. list_any p (f x) || b) (any-flat_map p f xs)
-
-one_claim : (c : ClientId) (o : Object) (rights : Rights) (c' : ClientId) (o' : Object) (right x : Right)
-    → list_any (is_claim c' o' right) (claim_of c o rights x) ≡ (has rights x && (same_pair c' o' c o && same_right x right))
-one_claim c o rights c' o' right x = by_test (has rights x)
-  where
-    by_test : (b : Bool) → list_any (is_claim c' o' right) (if b then record { client = c; object = o; right = x } ∷ [] else []) ≡ (b && (same_pair c' o' c o && same_right x right))
-    by_test true = or-false (same_pair c' o' c o && same_right x right)
-    by_test false = refl
-
-picked : (P : Bool) (h : Right → Bool) (right : Right) → list_any (λ x. h x && (P && same_right x right)) all_rights ≡ (P && h right)
-picked false h right = simp (and-false)
-picked true h Use = simp (and-true, and-false, or-false)
-picked true h Read = simp (and-true, and-false, or-false)
-picked true h Write = simp (and-true, and-false, or-false)
-picked true h Wait = simp (and-true, and-false, or-false)
-picked true h Change = simp (and-true, and-false, or-false)
-picked true h Launch = simp (and-true, and-false, or-false)
-
--- the claims of a set are those of its rights
-claimed-claims_of : (c : ClientId) (o : Object) (rights : Rights) (c' : ClientId) (o' : Object) (right : Right)
-    → claimed (claims_of c o rights) c' o' right ≡ (same_pair c' o' c o && has rights right)
-claimed-claims_of c o rights c' o' right =
-    any-flat_map (is_claim c' o' right) (claim_of c o rights) all_rights
-    ∙ ap (λ (f : Right → Bool). list_any f all_rights) (λ i x. one_claim c o rights c' o' right x i)
-    ∙ picked (same_pair c' o' c o) (has rights) right
-
-given_or : (m x : Bool) → ((not m && x) || m) ≡ (x || m)
-given_or true x = sym (or-true x)
-given_or false x = refl
-
--- what is there once the rights of a set are taken out and put behind
-pub claimed-given : (c : ClientId) (o : Object) (rights : Rights) (c' : ClientId) (o' : Object) (right : Right) (claims : List Claim)
-    → claimed (filter (λ claim. not (is_among c o rights claim)) claims ++ claims_of c o rights) c' o' right
-    ≡ (claimed claims c' o' right || (same_pair c' o' c o && has rights right))
-claimed-given c o rights c' o' right claims =
-    list_any-append (is_claim c' o' right) (filter (λ claim. not (is_among c o rights claim)) claims) (claims_of c o rights)
-    ∙ (λ i. claimed-dropped c o rights c' o' right claims i || claimed-claims_of c o rights c' o' right i)
-    ∙ given_or (same_pair c' o' c o && has rights right) (claimed claims c' o' right)
 
 -- ---- holds
 
