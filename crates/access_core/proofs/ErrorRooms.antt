@@ -1,5 +1,5 @@
 -- Room for the errors of packets in flight stays as packets come and go.
-use Rattle.std.proofs.Common.{◌≡◌, ℕ, suc, ◌+◌, ◌-◌, ◌<◌, ◌≤◌, List, [], ◌∷◌, ◌++◌, length, map, length-append, refl, sym, ◌∙◌, ap, subst, append-nil, Bool, true, false, Option, Some, None, arith}
+use Rattle.std.proofs.Common.{◌≡◌, ℕ, suc, ◌+◌, ◌-◌, ◌<◌, ◌≤◌, List, [], ◌∷◌, ◌++◌, length, map, length-append, refl, sym, ◌∙◌, ap, subst, append-nil, Bool, true, false, Some, None, arith}
 use Rattle.std.specs.Prelude.{◌==◌, filter, find, fold, not, nat_lt, slice_get, if◌then◌else◌}
 use Rattle.std.proofs.lemmas.Bool.{eqb-true, eq-eqb}
 use Rattle.std.proofs.lemmas.List.Elements.{filter-append}
@@ -14,7 +14,7 @@ use Rattle.core_model.specs.declared.outcome.Seen.{Seen}
 use Rattle.core_model.specs.Flight.{flight_after_effect, group_ran, has_seen, is_packet, seen_with}
 use Rattle.access_core.specs.declared.queue.Queue.{Queue}
 use Rattle.access_core.specs.QueueShown.{kept_errors, kept_places}
-use Rattle.access_core.specs.Moves.{HandsOver, HasFailed, HasPlace, errors_with}
+use Rattle.access_core.specs.Moves.{HandsOver, HasFailed, HasPlace, IsHalted, errors_with}
 use Rattle.access_core.specs.ErrorRoom.{HasErrorRoom}
 use Rattle.access_core.specs.ToldWork.{without}
 use Rattle.access_core.proofs.QueueLemmas.{numbered-push}
@@ -179,6 +179,14 @@ module _ (old new : List Queue) (fs : List InFlight) (room : HasErrorRoom old fs
       either : (q : QueueId) (b : Bool) → (error.queue.0 == q.0) ≡ b → (if b then length (kept_errors (numbered old q.0)) + 1 else length (kept_errors (numbered old q.0))) + length (filter (of_queue q.0) fs) ≤ 8
       either q true is = let at = at_queue q.0 (sym mine ∙ eqb-true _ _ is) in rw at.0 (omega (arith, at.1))
       either q false is = room.free q
+
+-- ---- a queue is stopped
+
+-- a stop with its releases leaves the room
+pub ErrorRoom-halted : (old new : List Queue) (fs : List InFlight) → HasErrorRoom old fs → (queue : QueueId) (effects : List Effect) → IsHalted old new queue → HasErrorRoom new (fold flight_after_effect fs effects)
+ErrorRoom-halted old new fs room queue effects halted =
+    let after = ErrorRoom-released old fs room effects in
+    record { places = λ q. halted.places q ∙ room.places q; free = λ q. rw (halted.errors q) (after.free q) }
 
 -- ---- a packet in flight fails
 

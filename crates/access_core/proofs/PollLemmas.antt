@@ -1,6 +1,6 @@
 -- Packets in flight that are polled: their queues, and what is owed by what is kept.
-use Rattle.std.proofs.Common.{◌≡◌, refl, sym, ◌∙◌, ap, subst, Bool, true, false, Option, Some, None, List, ◌∷◌, [], All, get_or, map, ℕ}
-use Rattle.std.specs.Prelude.{option_map, find, if◌then◌else◌}
+use Rattle.std.proofs.Common.{◌≡◌, refl, sym, ◌∙◌, ap, subst, Bool, true, false, Option, Some, None, List, [], All, get_or, map, ℕ}
+use Rattle.std.specs.Prelude.{option_map, if◌then◌else◌}
 use Rattle.std.proofs.lemmas.List.Elements.{All-map}
 use Rattle.aql_packet.specs.declared.ids.QueueId.{QueueId}
 use Rattle.aql_packet.specs.declared.ids.PacketId.{PacketId}
@@ -10,7 +10,7 @@ use Rattle.core_model.specs.declared.flight.InFlight.{InFlight}
 use Rattle.core_model.specs.History.{History}
 use Rattle.core_model.specs.declared.event.Event.TheVariants.{Poll}
 use Rattle.core_model.specs.declared.outcome.Outcome.TheVariants as outcome
-use Rattle.core_model.specs.Queues.{Opening, error_of, owner}
+use Rattle.core_model.specs.Queues.{Opening, error_of}
 use Rattle.core_model.specs.Legal.{entry_of}
 use Rattle.core_model.specs.Flight.{flight, flight_after, has_seen, in_flight, is_packet, seen_with}
 use Rattle.access_core.specs.declared.access.AccessCore.TheInside.{Inside}

@@ -1,5 +1,5 @@
 -- What is kept moves along with the failure, which always finds room: a packet leaves flight for its entry.
-use Rattle.std.proofs.Common.{◌≡◌, ◌≤◌, refl, sym, true, [], ◌∷◌, arith}
+use Rattle.std.proofs.Common.{◌≡◌, refl, true, [], ◌∷◌, arith}
 use Rattle.std.specs.Prelude.{not}
 use Rattle.std.proofs.lemmas.Bool.{le-ltb}
 use Rattle.std.proofs.lemmas.List.Elements.{All-filter}

@@ -1,16 +1,9 @@
 -- What the stop is owed, by what is kept, and the room that is left.
-use Rattle.std.proofs.Common.{◌≡◌, ◌+◌, ◌∙◌, refl, sym, subst, true, false, Bool, Option, Some, None, length, inl, inr, arith}
-use Rattle.std.specs.Prelude.{nat_lt, find, fold}
+use Rattle.std.proofs.Common.{◌≡◌, ◌+◌, ◌∙◌, refl, true, false, Some, None, length}
+use Rattle.std.specs.Prelude.{nat_lt}
 use Rattle.policy.specs.Policy.{numbered}
-use Rattle.core_model.specs.declared.event.Event.TheVariants.{Stop}
-use Rattle.core_model.specs.declared.flight.InFlight.{InFlight}
-use Rattle.core_model.specs.declared.outcome.Outcome.TheVariants as outcome
-use Rattle.core_model.specs.Flight.{flight_after_effect}
-use Rattle.core_model.specs.Owed.{owed, enters, release_of}
-use Rattle.access_core.specs.Kept.{start_of}
-use Rattle.access_core.specs.Stopping.{MayStop}
-use Rattle.access_core.proofs.Calls.{full, refused, room-after}
-use Rattle.access_core.proofs.StopLemmas.{stop-known, stop-room, stop-unknown, is_barrier_of}
+use Rattle.access_core.proofs.Calls.{refused}
+use Rattle.access_core.proofs.StopLemmas.{may-stop, stop-full, stop-known, stop-unknown}
 use Rattle.access_core.proofs.access.AccessCore.may_stop.Goals.{else-is_none-via-then-is_none+else-lacks_room, else-is_none-via-else-is_none}
 use Rattle.access_core.proofs.access.AccessCore.may_stop.Goals as goal
 
@@ -29,9 +22,21 @@ returns-then-kept-clause-why c =
 pub returns-then-lacks_room-clause-why : goal.returns-then-lacks_room-clause-why
 returns-then-lacks_room-clause-why c =
     let a = c.self.inside in
-    ?
+    let some : numbered a.queues.items c.args.queue.0 ≡ Some c.in-Some.kept.now = cc c.in-Some.ensures in
+    let lacks : nat_lt a.capacity (length a.audit.items + 1 + length a.flight) ≡ true = cc in
+    stop-full a c.self.invariant c.args.queue _ _ _ c.self.view_is some c.if-kept.false (rw c.as_slice-2.ensures at c.barrier_of-barrier.ensures)
+    (rw c.if-is_none.true at c.is_none.ensures) lacks
 
 pub returns-clause-may : goal.returns-clause-may
 returns-clause-may c =
     let a = c.self.inside in
-    ?
+    let some : numbered a.queues.items c.args.queue.0 ≡ Some c.in-Some.kept.now = cc c.in-Some.ensures in
+    elim c.else-is_none.branch [
+      | else-is_none-via-then-is_none+else-lacks_room w ↦
+          let room : nat_lt a.capacity (length a.audit.items + 1 + length a.flight) ≡ false = cc in
+          may-stop a c.self.invariant c.args.queue _ _ true _ c.self.view_is some c.if-kept.false (rw c.as_slice-2.ensures at c.barrier_of-barrier.ensures)
+          (rw w.if-is_none.true at c.is_none.ensures) (λ e. room)
+      | else-is_none-via-else-is_none w ↦
+          may-stop a c.self.invariant c.args.queue _ _ false _ c.self.view_is some c.if-kept.false (rw c.as_slice-2.ensures at c.barrier_of-barrier.ensures)
+          (rw w.if-is_none.false at c.is_none.ensures) (λ e. cc)
+    ]

@@ -1,8 +1,8 @@
 -- One queue's next id rises, and it has an error more.
-use Rattle.std.proofs.Common.{◌≡◌, ◌+◌, ◌-◌, refl, sym, ap, Some, [], ◌∷◌, ◌++◌, ◌∙◌}
+use Rattle.std.proofs.Common.{◌≡◌, ◌+◌, ◌-◌, refl, ap, [], ◌∷◌, ◌++◌, ◌∙◌}
 use Rattle.std.proofs.lemmas.Option.{get_or_from_slice_get}
 use Rattle.access_core.specs.declared.queue.Queue.{Queue}
-use Rattle.access_core.specs.QueueShown.{kept_opening, kept_errors}
+use Rattle.access_core.specs.QueueShown.{kept_opening}
 use Rattle.access_core.proofs.HandOver.{HandsOver-error, numbered-place}
 use Rattle.access_core.proofs.access.taking.fail_next.Goals as goal
 
