@@ -14,7 +14,7 @@ ghost use Rattle.access_core.specs.Told.{taken};
 use crate::access::lookups::queue_of;
 use crate::access::{AccessCore, enter, lacks_room};
 use crate::granted::Granted;
-use crate::queue::Queue;
+use crate::queue::{Queue, SLOTS};
 use crate::verdict::{Facts, TAKES_NOTHING, judge};
 use aql_packet::{AgentHandle, ClientId, Packet, PacketId, QueueId, header_of};
 use core_model::{Cause, Effects, Event, InFlight, Outcome, Refusal, Seen, Taken};
@@ -69,7 +69,7 @@ fn waits_for(flight: &[InFlight], queue: QueueId, barrier: bool) -> Option<Cause
     if barrier && count > 0 {
         return Some(Cause::Active);
     }
-    if count >= 8 {
+    if count >= SLOTS {
         return Some(Cause::Slots);
     }
     None
