@@ -189,14 +189,12 @@ fn is_any_negative(signals: &Signals, dependencies: &[SignalHandle; 5], seen: &S
 fn newly_seen(signals: &Signals, dependencies: &[SignalHandle; 5], seen: &Seen) -> Seen
     ensures { result.0 ≡ map (is_zero signals.now) (zip dependencies.now seen.now.0) }
 {
-    let [a, b, c, d, e] = *dependencies;
-    let [seen_a, seen_b, seen_c, seen_d, seen_e] = seen.0;
     Seen([
-        is_zero(signals, a, seen_a),
-        is_zero(signals, b, seen_b),
-        is_zero(signals, c, seen_c),
-        is_zero(signals, d, seen_d),
-        is_zero(signals, e, seen_e),
+        is_zero(signals, dependencies[0], seen.0[0]),
+        is_zero(signals, dependencies[1], seen.0[1]),
+        is_zero(signals, dependencies[2], seen.0[2]),
+        is_zero(signals, dependencies[3], seen.0[3]),
+        is_zero(signals, dependencies[4], seen.0[4]),
     ])
 }
 
@@ -211,9 +209,13 @@ fn is_any(seen: &Seen) -> bool
 fn seen_with(before: &Seen, new: &Seen) -> Seen
     ensures { result ≡ seen_with before.now new.now }
 {
-    let [a, b, c, d, e] = before.0;
-    let [new_a, new_b, new_c, new_d, new_e] = new.0;
-    Seen([a | new_a, b | new_b, c | new_c, d | new_d, e | new_e])
+    Seen([
+        before.0[0] | new.0[0],
+        before.0[1] | new.0[1],
+        before.0[2] | new.0[2],
+        before.0[3] | new.0[3],
+        before.0[4] | new.0[4],
+    ])
 }
 
 // What is told of positions that are seen as 0 for the first time.

@@ -7,7 +7,7 @@ ghost use Rattle.core_model.specs.Legal.{MeetsOrLacks};
 ghost use Rattle.access_core.specs.Told.{opened};
 
 use crate::access::{AccessCore, enter, lacks_room};
-use crate::queue::Queue;
+use crate::queue::{Queue, SLOTS};
 use aql_packet::{AgentHandle, ClientId, QueueId};
 use core_model::{Effects, Event, Outcome, Refusal};
 use policy::{Object, Right};
@@ -15,10 +15,6 @@ use sequences::Reserved;
 use std::alloc::Global;
 
 const QUEUES: usize = 64;
-
-/// How many packets of a queue are in flight at the most, and so how many errors it can have: it
-/// launches nothing more after the first, and each packet in flight can leave one.
-const SLOTS: usize = 8;
 
 // Whether a ring may have so many slots: a power of two from 2 to 4,096.
 fn is_ring_size(size: u64) -> bool
