@@ -1,6 +1,7 @@
 //! Faults before the arrays, and of arrays as wholes; which fault of several comes first.
 
 use super::{Row, check_rows, outcome};
+use std::process::Abort;
 use std::test::Fail;
 
 const FILES: [Row; 17] = [
@@ -40,16 +41,17 @@ fn files_are_judged_before_their_arrays(rt: HostRuntime) -> Result<(), Fail> {
     check_rows(&rt, &FILES)
 }
 
+fn check_bytes(rt: &(impl Abort + AllocGlobal), bytes: &[u8]) -> Result<(), Fail> {
+    let printed = outcome(rt.alloc(), bytes)?;
+    assert_eq!(rt; printed.as_str(), "1 NotToml", "{bytes:?}");
+    Ok(())
+}
+
 #[test]
 fn other_bytes_than_text_are_no_toml(rt: HostRuntime) -> Result<(), Fail> {
-    for bytes in [
-        b"\xff".as_slice(),
-        b"version = 1 # \xc3".as_slice(),
-        b"[[client]]\nname = \"\xed\xa0\x80\"".as_slice(),
-    ] {
-        assert_eq!(rt; outcome(rt.alloc(), bytes)?.as_str(), "1 NotToml");
-    }
-    Ok(())
+    check_bytes(&rt, b"\xff")?;
+    check_bytes(&rt, b"version = 1 # \xc3")?;
+    check_bytes(&rt, b"[[client]]\nname = \"\xed\xa0\x80\"")
 }
 
 const ARRAYS: [Row; 16] = [

@@ -100,15 +100,21 @@ const ARGS: Object = Object::Region(RegionHandle(2));
 
 const DONE: Object = Object::Signal(SignalHandle(1));
 
+const GO: Object = Object::Signal(SignalHandle(2));
+
 const SPIN: Object = Object::Kernel(KernelObject(2));
 
 fn policy(alloc: Global, text: &str) -> Result<Policy, Fail> {
     Ok(read_policy(alloc, text.as_bytes())?)
 }
 
+fn sample(alloc: Global) -> Result<Policy, Fail> {
+    policy(alloc, SAMPLE)
+}
+
 #[test]
 fn the_sample_is_counted(rt: HostRuntime) -> Result<(), Fail> {
-    let policy = policy(rt.alloc(), SAMPLE)?;
+    let policy = sample(rt.alloc())?;
     assert_eq!(rt; policy.client_count(), 2);
     assert_eq!(rt; policy.object_count(Kind::Agent), 1);
     assert_eq!(rt; policy.object_count(Kind::Region), 2);
@@ -118,54 +124,59 @@ fn the_sample_is_counted(rt: HostRuntime) -> Result<(), Fail> {
     Ok(())
 }
 
+fn check_client(rt: &impl Abort, policy: &Policy, name: &str, client: ClientId) {
+    assert_eq!(rt; policy.client_named(name.as_bytes()), client, "{name}");
+    assert_eq!(rt; policy.client_name(client).unwrap_or(""), name);
+    assert!(rt; policy.declares_client(client), "{name}");
+}
+
+fn check_no_client(rt: &impl Abort, policy: &Policy, client: ClientId) {
+    assert!(rt; policy.client_name(client).is_none(), "{client:?}");
+    assert!(rt; !policy.declares_client(client), "{client:?}");
+}
+
 #[test]
 fn clients_have_names_and_numbers(rt: HostRuntime) -> Result<(), Fail> {
-    let policy = policy(rt.alloc(), SAMPLE)?;
-    for (name, client) in [("alice", ALICE), ("bob", BOB)] {
-        assert_eq!(rt; policy.client_named(name.as_bytes()), client, "{name}");
-        assert_eq!(rt; policy.client_name(client).unwrap_or(""), name);
-        assert!(rt; policy.declares_client(client), "{name}");
-    }
+    let policy = sample(rt.alloc())?;
+    check_client(&rt, &policy, "alice", ALICE);
+    check_client(&rt, &policy, "bob", BOB);
+    check_no_client(&rt, &policy, ClientId(0));
+    check_no_client(&rt, &policy, ClientId(3));
     assert_eq!(rt; policy.client_named(b"carol"), ClientId(0));
     assert_eq!(rt; policy.client_named(b"\xff"), ClientId(0));
-    for number in [0, 3] {
-        assert!(rt; policy.client_name(ClientId(number)).is_none(), "{number}");
-        assert!(rt; !policy.declares_client(ClientId(number)), "{number}");
-    }
     Ok(())
+}
+
+fn check_object(rt: &impl Abort, policy: &Policy, name: &str, object: Object) {
+    let named = policy.object_named(object.kind(), name.as_bytes());
+    assert_eq!(rt; named, object, "{name}");
+    assert_eq!(rt; policy.object_name(object).unwrap_or(""), name);
+    assert!(rt; policy.declares(object), "{name}");
+}
+
+fn check_no_object(rt: &impl Abort, policy: &Policy, object: Object) {
+    assert!(rt; policy.object_name(object).is_none(), "{object:?}");
+    assert!(rt; !policy.declares(object), "{object:?}");
 }
 
 #[test]
 fn objects_have_names_and_numbers(rt: HostRuntime) -> Result<(), Fail> {
-    let policy = policy(rt.alloc(), SAMPLE)?;
-    for (name, object) in [
-        ("gpu", GPU),
-        ("buf", BUF),
-        ("args", ARGS),
-        ("done", DONE),
-        ("spin", SPIN),
-    ] {
-        let kind = object.kind();
-        assert_eq!(rt;
-            policy.object_named(kind, name.as_bytes()),
-            object,
-            "{name}"
-        );
-        assert_eq!(rt; policy.object_name(object).unwrap_or(""), name);
-        assert!(rt; policy.declares(object), "{name}");
-        assert_eq!(rt; policy.object_named(kind, b"nosuch").number(), 0, "{kind}");
-    }
-    for number in [0, 3] {
-        let region = Object::of(Kind::Region, number);
-        assert!(rt; policy.object_name(region).is_none(), "{number}");
-        assert!(rt; !policy.declares(region), "{number}");
-    }
+    let policy = sample(rt.alloc())?;
+    check_object(&rt, &policy, "gpu", GPU);
+    check_object(&rt, &policy, "buf", BUF);
+    check_object(&rt, &policy, "args", ARGS);
+    check_object(&rt, &policy, "done", DONE);
+    check_object(&rt, &policy, "spin", SPIN);
+    check_no_object(&rt, &policy, Object::of(Kind::Region, 0));
+    check_no_object(&rt, &policy, Object::of(Kind::Region, 3));
+    let other = policy.object_named(Kind::Signal, b"buf");
+    assert_eq!(rt; other.number(), 0);
     Ok(())
 }
 
 #[test]
 fn objects_are_as_declared(rt: HostRuntime) -> Result<(), Fail> {
-    let policy = policy(rt.alloc(), SAMPLE)?;
+    let policy = sample(rt.alloc())?;
     let both = Takes {
         kernel: true,
         agent: true,
@@ -189,7 +200,7 @@ fn objects_are_as_declared(rt: HostRuntime) -> Result<(), Fail> {
 
 #[test]
 fn allow_rows_keep_their_order(rt: HostRuntime) -> Result<(), Fail> {
-    let policy = policy(rt.alloc(), SAMPLE)?;
+    let policy = sample(rt.alloc())?;
     let first = policy.allow_rows().first().ok_or("a row")?;
     assert_eq!(rt; first.subject, Subject::One(ALICE));
     assert_eq!(rt; first.target, Target::Any(Kind::Agent));
@@ -205,40 +216,48 @@ fn allow_rows_keep_their_order(rt: HostRuntime) -> Result<(), Fail> {
 }
 
 /// A name, a client, an object, rights on it, and whether they are allowed.
-type Question = (&'static str, ClientId, Object, Rights, bool);
+type Question = (&'static str, ClientId, Object, &'static [Right], bool);
 
-fn check_questions(
-    rt: &(impl Abort + AllocGlobal),
-    text: &str,
-    questions: &[Question],
-) -> Result<(), Fail> {
-    let policy = policy(rt.alloc(), text)?;
-    for (name, client, object, rights, wanted) in questions {
-        assert_eq!(rt; policy.allows(*client, *object, *rights), *wanted, "{name}");
+fn set_of(rights: &[Right]) -> Rights {
+    let mut set = Rights::NONE;
+    for right in rights {
+        set.insert(Rights::of(*right));
     }
-    Ok(())
+    set
 }
+
+fn check_questions(rt: &impl Abort, policy: &Policy, questions: &[Question]) {
+    for (name, client, object, rights, wanted) in questions {
+        let rights = set_of(rights);
+        assert_eq!(rt; policy.allows(*client, *object, rights), *wanted, "{name}");
+    }
+}
+
+const LISTED: [Question; 11] = [
+    ("listed", BOB, BUF, &[Right::Read], true),
+    ("unlisted", BOB, BUF, &[Right::Write], false),
+    ("one_of_two", BOB, BUF, &[Right::Read, Right::Write], false),
+    ("other_region", BOB, ARGS, &[Right::Read], false),
+    ("other_kind", BOB, DONE, &[Right::Wait], false),
+    ("none", BOB, DONE, &[], true),
+    (
+        "each_region",
+        ALICE,
+        ARGS,
+        &[Right::Read, Right::Write],
+        true,
+    ),
+    ("each_kernel", ALICE, SPIN, &[Right::Launch], true),
+    ("another_kinds_right", ALICE, BUF, &[Right::Use], false),
+    ("named_agent", BOB, GPU, &[Right::Use], true),
+    ("unknown_client", ClientId(3), BUF, &[Right::Read], false),
+];
 
 #[test]
 fn the_sample_allows_what_its_rows_list(rt: HostRuntime) -> Result<(), Fail> {
-    let both = Rights::READ.union(Rights::WRITE);
-    check_questions(
-        &rt,
-        SAMPLE,
-        &[
-            ("listed", BOB, BUF, Rights::READ, true),
-            ("unlisted", BOB, BUF, Rights::WRITE, false),
-            ("one_of_two", BOB, BUF, both, false),
-            ("other_region", BOB, ARGS, Rights::READ, false),
-            ("other_kind", BOB, DONE, Rights::WAIT, false),
-            ("none", BOB, DONE, Rights::NONE, true),
-            ("each_region", ALICE, ARGS, both, true),
-            ("each_kernel", ALICE, SPIN, Rights::LAUNCH, true),
-            ("another_kinds_right", ALICE, BUF, Rights::USE, false),
-            ("named_agent", BOB, GPU, Rights::USE, true),
-            ("unknown_client", ClientId(3), BUF, Rights::READ, false),
-        ],
-    )
+    let policy = sample(rt.alloc())?;
+    check_questions(&rt, &policy, &LISTED);
+    Ok(())
 }
 
 /// Every client may wait on a signal and change another; rows add to each other.
@@ -265,22 +284,26 @@ object = "*"
 rights = ["CHANGE", "CHANGE"]
 "#;
 
+const WILD_ROWS: [Question; 6] = [
+    ("each_client", ALICE, DONE, &[Right::Wait], true),
+    ("another_right", ALICE, DONE, &[Right::Change], false),
+    ("another_object", ALICE, GO, &[Right::Wait], false),
+    ("each_object", BOB, GO, &[Right::Change], true),
+    ("two_rows", BOB, DONE, &[Right::Wait, Right::Change], true),
+    (
+        "not_two_rows",
+        BOB,
+        GO,
+        &[Right::Wait, Right::Change],
+        false,
+    ),
+];
+
 #[test]
 fn wildcards_cover_all(rt: HostRuntime) -> Result<(), Fail> {
-    let go = Object::Signal(SignalHandle(2));
-    let both = Rights::WAIT.union(Rights::CHANGE);
-    check_questions(
-        &rt,
-        WILD,
-        &[
-            ("each_client", ALICE, DONE, Rights::WAIT, true),
-            ("another_right", ALICE, DONE, Rights::CHANGE, false),
-            ("another_object", ALICE, go, Rights::WAIT, false),
-            ("each_object", BOB, go, Rights::CHANGE, true),
-            ("two_rows", BOB, DONE, both, true),
-            ("not_two_rows", BOB, go, both, false),
-        ],
-    )
+    let policy = policy(rt.alloc(), WILD)?;
+    check_questions(&rt, &policy, &WILD_ROWS);
+    Ok(())
 }
 
 #[test]
