@@ -1,6 +1,6 @@
 //! The sample policy: its counts, names and numbers, and what it allows.
 
-use crate::{Kind, Object, Policy, Right, Rights, Subject, Takes, Target, read_policy};
+use crate::{AllowRow, Kind, Object, Policy, Right, Rights, Subject, Takes, Target, read_policy};
 use aql_packet::{AgentHandle, ClientId, KernelObject, RegionHandle, SignalHandle};
 use bitflags::Flags;
 use std::alloc::Global;
@@ -112,15 +112,25 @@ fn sample(alloc: Global) -> Result<Policy, Fail> {
     policy(alloc, SAMPLE)
 }
 
+fn counts(policy: &Policy) -> [usize; 6] {
+    [
+        policy.client_count(),
+        policy.object_count(Kind::Agent),
+        policy.object_count(Kind::Region),
+        policy.object_count(Kind::Signal),
+        policy.object_count(Kind::Kernel),
+        policy.allow_rows().len(),
+    ]
+}
+
+fn check_counts(rt: &impl Abort, policy: &Policy) {
+    assert_eq!(rt; counts(policy), [2, 1, 2, 2, 2, 6]);
+}
+
 #[test]
 fn the_sample_is_counted(rt: HostRuntime) -> Result<(), Fail> {
     let policy = sample(rt.alloc())?;
-    assert_eq!(rt; policy.client_count(), 2);
-    assert_eq!(rt; policy.object_count(Kind::Agent), 1);
-    assert_eq!(rt; policy.object_count(Kind::Region), 2);
-    assert_eq!(rt; policy.object_count(Kind::Signal), 2);
-    assert_eq!(rt; policy.object_count(Kind::Kernel), 2);
-    assert_eq!(rt; policy.allow_rows().len(), 6);
+    check_counts(&rt, &policy);
     Ok(())
 }
 
@@ -135,6 +145,10 @@ fn check_no_client(rt: &impl Abort, policy: &Policy, client: ClientId) {
     assert!(rt; !policy.declares_client(client), "{client:?}");
 }
 
+fn check_unknown_client(rt: &impl Abort, policy: &Policy, name: &[u8]) {
+    assert_eq!(rt; policy.client_named(name), ClientId(0), "{name:?}");
+}
+
 #[test]
 fn clients_have_names_and_numbers(rt: HostRuntime) -> Result<(), Fail> {
     let policy = sample(rt.alloc())?;
@@ -142,8 +156,8 @@ fn clients_have_names_and_numbers(rt: HostRuntime) -> Result<(), Fail> {
     check_client(&rt, &policy, "bob", BOB);
     check_no_client(&rt, &policy, ClientId(0));
     check_no_client(&rt, &policy, ClientId(3));
-    assert_eq!(rt; policy.client_named(b"carol"), ClientId(0));
-    assert_eq!(rt; policy.client_named(b"\xff"), ClientId(0));
+    check_unknown_client(&rt, &policy, b"carol");
+    check_unknown_client(&rt, &policy, b"\xff");
     Ok(())
 }
 
@@ -174,6 +188,40 @@ fn objects_have_names_and_numbers(rt: HostRuntime) -> Result<(), Fail> {
     Ok(())
 }
 
+fn check_takes(rt: &impl Abort, policy: &Policy, agent: u32, wanted: Option<Takes>) {
+    assert_eq!(rt; policy.takes(AgentHandle(agent)), wanted, "{agent}");
+}
+
+fn check_length(rt: &impl Abort, policy: &Policy, region: u32, wanted: Option<u32>) {
+    assert_eq!(rt;
+        policy.region_length(RegionHandle(region)),
+        wanted,
+        "{region}"
+    );
+}
+
+fn check_initial(rt: &impl Abort, policy: &Policy, signal: u64, wanted: Option<i64>) {
+    assert_eq!(rt;
+        policy.signal_initial(SignalHandle(signal)),
+        wanted,
+        "{signal}"
+    );
+}
+
+fn check_source(rt: &impl Abort, policy: &Policy, kernel: u64, entry: &str) -> Result<(), Fail> {
+    let source = policy
+        .kernel_source(KernelObject(kernel))
+        .ok_or("a kernel")?;
+    assert_eq!(rt; source.entry(), entry);
+    assert!(rt;
+        source
+            .text()
+            .starts_with("module &m:1:0:$base:$large:$default;\n")
+    );
+    assert!(rt; source.text().ends_with("};\n"));
+    Ok(())
+}
+
 #[test]
 fn objects_are_as_declared(rt: HostRuntime) -> Result<(), Fail> {
     let policy = sample(rt.alloc())?;
@@ -181,38 +229,56 @@ fn objects_are_as_declared(rt: HostRuntime) -> Result<(), Fail> {
         kernel: true,
         agent: true,
     };
-    assert_eq!(rt; policy.takes(AgentHandle(1)), Some(both));
-    assert_eq!(rt; policy.takes(AgentHandle(2)), None);
-    assert_eq!(rt; policy.region_length(RegionHandle(1)), Some(64));
-    assert_eq!(rt; policy.region_length(RegionHandle(2)), Some(16));
-    assert_eq!(rt; policy.region_length(RegionHandle(0)), None);
-    assert_eq!(rt; policy.signal_initial(SignalHandle(2)), Some(1));
-    assert_eq!(rt; policy.signal_initial(SignalHandle(3)), None);
-    let spin = policy.kernel_source(KernelObject(2)).ok_or("a kernel")?;
-    assert_eq!(rt; spin.entry(), "&spin");
-    assert!(rt;
-        spin.text()
-            .starts_with("module &m:1:0:$base:$large:$default;\n")
-    );
-    assert!(rt; spin.text().ends_with("};\n"));
-    Ok(())
+    check_takes(&rt, &policy, 1, Some(both));
+    check_takes(&rt, &policy, 2, None);
+    check_length(&rt, &policy, 0, None);
+    check_length(&rt, &policy, 1, Some(64));
+    check_length(&rt, &policy, 2, Some(16));
+    check_initial(&rt, &policy, 2, Some(1));
+    check_initial(&rt, &policy, 3, None);
+    check_source(&rt, &policy, 1, "&inc")?;
+    check_source(&rt, &policy, 2, "&spin")
 }
+
+fn check_ends(rt: &impl Abort, rows: &[AllowRow], first: AllowRow, last: AllowRow) {
+    assert_eq!(rt; rows.first().copied(), Some(first));
+    assert_eq!(rt; rows.last().copied(), Some(last));
+}
+
+const ALICES_AGENTS: AllowRow = AllowRow {
+    subject: Subject::One(ALICE),
+    target: Target::Any(Kind::Agent),
+    rights: Rights::USE,
+};
+
+const BOBS_REGION: AllowRow = AllowRow {
+    subject: Subject::One(BOB),
+    target: Target::One(BUF),
+    rights: Rights::READ,
+};
 
 #[test]
 fn allow_rows_keep_their_order(rt: HostRuntime) -> Result<(), Fail> {
     let policy = sample(rt.alloc())?;
-    let first = policy.allow_rows().first().ok_or("a row")?;
-    assert_eq!(rt; first.subject, Subject::One(ALICE));
-    assert_eq!(rt; first.target, Target::Any(Kind::Agent));
-    assert_eq!(rt; first.rights, Rights::USE);
-    let last = policy.allow_rows().last().ok_or("a row")?;
-    assert_eq!(rt; last.subject, Subject::One(BOB));
-    assert_eq!(rt; last.target, Target::One(BUF));
-    assert_eq!(rt; last.rights, Rights::READ);
-    assert!(rt; last.covers(BOB, BUF));
-    assert!(rt; !last.covers(BOB, ARGS));
-    assert!(rt; !last.covers(ALICE, BUF));
+    check_ends(&rt, policy.allow_rows(), ALICES_AGENTS, BOBS_REGION);
     Ok(())
+}
+
+fn check_cover(rt: &impl Abort, row: AllowRow, client: ClientId, object: Object, wanted: bool) {
+    assert_eq!(rt;
+        row.covers(client, object),
+        wanted,
+        "{client:?}, {object:?}"
+    );
+}
+
+#[test]
+fn rows_cover_what_they_name(rt: HostRuntime) {
+    check_cover(&rt, BOBS_REGION, BOB, BUF, true);
+    check_cover(&rt, BOBS_REGION, BOB, ARGS, false);
+    check_cover(&rt, BOBS_REGION, ALICE, BUF, false);
+    check_cover(&rt, ALICES_AGENTS, ALICE, GPU, true);
+    check_cover(&rt, ALICES_AGENTS, ALICE, BUF, false);
 }
 
 /// A name, a client, an object, rights on it, and whether they are allowed.
