@@ -114,7 +114,7 @@ impl Policy {
     pub fn declares_client(&self, client: ClientId) -> bool
         ensures { result ≡ declares_client self.now client }
     {
-        1 <= client.0 && client.0 as usize <= self.clients.len()
+        1 <= client.0 && client.0 as usize <= self.client_count()
     }
 
     /// Whether an object is one of the policy's.
@@ -207,6 +207,6 @@ impl Policy {
     pub fn allows(&self, client: ClientId, object: Object, rights: Rights) -> bool
         ensures { result ≡ allows self.now client object rights }
     {
-        rows_allow(self.allows.as_slice(), client, object, rights)
+        rows_allow(self.allow_rows(), client, object, rights)
     }
 }
