@@ -3,6 +3,13 @@
 //! The next line lets the check look for proofs by its tactics.
 #![tactic(auto)]
 
+mod fault;
 mod names;
+mod step;
 
+pub use fault::{Cause, CheckError, CheckFault};
 pub use names::Names;
+pub use step::{
+    ArgumentStep, BinaryStep, BranchStep, Dimension, IdentifyStep, LinedStep, LoadStep, Operand, Pointer, Relative, Slot, Step,
+    StoreStep, TernaryStep, UnaryStep,
+};
