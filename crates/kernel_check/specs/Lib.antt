@@ -1,2 +1,4 @@
 pub mod Names
 pub mod Faults
+pub mod Constants
+pub mod Operands

@@ -3,8 +3,10 @@
 //! The next line lets the check look for proofs by its tactics.
 #![tactic(auto)]
 
+mod constants;
 mod fault;
 mod names;
+mod operands;
 mod step;
 
 pub use fault::{Cause, CheckError, CheckFault};
