@@ -2,3 +2,5 @@ pub mod Names
 pub mod Faults
 pub mod Constants
 pub mod Operands
+pub mod Layout
+pub mod Causes

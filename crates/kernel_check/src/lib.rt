@@ -3,8 +3,10 @@
 //! The next line lets the check look for proofs by its tactics.
 #![tactic(auto)]
 
+mod causes;
 mod constants;
 mod fault;
+mod layout;
 mod names;
 mod operands;
 mod step;
