@@ -4,3 +4,4 @@ pub mod Constants
 pub mod Operands
 pub mod Layout
 pub mod Causes
+pub mod Steps

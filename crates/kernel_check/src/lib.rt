@@ -10,6 +10,7 @@ mod layout;
 mod names;
 mod operands;
 mod step;
+mod translate;
 
 pub use fault::{Cause, CheckError, CheckFault};
 pub use names::Names;
