@@ -1,12 +1,14 @@
 -- Names are found in the plain list as in the map behind it.
-use Rattle.std.proofs.Common.{◌≡◌, ℕ, Bool, cond, List, [], ◌∷◌, ◌++◌, map, nat_eq, Option, Some, None, refl, ap, sym, ◌∙◌}
+use Rattle.std.proofs.Common.{◌≡◌, ℕ, Bool, true, false, cond, List, [], ◌∷◌, ◌++◌, map, nat_eq, Option, Some, None, refl, ap, sym, ◌∙◌}
 use Rattle.std.specs.Borrow.{Bor}
 use Rattle.std.specs.Cmp.Lexicographic.{pointwise}
 use Rattle.std.specs.Map.{lookup}
 use Rattle.indexmap.specs.IndexMap.{IndexMap, insert_entry}
 use Rattle.indexmap.proofs.CallerLemmas.{insert_entry-new}
 use Rattle.std.proofs.lemmas.List.{map-append}
-use Rattle.kernel_check.specs.Names.{find, plain}
+use Rattle.std.specs.Str.{bytes_eq}
+use Rattle.std.proofs.lemmas.Slice.Eq.{bytes_eq-Decides}
+use Rattle.kernel_check.specs.Names.{Known, find, plain, or_else}
 
 -- a lent name as a key
 abbrev pub same_name : Bor (List ℕ) → Bor (List ℕ) → Bool
@@ -28,3 +30,37 @@ added name v m names es new is e =
     sym (find-plain name m.entries) ∙ ap (λ ns. find ns name.now) is ∙ new in
     ap plain (e ∙ insert_entry-new same_name m name v absent)
     ∙ map-append (λ entry. (entry.0.now, entry.1)) m.entries ((name, v) ∷ []) ∙ ap (λ ns. ns ++ (name.now, v) ∷ []) is
+
+or_else-cond : {X : Type 0} (b : Bool) (x : Option X) (v : X) (y : Option X) → or_else (cond b (Some v) x) y ≡ cond b (Some v) (or_else x y)
+or_else-cond true x v y = refl
+or_else-cond false x v y = refl
+
+-- a name is found in the first of two lists, else in the second
+pub find-append : {X : Type 0} (name : List ℕ) (a b : Known X) → find (a ++ b) name ≡ or_else (find a name) (find b name)
+find-append name [] b = refl
+find-append name (e ∷ a) b =
+    ap (λ rest. cond (bytes_eq name e.0) (Some e.1) rest) (find-append name a b)
+    ∙ sym (or_else-cond (bytes_eq name e.0) (find a name) e.1 (find b name))
+
+pub or_else-None : {X : Type 0} (x : Option X) → or_else x None ≡ x
+or_else-None None = refl
+or_else-None (Some x) = refl
+
+pub or_else-assoc : {X : Type 0} (x y z : Option X) → or_else (or_else x y) z ≡ or_else x (or_else y z)
+or_else-assoc None y z = refl
+or_else-assoc (Some x) y z = refl
+
+kept_none : {X : Type 0} (q name : List ℕ) (names : Known X) (v w : X) (b : Bool) → bytes_eq q name ≡ b → find names name ≡ Some w
+    → find names q ≡ None → None ≡ cond b (Some v) None
+kept_none q name names v w true same there none = cc (sym (ap (find names) ((bytes_eq-Decides q name).0 same)))
+kept_none q name names v w false same there none = refl
+
+kept_at : {X : Type 0} (q name : List ℕ) (names : Known X) (v w : X) (x : Option X) → find names name ≡ Some w
+    → find names q ≡ x → x ≡ or_else x (find ((name, v) ∷ []) q)
+kept_at q name names v w None there e = kept_none q name names v w (bytes_eq q name) refl there e
+kept_at q name names v w (Some y) there e = refl
+
+-- a name that is there already isn't put in again
+pub kept : {X : Type 0} (q name : List ℕ) (names : Known X) (v w : X) → find names name ≡ Some w
+    → find names q ≡ or_else (find names q) (find ((name, v) ∷ []) q)
+kept q name names v w there = kept_at q name names v w (find names q) there refl

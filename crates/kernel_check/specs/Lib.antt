@@ -5,3 +5,4 @@ pub mod Operands
 pub mod Layout
 pub mod Causes
 pub mod Steps
+pub mod Checks

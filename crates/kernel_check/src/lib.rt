@@ -6,6 +6,7 @@
 mod causes;
 mod constants;
 mod fault;
+mod labels;
 mod layout;
 mod names;
 mod operands;
