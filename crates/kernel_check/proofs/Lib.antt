@@ -1,3 +1,5 @@
 pub mod NameLemmas
 pub mod Walks
 pub mod LabelLemmas
+pub mod CheckLemmas
+pub mod BlockLemmas

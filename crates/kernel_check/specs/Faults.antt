@@ -65,11 +65,11 @@ abbrev pub Gives : {X Y : Type 0} → (X → Y) → Result X CheckError → Resu
 Gives view (Ok x) r = r ≡ Ok (view x)
 Gives view (Err e) r = FailsAs e r
 
--- an item at a line was let pass just where no cause fails it, unless memory ran out
-abbrev pub Stops : CheckError → ℕ → Option Cause → Type 0
-Stops error.OutOfMemory line cause = Unit {0}
-Stops (error.Fault f) line cause = fault_or line cause None ≡ Some f
+-- these items were let pass just where none fails, unless memory ran out; else the first fault was told
+abbrev pub Stops : CheckError → List Checkpoint → Type 0
+Stops error.OutOfMemory checks = Unit {0}
+Stops (error.Fault f) checks = first_fault checks ≡ Some f
 
-abbrev pub Judges : {X : Type 0} → Result X CheckError → ℕ → Option Cause → Type 0
-Judges (Ok x) line cause = cause ≡ None
-Judges (Err e) line cause = Stops e line cause
+abbrev pub Judges : {X : Type 0} → Result X CheckError → List Checkpoint → Type 0
+Judges (Ok x) checks = first_fault checks ≡ None
+Judges (Err e) checks = Stops e checks

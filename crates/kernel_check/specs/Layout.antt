@@ -1,6 +1,7 @@
 -- Where the arguments of a kernel lie in its block (PRM, Kernarg Segment).
 use Rattle.std.specs.Prelude.{ℕ, ◌+◌, ◌-◌, ◌*◌, ◌/◌, max, Bool, ◌==◌, if◌then◌else◌, List, [], ◌∷◌, ◌++◌, Option, Some, None}
 use Rattle.kernel_check.specs.Names.{Known}
+use Rattle.kernel_check.specs.declared.block.Block.{Block}
 use Rattle.kernel_check.specs.declared.layout.Placed.{Placed}
 use Rattle.hsail_reader.specs.Types.{type_bits, alignment_bytes}
 use Rattle.hsail_reader.specs.declared.module.Argument.{Argument}
@@ -48,3 +49,19 @@ wide_at end a = if is_wide a.kind then (placed_at end a).offset ∷ [] else []
 abbrev pub wide_from : ℕ → List Argument → List ℕ
 wide_from end [] = []
 wide_from end (a ∷ later) = wide_at end a ++ wide_from (end_behind end a) later
+
+-- the arguments of a kernel at their places
+pub record Laid : Type 0 where
+  pub names : Known Placed
+  pub wide : List ℕ
+  pub end : ℕ
+
+abbrev pub laid_out : List Argument → Laid
+laid_out arguments = record {
+  names = placed_from 0 arguments;
+  wide = wide_from 0 arguments;
+  end = end_from 0 arguments;
+}
+
+abbrev pub block_laid : Block → Laid
+block_laid block = record { names = block.names; wide = block.wide.items; end = block.end }

@@ -1,8 +1,9 @@
 //! By which causes an item of a module fails.
 
-ghost use Rattle.std.specs.Prelude.{◌≡◌, ◌≤◌};
+ghost use Rattle.std.specs.Prelude.{◌≡◌, ◌≤◌, ◌<◌, None, length};
 ghost use Rattle.kernel_check.specs.Names.{find};
 ghost use Rattle.kernel_check.specs.Faults.{least_cause};
+ghost use Rattle.kernel_check.specs.Layout.{end_behind};
 ghost use Rattle.kernel_check.specs.Causes.{misses_label, differs, has_wrong_type, names_unknown, misses_argument, is_far_place, is_far_address, has_far_address, has_far_dimension, is_too_large, is_bad_place, is_bad, has_bad_address, instruction_fails, label_fails, argument_fails, kernel_fails};
 
 use crate::fault::Cause;
@@ -201,7 +202,8 @@ pub fn instruction_cause(
 
 /// The least cause by which a label fails, of which these stand before.
 pub fn label_cause(before: &Names<'_, usize>, name: &[u8]) -> Option<Cause>
-    ensures { result ≡ least_cause (label_fails before.now name.now) }
+    ensures value { result ≡ least_cause (label_fails before.now name.now) }
+    ensures new_name { result ≡ None → find before.now name.now ≡ None }
 {
     if before.get(name).is_some() {
         return Some(Cause::DoubleName);
@@ -210,13 +212,11 @@ pub fn label_cause(before: &Names<'_, usize>, name: &[u8]) -> Option<Cause>
 }
 
 /// The least cause by which an argument fails that stands behind these.
-pub fn argument_cause(
-    before: &Names<'_, Placed>,
-    bytes: u32,
-    argument: &Argument,
-) -> Option<Cause>
+pub fn argument_cause(before: &Names<'_, Placed>, bytes: u32, argument: &Argument) -> Option<Cause>
     requires { bytes ≤ 4096 }
-    ensures { result ≡ least_cause (argument_fails before.now bytes argument.now) }
+    ensures value { result ≡ least_cause (argument_fails before.now bytes argument.now) }
+    ensures new_name { result ≡ None → find before.now argument.now.name ≡ None }
+    ensures room { result ≡ None → end_behind bytes argument.now ≤ 4096 }
 {
     if before.get(argument.name.as_slice()).is_some() {
         return Some(Cause::DoubleName);
@@ -229,7 +229,9 @@ pub fn argument_cause(
 
 /// The least cause by which a kernel's head fails that stands behind these kernels.
 pub fn kernel_cause(before: &Names<'_, usize>, name: &[u8]) -> Option<Cause>
-    ensures { result ≡ least_cause (kernel_fails before.now name.now) }
+    ensures value { result ≡ least_cause (kernel_fails before.now name.now) }
+    ensures new_name { result ≡ None → find before.now name.now ≡ None }
+    ensures room { result ≡ None → length before.now < 64 }
 {
     if before.get(name).is_some() {
         return Some(Cause::DoubleName);

@@ -3,6 +3,7 @@
 //! The next line lets the check look for proofs by its tactics.
 #![tactic(auto)]
 
+mod block;
 mod causes;
 mod constants;
 mod fault;
@@ -16,6 +17,6 @@ mod translate;
 pub use fault::{Cause, CheckError, CheckFault};
 pub use names::Names;
 pub use step::{
-    ArgumentStep, BinaryStep, BranchStep, Dimension, IdentifyStep, LinedStep, LoadStep, Operand, Pointer, Relative, Slot, Step,
-    StoreStep, TernaryStep, UnaryStep,
+    ArgumentStep, BinaryStep, BranchStep, Dimension, IdentifyStep, LinedStep, LoadStep, Operand,
+    Pointer, Relative, Slot, Step, StoreStep, TernaryStep, UnaryStep,
 };

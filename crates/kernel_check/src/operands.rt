@@ -100,7 +100,10 @@ fn binary_operands(binary: &Binary) -> Operands
 {
     let right = binary_right_kind(binary.operation, binary.kind);
     Operands {
-        target: register(binary_target_kind(binary.operation, binary.kind), binary.target),
+        target: register(
+            binary_target_kind(binary.operation, binary.kind),
+            binary.target,
+        ),
         first: source(binary.kind, binary.left),
         second: source(right, binary.right),
         third: None,
@@ -164,10 +167,12 @@ fn wrong(operand: Option<Typed>) -> bool
     ensures { result ≡ passes is_wrong operand }
 {
     match operand {
-        Some(Typed {
-            kind,
-            source: Source::Register(register),
-        }) => !same_class(kind.class(), register.class),
+        Some(
+            Typed {
+                kind,
+                source: Source::Register(register),
+            },
+        ) => !same_class(kind.class(), register.class),
         _ => false,
     }
 }
@@ -196,7 +201,10 @@ fn over(operand: Option<Typed>) -> bool
 pub fn any_wrong(operands: Operands) -> bool
     ensures { result ≡ any_operand is_wrong operands }
 {
-    wrong(operands.target) || wrong(operands.first) || wrong(operands.second) || wrong(operands.third)
+    wrong(operands.target)
+        || wrong(operands.first)
+        || wrong(operands.second)
+        || wrong(operands.third)
 }
 
 /// Whether some operand is a register whose number is over 63, or a constant out of its type's range.

@@ -8,11 +8,11 @@ use crate::constants::bits;
 use crate::layout::Placed;
 use crate::names::Names;
 use crate::operands::{binary_right_kind, ternary_first_kind};
+use crate::step;
 use crate::step::{
     ArgumentStep, BinaryStep, BranchStep, Dimension, IdentifyStep, LoadStep, Operand, Pointer,
     Slot, Step, StoreStep, TernaryStep, UnaryStep,
 };
-use crate::step;
 use hsail_reader::{
     Address, Binary, DataType, Load, Operation, Place, Register, Segment, Source, Ternary, Unary,
 };
