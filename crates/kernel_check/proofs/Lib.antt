@@ -3,3 +3,4 @@ pub mod Walks
 pub mod LabelLemmas
 pub mod CheckLemmas
 pub mod BlockLemmas
+pub mod BodyLemmas

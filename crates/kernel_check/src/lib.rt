@@ -4,6 +4,7 @@
 #![tactic(auto)]
 
 mod block;
+mod body;
 mod causes;
 mod constants;
 mod fault;
