@@ -5,6 +5,7 @@ use Rattle.kernel_check.specs.Causes.{instruction_fails, label_fails, argument_f
 use Rattle.kernel_check.specs.Faults.{Checkpoint, checkpoint, first_fault, unless}
 use Rattle.kernel_check.specs.Layout.{placed_at, end_behind, placed_from, end_from, wide_from}
 use Rattle.kernel_check.specs.Names.{Known, find}
+use Rattle.kernel_check.specs.Programs.{Program}
 use Rattle.kernel_check.specs.Steps.{step_of}
 use Rattle.kernel_check.specs.declared.fault.CheckFault.{CheckFault}
 use Rattle.kernel_check.specs.declared.layout.Placed.{Placed}
@@ -65,3 +66,37 @@ step_at arguments labels (item.Instruction i) = lined i.line arguments labels i.
 abbrev pub steps_from : (List ℕ → Option Placed) → (List ℕ → Option ℕ) → List Item → List LinedStep
 steps_from arguments labels [] = []
 steps_from arguments labels (x ∷ items) = step_at arguments labels x ++ steps_from arguments labels items
+
+-- what the names of a kernel stand for
+abbrev pub arguments_of : Kernel → List ℕ → Option Placed
+arguments_of k = find (placed_from 0 k.arguments)
+
+abbrev pub labels_of : Kernel → List ℕ → Option ℕ
+labels_of k = find (labels_from 0 k.items)
+
+-- the arguments and items of a kernel
+abbrev pub body_checks : Kernel → List Checkpoint
+body_checks k = argument_checks [] 0 k.arguments ++ item_checks (arguments_of k) (labels_of k) [] 0 k.items
+
+-- a kernel that stands behind these: its head, its arguments and its items
+abbrev pub kernel_checks : Known ℕ → Kernel → List Checkpoint
+kernel_checks before k = checkpoint k.line (kernel_fails before k.name) ∷ body_checks k
+
+abbrev pub module_checks : Known ℕ → List Kernel → List Checkpoint
+module_checks before [] = []
+module_checks before (k ∷ kernels) =
+    kernel_checks before k ++ module_checks (before ++ (k.name, length before) ∷ []) kernels
+
+-- what a kernel without a fault comes to
+abbrev pub program_of : Kernel → Program
+program_of k = record {
+  name = k.name;
+  argument_bytes = end_from 0 k.arguments;
+  wide = wide_from 0 k.arguments;
+  steps = steps_from (arguments_of k) (labels_of k) k.items;
+}
+
+-- The kernels of a module, if no item fails; else the fault of the earliest item that fails, by its least
+-- cause.
+abbrev pub checking : Module → Result (List Program) CheckFault
+checking m = unless (first_fault (module_checks [] m.kernels)) (map program_of m.kernels)

@@ -6,3 +6,4 @@ pub mod Layout
 pub mod Causes
 pub mod Steps
 pub mod Checks
+pub mod Programs

@@ -12,11 +12,13 @@ mod labels;
 mod layout;
 mod names;
 mod operands;
+mod program;
 mod step;
 mod translate;
 
 pub use fault::{Cause, CheckError, CheckFault};
 pub use names::Names;
+pub use program::Program;
 pub use step::{
     ArgumentStep, BinaryStep, BranchStep, Dimension, IdentifyStep, LinedStep, LoadStep, Operand,
     Pointer, Relative, Slot, Step, StoreStep, TernaryStep, UnaryStep,
