@@ -4,3 +4,4 @@ pub mod LabelLemmas
 pub mod CheckLemmas
 pub mod BlockLemmas
 pub mod BodyLemmas
+pub mod SoundLemmas

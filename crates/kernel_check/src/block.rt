@@ -87,7 +87,8 @@ pub fn place_arguments<'a>(
     alloc: Global,
     arguments: &'a [Argument],
 ) -> Result<Block<'a>, CheckError>
-    ensures { Gives block_laid result (unless (first_fault (argument_checks [] 0 arguments.now)) (laid_out arguments.now)) }
+    ensures value { Gives block_laid result (unless (first_fault (argument_checks [] 0 arguments.now)) (laid_out arguments.now)) }
+    ensures bound { IfOk result (λ block. block.end ≤ 4096) }
 {
     let mut names = Names::new(alloc);
     let mut offsets = Vec::new(alloc);

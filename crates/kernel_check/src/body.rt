@@ -1,6 +1,6 @@
 //! The items of a kernel, checked in order, and the steps that they come to.
 
-ghost use Rattle.std.specs.Prelude.{◌≡◌, ◌++◌, ◌∷◌, [], None, OnOk, length};
+ghost use Rattle.std.specs.Prelude.{◌≡◌, ◌≤◌, ◌++◌, ◌∷◌, [], None, IfOk, OnOk, length};
 ghost use Rattle.kernel_check.specs.Checks.{item_check, item_checks, label_at, step_at, steps_from, labels_from, lined};
 ghost use Rattle.kernel_check.specs.Causes.{instruction_fails, label_fails};
 ghost use Rattle.kernel_check.specs.Faults.{first_fault, checkpoint, unless, Gives, Judges};
@@ -42,6 +42,7 @@ fn judge_instruction(
         (instruction_fails (find arguments.now) (find labels.now) (length steps.old.items) instruction.now.operation) ∷ []) }
     ensures steps { OnOk result (steps.new.items ≡ steps.old.items
         ++ lined instruction.now.line (find arguments.now) (find labels.now) instruction.now.operation ∷ []) }
+    ensures room { OnOk result (length steps.new.items ≤ 4096) }
 {
     let line = instruction.line;
     match instruction_cause(arguments, labels, steps.len(), &instruction.operation) {
@@ -61,9 +62,11 @@ fn judge_item<'a>(
     steps: &mut Vec<LinedStep>,
     item: &'a Item,
 ) -> Result<(), CheckError>
+    requires { length steps.old.items ≤ 4096 }
     ensures judged { Judges result (item_check (find arguments.now) (find labels.now) before.old (length steps.old.items) item.now ∷ []) }
     ensures labels { OnOk result (before.new ≡ before.old ++ label_at (length steps.old.items) item.now) }
     ensures steps { OnOk result (steps.new.items ≡ steps.old.items ++ step_at (find arguments.now) (find labels.now) item.now) }
+    ensures room { OnOk result (length steps.new.items ≤ 4096) }
 {
     match item {
         Item::Label(label) => judge_label(before, steps.len(), label),
@@ -78,9 +81,10 @@ pub fn checked_steps(
     labels: &Names<'_, usize>,
     items: &[Item],
 ) -> Result<Vec<LinedStep>, CheckError>
-    ensures { Gives (λ steps. steps.items) result
+    ensures value { Gives (λ steps. steps.items) result
         (unless (first_fault (item_checks (find arguments.now) (find labels.now) [] 0 items.now))
         (steps_from (find arguments.now) (find labels.now) items.now)) }
+    ensures room { IfOk result (λ steps. length steps.items ≤ 4096) }
 {
     let mut before = Names::new(alloc);
     let mut steps = Vec::new(alloc);

@@ -1,6 +1,6 @@
 //! By which causes an item of a module fails.
 
-ghost use Rattle.std.specs.Prelude.{◌≡◌, ◌≤◌, ◌<◌, None, length};
+ghost use Rattle.std.specs.Prelude.{◌≡◌, ◌≤◌, ◌<◌, None, false, length};
 ghost use Rattle.kernel_check.specs.Names.{find};
 ghost use Rattle.kernel_check.specs.Faults.{least_cause};
 ghost use Rattle.kernel_check.specs.Layout.{end_behind};
@@ -126,7 +126,8 @@ fn far_dimension(operation: &Operation) -> bool
 
 /// Whether an instruction is too many behind these, or a number in it is too large.
 fn too_large(number: usize, operation: &Operation) -> bool
-    ensures { result ≡ is_too_large number operation.now }
+    ensures value { result ≡ is_too_large number operation.now }
+    ensures room { result ≡ false → number < 4096 }
 {
     number >= MAX_INSTRUCTIONS
         || any_over(typed_operands(operation))
@@ -177,7 +178,8 @@ pub fn instruction_cause(
     number: usize,
     operation: &Operation,
 ) -> Option<Cause>
-    ensures { result ≡ least_cause (instruction_fails (find arguments.now) (find labels.now) number operation.now) }
+    ensures value { result ≡ least_cause (instruction_fails (find arguments.now) (find labels.now) number operation.now) }
+    ensures room { result ≡ None → number < 4096 }
 {
     if unknown_label(labels, operation) {
         return Some(Cause::UnknownLabel);

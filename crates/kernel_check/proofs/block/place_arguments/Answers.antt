@@ -8,8 +8,8 @@ use Rattle.kernel_check.proofs.CheckLemmas.{stopped}
 use Rattle.kernel_check.proofs.Walks.{at_index}
 use Rattle.kernel_check.proofs.block.place_arguments.Goals as goal
 
-pub returns-in_err-end : goal.returns-in_err-end
-returns-in_err-end c =
+pub returns-in_err-end-clause-value : goal.returns-in_err-end-clause-value
+returns-in_err-end-clause-value c =
     let p = err_from_is_err_and c.from_residual.result c.from_residual.ensures.1 in
     let args = c.args.arguments.now in
     let i = c.arguments.argument-index in

@@ -8,8 +8,8 @@ use Rattle.kernel_check.proofs.CheckLemmas.{stopped}
 use Rattle.kernel_check.proofs.Walks.{at_index}
 use Rattle.kernel_check.proofs.body.checked_steps.Goals as goal
 
-pub returns-in_err-judge_item : goal.returns-in_err-judge_item
-returns-in_err-judge_item c =
+pub returns-in_err-judge_item-clause-value : goal.returns-in_err-judge_item-clause-value
+returns-in_err-judge_item-clause-value c =
     let p = err_from_is_err_and c.from_residual.result c.from_residual.ensures.1 in
     let items = c.args.items.now in
     let i = c.items.item-index in
@@ -43,4 +43,5 @@ items-preserved c =
       steps =
           steps_more arguments labels (steps_from arguments labels items) c.items.steps.items c.judge_item.new.steps.items
           x (drop i items) tail at now.steps c.items.invariant.steps;
+      room = now.room;
     }

@@ -1,4 +1,4 @@
-use Rattle.std.proofs.Common.{◌≡◌, [], ◌++◌, drop, length}
+use Rattle.std.proofs.Common.{◌≡◌, ◌≤◌, [], ◌++◌, drop, length}
 use Rattle.kernel_check.specs.Checks.{item_checks, steps_from}
 use Rattle.kernel_check.specs.Faults.{first_fault}
 use Rattle.kernel_check.specs.Names.{find}
@@ -10,4 +10,5 @@ invariant-items l = record {
       ≡ first_fault (item_checks (find l.arguments) (find l.labels) [] 0 l.items);
   steps : l.steps.items ++ steps_from (find l.arguments) (find l.labels) (drop l.item-index l.items)
       ≡ steps_from (find l.arguments) (find l.labels) l.items;
+  room : length l.steps.items ≤ 4096;
 }
