@@ -5,3 +5,5 @@ pub mod CheckLemmas
 pub mod BlockLemmas
 pub mod BodyLemmas
 pub mod SoundLemmas
+pub mod DoneLemmas
+pub mod ModuleLemmas

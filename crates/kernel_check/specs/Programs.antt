@@ -30,3 +30,7 @@ pub record IsSound (p : Program) : Type 0 where
 abbrev pub program : List ℕ → ℕ → List ℕ → List LinedStep → Program
 program name argument_bytes wide steps =
     record { name = name; argument_bytes = argument_bytes; wide = wide; steps = steps }
+
+-- the bytes of a kernel's group variables; the profile has no such variables
+abbrev pub group_bytes_of : Program → ℕ
+group_bytes_of p = 0

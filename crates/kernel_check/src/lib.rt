@@ -6,6 +6,8 @@
 mod block;
 mod body;
 mod causes;
+mod checked;
+mod checking;
 mod constants;
 mod fault;
 mod labels;
@@ -16,8 +18,9 @@ mod program;
 mod step;
 mod translate;
 
+pub use checked::Checked;
+pub use checking::check;
 pub use fault::{Cause, CheckError, CheckFault};
-pub use names::Names;
 pub use program::Program;
 pub use step::{
     ArgumentStep, BinaryStep, BranchStep, Dimension, IdentifyStep, LinedStep, LoadStep, Operand,
