@@ -7,3 +7,4 @@ pub mod BodyLemmas
 pub mod SoundLemmas
 pub mod DoneLemmas
 pub mod ModuleLemmas
+pub mod LawLemmas

@@ -59,7 +59,7 @@ none_fails fails none c =
     ]
 
 -- where there is no first fault, none of the items fails
-no_fault : (line : ℕ) (c : Option Cause) (rest : Option CheckFault) → fault_or line c rest ≡ None → (c ≡ None) × (rest ≡ None)
+pub no_fault : (line : ℕ) (c : Option Cause) (rest : Option CheckFault) → fault_or line c rest ≡ None → (c ≡ None) × (rest ≡ None)
 no_fault line None rest e = (refl, e)
 no_fault line (Some c) rest e = cc
 

@@ -46,6 +46,10 @@ abbrev pub fault_or : ℕ → Option Cause → Option CheckFault → Option Chec
 fault_or line None other = other
 fault_or line (Some cause) other = Some (fault line cause)
 
+-- the fault at an item
+abbrev pub fault_at : Checkpoint → Option CheckFault
+fault_at c = fault_or c.line c.cause None
+
 -- the fault of the first item that fails
 abbrev pub first_fault : List Checkpoint → Option CheckFault
 first_fault [] = None

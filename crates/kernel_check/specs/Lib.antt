@@ -7,3 +7,4 @@ pub mod Causes
 pub mod Steps
 pub mod Checks
 pub mod Programs
+pub mod Laws

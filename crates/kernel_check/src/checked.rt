@@ -58,7 +58,8 @@ impl Checked {
 
     /// The index of the kernel with a name, which begins with `&`; the first is 0.
     pub fn find(&self, name: &[u8]) -> Option<u32>
-        ensures { result ≡ position (λ kernel. bytes_eq name.now kernel.name) self.now }
+        ensures place { result ≡ position (λ kernel. bytes_eq name.now kernel.name) self.now }
+        ensures within { IfSome result (λ index. index < length self.now) }
     {
         match place_named(self.kernels.as_slice(), name) {
             Some(index) => Some(index as u32),
@@ -82,13 +83,12 @@ impl Checked {
         self.kernel(index).kernarg_bytes()
     }
 
-    /// How many bytes the group variables of a kernel take: 0, since this profile has none.
+    /// How many bytes the group variables of a kernel take. This profile has no such variables.
     pub fn group_bytes(&self, index: u32) -> u32
         requires { index < length self.now }
         ensures { option_map programs.group_bytes_of (slice_get self.now index) ≡ Some result }
     {
-        let _kernel = self.kernel(index);
-        0
+        self.kernel(index).group_bytes()
     }
 
     /// The offsets of a kernel's arguments of 64 bits in its argument block, ascending.

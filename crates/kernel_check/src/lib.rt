@@ -11,6 +11,7 @@ mod checking;
 mod constants;
 mod fault;
 mod labels;
+mod laws;
 mod layout;
 mod names;
 mod operands;
@@ -21,6 +22,7 @@ mod translate;
 pub use checked::Checked;
 pub use checking::check;
 pub use fault::{Cause, CheckError, CheckFault};
+pub use laws::{faults_are_earliest, steps_are_faithful};
 pub use program::Program;
 pub use step::{
     ArgumentStep, BinaryStep, BranchStep, Dimension, IdentifyStep, LinedStep, LoadStep, Operand,

@@ -30,7 +30,7 @@ impl Model for Program {
 }
 
 impl Program {
-    ghost use Rattle.kernel_check.specs.Programs.{IsSound, StaysWithin, program};
+    ghost use Rattle.kernel_check.specs.Programs.{IsSound, StaysWithin, program, group_bytes_of};
 
     /// The kernel of these parts.
     pub(crate) fn new(
@@ -70,6 +70,13 @@ impl Program {
         ensures bound { result ≤ 4096 }
     {
         self.argument_bytes
+    }
+
+    /// How many bytes the group variables take. This profile has no such variables.
+    pub fn group_bytes(&self) -> u32
+        ensures { result ≡ group_bytes_of self.now }
+    {
+        0
     }
 
     /// The offsets of the arguments of 64 bits in the argument block, ascending.
