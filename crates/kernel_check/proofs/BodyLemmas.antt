@@ -1,8 +1,8 @@
 -- One item more in its place.
-use Rattle.std.proofs.Common.{◌≡◌, ℕ, ◌+◌, List, [], ◌∷◌, ◌++◌, arith, length, length-append, Option, None, append_assoc, sym, ap, ◌∙◌}
+use Rattle.std.proofs.Common.{◌≡◌, ℕ, List, [], ◌∷◌, ◌++◌, arith, length, length-append, Option, None, append_assoc, sym, ap, ◌∙◌}
 use Rattle.hsail_reader.specs.declared.module.Item.{Item}
 use Rattle.hsail_reader.specs.declared.module.Item.TheVariants as item
-use Rattle.kernel_check.specs.Checks.{item_check, item_checks, label_at, number_behind, step_at, steps_from, lined}
+use Rattle.kernel_check.specs.Checks.{item_check, item_checks, label_at, number_behind, step_at, steps_from}
 use Rattle.kernel_check.specs.Faults.{first_fault}
 use Rattle.kernel_check.specs.Names.{Known}
 use Rattle.kernel_check.specs.declared.fault.CheckFault.{CheckFault}

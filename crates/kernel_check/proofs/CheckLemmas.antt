@@ -1,5 +1,5 @@
 -- The first fault of items that stand behind others.
-use Rattle.std.proofs.Common.{◌≡◌, ℕ, List, [], ◌∷◌, ◌++◌, Option, Some, None, Result, Ok, Err, refl, sym, ap, ◌∙◌}
+use Rattle.std.proofs.Common.{◌≡◌, ℕ, List, [], ◌∷◌, ◌++◌, Option, Some, None, refl, sym, ap, ◌∙◌}
 use Rattle.kernel_check.specs.Faults.{Checkpoint, first_fault, fault_or, unless, FailsAs, Stops}
 use Rattle.kernel_check.specs.Names.{or_else}
 use Rattle.kernel_check.specs.declared.fault.Cause.{Cause}

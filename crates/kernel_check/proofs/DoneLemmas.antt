@@ -1,5 +1,5 @@
 -- What a kernel comes to, from what its arguments and items come to.
-use Rattle.std.proofs.Common.{◌≡◌, ℕ, List, [], ◌++◌, Option, Some, None, Result, Ok, Err, ◌≤◌, length, arith, subst, refl, sym, ap, ◌∙◌}
+use Rattle.std.proofs.Common.{◌≡◌, ℕ, List, [], Option, Some, None, Ok, Err, ◌≤◌, length, arith, subst, refl, sym, ap, ◌∙◌}
 use Rattle.hsail_reader.specs.declared.module.Kernel.{Kernel}
 use Rattle.kernel_check.specs.Checks.{argument_checks, item_checks, steps_from, arguments_of, labels_of, body_checks, program_of}
 use Rattle.kernel_check.specs.Faults.{first_fault, unless, FailsAs}

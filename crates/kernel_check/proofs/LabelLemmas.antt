@@ -1,5 +1,5 @@
 -- A walk over the labels of a kernel finds what the list of them finds.
-use Rattle.std.proofs.Common.{◌≡◌, ℕ, ◌+◌, ◌≤◌, List, ◌∷◌, ◌++◌, sym, ap, ◌∙◌, arith}
+use Rattle.std.proofs.Common.{◌≡◌, ℕ, ◌+◌, ◌≤◌, List, ◌∷◌, sym, ap, ◌∙◌, arith}
 use Rattle.hsail_reader.specs.declared.module.Item.{Item}
 use Rattle.hsail_reader.specs.declared.module.Item.TheVariants as item
 use Rattle.kernel_check.specs.Checks.{label_at, number_behind, labels_from}

@@ -1,5 +1,5 @@
 -- The laws of the check.
-use Rattle.std.proofs.Common.{◌≡◌, ℕ, ◌≤◌, Bool, true, false, ◌||◌, is_none, nat_le, List, [], ◌∷◌, ◌++◌, Option, Some, None, unwrap_or, if◌then◌else◌, arith, refl, ap, subst}
+use Rattle.std.proofs.Common.{◌≡◌, ℕ, Bool, true, false, ◌||◌, is_none, nat_le, List, [], ◌∷◌, Option, Some, None, unwrap_or, if◌then◌else◌, arith, refl, ap, subst}
 use Rattle.std.specs.List.{All}
 use Rattle.std.proofs.lemmas.Bool.Decides.{nat_tests}
 use Rattle.std.proofs.lemmas.List.Elements.{All-nil, All-cons}
@@ -17,11 +17,10 @@ use Rattle.hsail_reader.specs.declared.types.Segment.TheVariants as segment
 use Rattle.hsail_reader.specs.declared.types.Source.{Source}
 use Rattle.hsail_reader.specs.declared.types.Source.TheVariants as source
 use Rattle.kernel_check.specs.Causes.{instruction_fails, is_far_address, is_far_place, names_unknown, is_bad, has_far_address, has_far_dimension}
-use Rattle.kernel_check.specs.Faults.{Checkpoint, first_fault, fault_or, fault_at, least_cause, first_cause}
-use Rattle.kernel_check.specs.Laws.{IsFirst, IsEarliest, IsKept, IsKeptSource, IsKeptPlace, IsGlobal, IsArgument, IsReached, IsThere, IsFaithful}
+use Rattle.kernel_check.specs.Faults.{Checkpoint, first_fault, fault_or, least_cause, first_cause}
+use Rattle.kernel_check.specs.Laws.{IsFirst, IsEarliest, IsKept, IsKeptSource, IsKeptPlace, IsGlobal, IsArgument, IsReached, IsFaithful}
 use Rattle.kernel_check.specs.Operands.{is_far, is_over, is_over_source, passes, any_operand, operands_of, binary_right, ternary_first}
 use Rattle.kernel_check.specs.declared.operands.Operands.{Operands}
-use Rattle.kernel_check.specs.Steps.{slot_of, next_of}
 use Rattle.kernel_check.specs.declared.fault.Cause.{Cause}
 use Rattle.kernel_check.specs.declared.fault.Cause.TheVariants as cause
 use Rattle.kernel_check.specs.declared.fault.CheckFault.{CheckFault}

@@ -1,10 +1,10 @@
 -- A kernel in which nothing fails is sound: its steps stay within its steps and its argument block.
-use Rattle.std.proofs.Common.{◌≡◌, ℕ, zero, suc, ◌+◌, ◌-◌, ◌*◌, ◌/◌, ◌<◌, ◌≤◌, Bool, true, false, not, eqb, cond, List, [], ◌∷◌, ◌++◌, length, length-append, max, Option, Some, None, is_none, unwrap_or, arith, refl, sym, ap, subst, ◌∙◌, lit≤}
+use Rattle.std.proofs.Common.{◌≡◌, ℕ, ◌+◌, ◌/◌, ◌≤◌, Bool, true, false, cond, List, [], ◌∷◌, ◌++◌, length, Option, Some, None, is_none, unwrap_or, arith, refl, ap, subst, lit≤}
 use Rattle.std.specs.List.{All}
 use Rattle.std.specs.Str.{bytes_eq}
 use Rattle.std.proofs.lemmas.Bool.Decides.{nat_tests}
-use Rattle.std.proofs.lemmas.List.Elements.{All-nil, All-cons, All-append, All-weaker}
-use Rattle.hsail_reader.specs.Types.{type_bits, alignment_bytes}
+use Rattle.std.proofs.lemmas.List.Elements.{All-nil, All-cons, All-append}
+use Rattle.hsail_reader.specs.Types.{type_bits}
 use Rattle.hsail_reader.specs.declared.module.Address.{Address}
 use Rattle.hsail_reader.specs.declared.module.Address.TheVariants as address
 use Rattle.hsail_reader.specs.declared.module.Argument.{Argument}
@@ -15,14 +15,13 @@ use Rattle.hsail_reader.specs.declared.module.Load.{Load}
 use Rattle.hsail_reader.specs.declared.module.Operation.{Operation}
 use Rattle.hsail_reader.specs.declared.module.Operation.TheVariants as operation
 use Rattle.hsail_reader.specs.declared.types.Alignment.{Alignment}
-use Rattle.hsail_reader.specs.declared.types.Alignment.TheVariants as align
 use Rattle.hsail_reader.specs.declared.types.DataType.{DataType}
 use Rattle.hsail_reader.specs.declared.types.DataType.TheVariants as type
 use Rattle.hsail_reader.specs.declared.types.Segment.{Segment}
 use Rattle.hsail_reader.specs.declared.types.Segment.TheVariants as segment
 use Rattle.kernel_check.specs.Causes.{instruction_fails, differs, is_of_other_width, names_unknown, is_bad}
 use Rattle.kernel_check.specs.Checks.{item_checks, steps_from, labels_from, lined, arguments_of, labels_of, program_of}
-use Rattle.kernel_check.specs.Faults.{Checkpoint, first_fault, fault_or, least_cause}
+use Rattle.kernel_check.specs.Faults.{first_fault, fault_or, least_cause}
 use Rattle.kernel_check.specs.Layout.{kind_bytes, is_wide, boundary_of, next_multiple, end_behind, placed_from, end_from, wide_at, wide_from}
 use Rattle.kernel_check.specs.Names.{Known, find}
 use Rattle.kernel_check.specs.Programs.{StaysWithin, IsSound}

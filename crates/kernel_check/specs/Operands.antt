@@ -1,5 +1,5 @@
 -- The operands of an operation, each with the type at its place (PRM, Operands; Registers).
-use Rattle.std.specs.Prelude.{ℕ, Bool, true, false, not, ◌||◌, nat_lt, Option, Some, None}
+use Rattle.std.specs.Prelude.{Bool, true, false, not, ◌||◌, nat_lt, Option, Some, None}
 use Rattle.kernel_check.specs.Constants.{is_in_range}
 use Rattle.kernel_check.specs.declared.operands.Operands.{Operands}
 use Rattle.kernel_check.specs.declared.operands.Typed.{Typed}

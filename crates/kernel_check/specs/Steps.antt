@@ -6,7 +6,6 @@ use Rattle.kernel_check.specs.Operands.{binary_right, ternary_first}
 use Rattle.kernel_check.specs.declared.layout.Placed.{Placed}
 use Rattle.kernel_check.specs.declared.step.Dimension.{Dimension}
 use Rattle.kernel_check.specs.declared.step.Dimension.TheVariants.{X, Y, Z}
-use Rattle.kernel_check.specs.declared.step.LinedStep.{LinedStep}
 use Rattle.kernel_check.specs.declared.step.Operand.{Operand}
 use Rattle.kernel_check.specs.declared.step.Operand.TheVariants as operand
 use Rattle.kernel_check.specs.declared.step.Pointer.{Pointer}

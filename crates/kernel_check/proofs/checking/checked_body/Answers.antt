@@ -1,12 +1,11 @@
-use Rattle.std.proofs.Common.{◌≡◌, ◌≤◌, List, [], Ok, None, length, sym, ap, subst, ◌∙◌}
+use Rattle.std.proofs.Common.{◌≡◌, List, [], Ok, sym, ap, subst, ◌∙◌}
 use Rattle.std.proofs.lemmas.Result.{err_from_is_err_and}
 use Rattle.hsail_reader.specs.declared.module.Argument.{Argument}
 use Rattle.hsail_reader.specs.declared.module.Item.{Item}
-use Rattle.kernel_check.specs.Checks.{argument_checks, item_checks, labels_from, arguments_of, labels_of, steps_from, program_of, body_checks}
+use Rattle.kernel_check.specs.Checks.{argument_checks, item_checks, labels_from, steps_from, program_of}
 use Rattle.kernel_check.specs.Faults.{first_fault, unless, FailsAs}
-use Rattle.kernel_check.specs.Layout.{Laid, laid_out, block_laid, end_from}
+use Rattle.kernel_check.specs.Layout.{Laid, laid_out, block_laid}
 use Rattle.kernel_check.specs.Names.{find}
-use Rattle.kernel_check.specs.Programs.{Program, IsSound, program}
 use Rattle.kernel_check.proofs.DoneLemmas.{went_well, arguments_failed, items_failed, sound_parts, done}
 use Rattle.kernel_check.proofs.checking.checked_body.Goals as goal
 

@@ -1,4 +1,4 @@
-use Rattle.std.proofs.Common.{◌≡◌, ◌+◌, ◌≤◌, sym, ap, ◌∙◌, arith, drop}
+use Rattle.std.proofs.Common.{◌+◌, sym, ap, ◌∙◌, arith, drop}
 use Rattle.std.proofs.Math.Path.{fun_ext}
 use Rattle.std.proofs.lemmas.List.{drop_all}
 use Rattle.kernel_check.specs.Names.{find, or_else}
