@@ -1,0 +1,170 @@
+-- The laws of the check.
+use Rattle.std.proofs.Common.{◌≡◌, ℕ, Bool, true, false, ◌||◌, is_none, nat_le, List, [], ◌∷◌, Option, Some, None, unwrap_or, if◌then◌else◌, arith, refl, ap, subst}
+use Rattle.std.specs.List.{All}
+use Rattle.std.proofs.lemmas.Bool.Decides.{nat_tests}
+use Rattle.std.proofs.lemmas.List.Elements.{All-nil, All-cons}
+use Rattle.hsail_reader.specs.declared.module.Address.{Address}
+use Rattle.hsail_reader.specs.declared.module.Address.TheVariants as address
+use Rattle.hsail_reader.specs.declared.module.Operation.{Operation}
+use Rattle.hsail_reader.specs.declared.module.Operation.TheVariants as operation
+use Rattle.hsail_reader.specs.declared.module.Place.{Place}
+use Rattle.hsail_reader.specs.declared.module.Place.TheVariants as place
+use Rattle.hsail_reader.specs.declared.types.DataType.{DataType}
+use Rattle.hsail_reader.specs.declared.types.DataType.TheVariants as type
+use Rattle.hsail_reader.specs.declared.types.Register.{Register}
+use Rattle.hsail_reader.specs.declared.types.Segment.{Segment}
+use Rattle.hsail_reader.specs.declared.types.Segment.TheVariants as segment
+use Rattle.hsail_reader.specs.declared.types.Source.{Source}
+use Rattle.hsail_reader.specs.declared.types.Source.TheVariants as source
+use Rattle.kernel_check.specs.Causes.{instruction_fails, is_far_address, is_far_place, names_unknown, is_bad, has_far_address, has_far_dimension}
+use Rattle.kernel_check.specs.Faults.{Checkpoint, first_fault, fault_or, least_cause, first_cause}
+use Rattle.kernel_check.specs.Laws.{IsFirst, IsEarliest, IsKept, IsKeptSource, IsKeptPlace, IsGlobal, IsArgument, IsReached, IsFaithful}
+use Rattle.kernel_check.specs.Operands.{is_far, is_over, is_over_source, passes, any_operand, operands_of, binary_right, ternary_first}
+use Rattle.kernel_check.specs.declared.operands.Operands.{Operands}
+use Rattle.kernel_check.specs.declared.fault.Cause.{Cause}
+use Rattle.kernel_check.specs.declared.fault.Cause.TheVariants as cause
+use Rattle.kernel_check.specs.declared.fault.CheckFault.{CheckFault}
+use Rattle.kernel_check.specs.declared.layout.Placed.{Placed}
+use Rattle.kernel_check.proofs.SoundLemmas.{none_fails, no_fault}
+
+-- where a fault is told, its item is the first that fails
+earliest_at : (line : ℕ) (c : Option Cause) (later : List Checkpoint) (f : CheckFault) → fault_or line c (first_fault later) ≡ Some f
+    → ((g : CheckFault) → first_fault later ≡ Some g → IsEarliest later g) → IsEarliest (record { line = line; cause = c } ∷ later) f
+earliest_at line None later f e rest =
+    let r : IsEarliest later f = rest f e in
+    record {
+      before = record { line = line; cause = None } ∷ r.before;
+      item = r.item;
+      behind = r.behind;
+      split = ap (λ xs. record { line = line; cause = None } ∷ xs) r.split;
+      pass = All-cons (λ (c : Checkpoint). c.cause ≡ None) (record { line = line; cause = None }) r.before refl r.pass;
+      here = r.here;
+    }
+earliest_at line (Some c) later f e rest = record {
+  before = [];
+  item = record { line = line; cause = Some c };
+  behind = later;
+  split = refl;
+  pass = All-nil (λ (c : Checkpoint). c.cause ≡ None);
+  here = e;
+}
+
+pub earliest : (checks : List Checkpoint) (f : CheckFault) → first_fault checks ≡ Some f → IsEarliest checks f
+earliest [] f e = cc
+earliest (c ∷ later) f e = earliest_at c.line c.cause later f e (earliest later)
+
+pub all_pass : (checks : List Checkpoint) → first_fault checks ≡ None → All (λ c. c.cause ≡ None) checks
+all_pass [] e = All-nil (λ (c : Checkpoint). c.cause ≡ None)
+all_pass (c ∷ later) e =
+    let p = no_fault c.line c.cause (first_fault later) e in
+    All-cons (λ (c : Checkpoint). c.cause ≡ None) c later p.0 (all_pass later p.1)
+
+four : (a b c d : Bool) → (a || b || c || d) ≡ false → (a ≡ false) × (b ≡ false) × (c ≡ false) × (d ≡ false)
+four true b c d e = cc
+four false true c d e = cc
+four false false true d e = cc
+four false false false true e = cc
+four false false false false e = (refl, refl, refl, refl)
+
+-- none of some operands is over
+operands_fine : (o : Operands) → any_operand is_over o ≡ false
+    → (passes is_over o.target ≡ false) × (passes is_over o.first ≡ false) × (passes is_over o.second ≡ false) × (passes is_over o.third ≡ false)
+operands_fine o e = four (passes is_over o.target) (passes is_over o.first) (passes is_over o.second) (passes is_over o.third) e
+
+kept : (r : Register) → is_far r ≡ false → IsKept r
+kept r near = grind (arith, nat_tests)
+
+kept_source : (kind : DataType) (s : Source) → is_over_source kind s ≡ false → IsKeptSource s
+kept_source kind (source.Register r) near = kept r near
+kept_source kind (source.Constant c) near = tt
+
+kept_place : (p : Place) → is_far_place p ≡ false → IsKeptPlace p
+kept_place (place.Absolute n) near = tt
+kept_place (place.Relative r) near = kept r.register near
+
+global : (a : Address) → is_far_address a ≡ false → is_bad segment.Global a ≡ false → IsGlobal a
+global (address.Variable x) near good = cc
+global (address.Place p) near good = kept_place p near
+global (address.Indexed i) near good = cc
+
+known : (o : Option Placed) → is_none o ≡ false → (p : Placed) × (o ≡ Some p)
+known None e = cc
+known (Some p) e = (p, refl)
+
+found : (o : Option ℕ) → is_none o ≡ false → o ≡ Some (unwrap_or o 0)
+found None e = cc
+found (Some n) e = refl
+
+module _ (arguments : List ℕ → Option Placed) (labels : List ℕ → Option ℕ) where
+  in_block : (a : Address) → names_unknown arguments a ≡ false → is_bad segment.Kernarg a ≡ false → IsArgument arguments a
+  in_block (address.Variable x) there good = known (arguments x) there
+  in_block (address.Place p) there good = cc
+  in_block (address.Indexed i) there good = cc
+
+  reached : (s : Segment) (a : Address) → is_far_address a ≡ false → names_unknown arguments a ≡ false → is_bad s a ≡ false → IsReached arguments s a
+  reached segment.Kernarg a near there good = in_block a there good
+  reached segment.Global a near there good = global a near good
+
+  -- what is too large in no way: operands, address and dimension
+  sizes : (number : ℕ) (op : Operation) → least_cause (instruction_fails arguments labels number op) ≡ None
+      → (any_operand is_over (operands_of op) ≡ false) × (has_far_address op ≡ false) × (has_far_dimension op ≡ false)
+  sizes number op none =
+      let p = four (nat_le 4096 number) (any_operand is_over (operands_of op)) (has_far_address op) (has_far_dimension op)
+      (none_fails (instruction_fails arguments labels number op) none cause.TooLarge) in
+      (p.1, p.2, p.3)
+
+  pub faithful : (number : ℕ) (op : Operation) → least_cause (instruction_fails arguments labels number op) ≡ None
+      → IsFaithful arguments labels op
+  faithful number (operation.Unary u) none =
+      let p = operands_fine (operands_of (operation.Unary u)) (sizes number (operation.Unary u) none).0 in
+      (kept u.target p.0, kept_source u.kind u.source p.1)
+  faithful number (operation.Binary b) none =
+      let p = operands_fine (operands_of (operation.Binary b)) (sizes number (operation.Binary b) none).0 in
+      (kept b.target p.0, kept_source b.kind b.left p.1, kept_source (binary_right b.operation b.kind) b.right p.2)
+  faithful number (operation.Ternary t) none =
+      let p = operands_fine (operands_of (operation.Ternary t)) (sizes number (operation.Ternary t) none).0 in
+      (kept t.target p.0, kept_source (ternary_first t.operation t.kind) t.first p.1, kept_source t.kind t.second p.2, kept_source t.kind t.third p.3)
+  faithful number (operation.Load l) none =
+      let s = sizes number (operation.Load l) none in
+      let p = operands_fine (operands_of (operation.Load l)) s.0 in
+      let fine = none_fails (instruction_fails arguments labels number (operation.Load l)) none in
+      (kept l.target p.0, reached l.segment l.address s.1 (fine cause.UnknownArgument) (fine cause.BadAddress))
+  faithful number (operation.Store x) none =
+      let s = sizes number (operation.Store x) none in
+      let p = operands_fine (operands_of (operation.Store x)) s.0 in
+      let fine = none_fails (instruction_fails arguments labels number (operation.Store x)) none in
+      (kept_source x.kind x.source p.1, global x.address s.1 (fine cause.BadAddress))
+  faithful number (operation.Branch x) none =
+      found (labels x) (none_fails (instruction_fails arguments labels number (operation.Branch x)) none cause.UnknownLabel)
+  faithful number (operation.ConditionalBranch b) none =
+      let p = operands_fine (operands_of (operation.ConditionalBranch b)) (sizes number (operation.ConditionalBranch b) none).0 in (
+        kept_source type.B1 b.condition p.1,
+        found (labels b.label) (none_fails (instruction_fails arguments labels number (operation.ConditionalBranch b)) none cause.UnknownLabel),
+      )
+  faithful number operation.Return none = tt
+  faithful number (operation.Identify i) none =
+      let s = sizes number (operation.Identify i) none in
+      let p = operands_fine (operands_of (operation.Identify i)) s.0 in
+      (kept i.target p.0, grind (arith, nat_tests, s.2))
+
+-- the first of some causes by which an item fails
+first_at : (fails : Cause → Bool) (x : Cause) (others : List Cause) (c : Cause) (b : Bool) → fails x ≡ b
+    → (if b then Some x else first_cause fails others) ≡ Some c
+    → (first_cause fails others ≡ Some c → IsFirst fails others c) → IsFirst fails (x ∷ others) c
+first_at fails x others c true is e rest =
+    let same : x ≡ c = cc in
+    subst (IsFirst fails (x ∷ others)) same
+    (record { before = []; behind = others; split = refl; pass = All-nil (λ (o : Cause). fails o ≡ false); here = is })
+first_at fails x others c false is e rest =
+    let r : IsFirst fails others c = rest e in
+    record {
+      before = x ∷ r.before;
+      behind = r.behind;
+      split = ap (λ xs. x ∷ xs) r.split;
+      pass = All-cons (λ (o : Cause). fails o ≡ false) x r.before is r.pass;
+      here = r.here;
+    }
+
+pub first : (fails : Cause → Bool) (listed : List Cause) (c : Cause) → first_cause fails listed ≡ Some c → IsFirst fails listed c
+first fails [] c e = cc
+first fails (x ∷ others) c e = first_at fails x others c (fails x) refl e (first fails others c)

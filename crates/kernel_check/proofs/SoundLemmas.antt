@@ -1,0 +1,209 @@
+-- A kernel in which nothing fails is sound: its steps stay within its steps and its argument block.
+use Rattle.std.proofs.Common.{◌≡◌, ℕ, ◌+◌, ◌/◌, ◌≤◌, Bool, true, false, cond, List, [], ◌∷◌, ◌++◌, length, Option, Some, None, is_none, unwrap_or, arith, refl, ap, subst, lit≤}
+use Rattle.std.specs.List.{All}
+use Rattle.std.specs.Str.{bytes_eq}
+use Rattle.std.proofs.lemmas.Bool.Decides.{nat_tests}
+use Rattle.std.proofs.lemmas.List.Elements.{All-nil, All-cons, All-append}
+use Rattle.hsail_reader.specs.Types.{type_bits}
+use Rattle.hsail_reader.specs.declared.module.Address.{Address}
+use Rattle.hsail_reader.specs.declared.module.Address.TheVariants as address
+use Rattle.hsail_reader.specs.declared.module.Argument.{Argument}
+use Rattle.hsail_reader.specs.declared.module.Item.{Item}
+use Rattle.hsail_reader.specs.declared.module.Item.TheVariants as item
+use Rattle.hsail_reader.specs.declared.module.Kernel.{Kernel}
+use Rattle.hsail_reader.specs.declared.module.Load.{Load}
+use Rattle.hsail_reader.specs.declared.module.Operation.{Operation}
+use Rattle.hsail_reader.specs.declared.module.Operation.TheVariants as operation
+use Rattle.hsail_reader.specs.declared.types.Alignment.{Alignment}
+use Rattle.hsail_reader.specs.declared.types.DataType.{DataType}
+use Rattle.hsail_reader.specs.declared.types.DataType.TheVariants as type
+use Rattle.hsail_reader.specs.declared.types.Segment.{Segment}
+use Rattle.hsail_reader.specs.declared.types.Segment.TheVariants as segment
+use Rattle.kernel_check.specs.Causes.{instruction_fails, differs, is_of_other_width, names_unknown, is_bad}
+use Rattle.kernel_check.specs.Checks.{item_checks, steps_from, labels_from, lined, arguments_of, labels_of, program_of}
+use Rattle.kernel_check.specs.Faults.{first_fault, fault_or, least_cause}
+use Rattle.kernel_check.specs.Layout.{kind_bytes, is_wide, boundary_of, next_multiple, end_behind, placed_from, end_from, wide_at, wide_from}
+use Rattle.kernel_check.specs.Names.{Known, find}
+use Rattle.kernel_check.specs.Programs.{StaysWithin, IsSound}
+use Rattle.kernel_check.specs.Steps.{step_of, known_offset, offset_of, load_from}
+use Rattle.kernel_check.specs.declared.fault.Cause.{Cause}
+use Rattle.kernel_check.specs.declared.fault.Cause.TheVariants as cause
+use Rattle.kernel_check.specs.declared.fault.CheckFault.{CheckFault}
+use Rattle.kernel_check.specs.declared.layout.Placed.{Placed}
+use Rattle.kernel_check.specs.declared.step.LinedStep.{LinedStep}
+
+-- a first test that finds nothing
+no_first : {X : Type 0} (b : Bool) (x : X) (rest : Option X) → cond b (Some x) rest ≡ None → (b ≡ false) × (rest ≡ None)
+no_first true x rest e = cc
+no_first false x rest e = (refl, e)
+
+-- where there is no least cause, no cause fails
+pub none_fails : (fails : Cause → Bool) → least_cause fails ≡ None → (c : Cause) → fails c ≡ false
+none_fails fails none c =
+    let p1 = no_first (fails cause.UnknownLabel) cause.UnknownLabel _ none in
+    let p2 = no_first (fails cause.DoubleName) cause.DoubleName _ p1.1 in
+    let p3 = no_first (fails cause.WrongRegister) cause.WrongRegister _ p2.1 in
+    let p4 = no_first (fails cause.WrongType) cause.WrongType _ p3.1 in
+    let p5 = no_first (fails cause.UnknownArgument) cause.UnknownArgument _ p4.1 in
+    let p6 = no_first (fails cause.TooLarge) cause.TooLarge _ p5.1 in
+    let p7 = no_first (fails cause.BadAddress) cause.BadAddress _ p6.1 in
+    elim c as (λ x. fails x ≡ false) [
+      | cause.UnknownLabel ↦ p1.0
+      | cause.DoubleName ↦ p2.0
+      | cause.WrongRegister ↦ p3.0
+      | cause.WrongType ↦ p4.0
+      | cause.UnknownArgument ↦ p5.0
+      | cause.TooLarge ↦ p6.0
+      | cause.BadAddress ↦ p7.0
+    ]
+
+-- where there is no first fault, none of the items fails
+pub no_fault : (line : ℕ) (c : Option Cause) (rest : Option CheckFault) → fault_or line c rest ≡ None → (c ≡ None) × (rest ≡ None)
+no_fault line None rest e = (refl, e)
+no_fault line (Some c) rest e = cc
+
+pub kind_bytes_positive : (kind : DataType) → 1 ≤ kind_bytes kind
+kind_bytes_positive type.B1 = lit≤ tt
+kind_bytes_positive type.B8 = lit≤ tt
+kind_bytes_positive type.B16 = lit≤ tt
+kind_bytes_positive type.B32 = lit≤ tt
+kind_bytes_positive type.B64 = lit≤ tt
+kind_bytes_positive type.U8 = lit≤ tt
+kind_bytes_positive type.U16 = lit≤ tt
+kind_bytes_positive type.U32 = lit≤ tt
+kind_bytes_positive type.U64 = lit≤ tt
+kind_bytes_positive type.S8 = lit≤ tt
+kind_bytes_positive type.S16 = lit≤ tt
+kind_bytes_positive type.S32 = lit≤ tt
+kind_bytes_positive type.S64 = lit≤ tt
+
+boundary_positive : (kind : DataType) (a : Option Alignment) → 1 ≤ boundary_of kind a
+boundary_positive kind None = kind_bytes_positive kind
+boundary_positive kind (Some a) = let p : 1 ≤ kind_bytes kind = kind_bytes_positive kind in omega arith
+
+-- the next multiple isn't before
+le_next_multiple : (end n : ℕ) → 1 ≤ n → end ≤ next_multiple end n
+le_next_multiple end n p = omega (arith, p)
+
+end_behind_above : (end : ℕ) (a : Argument) → end ≤ end_behind end a
+end_behind_above end a =
+    let p : end ≤ next_multiple end (boundary_of a.kind a.align) = le_next_multiple end (boundary_of a.kind a.align) (boundary_positive a.kind a.align) in
+    omega arith
+
+end_from_above : (end : ℕ) (args : List Argument) → end ≤ end_from end args
+end_from_above end [] = omega arith
+end_from_above end (a ∷ args) =
+    let p : end ≤ end_behind end a = end_behind_above end a in
+    let q : end_behind end a ≤ end_from (end_behind end a) args = end_from_above (end_behind end a) args in
+    omega arith
+
+found_here : {X : Type 0} (b : Bool) (x y : X) (rest : Option X) (P : X → Type 0) → P x → (rest ≡ Some y → P y)
+    → cond b (Some x) rest ≡ Some y → P y
+found_here true x y rest P here there e = let same : x ≡ y = cc in subst P same here
+found_here false x y rest P here there e = there e
+
+-- an argument lies within the block
+pub argument_within : (end : ℕ) (args : List Argument) (x : List ℕ) (p : Placed) → find (placed_from end args) x ≡ Some p
+    → p.offset + kind_bytes p.kind ≤ end_from end args
+argument_within end [] x p e = cc
+argument_within end (a ∷ args) x p e =
+    found_here (bytes_eq x a.name) (record { kind = a.kind; offset = next_multiple end (boundary_of a.kind a.align) }) p
+    (find (placed_from (end_behind end a) args) x)
+    (λ r. r.offset + kind_bytes r.kind ≤ end_from (end_behind end a) args)
+    (end_from_above (end_behind end a) args)
+    (argument_within (end_behind end a) args x p) e
+
+-- a label stands before no more instructions than there are steps
+pub label_within : (arguments : List ℕ → Option Placed) (labels : List ℕ → Option ℕ) (n : ℕ) (items : List Item) (x : List ℕ) (v : ℕ)
+    → find (labels_from n items) x ≡ Some v → v ≤ n + length (steps_from arguments labels items)
+label_within arguments labels n [] x v e = cc
+label_within arguments labels n ((item.Label l) ∷ items) x v e =
+    found_here (bytes_eq x l.name) n v (find (labels_from n items) x)
+    (λ m. m ≤ n + length (steps_from arguments labels items)) (omega arith)
+    (label_within arguments labels n items x v) e
+label_within arguments labels n ((item.Instruction i) ∷ items) x v e =
+    let p : v ≤ (n + 1) + length (steps_from arguments labels items) = label_within arguments labels (n + 1) items x v e in
+    omega arith
+
+wide_here : (end bytes : ℕ) (a : Argument) (b : Bool) → is_wide a.kind ≡ b → end_behind end a ≤ bytes
+    → All (λ offset. offset + 8 ≤ bytes) (cond b (next_multiple end (boundary_of a.kind a.align) ∷ []) [])
+wide_here end bytes a true is le =
+    let bits : type_bits a.kind ≡ 64 = grind (arith, nat_tests) in
+    let eight : kind_bytes a.kind ≡ 8 = ap (λ n. (n + 7) / 8) bits in
+    All-cons (λ (offset : ℕ). offset + 8 ≤ bytes) (next_multiple end (boundary_of a.kind a.align)) [] (omega arith)
+    (All-nil (λ (offset : ℕ). offset + 8 ≤ bytes))
+wide_here end bytes a false is le = All-nil (λ (offset : ℕ). offset + 8 ≤ bytes)
+
+-- the arguments of 64 bits lie within the block
+pub wide_within : (end : ℕ) (args : List Argument) → All (λ offset. offset + 8 ≤ end_from end args) (wide_from end args)
+wide_within end [] = All-nil (λ (offset : ℕ). offset + 8 ≤ end)
+wide_within end (a ∷ args) =
+    All-append (λ (offset : ℕ). offset + 8 ≤ end_from (end_behind end a) args) (wide_at end a) (wide_from (end_behind end a) args)
+    (wide_here end (end_from (end_behind end a) args) a (is_wide a.kind) refl (end_from_above (end_behind end a) args))
+    (wide_within (end_behind end a) args)
+
+module _ (arguments : List ℕ → Option Placed) (labels : List ℕ → Option ℕ) (count bytes : ℕ)
+    (known_label : (x : List ℕ) (v : ℕ) → labels x ≡ Some v → v ≤ count)
+    (known_argument : (x : List ℕ) (p : Placed) → arguments x ≡ Some p → p.offset + kind_bytes p.kind ≤ bytes) where
+  next_within : (x : List ℕ) (o : Option ℕ) → labels x ≡ o → unwrap_or o 0 ≤ count
+  next_within x None e = omega arith
+  next_within x (Some v) e = known_label x v e
+
+  known_within : (kind : DataType) (x : List ℕ) (o : Option Placed) → arguments x ≡ o → is_none o ≡ false → differs kind o ≡ false
+      → known_offset o + kind_bytes kind ≤ bytes
+  known_within kind x None e known same = cc
+  known_within kind x (Some p) e known same =
+      let width : type_bits p.kind ≡ type_bits kind = grind (arith, nat_tests) in
+      let bits : kind_bytes p.kind ≡ kind_bytes kind = ap (λ n. (n + 7) / 8) width in
+      let fits : p.offset + kind_bytes p.kind ≤ bytes = known_argument x p e in
+      omega arith
+
+  offset_within : (kind : DataType) (a : Address) → is_of_other_width arguments kind segment.Kernarg a ≡ false → names_unknown arguments a ≡ false
+      → is_bad segment.Kernarg a ≡ false → offset_of arguments a + kind_bytes kind ≤ bytes
+  offset_within kind (address.Variable x) same known good = known_within kind x (arguments x) refl known same
+  offset_within kind (address.Place p) same known good = cc
+  offset_within kind (address.Indexed i) same known good = cc
+
+  load_within : (l : Load) (s : Segment) → is_of_other_width arguments l.kind s l.address ≡ false → names_unknown arguments l.address ≡ false
+      → is_bad s l.address ≡ false → StaysWithin count bytes (load_from arguments s l)
+  load_within l segment.Kernarg same known good = offset_within l.kind l.address same known good
+  load_within l segment.Global same known good = tt
+
+  -- the step of an instruction in which nothing fails
+  pub step_within : (number : ℕ) (op : Operation) → least_cause (instruction_fails arguments labels number op) ≡ None
+      → StaysWithin count bytes (step_of arguments labels op)
+  step_within number (operation.Unary u) none = tt
+  step_within number (operation.Binary b) none = tt
+  step_within number (operation.Ternary t) none = tt
+  step_within number (operation.Load l) none =
+      let fine = none_fails (instruction_fails arguments labels number (operation.Load l)) none in
+      load_within l l.segment (fine cause.WrongType) (fine cause.UnknownArgument) (fine cause.BadAddress)
+  step_within number (operation.Store s) none = tt
+  step_within number (operation.Branch x) none = next_within x (labels x) refl
+  step_within number (operation.ConditionalBranch b) none = next_within b.label (labels b.label) refl
+  step_within number operation.Return none = tt
+  step_within number (operation.Identify i) none = tt
+
+  -- the steps of items in which nothing fails
+  pub steps_within : (before : Known ℕ) (n : ℕ) (items : List Item) → first_fault (item_checks arguments labels before n items) ≡ None
+      → All (λ s. StaysWithin count bytes s.step) (steps_from arguments labels items)
+  steps_within before n [] none = All-nil (λ (s : LinedStep). StaysWithin count bytes s.step)
+  steps_within before n ((item.Label l) ∷ items) none =
+      steps_within (before ++ (l.name, n) ∷ []) n items (no_fault l.line _ _ none).1
+  steps_within before n ((item.Instruction i) ∷ items) none =
+      let p = no_fault i.line (least_cause (instruction_fails arguments labels n i.operation)) _ none in
+      All-cons (λ (s : LinedStep). StaysWithin count bytes s.step) (lined i.line arguments labels i.operation)
+      (steps_from arguments labels items) (step_within n i.operation p.0) (steps_within (before ++ []) (n + 1) items p.1)
+
+-- a kernel in which nothing fails, within the limits
+pub sound : (k : Kernel) → first_fault (item_checks (arguments_of k) (labels_of k) [] 0 k.items) ≡ None
+    → end_from 0 k.arguments ≤ 4096 → length (steps_from (arguments_of k) (labels_of k) k.items) ≤ 4096 → IsSound (program_of k)
+sound k none bytes count = record {
+  steps_stay =
+      steps_within (arguments_of k) (labels_of k) (length (steps_from (arguments_of k) (labels_of k) k.items)) (end_from 0 k.arguments)
+      (λ x v e. omega (arith, label_within (arguments_of k) (labels_of k) 0 k.items x v e))
+      (argument_within 0 k.arguments) [] 0 k.items none;
+  wide_stay = wide_within 0 k.arguments;
+  few_bytes = bytes;
+  few_steps = count;
+}

@@ -1,0 +1,62 @@
+use Rattle.std.proofs.Common.{◌≡◌, List, [], Ok, sym, ap, subst, ◌∙◌}
+use Rattle.std.proofs.lemmas.Result.{err_from_is_err_and}
+use Rattle.hsail_reader.specs.declared.module.Argument.{Argument}
+use Rattle.hsail_reader.specs.declared.module.Item.{Item}
+use Rattle.kernel_check.specs.Checks.{argument_checks, item_checks, labels_from, steps_from, program_of}
+use Rattle.kernel_check.specs.Faults.{first_fault, unless, FailsAs}
+use Rattle.kernel_check.specs.Layout.{Laid, laid_out, block_laid}
+use Rattle.kernel_check.specs.Names.{find}
+use Rattle.kernel_check.proofs.DoneLemmas.{went_well, arguments_failed, items_failed, sound_parts, done}
+use Rattle.kernel_check.proofs.checking.checked_body.Goals as goal
+
+pub returns-in_err-block : goal.returns-in_err-block
+returns-in_err-block c =
+    let p = err_from_is_err_and c.from_residual.result c.from_residual.ensures.1 in
+    let e = c.in_err-block.field-0.0 in
+    let k = c.args.kernel.now in
+    rw (p.1, p.2)
+    (arguments_failed k e (program_of k)
+    (subst (λ (args : List Argument). FailsAs e (unless (first_fault (argument_checks [] 0 args)) (laid_out args))) c.as_slice-arguments.ensures
+    c.in_err-block.ensures.value))
+
+pub returns-in_err-steps : goal.returns-in_err-steps
+returns-in_err-steps c =
+    let p = err_from_is_err_and c.from_residual-in_err-steps.result c.from_residual-in_err-steps.ensures.1 in
+    let k = c.args.kernel.now in
+    let e = c.in_err-steps.field-0.0 in
+    let arguments = find c.in_ok-block.block.names in
+    let labels = find c.in_ok-labels.labels in
+    let laid = subst (λ (args : List Argument). unless (first_fault (argument_checks [] 0 args)) (laid_out args) ≡ Ok (block_laid c.in_ok-block.block))
+    c.as_slice-arguments.ensures c.in_ok-block.ensures.value in
+    let w = went_well (first_fault (argument_checks [] 0 k.arguments)) (laid_out k.arguments) (block_laid c.in_ok-block.block) laid in
+    rw (p.1, p.2)
+    (items_failed k arguments labels (ap (λ (l : Laid). find l.names) (sym w.1))
+    (subst (λ (items : List Item). labels ≡ find (labels_from 0 items)) c.as_slice-items.ensures c.in_ok-labels.ensures) w.0 e (program_of k)
+    (subst (λ (items : List Item). FailsAs e (unless (first_fault (item_checks arguments labels [] 0 items)) (steps_from arguments labels items)))
+    c.as_slice-items.ensures c.in_err-steps.ensures.value))
+
+pub new-requires : goal.new-requires
+new-requires c =
+    let k = c.args.kernel.now in
+    let arguments = find c.in_ok-block.block.names in
+    let labels = find c.in_ok-labels.labels in
+    sound_parts k (block_laid c.in_ok-block.block) labels c.in_ok-steps.steps.items c.in_ok-name.name
+    (subst (λ (args : List Argument). unless (first_fault (argument_checks [] 0 args)) (laid_out args) ≡ Ok (block_laid c.in_ok-block.block))
+    c.as_slice-arguments.ensures c.in_ok-block.ensures.value)
+    (subst (λ (items : List Item). labels ≡ find (labels_from 0 items)) c.as_slice-items.ensures c.in_ok-labels.ensures)
+    (subst (λ (items : List Item). unless (first_fault (item_checks arguments labels [] 0 items)) (steps_from arguments labels items)
+    ≡ Ok c.in_ok-steps.steps.items) c.as_slice-items.ensures c.in_ok-steps.ensures.value)
+    c.in_ok-name.ensures c.in_ok-block.ensures.bound c.in_ok-steps.ensures.room
+
+pub returns : goal.returns
+returns c =
+    let k = c.args.kernel.now in
+    let arguments = find c.in_ok-block.block.names in
+    let labels = find c.in_ok-labels.labels in
+    done k (block_laid c.in_ok-block.block) labels c.in_ok-steps.steps.items c.in_ok-name.name
+    (subst (λ (args : List Argument). unless (first_fault (argument_checks [] 0 args)) (laid_out args) ≡ Ok (block_laid c.in_ok-block.block))
+    c.as_slice-arguments.ensures c.in_ok-block.ensures.value)
+    (subst (λ (items : List Item). labels ≡ find (labels_from 0 items)) c.as_slice-items.ensures c.in_ok-labels.ensures)
+    (subst (λ (items : List Item). unless (first_fault (item_checks arguments labels [] 0 items)) (steps_from arguments labels items)
+    ≡ Ok c.in_ok-steps.steps.items) c.as_slice-items.ensures c.in_ok-steps.ensures.value)
+    c.in_ok-name.ensures ∙ ap Ok (sym c.new.ensures)

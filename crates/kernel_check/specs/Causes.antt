@@ -1,0 +1,127 @@
+-- By which causes an item of a module fails (own; the classes of registers: PRM, Registers; the forms of
+-- addresses: PRM, Address Expressions). What a name stands for is given by functions of the name.
+use Rattle.std.specs.Prelude.{ℕ, List, Bool, true, false, not, ◌||◌, ◌==◌, nat_lt, nat_le, Option, Some, None, is_some, is_none, length}
+use Rattle.kernel_check.specs.Layout.{end_behind}
+use Rattle.kernel_check.specs.Names.{Known, find}
+use Rattle.kernel_check.specs.Operands.{operands_of, any_operand, is_wrong, is_over, is_far}
+use Rattle.kernel_check.specs.declared.fault.Cause.{Cause}
+use Rattle.kernel_check.specs.declared.fault.Cause.TheVariants.{UnknownLabel, DoubleName, WrongRegister, WrongType, UnknownArgument, TooLarge, BadAddress}
+use Rattle.kernel_check.specs.declared.layout.Placed.{Placed}
+use Rattle.hsail_reader.specs.Types.{type_bits}
+use Rattle.hsail_reader.specs.declared.module.Address.{Address}
+use Rattle.hsail_reader.specs.declared.module.Address.TheVariants as address
+use Rattle.hsail_reader.specs.declared.module.Argument.{Argument}
+use Rattle.hsail_reader.specs.declared.module.Operation.{Operation}
+use Rattle.hsail_reader.specs.declared.module.Operation.TheVariants as operation
+use Rattle.hsail_reader.specs.declared.module.Place.{Place}
+use Rattle.hsail_reader.specs.declared.module.Place.TheVariants as place
+use Rattle.hsail_reader.specs.declared.types.DataType.{DataType}
+use Rattle.hsail_reader.specs.declared.types.RegisterClass.{RegisterClass}
+use Rattle.hsail_reader.specs.declared.types.RegisterClass.TheVariants.{Control, Single, Double}
+use Rattle.hsail_reader.specs.declared.types.Segment.{Segment}
+use Rattle.hsail_reader.specs.declared.types.Segment.TheVariants as segment
+
+-- a branch to a label that the kernel doesn't have
+abbrev pub misses_label : (List ℕ → Option ℕ) → Operation → Bool
+misses_label labels (operation.Branch x) = is_none (labels x)
+misses_label labels (operation.ConditionalBranch b) = is_none (labels b.label)
+misses_label labels _ = false
+
+-- an argument of another width
+abbrev pub differs : DataType → Option Placed → Bool
+differs kind None = false
+differs kind (Some p) = not (type_bits p.kind == type_bits kind)
+
+abbrev pub is_of_other_width : (List ℕ → Option Placed) → DataType → Segment → Address → Bool
+is_of_other_width arguments kind segment.Kernarg (address.Variable x) = differs kind (arguments x)
+is_of_other_width arguments kind _ _ = false
+
+-- a load of an argument by a type of another width
+abbrev pub has_wrong_type : (List ℕ → Option Placed) → Operation → Bool
+has_wrong_type arguments (operation.Load l) = is_of_other_width arguments l.kind l.segment l.address
+has_wrong_type arguments _ = false
+
+-- a variable in brackets that the kernel doesn't declare
+abbrev pub names_unknown : (List ℕ → Option Placed) → Address → Bool
+names_unknown arguments (address.Variable x) = is_none (arguments x)
+names_unknown arguments (address.Indexed i) = is_none (arguments i.variable)
+names_unknown arguments (address.Place p) = false
+
+abbrev pub misses_argument : (List ℕ → Option Placed) → Operation → Bool
+misses_argument arguments (operation.Load l) = names_unknown arguments l.address
+misses_argument arguments (operation.Store s) = names_unknown arguments s.address
+misses_argument arguments _ = false
+
+-- a register in brackets whose number is over 63
+abbrev pub is_far_place : Place → Bool
+is_far_place (place.Absolute n) = false
+is_far_place (place.Relative r) = is_far r.register
+
+abbrev pub is_far_address : Address → Bool
+is_far_address (address.Variable x) = false
+is_far_address (address.Place p) = is_far_place p
+is_far_address (address.Indexed i) = is_far_place i.place
+
+abbrev pub has_far_address : Operation → Bool
+has_far_address (operation.Load l) = is_far_address l.address
+has_far_address (operation.Store s) = is_far_address s.address
+has_far_address _ = false
+
+-- a dimension over 2
+abbrev pub has_far_dimension : Operation → Bool
+has_far_dimension (operation.Identify i) = nat_lt 2 i.dimension
+has_far_dimension _ = false
+
+-- more than 4,096 instructions, or a number in it too large
+abbrev pub is_too_large : ℕ → Operation → Bool
+is_too_large number op =
+    nat_le 4096 number || any_operand is_over (operands_of op) || has_far_address op || has_far_dimension op
+
+-- global memory is reached by $d registers
+abbrev pub is_bad_class : RegisterClass → Bool
+is_bad_class Control = true
+is_bad_class Single = true
+is_bad_class Double = false
+
+abbrev pub is_bad_place : Place → Bool
+is_bad_place (place.Absolute n) = false
+is_bad_place (place.Relative r) = is_bad_class r.register.class
+
+-- arguments are read by name; global memory by [$d], [$d+n], [$d-n] and [n]
+abbrev pub is_bad : Segment → Address → Bool
+is_bad segment.Kernarg (address.Variable x) = false
+is_bad segment.Kernarg _ = true
+is_bad segment.Global (address.Place p) = is_bad_place p
+is_bad segment.Global _ = true
+
+abbrev pub has_bad_address : Operation → Bool
+has_bad_address (operation.Load l) = is_bad l.segment l.address
+has_bad_address (operation.Store s) = is_bad segment.Global s.address
+has_bad_address _ = false
+
+-- by which causes an instruction fails that stands behind these many
+abbrev pub instruction_fails : (List ℕ → Option Placed) → (List ℕ → Option ℕ) → ℕ → Operation → Cause → Bool
+instruction_fails arguments labels number op UnknownLabel = misses_label labels op
+instruction_fails arguments labels number op DoubleName = false
+instruction_fails arguments labels number op WrongRegister = any_operand is_wrong (operands_of op)
+instruction_fails arguments labels number op WrongType = has_wrong_type arguments op
+instruction_fails arguments labels number op UnknownArgument = misses_argument arguments op
+instruction_fails arguments labels number op TooLarge = is_too_large number op
+instruction_fails arguments labels number op BadAddress = has_bad_address op
+
+-- by which causes a label fails that stands behind these
+abbrev pub label_fails : Known ℕ → List ℕ → Cause → Bool
+label_fails before name DoubleName = is_some (find before name)
+label_fails before name _ = false
+
+-- by which causes an argument fails that stands behind these, which end there
+abbrev pub argument_fails : Known Placed → ℕ → Argument → Cause → Bool
+argument_fails before end a DoubleName = is_some (find before a.name)
+argument_fails before end a TooLarge = nat_lt 4096 (end_behind end a)
+argument_fails before end a _ = false
+
+-- by which causes the head of a kernel fails that stands behind these kernels
+abbrev pub kernel_fails : Known ℕ → List ℕ → Cause → Bool
+kernel_fails before name DoubleName = is_some (find before name)
+kernel_fails before name TooLarge = nat_le 64 (length before)
+kernel_fails before name _ = false

@@ -1,0 +1,79 @@
+-- Why an item of a module is refused.
+use Rattle.std.specs.Prelude.{◌≡◌, ℕ, List, [], ◌∷◌, Bool, if◌then◌else◌, Option, Some, None, Result, Ok, Err}
+use Rattle.kernel_check.specs.declared.fault.Cause.{Cause}
+use Rattle.kernel_check.specs.declared.fault.Cause.TheVariants.{UnknownLabel, DoubleName, WrongRegister, WrongType, UnknownArgument, TooLarge, BadAddress}
+use Rattle.kernel_check.specs.declared.fault.CheckError.{CheckError}
+use Rattle.kernel_check.specs.declared.fault.CheckError.TheVariants as error
+use Rattle.kernel_check.specs.declared.fault.CheckFault.{CheckFault}
+
+-- the numbers of the causes (own)
+abbrev pub cause_number : Cause → ℕ
+cause_number UnknownLabel = 1
+cause_number DoubleName = 2
+cause_number WrongRegister = 3
+cause_number WrongType = 4
+cause_number UnknownArgument = 5
+cause_number TooLarge = 6
+cause_number BadAddress = 7
+
+-- the causes by number
+abbrev pub causes : List Cause
+causes =
+    UnknownLabel ∷ DoubleName ∷ WrongRegister ∷ WrongType ∷ UnknownArgument ∷ TooLarge ∷ BadAddress ∷ []
+
+-- the first of some causes by which an item fails
+abbrev pub first_cause : (Cause → Bool) → List Cause → Option Cause
+first_cause fails [] = None
+first_cause fails (cause ∷ others) = if fails cause then Some cause else first_cause fails others
+
+-- the cause of least number by which an item fails
+abbrev pub least_cause : (Cause → Bool) → Option Cause
+least_cause fails = first_cause fails causes
+
+-- an item of the text, by its line, with the least cause by which it fails
+pub record Checkpoint : Type 0 where
+  pub line : ℕ
+  pub cause : Option Cause
+
+abbrev pub checkpoint : ℕ → (Cause → Bool) → Checkpoint
+checkpoint line fails = record { line = line; cause = least_cause fails }
+
+abbrev pub fault : ℕ → Cause → CheckFault
+fault line cause = record { line = line; cause = cause }
+
+-- the fault at an item, else another
+abbrev pub fault_or : ℕ → Option Cause → Option CheckFault → Option CheckFault
+fault_or line None other = other
+fault_or line (Some cause) other = Some (fault line cause)
+
+-- the fault at an item
+abbrev pub fault_at : Checkpoint → Option CheckFault
+fault_at c = fault_or c.line c.cause None
+
+-- the fault of the first item that fails
+abbrev pub first_fault : List Checkpoint → Option CheckFault
+first_fault [] = None
+first_fault (c ∷ later) = fault_or c.line c.cause (first_fault later)
+
+-- what there is where nothing fails
+abbrev pub unless : {X : Type 0} → Option CheckFault → X → Result X CheckFault
+unless None x = Ok x
+unless (Some f) x = Err f
+
+-- what a function returned is this result, unless memory ran out
+abbrev pub FailsAs : {Y : Type 0} → CheckError → Result Y CheckFault → Type 0
+FailsAs error.OutOfMemory r = Unit {0}
+FailsAs (error.Fault f) r = r ≡ Err f
+
+abbrev pub Gives : {X Y : Type 0} → (X → Y) → Result X CheckError → Result Y CheckFault → Type 0
+Gives view (Ok x) r = r ≡ Ok (view x)
+Gives view (Err e) r = FailsAs e r
+
+-- these items were let pass just where none fails, unless memory ran out; else the first fault was told
+abbrev pub Stops : CheckError → List Checkpoint → Type 0
+Stops error.OutOfMemory checks = Unit {0}
+Stops (error.Fault f) checks = first_fault checks ≡ Some f
+
+abbrev pub Judges : {X : Type 0} → Result X CheckError → List Checkpoint → Type 0
+Judges (Ok x) checks = first_fault checks ≡ None
+Judges (Err e) checks = Stops e checks

@@ -1,0 +1,79 @@
+-- What the definitions of the check come to, in plain words.
+use Rattle.std.specs.Prelude.{◌≡◌, ℕ, ◌≤◌, List, ◌∷◌, ◌++◌, Bool, true, false, Option, Some, None}
+use Rattle.std.specs.List.{All}
+use Rattle.kernel_check.specs.Faults.{Checkpoint, fault_at}
+use Rattle.kernel_check.specs.Steps.{slot_of, next_of}
+use Rattle.kernel_check.specs.declared.fault.Cause.{Cause}
+use Rattle.kernel_check.specs.declared.fault.CheckFault.{CheckFault}
+use Rattle.kernel_check.specs.declared.layout.Placed.{Placed}
+use Rattle.hsail_reader.specs.declared.module.Address.{Address}
+use Rattle.hsail_reader.specs.declared.module.Address.TheVariants as address
+use Rattle.hsail_reader.specs.declared.module.Operation.{Operation}
+use Rattle.hsail_reader.specs.declared.module.Operation.TheVariants as operation
+use Rattle.hsail_reader.specs.declared.module.Place.{Place}
+use Rattle.hsail_reader.specs.declared.module.Place.TheVariants as place
+use Rattle.hsail_reader.specs.declared.types.Register.{Register}
+use Rattle.hsail_reader.specs.declared.types.Segment.{Segment}
+use Rattle.hsail_reader.specs.declared.types.Segment.TheVariants as segment
+use Rattle.hsail_reader.specs.declared.types.Source.{Source}
+use Rattle.hsail_reader.specs.declared.types.Source.TheVariants as source
+
+-- a cause by which an item fails, while it fails by none before it in a list of causes
+pub record IsFirst (fails : Cause → Bool) (listed : List Cause) (c : Cause) : Type 0 where
+  pub before : List Cause
+  pub behind : List Cause
+  pub split : listed ≡ before ++ c ∷ behind
+  pub pass : All (λ other. fails other ≡ false) before
+  pub here : fails c ≡ true
+
+-- a fault is that of one of the items, and none before it fails
+pub record IsEarliest (checks : List Checkpoint) (f : CheckFault) : Type 0 where
+  pub before : List Checkpoint
+  pub item : Checkpoint
+  pub behind : List Checkpoint
+  pub split : checks ≡ before ++ item ∷ behind
+  pub pass : All (λ c. c.cause ≡ None) before
+  pub here : fault_at item ≡ Some f
+
+-- a register's number is kept
+abbrev pub IsKept : Register → Type 0
+IsKept r = slot_of r ≡ r.number
+
+abbrev pub IsKeptSource : Source → Type 0
+IsKeptSource (source.Register r) = IsKept r
+IsKeptSource (source.Constant c) = Unit {0}
+
+abbrev pub IsKeptPlace : Place → Type 0
+IsKeptPlace (place.Absolute n) = Unit {0}
+IsKeptPlace (place.Relative r) = IsKept r.register
+
+-- an address of global memory has a place, whose register is kept
+abbrev pub IsGlobal : Address → Type 0
+IsGlobal (address.Place p) = IsKeptPlace p
+IsGlobal _ = ⊥
+
+-- an address of the argument block names an argument that is there
+abbrev pub IsArgument : (List ℕ → Option Placed) → Address → Type 0
+IsArgument arguments (address.Variable x) = (p : Placed) × (arguments x ≡ Some p)
+IsArgument arguments _ = ⊥
+
+abbrev pub IsReached : (List ℕ → Option Placed) → Segment → Address → Type 0
+IsReached arguments segment.Kernarg a = IsArgument arguments a
+IsReached arguments segment.Global a = IsGlobal a
+
+-- a label that is there
+abbrev pub IsThere : (List ℕ → Option ℕ) → List ℕ → Type 0
+IsThere labels x = labels x ≡ Some (next_of labels x)
+
+-- the step of an instruction makes nothing up: each number is kept, and each name stands for something
+abbrev pub IsFaithful : (List ℕ → Option Placed) → (List ℕ → Option ℕ) → Operation → Type 0
+IsFaithful arguments labels (operation.Unary u) = IsKept u.target × IsKeptSource u.source
+IsFaithful arguments labels (operation.Binary b) = IsKept b.target × IsKeptSource b.left × IsKeptSource b.right
+IsFaithful arguments labels (operation.Ternary t) =
+    IsKept t.target × IsKeptSource t.first × IsKeptSource t.second × IsKeptSource t.third
+IsFaithful arguments labels (operation.Load l) = IsKept l.target × IsReached arguments l.segment l.address
+IsFaithful arguments labels (operation.Store s) = IsKeptSource s.source × IsGlobal s.address
+IsFaithful arguments labels (operation.Branch x) = IsThere labels x
+IsFaithful arguments labels (operation.ConditionalBranch b) = IsKeptSource b.condition × IsThere labels b.label
+IsFaithful arguments labels operation.Return = Unit {0}
+IsFaithful arguments labels (operation.Identify i) = IsKept i.target × (i.dimension ≤ 2)

@@ -1,0 +1,67 @@
+-- Where the arguments of a kernel lie in its block (PRM, Kernarg Segment).
+use Rattle.std.specs.Prelude.{ℕ, ◌+◌, ◌-◌, ◌*◌, ◌/◌, max, Bool, ◌==◌, if◌then◌else◌, List, [], ◌∷◌, ◌++◌, Option, Some, None}
+use Rattle.kernel_check.specs.Names.{Known}
+use Rattle.kernel_check.specs.declared.block.Block.{Block}
+use Rattle.kernel_check.specs.declared.layout.Placed.{Placed}
+use Rattle.hsail_reader.specs.Types.{type_bits, alignment_bytes}
+use Rattle.hsail_reader.specs.declared.module.Argument.{Argument}
+use Rattle.hsail_reader.specs.declared.types.Alignment.{Alignment}
+use Rattle.hsail_reader.specs.declared.types.DataType.{DataType}
+
+-- the bytes of a value, as many as its bits fill
+abbrev pub kind_bytes : DataType → ℕ
+kind_bytes kind = (type_bits kind + 7) / 8
+
+abbrev pub is_wide : DataType → Bool
+is_wide kind = type_bits kind == 64
+
+-- the larger of the natural alignment and the align
+abbrev pub boundary_of : DataType → Option Alignment → ℕ
+boundary_of kind None = kind_bytes kind
+boundary_of kind (Some align) = max (kind_bytes kind) (alignment_bytes align)
+
+-- the next multiple of n
+abbrev pub next_multiple : ℕ → ℕ → ℕ
+next_multiple end n = (end + (n - 1)) / n * n
+
+-- an argument behind these many bytes
+abbrev pub placed_at : ℕ → Argument → Placed
+placed_at end a = record { kind = a.kind; offset = next_multiple end (boundary_of a.kind a.align) }
+
+abbrev pub end_behind : ℕ → Argument → ℕ
+end_behind end a = next_multiple end (boundary_of a.kind a.align) + kind_bytes a.kind
+
+-- arguments in order behind these many bytes, by name
+abbrev pub placed_from : ℕ → List Argument → Known Placed
+placed_from end [] = []
+placed_from end (a ∷ later) = (a.name, placed_at end a) ∷ placed_from (end_behind end a) later
+
+-- where the last of them ends
+abbrev pub end_from : ℕ → List Argument → ℕ
+end_from end [] = end
+end_from end (a ∷ later) = end_from (end_behind end a) later
+
+-- the offset of an argument of 64 bits
+abbrev pub wide_at : ℕ → Argument → List ℕ
+wide_at end a = if is_wide a.kind then (placed_at end a).offset ∷ [] else []
+
+-- the offsets of those of 64 bits
+abbrev pub wide_from : ℕ → List Argument → List ℕ
+wide_from end [] = []
+wide_from end (a ∷ later) = wide_at end a ++ wide_from (end_behind end a) later
+
+-- the arguments of a kernel at their places
+pub record Laid : Type 0 where
+  pub names : Known Placed
+  pub wide : List ℕ
+  pub end : ℕ
+
+abbrev pub laid_out : List Argument → Laid
+laid_out arguments = record {
+  names = placed_from 0 arguments;
+  wide = wide_from 0 arguments;
+  end = end_from 0 arguments;
+}
+
+abbrev pub block_laid : Block → Laid
+block_laid block = record { names = block.names; wide = block.wide.items; end = block.end }

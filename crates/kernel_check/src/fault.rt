@@ -1,0 +1,88 @@
+//! Why a module is refused.
+
+ghost use Rattle.std.specs.Prelude.{◌≡◌};
+ghost use Rattle.kernel_check.specs.declared.fault.CheckError.TheVariants as check_error;
+ghost use Rattle.kernel_check.specs.Faults.{cause_number};
+
+use std::alloc::{AllocError, AllocFailed};
+use std::fmt;
+use thiserror::Error;
+
+/// What is wrong with an item of a module. An item with several faults has the one of least number.
+#[derive(Clone, Copy, Debug, PartialEq, Eq)]
+pub enum Cause {
+    /// The kernel has no label of that name.
+    UnknownLabel,
+    /// The second of two kernels of a module, or of two variables or two labels of a kernel.
+    DoubleName,
+    /// A register of another class than the type at its place has.
+    WrongRegister,
+    /// A load of a kernel argument by a type that isn't as wide as the argument.
+    WrongType,
+    /// The kernel declares no variable of that name.
+    UnknownArgument,
+    /// A register's number over 63, a constant out of its type's range, a dimension over 2, or a limit
+    /// on kernels, arguments or instructions.
+    TooLarge,
+    /// A form of address that the segment doesn't have, or a variable of another segment.
+    BadAddress,
+}
+
+impl Cause {
+    /// The number of the cause, from 1 for `UnknownLabel` to 7 for `BadAddress`.
+    pub fn number(self) -> u8
+        ensures { result ≡ cause_number self }
+    {
+        match self {
+            Cause::UnknownLabel => 1,
+            Cause::DoubleName => 2,
+            Cause::WrongRegister => 3,
+            Cause::WrongType => 4,
+            Cause::UnknownArgument => 5,
+            Cause::TooLarge => 6,
+            Cause::BadAddress => 7,
+        }
+    }
+}
+
+/// The fault of a module: the line of the item's first token, from 1, and the cause.
+#[derive(Clone, Copy, Debug, PartialEq, Eq)]
+pub struct CheckFault {
+    pub line: u32,
+    pub cause: Cause,
+}
+
+impl fmt::Display for CheckFault {
+    fn fmt<W: fmt::Write>(&self, f: &mut fmt::Formatter<W>) -> fmt::Result {
+        let line = self.line;
+        let cause = self.cause;
+        write!(f, "line {line}: {cause:?}")
+    }
+}
+
+/// Why a module was not checked to its end.
+#[derive(Clone, Copy, Debug, PartialEq, Eq, Error)]
+pub enum CheckError {
+    /// There was no memory for the checked kernels.
+    #[error("out of memory")]
+    OutOfMemory,
+    /// The module has a fault.
+    #[error("{0}")]
+    Fault(CheckFault),
+}
+
+impl From<AllocError> for CheckError {
+    ghost from_gives = { λ _ e. e ≡ check_error.OutOfMemory };
+
+    fn from(_e: AllocError) -> CheckError {
+        CheckError::OutOfMemory
+    }
+}
+
+impl<T: Drop> From<AllocFailed<T>> for CheckError {
+    ghost from_gives = { λ _ e. e ≡ check_error.OutOfMemory };
+
+    fn from(_e: AllocFailed<T>) -> CheckError {
+        CheckError::OutOfMemory
+    }
+}

@@ -1,0 +1,27 @@
+//! Laws of the check.
+
+ghost use Rattle.std.specs.Prelude.{◌≡◌, ℕ, List, Bool, false, Option, Some, None};
+ghost use Rattle.std.specs.List.{All};
+ghost use Rattle.kernel_check.specs.Causes.{instruction_fails};
+ghost use Rattle.kernel_check.specs.Faults.{Checkpoint, causes, first_fault, least_cause};
+ghost use Rattle.kernel_check.specs.Laws.{IsFirst, IsEarliest, IsFaithful};
+ghost use Rattle.kernel_check.specs.declared.fault.Cause.{Cause};
+ghost use Rattle.kernel_check.specs.declared.fault.CheckFault.{CheckFault};
+ghost use Rattle.kernel_check.specs.declared.layout.Placed.{Placed};
+ghost use Rattle.hsail_reader.specs.declared.module.Operation.{Operation};
+
+/// The fault of a list of items is that of the earliest item that fails, and its cause the one of
+/// least number by which that item fails; without a fault no item fails by any cause. It does nothing.
+pub fn faults_are_earliest()
+    ensures earliest { (checks : List Checkpoint) (f : CheckFault) → first_fault checks ≡ Some f → IsEarliest checks f }
+    ensures all_pass { (checks : List Checkpoint) → first_fault checks ≡ None → All (λ c. c.cause ≡ None) checks }
+    ensures least { (fails : Cause → Bool) (c : Cause) → least_cause fails ≡ Some c → IsFirst fails causes c }
+    ensures none { (fails : Cause → Bool) → least_cause fails ≡ None → (c : Cause) → fails c ≡ false }
+{}
+
+/// The step of an instruction that fails by no cause has the instruction's own registers, an argument
+/// that the kernel declares, and the place of a label that it has. It does nothing.
+pub fn steps_are_faithful()
+    ensures { (arguments : List ℕ → Option Placed) (labels : List ℕ → Option ℕ) (number : ℕ) (op : Operation)
+        → least_cause (instruction_fails arguments labels number op) ≡ None → IsFaithful arguments labels op }
+{}

@@ -1,0 +1,33 @@
+//! The check of kernels that were read: names, registers, types, sizes and addresses; and the steps
+//! that a kernel without a fault comes to.
+//! The next line lets the check look for proofs by its tactics.
+#![tactic(auto)]
+
+mod block;
+mod body;
+mod causes;
+mod checked;
+mod checking;
+mod constants;
+mod fault;
+mod labels;
+mod laws;
+mod layout;
+mod names;
+mod operands;
+mod program;
+mod step;
+mod translate;
+
+pub use checked::Checked;
+pub use checking::check;
+pub use fault::{Cause, CheckError, CheckFault};
+pub use laws::{faults_are_earliest, steps_are_faithful};
+pub use program::Program;
+pub use step::{
+    ArgumentStep, BinaryStep, BranchStep, Dimension, IdentifyStep, LinedStep, LoadStep, Operand,
+    Pointer, Relative, Slot, Step, StoreStep, TernaryStep, UnaryStep,
+};
+
+#[cfg(test)]
+mod tests;
