@@ -1,5 +1,6 @@
 //! The command that checks a policy.
 
+use crate::kernels::{KernelError, check_kernels};
 use crate::status::Status;
 use policy::{Kind, Policy, ReadPolicyError, read_policy};
 use std::alloc::Global;
@@ -39,8 +40,17 @@ pub(crate) fn refuse<E: io::Write>(why: ReadPolicyError, err: &mut E) -> Status 
     }
 }
 
-/// Checks the text of a policy. A good one is counted on `out`; the first fault of another is named
-/// on `err`, as `policy: 4 UnknownName allow 7`, with the array and the row that it lies in.
+// Names on `err` why a policy's kernels were refused.
+pub(crate) fn refuse_kernels<E: io::Write>(why: KernelError, err: &mut E) -> Status {
+    match why {
+        KernelError::Fault(fault) => told(writeln!(err, "{fault}"), Status::Refused),
+        KernelError::OutOfMemory => told(writeln!(err, "no memory"), Status::Failed),
+    }
+}
+
+/// Checks the text of a policy, and then its kernels in order. A good one is counted on `out`; the
+/// first fault of another is named on `err`: as `policy: 4 UnknownName allow 7`, with the array and
+/// the row that it lies in, or as `kernel 1: check 3 line 4`.
 pub fn check_policy<O: io::Write, E: io::Write>(
     alloc: Global,
     text: &[u8],
@@ -48,7 +58,10 @@ pub fn check_policy<O: io::Write, E: io::Write>(
     err: &mut E,
 ) -> Status {
     match read_policy(alloc, text) {
-        Ok(policy) => told(write_counts(&policy, out), Status::Done),
+        Ok(policy) => match check_kernels(alloc, &policy, false) {
+            Ok(()) => told(write_counts(&policy, out), Status::Done),
+            Err(why) => refuse_kernels(why, err),
+        },
         Err(why) => refuse(why, err),
     }
 }

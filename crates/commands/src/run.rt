@@ -1,6 +1,7 @@
 //! The command that runs a script over a policy.
 
-use crate::check::{refuse, told};
+use crate::check::{refuse, refuse_kernels, told};
+use crate::kernels::check_kernels;
 use crate::status::Status;
 use access_core::OpenFault;
 use policy::{Policy, read_policy};
@@ -47,8 +48,9 @@ fn run_over<R: io::Read, O: io::Write, E: io::Write>(
 }
 
 /// Runs a script over the policy in a text, with places for so many entries (1 to 2^20) in the
-/// audit. Replies go to `out`. A fault of the policy is named on `err` as `check_policy` does, before
-/// any reply; a line of no form as `line 3: bad request`, after the replies to the lines before it.
+/// audit. Replies go to `out`. A fault of the policy or of a kernel is named on `err` as
+/// `check_policy` does, before any reply, and then a kernel without its entry, as
+/// `kernel 1: no entry`; a line of no form as `line 3: bad request`, after the replies to the lines before it.
 pub fn run_policy<R: io::Read, O: io::Write, E: io::Write>(
     alloc: Global,
     text: &[u8],
@@ -58,7 +60,10 @@ pub fn run_policy<R: io::Read, O: io::Write, E: io::Write>(
     err: &mut E,
 ) -> Status {
     match read_policy(alloc, text) {
-        Ok(policy) => run_over(alloc, policy, places, script, out, err),
+        Ok(policy) => match check_kernels(alloc, &policy, true) {
+            Ok(()) => run_over(alloc, policy, places, script, out, err),
+            Err(why) => refuse_kernels(why, err),
+        },
         Err(why) => refuse(why, err),
     }
 }

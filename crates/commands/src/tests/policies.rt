@@ -64,3 +64,39 @@ fn the_empty_policy_declares_nothing(rt: HostRuntime) {
     let checked = check(rt.alloc(), "");
     assert!(rt; checked.is(0, counts, ""));
 }
+
+/// A policy with one kernel `&k`, whose text has this line 4.
+fn with_kernel(alloc: Global, line: &str, entry: &str) -> Result<String, Fail> {
+    let text = format!(in alloc;
+        "[[kernel]]\nname = \"k\"\nentry = \"{entry}\"\ntext = '''\nmodule &m:1:0:$base:$large:$default;\nprog kernel &k()\n{{\n{line}\n}};\n'''\n")?;
+    Ok(text)
+}
+
+#[test]
+fn the_first_fault_of_a_kernel_is_named(rt: HostRuntime) -> Result<(), Fail> {
+    for (line, fault) in [
+        ("br @x;", "kernel 1: check 1 line 4\n"),
+        ("mov_b64 $s0, 1;", "kernel 1: check 3 line 4\n"),
+        ("mov_b32 $s64, 1;", "kernel 1: check 6 line 4\n"),
+        ("ld_kernarg_u32 $s0, [%q];", "kernel 1: check 5 line 4\n"),
+        ("  ld_global_f32 $s0, [$d0];", "kernel 1: read 3 line 4 column 3\n"),
+    ] {
+        let text = with_kernel(rt.alloc(), line, "&k")?;
+        let checked = check(rt.alloc(), text.as_str());
+        assert!(rt; checked.is(1, "", fault), "{line}");
+        let run = run_over(rt.alloc(), text.as_str(), 65536, "audit\n");
+        assert!(rt; run.is(1, "", fault), "{line}");
+    }
+    Ok(())
+}
+
+#[test]
+fn a_run_wants_the_entries_of_kernels(rt: HostRuntime) -> Result<(), Fail> {
+    let text = with_kernel(rt.alloc(), "ret;", "&other")?;
+    let counts = "clients 0\nagents 0\nregions 0\nsignals 0\nkernels 1\nallows 0\nok\n";
+    let checked = check(rt.alloc(), text.as_str());
+    assert!(rt; checked.is(0, counts, ""));
+    let run = run_over(rt.alloc(), text.as_str(), 65536, "audit\n");
+    assert!(rt; run.is(1, "", "kernel 1: no entry\n"));
+    Ok(())
+}
