@@ -43,7 +43,7 @@ abbrev pub with_ring : List Ring → QueueId → Ring → List Ring
 with_ring rings queue ring = slice_set rings (queue.0 - 1) ring
 
 -- whose queue, on which agent and of which size, a request asks to be opened, if it does
-abbrev pub opening_asked : Request → Option (ClientId × (AgentHandle × ℕ))
+abbrev pub opening_asked : Request → Option (ClientId × AgentHandle × ℕ)
 opening_asked (request.Event (OpenQueue client agent size)) = Some (client, agent, size)
 opening_asked _ = None
 
@@ -72,7 +72,7 @@ Opens event ring old reply new =
     × (reply ≡ told_opened made) × (new.rings ≡ rings_opened old.rings ring made)
 
 -- a request was served by the core, and no ring changed; a queue that is opened so has no producers
-abbrev pub AsksWhere : Option (ClientId × (AgentHandle × ℕ)) → Request → Ringed → Told → Ringed → Type 0
+abbrev pub AsksWhere : Option (ClientId × AgentHandle × ℕ) → Request → Ringed → Told → Ringed → Type 0
 AsksWhere (Some (client, agent, size)) asked old reply new = Opens (OpenQueue client agent size) (empty_ring size 0) old reply new
 AsksWhere None asked old reply new =
     (replied : Replying) × IsServed old.core asked replied new.core × (reply ≡ told.Core replied) × (new.rings ≡ old.rings)

@@ -1,29 +1,24 @@
 -- The steps of the commands on rings, as the code takes them.
 use Rattle.std.specs.Prelude.{ℕ, ◌≡◌, ◌<◌, length, List, Option, Some, None, Ok}
 use Rattle.aql_packet.specs.declared.ids.QueueId.{QueueId}
-use Rattle.aql_packet.specs.declared.ids.PacketId.{PacketId}
 use Rattle.core_model.specs.declared.outcome.Taken.{Taken}
 use Rattle.script.specs.declared.command.Told.{Told}
 use Rattle.world.specs.declared.ring.Ring.{Ring}
+use Rattle.world.specs.declared.world.Next.{Next}
 use Rattle.world.specs.Rings.{Submitted, shown}
 use Rattle.world.specs.Serving.{ring_of, ring_after, with_ring}
 
--- a packet with its id
-abbrev pub Named : Type 0
-Named = PacketId × List ℕ
-
 -- the packet that a ring shows, with its id
-abbrev pub named : Ring → Option (List ℕ) → Option Named
+abbrev pub named : Ring → Option (List ℕ) → Option Next
 named ring None = None
-named ring (Some bytes) = Some (record { 0 = ring.read }, bytes)
+named ring (Some bytes) = Some (record { packet = record { 0 = ring.read }; bytes = bytes })
 
-abbrev pub next_of : Ring → Option Named
+abbrev pub next_of : Ring → Option Next
 next_of ring = named ring (shown ring)
 
 -- a queue's ring shows this packet
-abbrev pub IsNext : List Ring → QueueId → PacketId → List ℕ → Type 0
-IsNext rings queue packet bytes =
-    (ring : Ring) × (ring_of rings queue ≡ Some ring) × (shown ring ≡ Some bytes) × (packet ≡ record { 0 = ring.read })
+abbrev pub IsNext : List Ring → QueueId → Next → Type 0
+IsNext rings queue next = (ring : Ring) × (ring_of rings queue ≡ Some ring) × (next_of ring ≡ Some next)
 
 -- a queue's ring shows a packet
 abbrev pub ShowsPacket : List Ring → QueueId → Type 0

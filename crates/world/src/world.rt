@@ -24,6 +24,13 @@ pub struct World {
     rings: Vec<Ring>,
 }
 
+/// The packet at a ring's read index, with its id.
+#[derive(Clone, Copy)]
+struct Next {
+    packet: PacketId,
+    bytes: [u8; 64],
+}
+
 impl Model for World {
     ghost use Rattle.world.specs.Serving.{Ringed};
 
@@ -99,22 +106,17 @@ impl World {
         match next_packet(&self.rings, queue) {
             None => Told::Core(Err(Refusal::UnknownQueue)),
             Some(None) => Told::Empty,
-            Some(Some((packet, bytes))) => self.hand_over(alloc, queue, packet, bytes),
+            Some(Some(next)) => self.hand_over(alloc, queue, &next),
         }
     }
 
     // Has the packet processor hand over the packet at a queue's read index.
-    fn hand_over(
-        &mut self,
-        alloc: Global,
-        queue: QueueId,
-        packet: PacketId,
-        bytes: [u8; 64],
-    ) -> Told
-        requires { IsNext self.old.rings queue packet bytes }
+    fn hand_over(&mut self, alloc: Global, queue: QueueId, next: &Next) -> Told
+        requires { IsNext self.old.rings queue next.now }
         ensures { LooksAt (ring_of self.old.rings queue) queue self.old result self.new }
     {
-        match self.core.take(alloc, queue, packet, &bytes) {
+        let packet = next.packet;
+        match self.core.take(alloc, queue, packet, &next.bytes) {
             Ok(taken) => {
                 retire_taken(&mut self.rings, queue, taken);
                 Told::Taken { packet, taken }
@@ -196,14 +198,20 @@ fn ring_at(rings: &Vec<Ring>, queue: QueueId) -> Option<&Ring>
 }
 
 // The packet at the read index of a queue's ring with its id, if there is a ring and a packet.
-fn next_packet(rings: &Vec<Ring>, queue: QueueId) -> Option<Option<(PacketId, [u8; 64])>>
+fn next_packet(rings: &Vec<Ring>, queue: QueueId) -> Option<Option<Next>>
     ensures { result ≡ option_map next_of (ring_of rings.now.items queue) }
 {
     match ring_at(rings, queue) {
         None => None,
         Some(ring) => match ring.shown() {
             None => Some(None),
-            Some(bytes) => Some(Some((PacketId(ring.read), *bytes))),
+            Some(shown) => {
+                let bytes = *shown;
+                Some(Some(Next {
+                    packet: PacketId(ring.read),
+                    bytes,
+                }))
+            }
         },
     }
 }
