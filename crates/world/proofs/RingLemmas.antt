@@ -52,6 +52,7 @@ looked-refused old new queue ring next why found is meets same =
   where
     rings : new.rings ≡ with_ring old.rings queue ring
     rings = same ∙ sym (set-same old.rings (queue.0 - 1) ring (ring-place old.rings queue ring found).1)
+
     by_shown : (o : Option (List ℕ)) → named ring o ≡ Some next → HandsOver o ring queue old (told.Core (Err why)) new
     by_shown None e = cc
     by_shown (Some bytes) e =

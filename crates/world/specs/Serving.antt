@@ -23,6 +23,8 @@ use Rattle.script.specs.declared.command.Command.TheVariants as command
 use Rattle.script.specs.declared.command.Told.{Told}
 use Rattle.script.specs.declared.command.Told.TheVariants as told
 use Rattle.world.specs.declared.ring.Ring.{Ring}
+use Rattle.world.specs.declared.world.Asked.{Asked}
+use Rattle.world.specs.declared.world.Asked.TheVariants as asked
 use Rattle.world.specs.Rings.{empty_ring, Submitted, shown, retired}
 
 -- the core's history, and the rings of its queues: the first is queue 1's (own)
@@ -42,10 +44,11 @@ HasRing rings queue = (ring : Ring) × (ring_of rings queue ≡ Some ring)
 abbrev pub with_ring : List Ring → QueueId → Ring → List Ring
 with_ring rings queue ring = slice_set rings (queue.0 - 1) ring
 
--- whose queue, on which agent and of which size, a request asks to be opened, if it does
-abbrev pub opening_asked : Request → Option (ClientId × AgentHandle × ℕ)
-opening_asked (request.Event (OpenQueue client agent size)) = Some (client, agent, size)
-opening_asked _ = None
+-- what a request asks of the world: to open a queue, to hand over a packet, or anything else
+abbrev pub asked_of : Request → Asked
+asked_of (request.Event (OpenQueue client agent size)) = asked.Opening client agent size
+asked_of (request.Event (Take queue id bytes)) = asked.HandOver
+asked_of _ = asked.Other
 
 -- a ring has 1 to 16 producers (own)
 abbrev pub are_producers : ℕ → Bool
@@ -71,14 +74,15 @@ Opens event ring old reply new =
     (made : Result QueueId Refusal) × MeetsOrLacks event old.core new.core (opened made)
     × (reply ≡ told_opened made) × (new.rings ≡ rings_opened old.rings ring made)
 
--- a request was served by the core, and no ring changed; a queue that is opened so has no producers
-abbrev pub AsksWhere : Option (ClientId × AgentHandle × ℕ) → Request → Ringed → Told → Ringed → Type 0
-AsksWhere (Some (client, agent, size)) asked old reply new = Opens (OpenQueue client agent size) (empty_ring size 0) old reply new
-AsksWhere None asked old reply new =
-    (replied : Replying) × IsServed old.core asked replied new.core × (reply ≡ told.Core replied) × (new.rings ≡ old.rings)
+-- a request was served by the core, and no ring changed; a queue that is opened so has no producers, and only what stands in a ring is handed over (own)
+abbrev pub AsksWhere : Asked → Request → Ringed → Told → Ringed → Type 0
+AsksWhere (asked.Opening client agent size) wanted old reply new = Opens (OpenQueue client agent size) (empty_ring size 0) old reply new
+AsksWhere asked.HandOver wanted old reply new = (reply ≡ told.NotAStep) × (new ≡ old)
+AsksWhere asked.Other wanted old reply new =
+    (replied : Replying) × IsServed old.core wanted replied new.core × (reply ≡ told.Core replied) × (new.rings ≡ old.rings)
 
 abbrev pub Asks : Request → Ringed → Told → Ringed → Type 0
-Asks asked old reply new = AsksWhere (opening_asked asked) asked old reply new
+Asks wanted old reply new = AsksWhere (asked_of wanted) wanted old reply new
 
 -- a producer handed in a packet, where its queue was opened
 abbrev pub Submits : Option Ring → QueueId → ℕ → List ℕ → Ringed → Told → Ringed → Type 0
@@ -112,7 +116,7 @@ LooksAt (Some ring) queue old reply new = HandsOver (shown ring) ring queue old 
 
 -- what may be told to a command, and what is then (own)
 abbrev pub Serves : Ringed → Command → Told → Ringed → Type 0
-Serves old (command.Core asked) reply new = Asks asked old reply new
+Serves old (command.Core wanted) reply new = Asks wanted old reply new
 Serves old (command.OpenQueue client agent size producers) reply new =
     Opens (OpenQueue client agent (asked_size size producers)) (empty_ring size producers) old reply new
 Serves old (command.Submit queue producer bytes) reply new = Submits (ring_of old.rings queue) queue producer bytes old reply new

@@ -4,7 +4,7 @@ ghost use Rattle.std.specs.Prelude.{◌≡◌, [], IfOk, option_map};
 ghost use Rattle.std.specs.Option.{option_copied};
 ghost use Rattle.core_model.specs.declared.event.Event.TheVariants as event;
 ghost use Rattle.access_core.specs.Opening.{Opens as CoreOpens};
-ghost use Rattle.world.specs.Serving.{Asks, asked_size, HasRing, LooksAt, opening_asked, Opens, ring_of, Submits};
+ghost use Rattle.world.specs.Serving.{Asks, asked_of, asked_size, HasRing, LooksAt, Opens, ring_of, Submits};
 ghost use Rattle.world.specs.Opening.{core_opened};
 ghost use Rattle.world.specs.Steps.{IsNext, next_of, RingFollows, RingSubmits, ShowsPacket};
 
@@ -22,6 +22,19 @@ use std::marker::Model;
 pub struct World {
     core: AccessCore,
     rings: Vec<Ring>,
+}
+
+/// What a request asks of the world: to open a queue, to hand over a packet of the asker's own
+/// making, or anything else, which concerns the core alone.
+#[derive(Clone, Copy)]
+enum Asked {
+    Opening {
+        client: ClientId,
+        agent: AgentHandle,
+        size: u64,
+    },
+    HandOver,
+    Other,
 }
 
 /// The packet at a ring's read index, with its id.
@@ -56,12 +69,17 @@ impl World {
     fn ask(&mut self, alloc: Global, request: Request) -> Told
         ensures { Asks request self.old result self.new }
     {
-        match opening_asked(&request) {
-            Some((client, agent, size)) => {
+        match asked_of(&request) {
+            Asked::Opening {
+                client,
+                agent,
+                size,
+            } => {
                 let ring = Ring::new(alloc, size, 0);
                 self.open_queue(alloc, client, agent, size, ring)
             }
-            None => Told::Core(self.core.serve(alloc, request)),
+            Asked::HandOver => Told::NotAStep,
+            Asked::Other => Told::Core(self.core.serve(alloc, request)),
         }
     }
 
@@ -160,9 +178,9 @@ impl Broker for World {
     }
 }
 
-// Whose queue, on which agent and of which size, a request asks to be opened.
-fn opening_asked(request: &Request) -> Option<(ClientId, AgentHandle, u64)>
-    ensures { result ≡ opening_asked request.now }
+// What a request asks of the world.
+fn asked_of(request: &Request) -> Asked
+    ensures { result ≡ asked_of request.now }
 {
     match request {
         Request::Event(
@@ -171,8 +189,13 @@ fn opening_asked(request: &Request) -> Option<(ClientId, AgentHandle, u64)>
                 agent,
                 size,
             },
-        ) => Some((*client, *agent, *size)),
-        _ => None,
+        ) => Asked::Opening {
+            client: *client,
+            agent: *agent,
+            size: *size,
+        },
+        Request::Event(Event::Take { .. }) => Asked::HandOver,
+        _ => Asked::Other,
     }
 }
 
