@@ -24,11 +24,19 @@ fn write_counts<W: io::Write>(policy: &Policy, out: &mut W) -> io::Result<()> {
     out.flush()
 }
 
-/// The status where what was to be told was written, and failed where it wasn't.
+/// The status where a fault was named, and failed where it couldn't be.
 pub(crate) fn told(written: io::Result<()>, status: Status) -> Status {
     match written {
         Ok(()) => status,
         Err(_) => Status::Failed,
+    }
+}
+
+// Done where the counts were written; else the failure is told.
+fn counted<E: io::Write>(written: io::Result<()>, err: &mut E) -> Status {
+    match written {
+        Ok(()) => Status::Done,
+        Err(_) => told(writeln!(err, "write fault"), Status::Failed),
     }
 }
 
@@ -58,8 +66,8 @@ pub fn check_policy<O: io::Write, E: io::Write>(
     err: &mut E,
 ) -> Status {
     match read_policy(alloc, text) {
-        Ok(policy) => match check_kernels(alloc, &policy, false) {
-            Ok(()) => told(write_counts(&policy, out), Status::Done),
+        Ok(policy) => match check_kernels(alloc, &policy) {
+            Ok(()) => counted(write_counts(&policy, out), err),
             Err(why) => refuse_kernels(why, err),
         },
         Err(why) => refuse(why, err),

@@ -14,8 +14,6 @@ pub enum KernelCause {
     Read(ReadFault),
     /// Its module is refused.
     Check(CheckFault),
-    /// Its module has no kernel of the entry's name.
-    NoEntry,
 }
 
 /// A kernel of a policy that is refused, by its number from 1.
@@ -40,7 +38,6 @@ impl fmt::Display for KernelFault {
                 let line = fault.line;
                 write!(f, "kernel {kernel}: check {cause} line {line}")
             }
-            KernelCause::NoEntry => write!(f, "kernel {kernel}: no entry"),
         }
     }
 }
@@ -74,24 +71,13 @@ fn checked(alloc: Global, number: u32, source: &KernelSource) -> Result<Checked,
     }
 }
 
-/// Reads and checks each kernel of a policy, in order, and tells the first that is refused. Where
-/// all are read and checked, `entries` has each looked for its entry in the same order.
-pub fn check_kernels(alloc: Global, policy: &Policy, entries: bool) -> Result<(), KernelError> {
-    let mut missing = None;
+/// Reads and checks each kernel of a policy, in order, and tells the first that is refused.
+pub fn check_kernels(alloc: Global, policy: &Policy) -> Result<(), KernelError> {
     for before in 0..policy.object_count(Kind::Kernel) {
         let number = before as u32 + 1;
         if let Some(source) = policy.kernel_source(KernelObject(u64::from(number))) {
-            let checked = checked(alloc, number, source)?;
-            if missing.is_none() && checked.find(source.entry().as_bytes()).is_none() {
-                missing = Some(number);
-            }
+            checked(alloc, number, source)?;
         }
     }
-    match missing {
-        Some(kernel) if entries => Err(KernelError::Fault(KernelFault {
-            kernel,
-            cause: KernelCause::NoEntry,
-        })),
-        _ => Ok(()),
-    }
+    Ok(())
 }

@@ -49,8 +49,7 @@ fn run_over<R: io::Read, O: io::Write, E: io::Write>(
 
 /// Runs a script over the policy in a text, with places for so many entries (1 to 2^20) in the
 /// audit. Replies go to `out`. A fault of the policy or of a kernel is named on `err` as
-/// `check_policy` does, before any reply, and then a kernel without its entry, as
-/// `kernel 1: no entry`; a line of no form as `line 3: bad request`, after the replies to the lines before it.
+/// `check_policy` does, before any reply; a line of no form as `line 3: bad request`, after the replies to the lines before it.
 pub fn run_policy<R: io::Read, O: io::Write, E: io::Write>(
     alloc: Global,
     text: &[u8],
@@ -60,7 +59,7 @@ pub fn run_policy<R: io::Read, O: io::Write, E: io::Write>(
     err: &mut E,
 ) -> Status {
     match read_policy(alloc, text) {
-        Ok(policy) => match check_kernels(alloc, &policy, true) {
+        Ok(policy) => match check_kernels(alloc, &policy) {
             Ok(()) => run_over(alloc, policy, places, script, out, err),
             Err(why) => refuse_kernels(why, err),
         },

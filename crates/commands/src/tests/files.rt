@@ -11,9 +11,28 @@ fn a_line_of_no_form_ends_the_run_by_its_number(rt: HostRuntime) {
 }
 
 #[test]
-fn an_audit_has_at_least_one_place(rt: HostRuntime) {
-    let run = run_over(rt.alloc(), SAMPLE, 0, "audit\n");
-    assert!(rt; run.status == 1);
-    let run = run_over(rt.alloc(), SAMPLE, 1, "audit\n");
-    assert!(rt; run.is(0, "audit 0\n", ""));
+fn an_audit_of_one_place_runs_full(rt: HostRuntime) {
+    let script = "grant alice agent gpu USE\ngrant alice agent gpu USE\n";
+    let run = run_over(rt.alloc(), SAMPLE, 1, script);
+    assert!(rt; run.is(0, "ok\nrefused 10 AuditFull\n", ""));
+}
+
+#[test]
+fn a_writer_that_fails_is_told(rt: HostRuntime) {
+    let mut err = Vec::new(rt.alloc());
+    let status = check_policy(rt.alloc(), SAMPLE.as_bytes(), &mut Full, &mut err);
+    assert_eq!(rt; status, Status::Failed);
+    assert!(rt; err.as_slice() == b"write fault\n");
+    let mut err = Vec::new(rt.alloc());
+    let mut script = "audit\n".as_bytes();
+    let status = run_policy(
+        rt.alloc(),
+        SAMPLE.as_bytes(),
+        10,
+        &mut script,
+        &mut Full,
+        &mut err,
+    );
+    assert_eq!(rt; status, Status::Failed);
+    assert!(rt; err.as_slice() == b"write fault\n");
 }

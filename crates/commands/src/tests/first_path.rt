@@ -35,7 +35,10 @@ audit 10
 fn fill_without_a_grant_on_its_region_is_denied(rt: HostRuntime) -> Result<(), Fail> {
     let script = format!(in rt.alloc();
         "grant alice agent gpu USE
+grant alice region args READ,WRITE
 grant alice signal done WAIT,CHANGE
+grant alice signal go WAIT,CHANGE
+grant alice kernel inc LAUNCH
 queue alice gpu 2 2
 submit 1 1 {FILL}
 serve 1
@@ -44,10 +47,14 @@ errors 1
 submit 1 1 {FILL}
 serve 1
 grant alice region buf READ
-read alice 0000000100000000 4
-"
-    )?;
-    let replies = "ok
+read alice 0000000100000000 64
+audit
+")?;
+    let zeros = "00".repeat(rt.alloc(), 64)?;
+    let replies = format!(in rt.alloc(); "ok
+ok
+ok
+ok
 ok
 queue 1
 published 0
@@ -58,10 +65,19 @@ queue 1 packet 0 rule L8
 published 1
 refused 7 QueueDown
 ok
-bytes 00000000
-";
+bytes {zeros}
+audit 8
+1 grant alice agent 1 USE
+2 grant alice region 2 READ,WRITE
+3 grant alice signal 1 WAIT,CHANGE
+4 grant alice signal 2 WAIT,CHANGE
+5 grant alice kernel 1 LAUNCH
+6 queue 1 alice agent 1 size 2
+7 take 1 0 denied L8
+8 grant alice region 1 READ
+")?;
     let run = run_over(rt.alloc(), SAMPLE, 65536, script.as_str());
-    assert!(rt; run.is(0, replies, ""));
+    assert!(rt; run.is(0, replies.as_str(), ""));
     Ok(())
 }
 

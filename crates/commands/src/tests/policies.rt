@@ -91,12 +91,18 @@ fn the_first_fault_of_a_kernel_is_named(rt: HostRuntime) -> Result<(), Fail> {
 }
 
 #[test]
-fn a_run_wants_the_entries_of_kernels(rt: HostRuntime) -> Result<(), Fail> {
-    let text = with_kernel(rt.alloc(), "ret;", "&other")?;
-    let counts = "clients 0\nagents 0\nregions 0\nsignals 0\nkernels 1\nallows 0\nok\n";
+fn the_least_kernel_with_a_fault_is_named(rt: HostRuntime) -> Result<(), Fail> {
+    let first = with_kernel(rt.alloc(), "br @x;", "&k")?;
+    let second = "[[kernel]]\nname = \"l\"\nentry = \"&\"\ntext = \"no module\"\n";
+    let text = format!(in rt.alloc(); "{first}{second}")?;
     let checked = check(rt.alloc(), text.as_str());
+    assert!(rt; checked.is(1, "", "kernel 1: check 1 line 4\n"));
+    let good = with_kernel(rt.alloc(), "ret;", "&")?;
+    let text = format!(in rt.alloc(); "{good}{second}")?;
+    let checked = check(rt.alloc(), text.as_str());
+    assert!(rt; checked.is(1, "", "kernel 2: read 2 line 1 column 1\n"));
+    let counts = "clients 0\nagents 0\nregions 0\nsignals 0\nkernels 1\nallows 0\nok\n";
+    let checked = check(rt.alloc(), good.as_str());
     assert!(rt; checked.is(0, counts, ""));
-    let run = run_over(rt.alloc(), text.as_str(), 65536, "audit\n");
-    assert!(rt; run.is(1, "", "kernel 1: no entry\n"));
     Ok(())
 }
