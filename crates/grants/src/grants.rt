@@ -1,9 +1,10 @@
 //! Grants and holds.
 
-ghost use Rattle.std.specs.Prelude.{◌≡◌, ◌++◌, true, IfOk, OnOk, OnErr};
-ghost use Rattle.std.specs.List.{list_all};
+ghost use Rattle.std.specs.Prelude.{◌≡◌, ◌++◌, true, not, IfOk, OnOk, OnErr};
+ghost use Rattle.std.specs.List.{list_all, list_any};
 ghost use Rattle.policy.specs.Rights.{has, each_right};
 ghost use Rattle.grants.specs.Rules.{rules_of, count};
+ghost use Rattle.grants.specs.Holds.{is_of};
 
 use crate::hold::{Hold, drop_holds, first_holder, has_holds, push_holds};
 use crate::refusal::{GrantError, Refusal};
@@ -143,9 +144,10 @@ impl Grants {
         self.in_force(client, object).includes(rights)
     }
 
-    /// Whether a packet surely holds nothing.
+    /// Whether no hold is a packet's, which then surely holds nothing.
     pub fn is_idle(&self, queue: QueueId, packet: PacketId) -> bool
-        ensures { result ≡ true → HoldsNothing self.now queue packet }
+        ensures answer { result ≡ not (list_any (is_of queue packet) self.now.holds) }
+        ensures idle { result ≡ true → HoldsNothing self.now queue packet }
     {
         !has_holds(self.holds.as_slice(), queue, packet)
     }
