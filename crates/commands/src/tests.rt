@@ -27,6 +27,16 @@ queue alice gpu 2 2
 /// What the prelude is told.
 const PRELUDE_TOLD: &str = "ok\nok\nok\nok\nok\nok\nqueue 1\n";
 
+/// The audit's entries of the prelude.
+const PRELUDE_ENTRIES: &str = "1 grant alice agent 1 USE
+2 grant alice region 1 READ,WRITE
+3 grant alice region 2 READ,WRITE
+4 grant alice signal 1 WAIT,CHANGE
+5 grant alice signal 2 WAIT,CHANGE
+6 grant alice kernel 1 LAUNCH
+7 queue 1 alice agent 1 size 2
+";
+
 /// How a run over a policy ends, and what it writes to standard output and standard error.
 struct Run {
     status: u8,

@@ -7,7 +7,7 @@ use aql_packet::{
     Scope, SignalHandle, encode,
 };
 use bitflags::Flags;
-use core_model::{Refusal, Taken, Worked};
+use core_model::{Answer, Event, Outcome, Query, Refusal, Request, Taken, Worked};
 use policy::{Object, Right, Rights, read_policy};
 use queue_error::{QueueError, Rule};
 use std::alloc::Global;
@@ -97,5 +97,24 @@ fn a_packet_is_handed_over_once(rt: HostRuntime) -> Result<(), Fail> {
         core.load_signal(ALICE, DONE),
         Err(Refusal::Denied(Right::Wait))
     );
+    Ok(())
+}
+
+#[test]
+fn requests_are_served_in_turn(rt: HostRuntime) -> Result<(), Fail> {
+    let mut core = opened(rt.alloc())?;
+    let mut requests = Vec::new(rt.alloc());
+    requests.push(Request::Event(Event::Take {
+        queue: QUEUE,
+        packet: PacketId(0),
+        bytes: fill(),
+    }))?;
+    requests.push(Request::Query(Query::Errors { queue: QUEUE }))?;
+    requests.push(Request::Query(Query::Audit))?;
+    let replies = core.serve_all(rt.alloc(), requests)?;
+    assert!(rt; replies.len() == 3);
+    assert!(rt; matches!(replies.get(0), Some(Ok(Answer::Outcome(Outcome::Taken(Taken::Launched))))));
+    assert!(rt; matches!(replies.get(1), Some(Ok(Answer::Errors(errors))) if errors.is_empty()));
+    assert!(rt; matches!(replies.get(2), Some(Ok(Answer::Audit(entries))) if entries.len() == 5));
     Ok(())
 }

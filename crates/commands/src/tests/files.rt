@@ -2,6 +2,23 @@
 
 use crate::tests::sample::SAMPLE;
 use crate::tests::*;
+use crate::Status;
+use std::alloc::AllocError;
+use std::io;
+
+/// A writer that takes nothing, as a full disk does.
+#[derive(Drop)]
+struct Full;
+
+impl io::Write for Full {
+    fn write(&mut self, _: &[u8]) -> io::Result<usize> {
+        Err(io::Error::from(AllocError))
+    }
+
+    fn flush(&mut self) -> io::Result<()> {
+        Ok(())
+    }
+}
 
 #[test]
 fn a_line_of_no_form_ends_the_run_by_its_number(rt: HostRuntime) {

@@ -152,14 +152,18 @@ test alice done GTE 7
 test alice done LT 7
 load alice done
 load bob done
+audit
 ";
-    let replies = "ok
+    let replies = format!(in rt.alloc(); "ok
 old -9223372036854775808
 true
 false
 value 7
 refused 3 Denied WAIT
-";
-    assert!(rt; told(rt.alloc(), script, replies)?);
+audit 9
+{PRELUDE_ENTRIES}8 signal alice add; signal 1 1 -9223372036854775808
+9 signal alice cas; signal 1 -9223372036854775808 7
+")?;
+    assert!(rt; told(rt.alloc(), script, replies.as_str())?);
     Ok(())
 }
