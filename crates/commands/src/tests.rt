@@ -1,13 +1,14 @@
 //! Scripts over the sample policy, from their text to their replies.
 
 mod calls;
+mod barriers;
 mod files;
 mod first_path;
 mod packets;
 mod policies;
 mod queues;
 mod sample;
-mod signals;
+
 
 use crate::tests::sample::SAMPLE;
 use crate::{check_policy, run_policy};
