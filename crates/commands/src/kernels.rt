@@ -31,7 +31,10 @@ impl fmt::Display for KernelFault {
                 let cause = fault.cause.number();
                 let line = fault.line;
                 let column = fault.column;
-                write!(f, "kernel {kernel}: read {cause} line {line} column {column}")
+                write!(
+                    f,
+                    "kernel {kernel}: read {cause} line {line} column {column}"
+                )
             }
             KernelCause::Check(fault) => {
                 let cause = fault.cause.number();

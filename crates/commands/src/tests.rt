@@ -1,14 +1,13 @@
 //! Scripts over the sample policy, from their text to their replies.
 
-mod calls;
 mod barriers;
+mod calls;
 mod files;
 mod first_path;
 mod packets;
 mod policies;
 mod queues;
 mod sample;
-
 
 use crate::tests::sample::SAMPLE;
 use crate::{check_policy, run_policy};
@@ -39,6 +38,7 @@ const PRELUDE_ENTRIES: &str = "1 grant alice agent 1 USE
 ";
 
 /// How a run over a policy ends, and what it writes to standard output and standard error.
+#[derive(Drop)]
 struct Run {
     status: u8,
     out: Vec<u8>,

@@ -154,7 +154,8 @@ load alice done
 load bob done
 audit
 ";
-    let replies = format!(in rt.alloc(); "ok
+    let replies = format!(in rt.alloc();
+        "ok
 old -9223372036854775808
 true
 false
@@ -163,7 +164,8 @@ refused 3 Denied WAIT
 audit 9
 {PRELUDE_ENTRIES}8 signal alice add; signal 1 1 -9223372036854775808
 9 signal alice cas; signal 1 -9223372036854775808 7
-")?;
+"
+    )?;
     assert!(rt; told(rt.alloc(), script, replies.as_str())?);
     Ok(())
 }

@@ -113,7 +113,12 @@ fn requests_are_served_in_turn(rt: HostRuntime) -> Result<(), Fail> {
     requests.push(Request::Query(Query::Audit))?;
     let replies = core.serve_all(rt.alloc(), requests)?;
     assert!(rt; replies.len() == 3);
-    assert!(rt; matches!(replies.get(0), Some(Ok(Answer::Outcome(Outcome::Taken(Taken::Launched))))));
+    assert!(rt;
+        matches!(
+            replies.get(0),
+            Some(Ok(Answer::Outcome(Outcome::Taken(Taken::Launched))))
+        )
+    );
     assert!(rt; matches!(replies.get(1), Some(Ok(Answer::Errors(errors))) if errors.is_empty()));
     assert!(rt; matches!(replies.get(2), Some(Ok(Answer::Audit(entries))) if entries.len() == 5));
     Ok(())

@@ -1,8 +1,8 @@
 //! How runs end early.
 
+use crate::Status;
 use crate::tests::sample::SAMPLE;
 use crate::tests::*;
-use crate::Status;
 use std::alloc::AllocError;
 use std::io;
 
@@ -39,7 +39,7 @@ fn a_writer_that_fails_is_told(rt: HostRuntime) {
     let mut err = Vec::new(rt.alloc());
     let status = check_policy(rt.alloc(), SAMPLE.as_bytes(), &mut Full, &mut err);
     assert_eq!(rt; status, Status::Failed);
-    assert!(rt; err.as_slice() == b"write fault\n");
+    assert!(rt; err.as_slice() == b"write fault\n".as_slice());
     let mut err = Vec::new(rt.alloc());
     let mut script = "audit\n".as_bytes();
     let status = run_policy(
@@ -51,5 +51,5 @@ fn a_writer_that_fails_is_told(rt: HostRuntime) {
         &mut err,
     );
     assert_eq!(rt; status, Status::Failed);
-    assert!(rt; err.as_slice() == b"write fault\n");
+    assert!(rt; err.as_slice() == b"write fault\n".as_slice());
 }

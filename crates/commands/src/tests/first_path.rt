@@ -49,9 +49,11 @@ serve 1
 grant alice region buf READ
 read alice 0000000100000000 64
 audit
-")?;
+"
+    )?;
     let zeros = "00".repeat(rt.alloc(), 64)?;
-    let replies = format!(in rt.alloc(); "ok
+    let replies = format!(in rt.alloc();
+        "ok
 ok
 ok
 ok
@@ -75,7 +77,8 @@ audit 8
 6 queue 1 alice agent 1 size 2
 7 take 1 0 denied L8
 8 grant alice region 1 READ
-")?;
+"
+    )?;
     let run = run_over(rt.alloc(), SAMPLE, 65536, script.as_str());
     assert!(rt; run.is(0, replies.as_str(), ""));
     Ok(())

@@ -68,7 +68,8 @@ fn the_empty_policy_declares_nothing(rt: HostRuntime) {
 /// A policy with one kernel `&k`, whose text has this line 4.
 fn with_kernel(alloc: Global, line: &str, entry: &str) -> Result<String, Fail> {
     let text = format!(in alloc;
-        "[[kernel]]\nname = \"k\"\nentry = \"{entry}\"\ntext = '''\nmodule &m:1:0:$base:$large:$default;\nprog kernel &k()\n{{\n{line}\n}};\n'''\n")?;
+        "[[kernel]]\nname = \"k\"\nentry = \"{entry}\"\ntext = '''\nmodule &m:1:0:$base:$large:$default;\nprog kernel &k()\n{{\n{line}\n}};\n'''\n"
+    )?;
     Ok(text)
 }
 
@@ -79,7 +80,10 @@ fn the_first_fault_of_a_kernel_is_named(rt: HostRuntime) -> Result<(), Fail> {
         ("mov_b64 $s0, 1;", "kernel 1: check 3 line 4\n"),
         ("mov_b32 $s64, 1;", "kernel 1: check 6 line 4\n"),
         ("ld_kernarg_u32 $s0, [%q];", "kernel 1: check 5 line 4\n"),
-        ("  ld_global_f32 $s0, [$d0];", "kernel 1: read 3 line 4 column 3\n"),
+        (
+            "  ld_global_f32 $s0, [$d0];",
+            "kernel 1: read 3 line 4 column 3\n",
+        ),
     ] {
         let text = with_kernel(rt.alloc(), line, "&k")?;
         let checked = check(rt.alloc(), text.as_str());
