@@ -7,7 +7,7 @@ use aql_packet::{
     Scope, SignalHandle, encode,
 };
 use bitflags::Flags;
-use core_model::{Answer, Event, Outcome, Query, Refusal, Request, Taken, Worked};
+use core_model::{Answer, Event, Outcome, Query, Refusal, Reply, Request, Taken, Worked};
 use policy::{Object, Right, Rights, read_policy};
 use queue_error::{QueueError, Rule};
 use std::alloc::Global;
@@ -38,72 +38,116 @@ fn fill() -> [u8; 64] {
     }))
 }
 
-/// A core over the sample policy in which Alice has a queue.
-fn opened(alloc: Global) -> Result<AccessCore, Fail> {
+/// A core over the sample policy.
+fn fresh(alloc: Global) -> Result<AccessCore, Fail> {
     let policy = read_policy(alloc, SAMPLE.as_bytes()).map_err(|_| "the policy is refused")?;
-    let mut core = AccessCore::open(alloc, policy, 100).map_err(|_| "no core is opened")?;
-    let both = Rights::READ.union(Rights::WRITE);
-    for (object, rights) in [
-        (Object::Agent(GPU), Rights::USE),
-        (Object::Region(BUF), both),
-        (Object::Signal(DONE), Rights::CHANGE),
-    ] {
-        core.grant(ALICE, object, rights)
-            .map_err(|_| "a grant is refused")?;
+    match AccessCore::open(alloc, policy, 100) {
+        Ok(core) => Ok(core),
+        Err(_) => Err("no core is opened".into()),
     }
-    core.open_queue(alloc, ALICE, GPU, 2)
-        .map_err(|_| "a queue is refused")?;
-    Ok(core)
+}
+
+/// Whether Alice is granted rights.
+fn grants(core: &mut AccessCore, object: Object, rights: Rights) -> bool {
+    core.grant(ALICE, object, rights).is_ok()
+}
+
+/// Whether Alice is granted what her packets need.
+fn grants_all(core: &mut AccessCore) -> bool {
+    grants(core, Object::Agent(GPU), Rights::USE)
+        && grants(core, Object::Region(BUF), Rights::READ.union(Rights::WRITE))
+        && grants(core, Object::Signal(DONE), Rights::CHANGE)
+}
+
+/// Whether Alice gets a queue.
+fn opens_queue(alloc: Global, core: &mut AccessCore) -> bool {
+    core.open_queue(alloc, ALICE, GPU, 2).is_ok()
+}
+
+/// Whether a packet that is handed over to the queue becomes this.
+fn becomes(
+    alloc: Global,
+    core: &mut AccessCore,
+    id: u64,
+    bytes: &[u8; 64],
+    wanted: Result<Taken, Refusal>,
+) -> bool {
+    core.take(alloc, QUEUE, PacketId(id), bytes) == wanted
+}
+
+/// Whether the next group of the queue's first packet comes to this.
+fn runs(alloc: Global, core: &mut AccessCore, wanted: Result<Worked, Refusal>) -> bool {
+    core.run_next(alloc, QUEUE, PacketId(0)) == wanted
+}
+
+/// Whether the queue's first packet is completed so.
+fn finishes(core: &mut AccessCore, wanted: Result<(), Refusal>) -> bool {
+    core.finish(QUEUE, PacketId(0)) == wanted
+}
+
+/// The denial of the queue's first packet by rule L1.
+fn denied() -> Taken {
+    Taken::Denied(QueueError {
+        queue: QUEUE,
+        packet: PacketId(0),
+        rule: Rule::L1,
+        place: None,
+    })
+}
+
+/// Whether bytes are denied by rule L1 on a queue of Alice's.
+fn breaks_the_first_rule(alloc: Global, core: &mut AccessCore, bytes: &[u8; 64]) -> bool {
+    grants_all(core) && opens_queue(alloc, core) && becomes(alloc, core, 0, bytes, Ok(denied()))
 }
 
 #[test]
-fn bytes_of_no_packet_break_the_first_rule(rt: HostRuntime) -> Result<(), Fail> {
-    for (name, bytes) in [("zeros", [0; 64]), ("ones", [0xff; 64])] {
-        let mut core = opened(rt.alloc())?;
-        let denied = Taken::Denied(QueueError {
-            queue: QUEUE,
-            packet: PacketId(0),
-            rule: Rule::L1,
-            place: None,
-        });
-        let taken = core.take(rt.alloc(), QUEUE, PacketId(0), &bytes);
-        assert_eq!(rt; taken, Ok(denied), "{name}");
-    }
+fn zeros_are_no_packet(rt: HostRuntime) -> Result<(), Fail> {
+    let mut core = fresh(rt.alloc())?;
+    assert!(rt; breaks_the_first_rule(rt.alloc(), &mut core, &[0; 64]));
     Ok(())
+}
+
+#[test]
+fn ones_are_no_packet(rt: HostRuntime) -> Result<(), Fail> {
+    let mut core = fresh(rt.alloc())?;
+    assert!(rt; breaks_the_first_rule(rt.alloc(), &mut core, &[0xff; 64]));
+    Ok(())
+}
+
+/// Whether the queue's first packet is launched in its turn alone, and runs.
+fn runs_in_its_turn(alloc: Global, core: &mut AccessCore) -> bool {
+    becomes(alloc, core, 1, &fill(), Err(Refusal::OutOfStep(0)))
+        && becomes(alloc, core, 0, &fill(), Ok(Taken::Launched))
+        && finishes(core, Err(Refusal::NotFinished))
+        && runs(alloc, core, Ok(Worked::Ran { group: 0, left: 0 }))
+        && runs(alloc, core, Ok(Worked::Done))
+}
+
+/// Whether the queue's first packet is completed once, and not handed over again.
+fn ends_once(alloc: Global, core: &mut AccessCore) -> bool {
+    finishes(core, Ok(()))
+        && finishes(core, Err(Refusal::NotInFlight))
+        && becomes(alloc, core, 0, &fill(), Err(Refusal::OutOfStep(1)))
+}
+
+/// Whether a packet goes its way on a queue of Alice's.
+fn goes_its_way(alloc: Global, core: &mut AccessCore) -> bool {
+    grants_all(core)
+        && opens_queue(alloc, core)
+        && runs_in_its_turn(alloc, core)
+        && ends_once(alloc, core)
 }
 
 #[test]
 fn a_packet_is_handed_over_once(rt: HostRuntime) -> Result<(), Fail> {
-    let mut core = opened(rt.alloc())?;
-    let first = PacketId(0);
-    assert_eq!(rt;
-        core.take(rt.alloc(), QUEUE, PacketId(1), &fill()),
-        Err(Refusal::OutOfStep(0))
-    );
-    assert_eq!(rt;
-        core.take(rt.alloc(), QUEUE, first, &fill()),
-        Ok(Taken::Launched)
-    );
-    let ran = Worked::Ran { group: 0, left: 0 };
-    assert_eq!(rt; core.run_next(rt.alloc(), QUEUE, first), Ok(ran));
-    assert_eq!(rt; core.run_next(rt.alloc(), QUEUE, first), Ok(Worked::Done));
-    assert_eq!(rt; core.finish(QUEUE, first), Ok(()));
-    assert_eq!(rt; core.finish(QUEUE, first), Err(Refusal::NotInFlight));
-    assert_eq!(rt;
-        core.take(rt.alloc(), QUEUE, first, &fill()),
-        Err(Refusal::OutOfStep(1))
-    );
-    assert_eq!(rt;
-        core.load_signal(ALICE, DONE),
-        Err(Refusal::Denied(Right::Wait))
-    );
+    let mut core = fresh(rt.alloc())?;
+    assert!(rt; goes_its_way(rt.alloc(), &mut core));
     Ok(())
 }
 
-#[test]
-fn requests_are_served_in_turn(rt: HostRuntime) -> Result<(), Fail> {
-    let mut core = opened(rt.alloc())?;
-    let mut requests = Vec::new(rt.alloc());
+/// The hand-over of a packet, and two queries.
+fn three_requests(alloc: Global) -> Result<Vec<Request>, Fail> {
+    let mut requests = Vec::new(alloc);
     requests.push(Request::Event(Event::Take {
         queue: QUEUE,
         packet: PacketId(0),
@@ -111,15 +155,33 @@ fn requests_are_served_in_turn(rt: HostRuntime) -> Result<(), Fail> {
     }))?;
     requests.push(Request::Query(Query::Errors { queue: QUEUE }))?;
     requests.push(Request::Query(Query::Audit))?;
-    let replies = core.serve_all(rt.alloc(), requests)?;
-    assert!(rt; replies.len() == 3);
-    assert!(rt;
-        matches!(
-            replies.get(0),
-            Some(Ok(Answer::Outcome(Outcome::Taken(Taken::Launched))))
-        )
-    );
-    assert!(rt; matches!(replies.get(1), Some(Ok(Answer::Errors(errors))) if errors.is_empty()));
-    assert!(rt; matches!(replies.get(2), Some(Ok(Answer::Audit(entries))) if entries.len() == 5));
+    Ok(requests)
+}
+
+/// Whether these replies tell of a launch, of no error, and of so many entries.
+fn tell(replies: &[Reply], entries: usize) -> bool {
+    let [
+        Ok(Answer::Outcome(first)),
+        Ok(Answer::Errors(errors)),
+        Ok(Answer::Audit(audit)),
+    ] = replies
+    else {
+        return false;
+    };
+    *first == Outcome::Taken(Taken::Launched) && errors.is_empty() && audit.len() == entries
+}
+
+/// Whether three requests on a queue of Alice's are replied to.
+fn serves_three(alloc: Global, core: &mut AccessCore) -> Result<bool, Fail> {
+    let ready = grants_all(core) && opens_queue(alloc, core);
+    let requests = three_requests(alloc)?;
+    let replies = core.serve_all(alloc, requests)?;
+    Ok(ready && tell(replies.as_slice(), 5))
+}
+
+#[test]
+fn requests_are_served_in_turn(rt: HostRuntime) -> Result<(), Fail> {
+    let mut core = fresh(rt.alloc())?;
+    assert!(rt; serves_three(rt.alloc(), &mut core)?);
     Ok(())
 }
