@@ -115,9 +115,9 @@ module _ (a : Inside) (granted : a.granted ≡ []) (memory : a.memory ≡ zeros 
   error_room-opened = record {
     places = λ queue. ap kept_places (no_queue queue);
     free = λ queue.
-      let no_errors : length (kept_errors (numbered a.queues.items queue.0)) ≡ 0 = ap (λ q. length (kept_errors q)) (no_queue queue) in
-      let none : length (filter (λ (f : InFlight). f.queue.0 == queue.0) a.flight) ≡ 0 = ap (λ fs. length (filter (λ (f : InFlight). f.queue.0 == queue.0) fs)) flying in
-      omega (arith, no_errors, none);
+        let no_errors : length (kept_errors (numbered a.queues.items queue.0)) ≡ 0 = ap (λ q. length (kept_errors q)) (no_queue queue) in
+        let none : length (filter (λ (f : InFlight). f.queue.0 == queue.0) a.flight) ≡ 0 = ap (λ fs. length (filter (λ (f : InFlight). f.queue.0 == queue.0) fs)) flying in
+        omega (arith, no_errors, none);
   }
 
   none_queues : length a.queues.items ≡ 0

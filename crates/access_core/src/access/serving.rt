@@ -5,8 +5,8 @@ ghost use Rattle.core_model.specs.Legal.{AreReplies, IsServed, MeetsOrLacks, Rep
 
 use crate::access::AccessCore;
 use crate::access::told::{
-    accepted, as_reply, bytes_told, changed, errors_told, listing_told, opened, polled, taken, test_told,
-    value_told, worked,
+    accepted, as_reply, bytes_told, changed, errors_told, listing_told, opened, polled, taken,
+    test_told, value_told, worked,
 };
 use core_model::{Answer, Entry, Event, Outcome, Query, Refusal, Reply, Request};
 use sequences::{Reserved, Sequence};

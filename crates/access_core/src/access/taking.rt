@@ -22,7 +22,6 @@ use queue_error::{QueueError, Rule};
 use regions::Regions;
 use std::alloc::Global;
 
-
 // What a packet's header says, which the first two bytes hold.
 fn header(bytes: &[u8; 64]) -> RawHeader
     ensures { result.barrier ≡ barrier_bit bytes.now }
