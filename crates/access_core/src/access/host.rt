@@ -28,7 +28,7 @@ const MOST_BYTES: usize = 65_536;
 impl AccessCore {
     /// Changes a signal, and answers its old value for an exchange or a compare-and-swap, else 0.
     /// It takes no memory.
-    pub fn change_signal(
+    pub fn signal_op(
         &mut self,
         client: ClientId,
         signal: SignalHandle,

@@ -64,7 +64,7 @@ impl AccessCore {
     /// A signal's value. Refused in this order: no client has the number; the client's right to
     /// wait on the signal isn't in force.
     #[tactic(auto, unfolding(core_model::specs::Queries::replied))]
-    pub fn load_signal(&self, client: ClientId, signal: SignalHandle) -> Result<i64, Refusal>
+    pub fn signal_load(&self, client: ClientId, signal: SignalHandle) -> Result<i64, Refusal>
         ensures { Replies (Query.LoadSignal client signal) self.now (value_told result) }
     {
         if !self.policy().declares_client(client) {
@@ -81,7 +81,7 @@ impl AccessCore {
 
     /// Whether a signal's value meets a condition against another value. Refused as a load is.
     #[tactic(auto, unfolding(core_model::specs::Queries::replied))]
-    pub fn test_signal(
+    pub fn signal_test(
         &self,
         client: ClientId,
         signal: SignalHandle,
@@ -91,7 +91,7 @@ impl AccessCore {
         ensures { Replies
             (Query.TestSignal client signal condition value) self.now (test_told result) }
     {
-        let current = self.load_signal(client, signal)?;
+        let current = self.signal_load(client, signal)?;
         Ok(condition.is_met(current, value))
     }
 

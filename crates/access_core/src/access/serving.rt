@@ -95,7 +95,7 @@ impl AccessCore {
                 client,
                 signal,
                 operation,
-            } => changed(self.change_signal(client, signal, operation)),
+            } => changed(self.signal_op(client, signal, operation)),
         }
     }
 
@@ -109,13 +109,13 @@ impl AccessCore {
                 address,
                 length,
             } => bytes_told(self.host_read(alloc, client, address, length)),
-            Query::LoadSignal { client, signal } => value_told(self.load_signal(client, signal)),
+            Query::LoadSignal { client, signal } => value_told(self.signal_load(client, signal)),
             Query::TestSignal {
                 client,
                 signal,
                 condition,
                 value,
-            } => test_told(self.test_signal(client, signal, condition, value)),
+            } => test_told(self.signal_test(client, signal, condition, value)),
             Query::List { client } => listing_told(self.list(alloc, client)),
             Query::Errors { queue } => errors_told(self.errors(alloc, queue)),
             Query::Audit => match copy_entries(alloc, self.audit()) {

@@ -82,9 +82,21 @@ fn the_barrier_bit_waits_for_packets_in_flight(rt: HostRuntime) -> Result<(), Fa
 #[test]
 fn a_barrier_packet_holds_back_those_behind_it(rt: HostRuntime) -> Result<(), Fail> {
     let script = format!(in rt.alloc();
-        "submit 1 1 {BARRIER_AND_OF_NULLS}\nserve 1\nsubmit 1 1 {FILL}\nserve 1\n"
+        "submit 1 1 {BARRIER_AND_OF_NULLS}\nserve 1\nsubmit 1 1 {FILL}\nserve 1\npoll 1 0\nfinish 1 0\nserve 1\n"
     )?;
-    let replies = "published 0\nlaunched 0\npublished 1\nwaiting 1 Barrier\n";
+    let replies =
+        "published 0\nlaunched 0\npublished 1\nwaiting 1 Barrier\nready\nok\nlaunched 1\n";
+    assert!(rt; told(rt.alloc(), script.as_str(), replies)?);
+    Ok(())
+}
+
+#[test]
+fn a_packet_waits_before_it_is_denied(rt: HostRuntime) -> Result<(), Fail> {
+    let script = format!(in rt.alloc();
+        "submit 1 1 {BARRIER_AND_OF_NULLS}\nserve 1\nsubmit 1 1 {FILL_OF_RESERVED_SCOPE}\nserve 1\npoll 1 0\nfinish 1 0\nserve 1\n"
+    )?;
+    let replies =
+        "published 0\nlaunched 0\npublished 1\nwaiting 1 Barrier\nready\nok\ndenied queue 1 packet 1 rule L2\n";
     assert!(rt; told(rt.alloc(), script.as_str(), replies)?);
     Ok(())
 }

@@ -9,7 +9,7 @@ use Rattle.core_model.specs.declared.outcome.Outcome.TheVariants as outcome
 use Rattle.core_model.specs.Owed.{old_if_asked}
 use Rattle.access_core.proofs.KeptMore.{IsKept-more}
 use Rattle.access_core.proofs.Calls.{full, entered}
-use Rattle.access_core.proofs.access.AccessCore.change_signal.Goals as goal
+use Rattle.access_core.proofs.access.AccessCore.signal_op.Goals as goal
 
 pub returns-then-lacks_room : goal.returns-then-lacks_room
 returns-then-lacks_room c =
