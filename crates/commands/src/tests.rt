@@ -4,6 +4,7 @@ mod barriers;
 mod calls;
 mod files;
 mod first_path;
+mod lines;
 mod packets;
 mod policies;
 mod queues;
