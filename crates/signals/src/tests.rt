@@ -1,5 +1,6 @@
 use super::*;
 use aql_packet::SignalHandle;
+use std::alloc::{AllocError, Global};
 use std::test::*;
 
 const MOST: i64 = 9_223_372_036_854_775_807;
@@ -118,5 +119,186 @@ fn an_unknown_signal_is_refused(rt: HostRuntime) -> Result<(), Fail> {
         UnknownSignal.to_string(rt.alloc())?.as_str(),
         "UnknownSignal"
     );
+    Ok(())
+}
+
+/// The ends of the range, and what lies about 0, ascending.
+const ENDS: [i64; 5] = [LEAST, -1, 0, 1, MOST];
+
+/// What each of the ends, one a row, becomes by an operation with each of them, one a column.
+type Table = [[i64; 5]; 5];
+
+const SUMS: Table = [
+    [0, MOST, LEAST, LEAST + 1, -1],
+    [MOST, -2, -1, 0, MOST - 1],
+    [LEAST, -1, 0, 1, MOST],
+    [LEAST + 1, 0, 1, 2, LEAST],
+    [-1, MOST - 1, MOST, LEAST, -2],
+];
+
+const DIFFERENCES: Table = [
+    [0, LEAST + 1, LEAST, MOST, 1],
+    [MOST, 0, -1, -2, LEAST],
+    [LEAST, 1, 0, -1, LEAST + 1],
+    [LEAST + 1, 2, 1, 0, LEAST + 2],
+    [-1, LEAST, MOST, MOST - 1, 0],
+];
+
+const COMMON_BITS: Table = [
+    [LEAST, LEAST, 0, 0, 0],
+    [LEAST, -1, 0, 1, MOST],
+    [0, 0, 0, 0, 0],
+    [0, 1, 0, 1, 1],
+    [0, MOST, 0, 1, MOST],
+];
+
+const ALL_BITS: Table = [
+    [LEAST, -1, LEAST, LEAST + 1, -1],
+    [-1, -1, -1, -1, -1],
+    [LEAST, -1, 0, 1, MOST],
+    [LEAST + 1, -1, 1, 1, MOST],
+    [-1, -1, MOST, MOST, MOST],
+];
+
+const DIFFERING_BITS: Table = [
+    [0, MOST, LEAST, LEAST + 1, -1],
+    [MOST, 0, -1, -2, LEAST],
+    [LEAST, -1, 0, 1, MOST],
+    [LEAST + 1, -2, 1, 0, MOST - 1],
+    [-1, LEAST, MOST, MOST - 1, 0],
+];
+
+/// Whether a signal of this value tells it at an operation, and has the new value then.
+fn becomes(alloc: Global, old: i64, operation: SignalOp, new: i64) -> Result<bool, AllocError> {
+    let mut signals = Signals::new(alloc, &[old])?;
+    let told = signals.apply(SignalHandle(1), operation) == Ok(old);
+    Ok(told && signals.load(SignalHandle(1)) == Ok(new))
+}
+
+#[test]
+fn sums_wrap_at_the_ends(rt: HostRuntime) -> Result<(), Fail> {
+    for (old, row) in ENDS.into_iter().zip(SUMS) {
+        for (operand, new) in ENDS.into_iter().zip(row) {
+            assert!(rt;
+                becomes(rt.alloc(), old, SignalOp::Add(operand), new)?,
+                "{old} {operand}"
+            );
+        }
+    }
+    Ok(())
+}
+
+#[test]
+fn differences_wrap_at_the_ends(rt: HostRuntime) -> Result<(), Fail> {
+    for (old, row) in ENDS.into_iter().zip(DIFFERENCES) {
+        for (operand, new) in ENDS.into_iter().zip(row) {
+            assert!(rt;
+                becomes(rt.alloc(), old, SignalOp::Subtract(operand), new)?,
+                "{old} {operand}"
+            );
+        }
+    }
+    Ok(())
+}
+
+#[test]
+fn bits_in_common_are_kept(rt: HostRuntime) -> Result<(), Fail> {
+    for (old, row) in ENDS.into_iter().zip(COMMON_BITS) {
+        for (operand, new) in ENDS.into_iter().zip(row) {
+            assert!(rt;
+                becomes(rt.alloc(), old, SignalOp::And(operand), new)?,
+                "{old} {operand}"
+            );
+        }
+    }
+    Ok(())
+}
+
+#[test]
+fn bits_of_either_are_set(rt: HostRuntime) -> Result<(), Fail> {
+    for (old, row) in ENDS.into_iter().zip(ALL_BITS) {
+        for (operand, new) in ENDS.into_iter().zip(row) {
+            assert!(rt;
+                becomes(rt.alloc(), old, SignalOp::Or(operand), new)?,
+                "{old} {operand}"
+            );
+        }
+    }
+    Ok(())
+}
+
+#[test]
+fn bits_that_differ_are_set(rt: HostRuntime) -> Result<(), Fail> {
+    for (old, row) in ENDS.into_iter().zip(DIFFERING_BITS) {
+        for (operand, new) in ENDS.into_iter().zip(row) {
+            assert!(rt;
+                becomes(rt.alloc(), old, SignalOp::Xor(operand), new)?,
+                "{old} {operand}"
+            );
+        }
+    }
+    Ok(())
+}
+
+#[test]
+fn values_are_replaced_whatever_they_were(rt: HostRuntime) -> Result<(), Fail> {
+    for old in ENDS {
+        for new in ENDS {
+            assert!(rt;
+                becomes(rt.alloc(), old, SignalOp::Store(new), new)?,
+                "{old} {new}"
+            );
+            assert!(rt;
+                becomes(rt.alloc(), old, SignalOp::Exchange(new), new)?,
+                "{old} {new}"
+            );
+        }
+    }
+    Ok(())
+}
+
+#[test]
+fn cas_stores_only_over_what_is_expected(rt: HostRuntime) -> Result<(), Fail> {
+    for old in ENDS {
+        for expected in ENDS {
+            let operation = SignalOp::Cas { expected, value: 7 };
+            let new = if old == expected { 7 } else { old };
+            assert!(rt;
+                becomes(rt.alloc(), old, operation, new)?,
+                "{old} {expected}"
+            );
+        }
+    }
+    Ok(())
+}
+
+/// Whether a signal of this value is told to meet the conditions as it should.
+fn compares(
+    alloc: Global,
+    value: i64,
+    against: i64,
+    is_equal: bool,
+    is_less: bool,
+) -> Result<bool, AllocError> {
+    let signals = Signals::new(alloc, &[value])?;
+    let signal = SignalHandle(1);
+    Ok(
+        signals.test(signal, Condition::Eq, against) == Ok(is_equal)
+            && signals.test(signal, Condition::Ne, against) == Ok(!is_equal)
+            && signals.test(signal, Condition::Lt, against) == Ok(is_less)
+            && signals.test(signal, Condition::Gte, against) == Ok(!is_less),
+    )
+}
+
+#[test]
+fn the_ends_are_compared_in_their_order(rt: HostRuntime) -> Result<(), Fail> {
+    for (place, value) in ENDS.into_iter().enumerate() {
+        for (other, against) in ENDS.into_iter().enumerate() {
+            assert!(rt;
+                compares(rt.alloc(), value, against, place == other, place < other)?,
+                "{value} {against}"
+            );
+        }
+    }
     Ok(())
 }

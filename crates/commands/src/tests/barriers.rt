@@ -148,6 +148,7 @@ value 1
 fn signals_wrap_and_are_compared(rt: HostRuntime) -> Result<(), Fail> {
     let script = "signal alice done add 9223372036854775807
 signal alice done cas -9223372036854775808 7
+signal alice go exchange -1
 test alice done GTE 7
 test alice done LT 7
 load alice done
@@ -157,13 +158,15 @@ audit
     let replies = format!(in rt.alloc();
         "ok
 old -9223372036854775808
+old 1
 true
 false
 value 7
 refused 3 Denied WAIT
-audit 9
+audit 10
 {PRELUDE_ENTRIES}8 signal alice add; signal 1 1 -9223372036854775808
 9 signal alice cas; signal 1 -9223372036854775808 7
+10 signal alice exchange; signal 2 1 -1
 "
     )?;
     assert!(rt; told(rt.alloc(), script, replies.as_str())?);

@@ -50,6 +50,14 @@ fn an_audit_of_one_place_runs_full(rt: HostRuntime) {
 }
 
 #[test]
+fn an_audit_has_1_to_2_to_20_places(rt: HostRuntime) {
+    let bounds = "audit: 1 to 1048576 entries\n";
+    assert!(rt; run_over(rt.alloc(), SAMPLE, 0, "audit\n").is(1, "", bounds));
+    assert!(rt; run_over(rt.alloc(), SAMPLE, 1048577, "audit\n").is(1, "", bounds));
+    assert!(rt; run_over(rt.alloc(), SAMPLE, 1048576, "audit\n").is(0, "audit 0\n", ""));
+}
+
+#[test]
 fn a_writer_that_fails_is_told(rt: HostRuntime) {
     let mut err = Vec::new(rt.alloc());
     let status = check_policy(rt.alloc(), SAMPLE.as_bytes(), &mut Full, &mut err);

@@ -87,21 +87,46 @@ audit 8
 #[test]
 fn copy_reads_its_source_before_it_writes(rt: HostRuntime) -> Result<(), Fail> {
     let script = format!(in rt.alloc();
-        "write alice 0000000100000000 0102030405060708090a0b0c\nsubmit 1 1 {COPY}\nserve 1\nrun 1 0\nfinish 1 0\nread alice 0000000100000000 12\n"
+        "write alice 0000000100000000 0102030405060708090a0b0c\nsubmit 1 1 {COPY}\nserve 1\nrun 1 0\nfinish 1 0\nread alice 0000000100000000 12\naudit\n"
     )?;
-    let replies = "ok\npublished 0\nlaunched 0\nran 0 left 0\nok\nbytes 010203040102030405060708\n";
-    assert!(rt; told(rt.alloc(), script.as_str(), replies)?);
+    let replies = format!(in rt.alloc();
+        "ok
+published 0
+launched 0
+ran 0 left 0
+ok
+bytes 010203040102030405060708
+audit 11
+{PRELUDE_ENTRIES}8 write alice; write 0000000100000000 0102030405060708090a0b0c
+9 take 1 0 launched
+10 run 1 0 group 0; write 0000000100000004 0102030405060708
+11 finish 1 0; signal 1 1 0; release 1 0
+"
+    )?;
+    assert!(rt; told(rt.alloc(), script.as_str(), replies.as_str())?);
     Ok(())
 }
 
 #[test]
 fn add64_wraps_and_leaves_the_old_number(rt: HostRuntime) -> Result<(), Fail> {
     let script = format!(in rt.alloc();
-        "write alice 0000000100000000 ffffffffffffffff\nsubmit 1 1 {ADD64}\nserve 1\nrun 1 0\nfinish 1 0\nread alice 0000000100000000 16\n"
+        "write alice 0000000100000000 ffffffffffffffff\nsubmit 1 1 {ADD64}\nserve 1\nrun 1 0\nfinish 1 0\nread alice 0000000100000000 16\naudit\n"
     )?;
-    let replies =
-        "ok\npublished 0\nlaunched 0\nran 0 left 0\nok\nbytes 0000000000000000ffffffffffffffff\n";
-    assert!(rt; told(rt.alloc(), script.as_str(), replies)?);
+    let replies = format!(in rt.alloc();
+        "ok
+published 0
+launched 0
+ran 0 left 0
+ok
+bytes 0000000000000000ffffffffffffffff
+audit 11
+{PRELUDE_ENTRIES}8 write alice; write 0000000100000000 ffffffffffffffff
+9 take 1 0 launched
+10 run 1 0 group 0; write 0000000100000000 0000000000000000; write 0000000100000008 ffffffffffffffff
+11 finish 1 0; release 1 0
+"
+    )?;
+    assert!(rt; told(rt.alloc(), script.as_str(), replies.as_str())?);
     Ok(())
 }
 

@@ -69,6 +69,19 @@ fn a_queue_of_other_size_or_producers_is_refused(rt: HostRuntime) -> Result<(), 
 }
 
 #[test]
+fn the_65th_queue_is_refused(rt: HostRuntime) -> Result<(), Fail> {
+    let opening = "queue alice gpu 2 1\n";
+    let mut replies = String::new(rt.alloc());
+    for queue in 2..65u32 {
+        replies.push_str(format!(in rt.alloc(); "queue {queue}\n")?.as_str())?;
+    }
+    replies.push_str("refused 12 TooMany\n")?;
+    let script = opening.repeat(rt.alloc(), 64)?;
+    assert!(rt; told(rt.alloc(), script.as_str(), replies.as_str())?);
+    Ok(())
+}
+
+#[test]
 fn the_barrier_bit_waits_for_packets_in_flight(rt: HostRuntime) -> Result<(), Fail> {
     let script = format!(in rt.alloc();
         "submit 1 1 {FILL}\nserve 1\nsubmit 1 1 {FILL_WITH_BARRIER_BIT}\nserve 1\nrun 1 0\nfinish 1 0\nserve 1\n"

@@ -41,6 +41,40 @@ fn files_are_judged_before_their_arrays(rt: HostRuntime) -> Result<(), Fail> {
     check_rows(&rt, &FILES)
 }
 
+/// Files with two faults, of which the earlier is told.
+const ORDERS: [Row; 5] = [
+    (
+        "unknown_key_before_the_arrays",
+        "other = 1\nclient = 1",
+        "3 BadValue",
+    ),
+    (
+        "agents_before_regions",
+        "region = 1\nagent = 1",
+        "3 BadValue agent 0",
+    ),
+    (
+        "signals_before_kernels",
+        "kernel = 1\nsignal = 1",
+        "3 BadValue signal 0",
+    ),
+    (
+        "clients_before_allow_rows",
+        "[[allow]]\n[[client]]\nname = 1",
+        "3 BadValue client 1",
+    ),
+    (
+        "past_least_number",
+        "[[signal]]\nname = \"a\"\ninitial = -9223372036854775809",
+        "1 NotToml",
+    ),
+];
+
+#[test]
+fn the_earlier_of_two_faults_is_told(rt: HostRuntime) -> Result<(), Fail> {
+    check_rows(&rt, &ORDERS)
+}
+
 fn check_bytes(rt: &(impl Abort + AllocGlobal), bytes: &[u8]) -> Result<(), Fail> {
     let printed = outcome(rt.alloc(), bytes)?;
     assert_eq!(rt; printed.as_str(), "1 NotToml", "{bytes:?}");

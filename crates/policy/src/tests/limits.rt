@@ -48,6 +48,37 @@ fn named_rows_are_counted(rt: HostRuntime) -> Result<(), Fail> {
     Ok(())
 }
 
+fn check_text(rt: &(impl Abort + AllocGlobal), text: &str, wanted: &str) -> Result<(), Fail> {
+    let printed = outcome(rt.alloc(), text.as_bytes())?;
+    assert_eq!(rt; printed.as_str(), wanted);
+    Ok(())
+}
+
+#[test]
+fn rows_are_counted_before_they_are_judged(rt: HostRuntime) -> Result<(), Fail> {
+    let rows = named_rows(rt.alloc(), "client", 65, "age = 1")?;
+    check_text(&rt, rows.as_str(), "6 TooMany client 0")
+}
+
+#[test]
+fn an_array_of_tables_is_asked_for_before_its_rows_are_counted(
+    rt: HostRuntime,
+) -> Result<(), Fail> {
+    let tables = "{},".repeat(rt.alloc(), 65)?;
+    let text = format!(in rt.alloc(); "client = [{tables}1]")?;
+    check_text(&rt, text.as_str(), "3 BadValue client 0")
+}
+
+#[test]
+fn lengths_are_summed_before_signals_are_judged(rt: HostRuntime) -> Result<(), Fail> {
+    let mut text = regions(
+        rt.alloc(),
+        &[16_777_216, 16_777_216, 16_777_216, 16_777_216, 1],
+    )?;
+    text.push_str("[[signal]]\n")?;
+    check_text(&rt, text.as_str(), "6 TooMany region 0")
+}
+
 #[test]
 fn allow_rows_are_counted(rt: HostRuntime) -> Result<(), Fail> {
     let row = "[[allow]]\nclient = \"*\"\nkind = \"agent\"\nobject = \"*\"\nrights = []\n";

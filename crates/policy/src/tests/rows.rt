@@ -55,6 +55,73 @@ fn names_are_judged(rt: HostRuntime) -> Result<(), Fail> {
     check_rows(&rt, &NAMES)
 }
 
+const DOUBLE_NAMES: [Row; 4] = [
+    (
+        "double_client",
+        "[[client]]\nname = \"a\"\n[[client]]\nname = \"b\"\n[[client]]\nname = \"a\"",
+        "5 DoubleName client 3",
+    ),
+    (
+        "double_agent",
+        "[[agent]]\nname = \"a\"\ntakes = []\n[[agent]]\nname = \"a\"\ntakes = [\"kernel\"]",
+        "5 DoubleName agent 2",
+    ),
+    (
+        "double_signal",
+        "[[signal]]\nname = \"a\"\ninitial = 0\n[[signal]]\nname = \"a\"\ninitial = 1",
+        "5 DoubleName signal 2",
+    ),
+    (
+        "double_kernel",
+        "[[kernel]]\nname = \"a\"\nentry = \"&a\"\ntext = \"\"\n[[kernel]]\nname = \"a\"\nentry = \"&b\"\ntext = \"\"",
+        "5 DoubleName kernel 2",
+    ),
+];
+
+#[test]
+fn a_name_stands_once_in_an_array(rt: HostRuntime) -> Result<(), Fail> {
+    check_rows(&rt, &DOUBLE_NAMES)
+}
+
+/// Rows with two faults, of which the one of the earlier key is told.
+const KEYS: [Row; 6] = [
+    (
+        "name_before_takes",
+        "[[agent]]\ntakes = 1",
+        "2 MissingKey agent 1",
+    ),
+    (
+        "name_before_length",
+        "[[region]]\nlength = 0",
+        "2 MissingKey region 1",
+    ),
+    (
+        "name_before_initial",
+        "[[signal]]\ninitial = \"1\"",
+        "2 MissingKey signal 1",
+    ),
+    (
+        "name_before_entry",
+        "[[kernel]]\nentry = 1\ntext = \"\"",
+        "2 MissingKey kernel 1",
+    ),
+    (
+        "entry_before_text",
+        "[[kernel]]\nname = \"a\"\ntext = 1",
+        "2 MissingKey kernel 1",
+    ),
+    (
+        "object_before_rights",
+        "[[allow]]\nclient = \"*\"\nkind = \"agent\"\nrights = 1",
+        "2 MissingKey allow 1",
+    ),
+];
+
+#[test]
+fn keys_are_judged_in_their_order(rt: HostRuntime) -> Result<(), Fail> {
+    check_rows(&rt, &KEYS)
+}
+
 const OBJECTS: [Row; 22] = [
     ("agent", "[[agent]]\nname = \"a\"\ntakes = []", "read"),
     (
