@@ -10,3 +10,4 @@ pub mod Holds
 pub mod Owed
 pub mod Queries
 pub mod Legal
+pub mod Refusals

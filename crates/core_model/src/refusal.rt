@@ -41,8 +41,12 @@ pub enum Refusal {
 }
 
 impl Refusal {
-    /// The refusal's number.
-    pub fn number(&self) -> u8 {
+    ghost use Rattle.core_model.specs.Refusals.{number_of};
+
+    /// The refusal's number (own).
+    pub fn number(&self) -> u8
+        ensures { result ≡ number_of self.now }
+    {
         match self {
             Refusal::OutOfMemory => 0,
             Refusal::UnknownClient => 1,

@@ -39,8 +39,9 @@ impl AccessCore {
         }
     }
 
-    // Serves requests in turn, and puts the replies in a list with room for them.
-    fn serve_each(
+    /// Serves requests in turn, and puts the replies in a list with room for them. It takes no memory
+    /// but what the calls themselves take.
+    pub fn serve_each(
         &mut self,
         alloc: Global,
         requests: Vec<Request>,
