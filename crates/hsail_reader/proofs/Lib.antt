@@ -4,3 +4,4 @@ pub mod Loop
 pub mod Located
 pub mod Reaches
 pub mod WordReaches
+pub mod Spelled

@@ -34,7 +34,7 @@ same_numeral a b e = cc
 pub numeral_length : (a b : Numeral) → Some a ≡ Some b → a.length ≡ b.length
 numeral_length a b e = ap (λ (n : Numeral). n.length) (same_numeral a b e)
 
-mapped : {A B : Type 0} (f : A → B) (o : Option A) (y : B) → option_map f o ≡ Some y →
+pub mapped : {A B : Type 0} (f : A → B) (o : Option A) (y : B) → option_map f o ≡ Some y →
     (x : A) × (o ≡ Some x) × (Some (f x) ≡ Some y)
 mapped f None y e = cc
 mapped f (Some x) y e = (x, refl, e)
@@ -44,7 +44,7 @@ pub bound : {A B : Type 0} (o : Option A) (f : A → Option B) (y : B) → (o >>
 bound None f y e = cc
 bound (Some x) f y e = (x, refl, e)
 
-chosen : {A : Type 0} (b : Bool) (x y z : A) → (if b then x else y) ≡ z →
+pub chosen : {A : Type 0} (b : Bool) (x y z : A) → (if b then x else y) ≡ z →
     ((b ≡ true) × (x ≡ z)) ⊎ ((b ≡ false) × (y ≡ z))
 chosen true x y z e = inl (refl, e)
 chosen false x y z e = inr (refl, e)

@@ -84,5 +84,12 @@ IsLongest first IsSpelled at =
     (text more : List ℕ) (found : Lexeme) → IsSpelled text → at (text ++ more) ≡ Some found →
     first + length text ≤ found.length
 
+-- where a lexeme is found, a front of its length is spelled so; `first` bytes stand before
+abbrev pub IsFoundSpelled : ℕ → (List ℕ → Type 0) → (List ℕ → Option Lexeme) → Type 0
+IsFoundSpelled first IsSpelled at =
+    (bytes : List ℕ) (found : Lexeme) → at bytes ≡ Some found →
+    (text : List ℕ) × (more : List ℕ) × (bytes ≡ text ++ more) × IsSpelled text
+    × (first + length text ≡ found.length)
+
 abbrev pub word_found : List ℕ → Option Lexeme
 word_found bytes = Some (word_at bytes)

@@ -18,7 +18,7 @@ mod types;
 mod words;
 
 pub use fault::{Cause, ReadError, ReadFault};
-pub use longest::lexemes_are_longest;
+pub use longest::{found_lexemes_are_spelled, lexemes_are_longest};
 pub use module::{
     Address, Argument, Binary, ConditionalBranch, Identify, Indexed, Instruction, Item, Kernel,
     Label, Load, Module, Operation, Place, Profile, Relative, Rounding, Store, Ternary, Unary,
