@@ -5,3 +5,4 @@ pub mod Located
 pub mod Reaches
 pub mod WordReaches
 pub mod Spelled
+pub mod WordSpelled

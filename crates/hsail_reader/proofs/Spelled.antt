@@ -27,7 +27,7 @@ run_passes test (b ∷ bytes) =
     (λ no'. let none : 0 ≡ prefix_len test (b ∷ bytes) = rw no' refl in ([], b ∷ bytes, refl, tt, none))
     (cases_Bool (test b))
 
-nothing : {A B : Type 0} (x : B) → None ≡ Some x → A
+pub nothing : {A B : Type 0} (x : B) → None ≡ Some x → A
 nothing x e = cc
 
 pub names : (kind : TokenKind) → IsFoundSpelled 1 IsName (name_at kind)
@@ -114,14 +114,14 @@ comments (b ∷ bytes) found is =
     (eqb_tells b 47)
 
 -- the digits that are read, and that they are read alike where a bracket stands behind them
-pub record DigitsRead (radix value before : ℕ) (bytes : List ℕ) (f : Numeral) : Type 0 where
-  pub text : List ℕ
-  pub more : List ℕ
-  pub parts : bytes ≡ text ++ more
-  pub counts : before + length text ≡ f.length
-  pub pass : AllPass (λ d. is_digit d radix) text
-  pub ends : begins_digit radix more ≡ false
-  pub again : (after : List ℕ) → digits_at radix value before (text ++ 41 ∷ after) ≡ Some f
+record DigitsRead (radix value before : ℕ) (bytes : List ℕ) (f : Numeral) : Type 0 where
+  text : List ℕ
+  more : List ℕ
+  parts : bytes ≡ text ++ more
+  counts : before + length text ≡ f.length
+  pass : AllPass (λ d. is_digit d radix) text
+  ends : begins_digit radix more ≡ false
+  again : (after : List ℕ) → digits_at radix value before (text ++ 41 ∷ after) ≡ Some f
 
 digits_go : (p q : Bool) (x : Option Numeral) (v k : ℕ) (f : Numeral) →
     (if p then (if q then x else None) else Some (numeral v k)) ≡ Some f →
@@ -130,7 +130,7 @@ digits_go true true x v k f e = inl (refl, refl, e)
 digits_go true false x v k f e = nothing f e
 digits_go false q x v k f e = inr (refl, e)
 
-pub digits_read : (radix value before : ℕ) (bytes : List ℕ) (f : Numeral) → is_digit 41 radix ≡ false →
+digits_read : (radix value before : ℕ) (bytes : List ℕ) (f : Numeral) → is_digit 41 radix ≡ false →
     digits_at radix value before bytes ≡ Some f → DigitsRead radix value before bytes f
 digits_read radix value before [] f bracket is = record {
   text = [];
@@ -166,13 +166,13 @@ digits_read radix value before (b ∷ bytes) f bracket is =
     (digits_at radix (value * radix + digit_value b) (before + 1) bytes) value before f is)
 
 -- the decimal number that is read, and that it is read alike where a bracket stands behind it
-pub record DecimalRead (bytes : List ℕ) (f : Numeral) : Type 0 where
-  pub text : List ℕ
-  pub more : List ℕ
-  pub parts : bytes ≡ text ++ more
-  pub counts : length text ≡ f.length
-  pub spelled : IsDecimal text
-  pub again : (after : List ℕ) → decimal_at (text ++ 41 ∷ after) ≡ Some f
+record DecimalRead (bytes : List ℕ) (f : Numeral) : Type 0 where
+  text : List ℕ
+  more : List ℕ
+  parts : bytes ≡ text ++ more
+  counts : length text ≡ f.length
+  spelled : IsDecimal text
+  again : (after : List ℕ) → decimal_at (text ++ 41 ∷ after) ≡ Some f
 
 decimal_more : (b : ℕ) (bytes : List ℕ) (f : Numeral) → is_digit b 10 ≡ true → (b == 48) ≡ false →
     digits_at 10 (digit_value b) 1 bytes ≡ Some f → decimal_at (b ∷ bytes) ≡ Some f
@@ -247,7 +247,7 @@ decimal_number bytes f is =
       again = λ after. ap (λ o. numeral_behind o (r.text ++ 41 ∷ after)) (no_hexadecimal r.text after r.spelled) ∙ r.again after;
     }
 
-pub taken : {A : Type 0} (p : Bool) (x y : A) → p ≡ true → (if p then x else y) ≡ x
+taken : {A : Type 0} (p : Bool) (x y : A) → p ≡ true → (if p then x else y) ≡ x
 taken p x y e = rw e refl
 
 hexadecimal_number : (bytes : List ℕ) (d : ℕ) (rest : List ℕ) (f : Numeral) (text more : List ℕ) →

@@ -29,7 +29,7 @@ pieces_grow zero before (b ∷ bytes) =
 abbrev Begins : List ℕ → List ℕ → Type 0
 Begins front bytes = (r : List ℕ) × (behind front bytes ≡ Some r)
 
-width_length_of : (a b : SpelledWidth) → Some a ≡ Some b → a.length ≡ b.length
+pub width_length_of : (a b : SpelledWidth) → Some a ≡ Some b → a.length ≡ b.length
 width_length_of a b e = ap (λ (w : SpelledWidth). w.length) (same a b e)
   where
     same : (a b : SpelledWidth) → Some a ≡ Some b → a ≡ b
@@ -138,7 +138,7 @@ width_stuck rest more pieces b =
     ⊎_elim (λ lt. lt) (λ all. absurd (bracket all.1.1.1.1.1.0))
     (stuck (codes "width(") rest more b.0 (refl, (refl, (refl, (refl, (refl, (refl, tt)))))) pieces b.1)
 
-piece_if : (m x : ℕ) → ((m ≡ 0) × ((if 0 == m then x else m) ≡ x)) ⊎ ((0 < m) × ((if 0 == m then x else m) ≡ m))
+pub piece_if : (m x : ℕ) → ((m ≡ 0) × ((if 0 == m then x else m) ≡ x)) ⊎ ((0 < m) × ((if 0 == m then x else m) ≡ m))
 piece_if zero x = inl (refl, refl)
 piece_if (suc m) x = inr (omega arith, rw (eqb-zero-suc m) refl)
 

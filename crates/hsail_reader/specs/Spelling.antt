@@ -1,7 +1,7 @@
 -- Which whole texts are lexemes of each kind (PRM, Lexical Elements; comments and modifiers are (own)).
-use Rattle.std.specs.Prelude.{◌≡◌, ℕ, ◌+◌, ◌<◌, ◌≤◌, ◌⊎◌, List, [], ◌∷◌, ◌++◌, Bool, true, false, ◌&&◌, ◌==◌, Option, Some, length}
+use Rattle.std.specs.Prelude.{◌≡◌, ℕ, ◌+◌, ◌<◌, ◌≤◌, ◌⊎◌, List, [], ◌∷◌, ◌++◌, Bool, true, false, ◌&&◌, ◌==◌, if◌then◌else◌, Option, Some, None, length}
 use Rattle.std.specs.Char.{is_digit}
-use Rattle.hsail_reader.specs.Bytes.{is_name_byte, is_name_start, is_not_line_feed, begins_with, align_at}
+use Rattle.hsail_reader.specs.Bytes.{is_name_byte, is_name_start, is_not_line_feed, begins_name, begins_with, align_at}
 use Rattle.hsail_reader.specs.Lexemes.{modifier_length, word_at}
 use Rattle.hsail_reader.specs.declared.token.Lexeme.{Lexeme}
 use Rattle.hsail_reader.specs.declared.token.Numeral.{Numeral}
@@ -93,3 +93,7 @@ IsFoundSpelled first IsSpelled at =
 
 abbrev pub word_found : List ℕ → Option Lexeme
 word_found bytes = Some (word_at bytes)
+
+-- the word, where the first byte begins a name
+abbrev pub begun_word : List ℕ → Option Lexeme
+begun_word bytes = if begins_name bytes then word_found bytes else None

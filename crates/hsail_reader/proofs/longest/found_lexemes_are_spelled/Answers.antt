@@ -1,4 +1,5 @@
 use Rattle.hsail_reader.proofs.Spelled as spelled
+use Rattle.hsail_reader.proofs.WordSpelled.{words}
 use Rattle.hsail_reader.proofs.longest.found_lexemes_are_spelled.Goals as goal
 
 pub returns : goal.returns
@@ -7,4 +8,5 @@ returns c = record {
   names = spelled.names;
   registers = spelled.registers;
   numbers = spelled.numbers;
+  words = words;
 }
