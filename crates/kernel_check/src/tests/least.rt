@@ -57,7 +57,11 @@ fn the_least_cause_of_one_instruction_too_many_is_told(rt: HostRuntime) -> Resul
     for (item, cause) in LAST_INSTRUCTIONS {
         let items = format!(in rt.alloc(); "{before}{item}")?;
         let text = with_arguments(rt.alloc(), "kernarg_u64 %p", items.as_str())?;
-        assert_eq!(rt; fault(rt.alloc(), text.as_str())?, Some((4100, cause)), "{item}");
+        assert_eq!(rt;
+            fault(rt.alloc(), text.as_str())?,
+            Some((4100, cause)),
+            "{item}"
+        );
     }
     Ok(())
 }
@@ -119,7 +123,11 @@ fn the_least_cause_of_an_argument_behind_4096_bytes_is_told(rt: HostRuntime) -> 
     for (last, line, cause) in LAST_ARGUMENTS {
         let arguments = arguments(rt.alloc(), 512, last)?;
         let text = with_arguments(rt.alloc(), arguments.as_str(), "br @x;")?;
-        assert_eq!(rt; fault(rt.alloc(), text.as_str())?, Some((line, cause)), "{last}");
+        assert_eq!(rt;
+            fault(rt.alloc(), text.as_str())?,
+            Some((line, cause)),
+            "{last}"
+        );
     }
     Ok(())
 }
@@ -134,7 +142,11 @@ const EARLIER: [(&str, u32, Cause); 10] = [
     ("@a:\n@a:\nbr @x;", 5, DoubleName),
     ("@a:\n@b:\n@b:\n@a:", 6, DoubleName),
     ("br @a;\nmov_b64 $s0, 1;\n@a: @a:", 5, WrongRegister),
-    ("ret;\nst_global_u64\n$s0\n,\n[$d1]\n; br @x;", 5, WrongRegister),
+    (
+        "ret;\nst_global_u64\n$s0\n,\n[$d1]\n; br @x;",
+        5,
+        WrongRegister,
+    ),
     ("ret;\n\n/*\n*/ br // @a;\n@x\n;", 7, UnknownLabel),
 ];
 
@@ -150,7 +162,11 @@ fn the_earlier_item_is_told_whatever_its_cause(rt: HostRuntime) -> Result<(), Fa
 
 /// Whole kernels from line 2 on, of which the earlier item has the greater cause, and their fault.
 const KERNELS: [(&str, u32, Cause); 6] = [
-    ("kernel &a()\n{ mov_b32 $s64, 1; }\nkernel &a() {}", 3, TooLarge),
+    (
+        "kernel &a()\n{ mov_b32 $s64, 1; }\nkernel &a() {}",
+        3,
+        TooLarge,
+    ),
     (
         "kernel &a() {}\nkernel &a(kernarg_u8 %p,\nkernarg_u8 %p) {\nbr @x; }",
         3,

@@ -68,7 +68,11 @@ fn check_modifier(
     let plain = with_item(rt.alloc(), plain.as_str())?;
     let modified = format!(in rt.alloc(); "{front}{modifier}{rest}")?;
     let modified = with_item(rt.alloc(), modified.as_str())?;
-    assert_eq!(rt; fault(rt.alloc(), modified.as_str())?, None, "{modifier} {rest}");
+    assert_eq!(rt;
+        fault(rt.alloc(), modified.as_str())?,
+        None,
+        "{modifier} {rest}"
+    );
     let wanted = steps(rt.alloc(), plain.as_str())?;
     let found = steps(rt.alloc(), modified.as_str())?;
     assert_eq!(rt; found.len(), 1, "{modifier} {rest}");

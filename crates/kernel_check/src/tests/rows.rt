@@ -64,9 +64,17 @@ const CONVERSIONS: [Row; 9] = [
 ];
 
 const MEMORY: [Row; 4] = [
-    ("ld_global", "u8 u16 u32 s8 s16 s32 b8 b16 b32", "$s0, [$d1]"),
+    (
+        "ld_global",
+        "u8 u16 u32 s8 s16 s32 b8 b16 b32",
+        "$s0, [$d1]",
+    ),
     ("ld_global", "u64 s64 b64", "$d0, [$d1]"),
-    ("st_global", "u8 u16 u32 s8 s16 s32 b8 b16 b32", "$s0, [$d1]"),
+    (
+        "st_global",
+        "u8 u16 u32 s8 s16 s32 b8 b16 b32",
+        "$s0, [$d1]",
+    ),
     ("st_global", "u64 s64 b64", "$d0, [$d1]"),
 ];
 
@@ -86,11 +94,7 @@ const PLACES: [Row; 9] = [
 
 /// A word of these fronts at each of the types, with the operands, passes or fails by this cause. Tells
 /// how many words there were.
-fn check_row(
-    rt: &(impl Abort + AllocGlobal),
-    row: Row,
-    cause: Option<Cause>,
-) -> Result<u32, Fail> {
+fn check_row(rt: &(impl Abort + AllocGlobal), row: Row, cause: Option<Cause>) -> Result<u32, Fail> {
     let (fronts, kinds, operands) = row;
     let mut words = 0u32;
     for front in fronts.split(' ') {
@@ -153,7 +157,12 @@ fn places_in_the_grid_pass_in_each_dimension(rt: HostRuntime) -> Result<(), Fail
 }
 
 /// Words without a choice of types.
-const OTHERS: [&str; 4] = ["@x: br @x;", "@x: cbr_b1 $c0, @x;", "@x: cbr_b1 1, @x;", "ret;"];
+const OTHERS: [&str; 4] = [
+    "@x: br @x;",
+    "@x: cbr_b1 $c0, @x;",
+    "@x: cbr_b1 1, @x;",
+    "ret;",
+];
 
 #[test]
 fn branches_and_returns_pass(rt: HostRuntime) -> Result<(), Fail> {
