@@ -1,7 +1,10 @@
 //! What no clause says: worked texts, each row of the table at each type, and where faults are found.
 
 mod accepted;
+mod addresses;
+mod modifiers;
 mod refused;
+mod separators;
 mod tree;
 
 use crate::{Cause, ReadError, read_module};

@@ -1,12 +1,18 @@
 //! What no clause says: worked texts, and each cause at the item that has it.
 
+mod addresses;
+mod least;
 mod limits;
+mod modifiers;
 mod passed;
+mod ranges;
 mod refused;
+mod rows;
 
-use crate::{Cause, CheckError, CheckFault, Checked, check};
+use crate::{Cause, CheckError, CheckFault, Checked, Step, check};
 use hsail_reader::read_module;
 use std::alloc::{AllocError, Global};
+use std::process::Abort;
 use std::test::Fail;
 
 /// The kernel `&k` without arguments, with items from line 4 on.
@@ -34,6 +40,34 @@ fn fault(alloc: Global, text: &str) -> Result<Option<(u32, Cause)>, Fail> {
         Err(CheckError::Fault(CheckFault { line, cause })) => Ok(Some((line, cause))),
         Err(CheckError::OutOfMemory) => Err(Fail::from(AllocError)),
     }
+}
+
+/// The first kernel's steps, without their lines.
+fn steps(alloc: Global, text: &str) -> Result<Vec<Step>, Fail> {
+    let kernels = checked(alloc, text)??;
+    let mut steps = Vec::new(alloc);
+    if kernels.count() > 0 {
+        for lined in kernels.kernel(0).steps() {
+            steps.push(lined.step)?;
+        }
+    }
+    Ok(steps)
+}
+
+/// An item on line 4 of a kernel with these arguments fails there by this cause, or passes.
+fn check_item(
+    rt: &(impl Abort + AllocGlobal),
+    arguments: &str,
+    item: &str,
+    cause: Option<Cause>,
+) -> Result<(), Fail> {
+    let text = with_arguments(rt.alloc(), arguments, item)?;
+    let found = fault(rt.alloc(), text.as_str())?;
+    match cause {
+        Some(cause) => assert_eq!(rt; found, Some((4, cause)), "{arguments} {item}"),
+        None => assert_eq!(rt; found, None, "{arguments} {item}"),
+    }
+    Ok(())
 }
 
 const INC: &str = "module &m:1:0:$base:$large:$default;

@@ -4,7 +4,7 @@ use std::alloc::{AllocError, Global};
 use std::test::Fail;
 
 /// A line so many times.
-fn lines(alloc: Global, line: &str, count: u32) -> Result<String, AllocError> {
+pub fn lines(alloc: Global, line: &str, count: u32) -> Result<String, AllocError> {
     let mut text = String::new(alloc);
     for _ in 0..count {
         text.push_str(line)?;
@@ -33,7 +33,7 @@ fn labels_count_as_no_instructions(rt: HostRuntime) -> Result<(), Fail> {
 }
 
 /// A module with so many kernels, from line 2 on.
-fn kernels(alloc: Global, count: u32) -> Result<String, AllocError> {
+pub fn kernels(alloc: Global, count: u32) -> Result<String, AllocError> {
     let mut text = String::from_str(alloc, "module &m:1:0:$base:$large:$default;\n")?;
     for number in 0..count {
         let kernel = format!(in alloc; "kernel &k{number}() {{}}\n")?;
@@ -56,7 +56,7 @@ fn a_module_has_at_most_64_kernels(rt: HostRuntime) -> Result<(), Fail> {
 }
 
 /// Arguments of 64 bits, one a line from line 2 on, and last one of this type.
-fn arguments(alloc: Global, count: u32, last: &str) -> Result<String, AllocError> {
+pub fn arguments(alloc: Global, count: u32, last: &str) -> Result<String, AllocError> {
     let mut text = String::new(alloc);
     for number in 0..count {
         let argument = format!(in alloc; "kernarg_u64 %p{number},\n")?;

@@ -1,12 +1,11 @@
 ghost use Rattle.std.specs.Prelude.{◌<◌};
 
-use super::{INC, SPIN, checked, fault, with_arguments, with_items};
+use super::{INC, SPIN, checked, fault, steps, with_arguments, with_items};
 use crate::{
     ArgumentStep, BinaryStep, BranchStep, Dimension, IdentifyStep, LinedStep, LoadStep, Operand,
     Pointer, Relative, Slot, Step, StoreStep, TernaryStep, UnaryStep,
 };
 use hsail_reader::{BinaryOperation, DataType, Query, TernaryOperation, UnaryOperation};
-use std::alloc::Global;
 use std::test::Fail;
 
 fn register(number: u8) -> Operand
@@ -114,18 +113,6 @@ fn the_sample_kernels_check(rt: HostRuntime) -> Result<(), Fail> {
         }
     }
     Ok(())
-}
-
-/// The first kernel's steps, without their lines.
-fn steps(alloc: Global, text: &str) -> Result<Vec<Step>, Fail> {
-    let kernels = checked(alloc, text)??;
-    let mut steps = Vec::new(alloc);
-    if kernels.count() > 0 {
-        for lined in kernels.kernel(0).steps() {
-            steps.push(lined.step)?;
-        }
-    }
-    Ok(steps)
 }
 
 #[test]
