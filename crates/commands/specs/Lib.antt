@@ -1,1 +1,2 @@
+pub mod KernelTexts
 pub mod Statuses

@@ -23,7 +23,13 @@ pub struct KernelFault {
     pub cause: KernelCause,
 }
 
+/// It prints as `kernel 2: read 3 line 4 column 1`, or `kernel 2: check 1 line 9`.
 impl fmt::Display for KernelFault {
+    ghost use Rattle.std.specs.Prelude.{Some};
+    ghost use Rattle.commands.specs.KernelTexts.{text_of_kernel_fault};
+
+    ghost output = { λ fault. Some (text_of_kernel_fault fault) };
+
     fn fmt<W: fmt::Write>(&self, f: &mut fmt::Formatter<W>) -> fmt::Result {
         let kernel = self.kernel;
         match self.cause {
