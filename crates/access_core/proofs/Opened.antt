@@ -1,10 +1,9 @@
 -- What is kept of a core in which nothing has happened.
-use Rattle.std.proofs.Common.{◌≡◌, ℕ, zero, suc, ◌+◌, ◌<◌, ◌≤◌, ◌^◌, List, [], ◌∷◌, ◌++◌, length, refl, sym, ◌∙◌, ap, subst, Bool, true, false, Option, Some, None, arith}
-use Rattle.std.specs.Prelude.{map, take, ◌-◌, filter, slice_get, nat_lt, ◌==◌, option_map, All, if◌then◌else◌}
+use Rattle.std.proofs.Common.{◌≡◌, ℕ, ◌≤◌, ◌^◌, List, [], length, refl, sym, ◌∙◌, ap, subst, Bool, true, false, Some, None, arith}
+use Rattle.std.specs.Prelude.{map, ◌-◌, filter, slice_get, nat_lt, ◌==◌, All, if◌then◌else◌}
 use Rattle.std.proofs.lemmas.List.Elements.{All-nil}
 use Rattle.aql_packet.specs.declared.ids.QueueId.{QueueId}
-use Rattle.policy.specs.Policy.{Name, numbered, row_of}
-use Rattle.policy.proofs.NameLemmas.{numbered-next}
+use Rattle.policy.specs.Policy.{numbered}
 use Rattle.regions.specs.Memory.{byte_at, lengths_of, lies_in_region, zeros}
 use Rattle.regions.proofs.Laws.{lengths_of-zeros, byte_at-zeros}
 use Rattle.aql_packet.specs.declared.ids.ClientId.{ClientId}
@@ -18,7 +17,6 @@ use Rattle.core_model.specs.Grants.{in_force}
 use Rattle.core_model.specs.Memory.{initial_values, memory_at, signals, region_lengths}
 use Rattle.core_model.specs.Queues.{openings, next_id, errors, is_stopped}
 use Rattle.core_model.specs.Flight.{flight}
-use Rattle.queue_error.specs.declared.error.QueueError.{QueueError}
 use Rattle.access_core.specs.declared.queue.Queue.{Queue}
 use Rattle.access_core.specs.declared.access.AccessCore.TheInside.{Inside}
 use Rattle.grants.specs.Table.{has_granted}

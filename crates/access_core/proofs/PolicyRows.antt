@@ -1,5 +1,5 @@
 -- The rows of a policy, one by one.
-use Rattle.std.proofs.Common.{◌≡◌, ℕ, zero, suc, ◌+◌, ◌<◌, List, [], ◌∷◌, ◌++◌, length, sym, ◌∙◌, ap, Option, Some, None, arith, add-one}
+use Rattle.std.proofs.Common.{◌≡◌, ℕ, zero, suc, ◌+◌, ◌<◌, List, [], ◌∷◌, ◌++◌, length, sym, ◌∙◌, ap, Some, None, arith, add-one}
 use Rattle.std.specs.Prelude.{map, take, slice_get, option_map}
 use Rattle.policy.specs.Policy.{Name, row_of}
 use Rattle.policy.proofs.NameLemmas.{numbered-next}

@@ -31,7 +31,6 @@ use Rattle.core_model.specs.LaunchRules.{Facts, Range, ranges, may_use_range, ma
 use Rattle.core_model.specs.Owed.{refuses, owed, refuse_if, refuse_unless, decided, facts_of}
 use Rattle.access_core.specs.declared.queue.Queue.{Queue}
 use Rattle.access_core.specs.declared.access.AccessCore.TheInside.{Inside}
-use Rattle.grants.specs.Table.{has_granted}
 use Rattle.access_core.specs.Judged.{facts_lent}
 use Rattle.access_core.specs.Kept.{IsKept, start_of, kept_opening, kept_next, kept_errors, history_of}
 use Rattle.access_core.specs.Deciding.{TakesNext}

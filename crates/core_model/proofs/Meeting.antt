@@ -1,16 +1,13 @@
 -- How an event meets what is due to it: by a refusal, by an answer, or by an entry.
-use Rattle.std.proofs.Common.{◌≡◌, ℕ, ◌+◌, ◌<◌, ◌≤◌, List, [], ◌∷◌, ◌++◌, length, refl, sym, ◌∙◌, ap, Bool, true, false, inl, inr, arith, Result, Ok, Err, length-append}
-use Rattle.std.specs.Prelude.{nat_lt, if◌then◌else◌}
-use Rattle.core_model.specs.declared.entry.Entry.{Entry}
+use Rattle.std.proofs.Common.{◌≡◌, List, refl, Bool, true, false, Ok, Err}
 use Rattle.core_model.specs.declared.entry.Effect.{Effect}
 use Rattle.core_model.specs.declared.event.Event.{Event}
 use Rattle.core_model.specs.declared.outcome.Outcome.{Outcome}
 use Rattle.core_model.specs.declared.refusal.Refusal.{Refusal}
 use Rattle.core_model.specs.declared.refusal.Refusal.TheVariants as refusal
-use Rattle.core_model.specs.History.{Start, History}
-use Rattle.core_model.specs.Flight.{flight}
-use Rattle.core_model.specs.Owed.{Owed, refuses, answers, enters, owed, refuse_if, refuse_unless}
-use Rattle.core_model.specs.Legal.{Meets, Lacks, MeetsOrLacks, due, within_room, lacks_room, with_entry, entry_of, may_lack}
+use Rattle.core_model.specs.History.{History}
+use Rattle.core_model.specs.Owed.{Owed, refuses, answers, enters, owed, refuse_unless}
+use Rattle.core_model.specs.Legal.{Meets, lacks_room, with_entry}
 
 -- a test that holds lets the rest be, and one that fails refuses
 pub refuse_unless-holds : (test : Bool) (why : Refusal) (rest : Owed) → test ≡ true → refuse_unless test why rest ≡ rest

@@ -1,5 +1,5 @@
 -- One entry more: how each question's answer changes with it.
-use Rattle.std.proofs.Common.{◌≡◌, ℕ, ℤ, ◌+◌, List, [], ◌∷◌, ◌++◌, refl, sym, ◌∙◌, ap, Bool, true, false, Option, Some, None, arith}
+use Rattle.std.proofs.Common.{◌≡◌, ℕ, ◌+◌, List, [], ◌∷◌, ◌++◌, refl, ◌∙◌, ap, Bool, true, false, Option, Some, None, arith}
 use Rattle.std.specs.Prelude.{◌||◌, fold, filter, sum_by, option_to_list, ◌==◌, if◌then◌else◌}
 use Rattle.std.proofs.lemmas.List.{append-nil}
 use Rattle.std.specs.List.{flat_map, filter_map, list_any}
@@ -13,15 +13,12 @@ use Rattle.aql_packet.specs.declared.ids.QueueId.{QueueId}
 use Rattle.policy.specs.declared.object.Object.{Object}
 use Rattle.policy.specs.declared.rights.Right.{Right}
 use Rattle.core_model.specs.declared.entry.Entry.{Entry}
-use Rattle.core_model.specs.declared.event.Event.{Event}
-use Rattle.core_model.specs.declared.entry.Effect.{Effect}
 use Rattle.core_model.specs.History.{Start, effects_of}
 use Rattle.core_model.specs.Grants.{in_force, in_force_after}
 use Rattle.core_model.specs.Memory.{memory_at, byte_after, signals, signals_after, initial_values}
 use Rattle.core_model.specs.Queues.{Opening, openings, opening_of, next_id, hands_over, errors, error_of, is_stopped, stops}
 use Rattle.core_model.specs.Flight.{flight, flight_after}
 use Rattle.queue_error.specs.declared.error.QueueError.{QueueError}
-use Rattle.core_model.specs.declared.flight.InFlight.{InFlight}
 
 pub in_force-more : (start : Start) (es : List Entry) (e : Entry) (client : ClientId) (on : Object) (right : Right) → in_force start (es ++ e ∷ []) client on right ≡ in_force_after client on right (in_force start es client on right) e.event
 unfolding in_force

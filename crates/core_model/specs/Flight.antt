@@ -1,18 +1,18 @@
 -- Packets in flight: those that were launched and not released since.
-use Rattle.std.specs.Prelude.{ℕ, ◌+◌, ◌==◌, ◌&&◌, ◌||◌, Bool, true, false, not, List, [], ◌∷◌, ◌++◌, map, filter, fold, find, Option, Some, None, if◌then◌else◌}
+use Rattle.std.specs.Prelude.{◌+◌, ◌==◌, ◌&&◌, ◌||◌, Bool, false, not, List, [], ◌∷◌, ◌++◌, map, filter, fold, find, Option, Some, None, if◌then◌else◌}
 use Rattle.std.specs.List.{zip}
 use Rattle.aql_packet.specs.declared.ids.QueueId.{QueueId}
 use Rattle.aql_packet.specs.declared.ids.PacketId.{PacketId}
 use Rattle.aql_packet.specs.declared.packet.Packet.{Packet}
 use Rattle.aql_packet.specs.Reading.{decoded}
 use Rattle.core_model.specs.declared.event.Event.{Event}
-use Rattle.core_model.specs.declared.event.Event.TheVariants.{Grant, Revoke, OpenQueue, Stop, Take, RunNext, Poll, Finish, HostWrite, ChangeSignal}
+use Rattle.core_model.specs.declared.event.Event.TheVariants.{Take, RunNext, Poll}
 use Rattle.core_model.specs.declared.outcome.Seen.{Seen}
 use Rattle.core_model.specs.declared.outcome.Outcome.{Outcome}
 use Rattle.core_model.specs.declared.outcome.Outcome.TheVariants as outcome
-use Rattle.core_model.specs.declared.outcome.Taken.TheVariants.{Launched, Denied, Waiting}
-use Rattle.core_model.specs.declared.outcome.Worked.TheVariants.{Ran, Faulted, Done}
-use Rattle.core_model.specs.declared.outcome.Polled.TheVariants.{Pending, Ready, Failed}
+use Rattle.core_model.specs.declared.outcome.Taken.TheVariants.{Launched}
+use Rattle.core_model.specs.declared.outcome.Worked.TheVariants.{Ran}
+use Rattle.core_model.specs.declared.outcome.Polled.TheVariants.{Pending, Ready}
 use Rattle.core_model.specs.declared.entry.Effect.{Effect}
 use Rattle.core_model.specs.declared.entry.Effect.TheVariants.{Write, Signal, Release}
 use Rattle.core_model.specs.declared.entry.Entry.{Entry}

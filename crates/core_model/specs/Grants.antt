@@ -1,11 +1,11 @@
 -- Which rights are in force: what was granted, and not revoked since.
-use Rattle.std.specs.Prelude.{ℕ, List, fold, Bool, true, false, ◌&&◌, ◌||◌, not, ◌==◌}
+use Rattle.std.specs.Prelude.{List, fold, Bool, false, ◌&&◌, ◌||◌, not, ◌==◌}
 use Rattle.aql_packet.specs.declared.ids.ClientId.{ClientId}
 use Rattle.policy.specs.declared.object.Object.{Object}
 use Rattle.policy.specs.declared.rights.Right.{Right}
 use Rattle.policy.specs.declared.rights.Rights.{Rights}
 use Rattle.policy.specs.Object.{same_object}
-use Rattle.policy.specs.Rights.{has, rights_that, all_rights}
+use Rattle.policy.specs.Rights.{has, rights_that}
 use Rattle.core_model.specs.declared.event.Event.{Event}
 use Rattle.core_model.specs.declared.event.Event.TheVariants.{Grant, Revoke, OpenQueue, Stop, Take, RunNext, Poll, Finish, HostWrite, ChangeSignal}
 use Rattle.core_model.specs.declared.entry.Entry.{Entry}

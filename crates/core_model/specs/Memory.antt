@@ -1,5 +1,5 @@
 -- The byte at each address, and the value of each signal: where they begin, with all changes laid over in order.
-use Rattle.std.specs.Prelude.{ℕ, ℤ, ◌+◌, ◌-◌, ◌*◌, List, fold, map, length, slice_index, slice_get, slice_set, Bool, ◌&&◌, nat_le, nat_lt, if◌then◌else◌, Option, None}
+use Rattle.std.specs.Prelude.{ℕ, ℤ, ◌+◌, ◌-◌, List, fold, map, length, slice_index, slice_set, ◌&&◌, nat_le, nat_lt, if◌then◌else◌}
 use Rattle.std.specs.List.{range_with_len}
 use Rattle.core_model.specs.declared.entry.Entry.{Entry}
 use Rattle.core_model.specs.declared.entry.Effect.{Effect}

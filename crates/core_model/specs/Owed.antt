@@ -1,29 +1,21 @@
 -- What each event is owed: its refusal, or its outcome with the changes that it makes. It is a function of the history alone.
-use Rattle.std.specs.Prelude.{ℕ, ℤ, pos, ◌+◌, ◌-◌, ◌==◌, ◌&&◌, ◌||◌, Bool, true, false, not, nat_lt, nat_le, List, [], ◌∷◌, ◌++◌, length, Option, Some, None, if◌then◌else◌, filter, find}
-use Rattle.std.specs.List.{list_any, list_all}
+use Rattle.std.specs.Prelude.{ℕ, ℤ, pos, ◌+◌, ◌==◌, ◌&&◌, Bool, false, nat_le, List, [], ◌∷◌, ◌++◌, length, Option, Some, None, if◌then◌else◌, filter, find}
+use Rattle.std.specs.List.{list_any}
 use Rattle.std.specs.Option.{option_map_or}
-use Rattle.aql_packet.specs.declared.ids.Address.{Address}
-use Rattle.aql_packet.specs.declared.ids.ClientId.{ClientId}
 use Rattle.aql_packet.specs.declared.ids.QueueId.{QueueId}
 use Rattle.aql_packet.specs.declared.ids.PacketId.{PacketId}
-use Rattle.aql_packet.specs.declared.ids.AgentHandle.{AgentHandle}
 use Rattle.aql_packet.specs.declared.ids.SignalHandle.{SignalHandle}
 use Rattle.aql_packet.specs.declared.packet.Packet.{Packet}
 use Rattle.aql_packet.specs.declared.packet.Packet.TheVariants as packet
-use Rattle.aql_packet.specs.Reading.{decoded, barrier_bit}
+use Rattle.aql_packet.specs.Reading.{barrier_bit}
 use Rattle.regions.specs.Memory.{is_within, region_of}
 use Rattle.signals.specs.Values.{applied, value_of}
 use Rattle.signals.specs.declared.operation.SignalOp.{SignalOp}
 use Rattle.signals.specs.declared.operation.SignalOp.TheVariants as op
-use Rattle.policy.specs.declared.object.Object.{Object}
 use Rattle.policy.specs.declared.object.Object.TheVariants as object
-use Rattle.policy.specs.declared.rights.Right.{Right}
 use Rattle.policy.specs.declared.rights.Right.TheVariants as right
-use Rattle.policy.specs.declared.rights.Rights.{Rights}
 use Rattle.policy.specs.declared.row.Takes.{Takes}
-use Rattle.policy.specs.Object.{same_object}
-use Rattle.policy.specs.Rights.{has}
-use Rattle.policy.specs.Policy.{declares_client, declares, allows, numbered, takes_of}
+use Rattle.policy.specs.Policy.{declares_client, declares, allows, takes_of}
 use Rattle.queue_error.specs.declared.rule.Rule.{Rule}
 use Rattle.queue_error.specs.declared.rule.Rule.TheVariants.{B1}
 use Rattle.queue_error.specs.declared.error.QueueError.{QueueError}
@@ -38,7 +30,7 @@ use Rattle.core_model.specs.declared.outcome.Seen.{Seen}
 use Rattle.core_model.specs.declared.outcome.Outcome.{Outcome}
 use Rattle.core_model.specs.declared.outcome.Outcome.TheVariants as outcome
 use Rattle.core_model.specs.declared.outcome.Taken.TheVariants.{Launched, Denied, Waiting}
-use Rattle.core_model.specs.declared.outcome.Worked.TheVariants.{Ran, Faulted, Done}
+use Rattle.core_model.specs.declared.outcome.Worked.TheVariants.{Ran, Done}
 use Rattle.core_model.specs.declared.outcome.Polled.TheVariants.{Pending, Ready, Failed}
 use Rattle.core_model.specs.declared.refusal.Refusal.{Refusal}
 use Rattle.core_model.specs.declared.refusal.Refusal.TheVariants as refusal
@@ -47,7 +39,7 @@ use Rattle.core_model.specs.Grants.{in_force}
 use Rattle.core_model.specs.Memory.{region_lengths, signals}
 use Rattle.core_model.specs.Queues.{Opening, openings, owner, next_id, is_stopped, is_down}
 use Rattle.core_model.specs.Flight.{flight, in_flight, none_seen, seen_with}
-use Rattle.core_model.specs.LaunchRules.{Facts, first_failing, may_start, is_barrier, completion, ranges, Range, dependencies}
+use Rattle.core_model.specs.LaunchRules.{Facts, first_failing, may_start, is_barrier, completion}
 use Rattle.core_model.specs.Work.{agent_writes, groups_of, is_ready, is_negative, newly_seen, awaited}
 use Rattle.core_model.specs.Holds.{holder, Holder}
 

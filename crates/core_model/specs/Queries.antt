@@ -1,19 +1,15 @@
 -- What each query is answered: a function of the history alone.
-use Rattle.std.specs.Prelude.{ℕ, ◌+◌, ◌==◌, ◌&&◌, Bool, not, List, [], ◌∷◌, ◌++◌, map, filter, length, Option, Some, None, Result, Ok, Err, if◌then◌else◌, nat_lt}
+use Rattle.std.specs.Prelude.{◌&&◌, Bool, List, ◌++◌, map, filter, length, Option, Some, None, Result, Ok, Err, if◌then◌else◌}
 use Rattle.std.specs.List.{range_with_len, list_any}
 use Rattle.aql_packet.specs.declared.ids.ClientId.{ClientId}
-use Rattle.aql_packet.specs.declared.ids.AgentHandle.{AgentHandle}
-use Rattle.aql_packet.specs.declared.ids.RegionHandle.{RegionHandle}
-use Rattle.aql_packet.specs.declared.ids.SignalHandle.{SignalHandle}
-use Rattle.aql_packet.specs.declared.ids.KernelObject.{KernelObject}
 use Rattle.regions.specs.Memory.{is_within, region_of}
 use Rattle.signals.specs.Values.{meets, value_of}
 use Rattle.policy.specs.declared.object.Object.{Object}
 use Rattle.policy.specs.declared.object.Object.TheVariants as object
 use Rattle.policy.specs.declared.rights.Right.TheVariants as right
 use Rattle.policy.specs.declared.rights.Rights.{Rights}
-use Rattle.policy.specs.Rights.{has, all_rights}
-use Rattle.policy.specs.Policy.{Declared, declares_client, numbered}
+use Rattle.policy.specs.Rights.{all_rights}
+use Rattle.policy.specs.Policy.{Declared, declares_client}
 use Rattle.core_model.specs.declared.event.Query.{Query}
 use Rattle.core_model.specs.declared.event.Query.TheVariants as query
 use Rattle.core_model.specs.declared.answer.Answer.{Answer}

@@ -1,7 +1,6 @@
 -- Lists of entries, one entry more.
-use Rattle.std.proofs.Common.{◌≡◌, ℕ, ◌+◌, ◌<◌, List, [], ◌∷◌, ◌++◌, length, get_or, take, arith, sym, ap, ◌∙◌, append_assoc, append-nil, codes}
+use Rattle.std.proofs.Common.{◌≡◌, ℕ, ◌+◌, ◌<◌, List, [], ◌∷◌, ◌++◌, length, get_or, take, arith, sym, ap, ◌∙◌, append_assoc, append-nil}
 use Rattle.std.proofs.lemmas.List.{length-take-le, take_more}
-use Rattle.std.proofs.lemmas.Grind.{common_steps}
 use Rattle.core_model.specs.declared.entry.Entry.{Entry}
 use Rattle.policy.specs.Policy.{Declared}
 use Rattle.script.specs.Entries.{text_of_entry, text_of_entries}

@@ -1,5 +1,5 @@
 -- Runs over lines and bytes, one more at a time.
-use Rattle.std.proofs.Common.{◌≡◌, ℕ, zero, suc, ◌+◌, ◌<◌, ◌≤◌, Bool, true, false, List, [], ◌∷◌, ◌++◌, length, get_or, take, drop, Option, Some, None, refl, sym, ap, ◌∙◌, subst, inl, inr, ◌⊎◌, eqb, append_assoc, append-nil, length-append, arith}
+use Rattle.std.proofs.Common.{◌≡◌, ℕ, ◌+◌, ◌<◌, ◌≤◌, true, false, List, [], ◌∷◌, ◌++◌, length, get_or, take, drop, None, refl, sym, ap, ◌∙◌, subst, inl, inr, ◌⊎◌, eqb, append_assoc, append-nil, length-append, arith}
 use Rattle.std.specs.Prelude.{◌==◌, nat_lt}
 use Rattle.std.proofs.lemmas.List.{take_more, take_all, take-append-drop}
 use Rattle.std.proofs.lemmas.Bool.Decides.{nat_tests, eqb_tells}
@@ -9,9 +9,8 @@ use Rattle.script.specs.declared.session.Session.{Session}
 use Rattle.policy.specs.Policy.{Declared}
 use Rattle.script.specs.Words.{kept}
 use Rattle.script.specs.Lines.{line_of}
-use Rattle.script.specs.declared.lines.Line.{Line}
-use Rattle.script.specs.Runs.{Law, Runs, Replied, ServedAtMostOne, lines_from, lines_of}
-use Rattle.script.specs.Sessions.{Took, Failed, Ended, EndedLine, FailedLine, WhyLine, Why, HasBadLine, BeginsWith, begun, pending, with_further}
+use Rattle.script.specs.Runs.{Law, Runs, Replied, lines_from}
+use Rattle.script.specs.Sessions.{Took, Failed, EndedLine, FailedLine, WhyLine, Why, begun, pending, with_further}
 use Rattle.script.proofs.Splitting.{left_at}
 
 pub lines_end : (line : List ℕ) → lines_from line [] ≡ kept line []

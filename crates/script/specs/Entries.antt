@@ -1,6 +1,5 @@
 -- The audit as text, row by row (own).
-use Rattle.std.specs.Prelude.{ℕ, ◌+◌, ◌-◌, ℤ, Bool, List, [], ◌∷◌, ◌++◌, map, filter, length, flat_map, codes, decimal, slice_index_or, Option, Some, None, false}
-use Rattle.std.specs.Option.{option_map_or}
+use Rattle.std.specs.Prelude.{ℕ, ◌+◌, ◌-◌, Bool, List, [], ◌∷◌, ◌++◌, map, filter, length, flat_map, codes, decimal, slice_index_or, false}
 use Rattle.std.specs.Fmt.{signed_decimal}
 use Rattle.aql_packet.specs.declared.ids.QueueId.{QueueId}
 use Rattle.aql_packet.specs.declared.ids.PacketId.{PacketId}

@@ -1,13 +1,10 @@
 -- Lines and the commands that they stand for, row by row (own).
-use Rattle.std.specs.Prelude.{ℕ, Bool, true, false, ◌==◌, nat_lt, ℤ, List, [], ◌∷◌, length, codes, Option, Some, None, option_map, option_and_then, bytes_eq, slice_index, if◌then◌else◌}
+use Rattle.std.specs.Prelude.{ℕ, Bool, false, ◌==◌, nat_lt, ℤ, List, [], ◌∷◌, length, codes, Option, Some, None, option_map, option_and_then, bytes_eq, if◌then◌else◌}
 use Rattle.aql_packet.specs.declared.ids.ClientId.{ClientId}
 use Rattle.aql_packet.specs.declared.ids.QueueId.{QueueId}
 use Rattle.aql_packet.specs.declared.ids.PacketId.{PacketId}
-use Rattle.aql_packet.specs.declared.ids.Address.{Address}
 use Rattle.aql_packet.specs.declared.ids.AgentHandle.{AgentHandle}
-use Rattle.aql_packet.specs.declared.ids.RegionHandle.{RegionHandle}
 use Rattle.aql_packet.specs.declared.ids.SignalHandle.{SignalHandle}
-use Rattle.aql_packet.specs.declared.ids.KernelObject.{KernelObject}
 use Rattle.policy.specs.declared.object.Kind.{Kind}
 use Rattle.policy.specs.declared.object.Kind.TheVariants as kind
 use Rattle.policy.specs.declared.object.Object.{Object}
@@ -20,7 +17,6 @@ use Rattle.core_model.specs.declared.event.Event.{Event}
 use Rattle.core_model.specs.declared.event.Event.TheVariants as event
 use Rattle.core_model.specs.declared.event.Query.{Query}
 use Rattle.core_model.specs.declared.event.Query.TheVariants as query
-use Rattle.core_model.specs.declared.event.Request.{Request}
 use Rattle.core_model.specs.declared.event.Request.TheVariants as request
 use Rattle.script.specs.declared.command.Command.{Command}
 use Rattle.script.specs.declared.command.Command.TheVariants as command

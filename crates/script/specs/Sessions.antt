@@ -1,12 +1,11 @@
 -- What a run in its course has done.
-use Rattle.std.specs.Prelude.{ℕ, ◌≡◌, ◌+◌, ◌<◌, ◌≤◌, List, [], ◌∷◌, ◌++◌, length, Option, Some, None, Result, string_bytes}
-use Rattle.std.specs.Io.KnownBytes.{Appends}
+use Rattle.std.specs.Prelude.{ℕ, ◌≡◌, ◌+◌, ◌≤◌, List, [], ◌∷◌, ◌++◌, length, None, string_bytes}
 use Rattle.script.specs.declared.fault.ScriptFault.{ScriptFault}
 use Rattle.script.specs.declared.fault.ScriptFault.TheVariants.{OutOfMemory, BadLine, Read, Write}
 use Rattle.script.specs.declared.session.Session.{Session}
 use Rattle.script.specs.Words.{kept}
 use Rattle.script.specs.Lines.{line_of}
-use Rattle.script.specs.Runs.{Law, Runs, Replied, ServedAtMostOne, lines_from, lines_of}
+use Rattle.script.specs.Runs.{Law, Runs, Replied, ServedAtMostOne, lines_from}
 
 -- the bytes of the line that is begun
 abbrev pub begun : Session → List ℕ

@@ -9,7 +9,6 @@ use Rattle.policy.specs.declared.object.Kind.{Kind}
 use Rattle.policy.specs.declared.object.Kind.TheVariants as kind
 use Rattle.signals.specs.declared.operation.Condition.{Condition}
 use Rattle.signals.specs.declared.operation.Condition.TheVariants as condition
-use Rattle.script.specs.Texts.{has_items}
 
 -- a word, as its bytes
 abbrev pub Word : Type 0

@@ -1,6 +1,6 @@
 -- The ring of a queue has its place in the list.
 use Rattle.std.proofs.Common.{◌≡◌, ℕ, zero, suc, ◌-◌, ◌<◌, List, [], ◌∷◌, refl, sym, ap, subst, Bool, true, false, Option, Some, None, Err, ◌∙◌}
-use Rattle.std.specs.Prelude.{nat_lt, slice_get, slice_set, if◌then◌else◌}
+use Rattle.std.specs.Prelude.{nat_lt, slice_get, slice_set}
 use Rattle.std.proofs.lemmas.Bool.{ltb-true}
 use Rattle.aql_packet.specs.declared.ids.QueueId.{QueueId}
 use Rattle.world.specs.declared.ring.Ring.{Ring}

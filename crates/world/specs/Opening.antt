@@ -1,5 +1,5 @@
 -- When a world is opened.
-use Rattle.std.specs.Prelude.{ℕ, Result, Ok, Err}
+use Rattle.std.specs.Prelude.{Result, Ok, Err}
 use Rattle.core_model.specs.History.{History}
 use Rattle.access_core.specs.declared.access.OpenFault.{OpenFault}
 use Rattle.world.specs.Serving.{Ringed}

@@ -1,12 +1,10 @@
 -- What the core with its rings owes to each command.
-use Rattle.std.specs.Prelude.{ℕ, ◌≡◌, ◌-◌, ◌&&◌, Bool, true, false, nat_le, List, [], ◌∷◌, ◌++◌, slice_set, Option, Some, None, Result, Ok, Err, if◌then◌else◌}
-use Rattle.aql_packet.specs.declared.ids.AgentHandle.{AgentHandle}
-use Rattle.aql_packet.specs.declared.ids.ClientId.{ClientId}
+use Rattle.std.specs.Prelude.{ℕ, ◌≡◌, ◌-◌, ◌&&◌, Bool, nat_le, List, [], ◌∷◌, ◌++◌, slice_set, Option, Some, None, Result, Ok, Err, if◌then◌else◌}
 use Rattle.aql_packet.specs.declared.ids.QueueId.{QueueId}
 use Rattle.aql_packet.specs.declared.ids.PacketId.{PacketId}
-use Rattle.policy.specs.Policy.{Declared, numbered}
+use Rattle.policy.specs.Policy.{numbered}
 use Rattle.core_model.specs.declared.event.Event.{Event}
-use Rattle.core_model.specs.declared.event.Event.TheVariants.{Grant, Revoke, OpenQueue, Stop, Take, RunNext, Poll, Finish, HostWrite, ChangeSignal}
+use Rattle.core_model.specs.declared.event.Event.TheVariants.{OpenQueue, Take}
 use Rattle.core_model.specs.declared.event.Request.{Request}
 use Rattle.core_model.specs.declared.event.Request.TheVariants as request
 use Rattle.core_model.specs.declared.answer.Answer.TheVariants as answer

@@ -1,4 +1,4 @@
-use Rattle.std.proofs.Common.{sym, ◌∙◌, rules}
+use Rattle.std.proofs.Common.{sym, ◌∙◌}
 use Rattle.script.specs.Words.{bytes_word}
 use Rattle.script.proofs.Reading.{bytes_lone, bytes_bad, bytes_more, bytes_none, bytes_all}
 use Rattle.script.proofs.numbers.bytes.Goals as goal

@@ -1,4 +1,4 @@
-use Rattle.std.proofs.Common.{refl, rules, arith}
+use Rattle.std.proofs.Common.{refl, arith}
 use Rattle.std.proofs.lemmas.Result.{MatchResult-weaker}
 use Rattle.script.specs.Runs.{law_of}
 use Rattle.script.proofs.Running.{took_line, took_byte, failed_line, failed_long}

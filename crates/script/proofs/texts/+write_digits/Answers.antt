@@ -1,4 +1,4 @@
-use Rattle.std.proofs.Common.{◌≡◌, ◌++◌, [], rules, append_assoc, arith}
+use Rattle.std.proofs.Common.{rules, append_assoc, arith}
 use Rattle.std.proofs.lemmas.Result.{IfOk-equal}
 use Rattle.script.proofs.Digits.{hex_digits_none, hex_digits_more}
 use Rattle.script.proofs.texts.+write_digits.Goals as goal

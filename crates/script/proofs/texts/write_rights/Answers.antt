@@ -1,6 +1,6 @@
 use Rattle.script.proofs.texts.write_rights.Goals as goal
 use Rattle.script.proofs.texts.write_rights.Goals.{then-has+in_ok-write_item, else-has}
-use Rattle.script.proofs.Commas.{listed_none, listed_passed, listed_failed, listed_all, listed_dash}
+use Rattle.script.proofs.Commas.{listed_none, listed_passed, listed_failed, listed_all}
 use Rattle.std.proofs.Common.{refl, arith, rules, sym, ◌∙◌}
 
 pub loop-right-init : goal.loop-right-init

@@ -1,5 +1,4 @@
-use Rattle.std.proofs.Common.{◌≡◌, [], ◌∷◌, length, take, drop, ap, sym, ◌∙◌, rules, arith}
-use Rattle.script.specs.Words.{words, words_from}
+use Rattle.std.proofs.Common.{sym, ◌∙◌, rules, arith}
 use Rattle.script.proofs.Splitting.{no_bytes, words_more, word_found, rest_at, all_word}
 use Rattle.script.proofs.words.split_word.Goals as goal
 

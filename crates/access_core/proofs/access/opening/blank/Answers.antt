@@ -1,5 +1,5 @@
 -- A core in which nothing has happened is as opened.
-use Rattle.std.proofs.Common.{◌≡◌, refl}
+use Rattle.std.proofs.Common.{refl}
 use Rattle.access_core.proofs.Opened.{IsKept-opened, by_room, few_places}
 use Rattle.access_core.proofs.access.opening.blank.Goals as goal
 

@@ -1,5 +1,5 @@
 -- A refusal leaves the rings as they are.
-use Rattle.std.proofs.Common.{◌≡◌, refl, ap, subst, sym, Err}
+use Rattle.std.proofs.Common.{ap, subst, Err}
 use Rattle.core_model.specs.declared.event.Event.TheVariants.{Take}
 use Rattle.core_model.specs.Legal.{MeetsOrLacks}
 use Rattle.world.specs.Serving.{Ringed}
