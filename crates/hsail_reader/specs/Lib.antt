@@ -9,3 +9,6 @@ pub mod Operands
 pub mod Instructions
 pub mod Syntax
 pub mod Spelling
+pub mod WordSpelling
+pub mod TextTokens
+pub mod Grammar

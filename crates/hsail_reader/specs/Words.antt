@@ -1,5 +1,5 @@
 -- What a word is (PRM, HSAIL Instructions; the places of the modifiers are (own)).
-use Rattle.std.specs.Prelude.{ℕ, List, [], ◌∷◌, Bool, true, false, ◌==◌, if◌then◌else◌, Option, Some, None, codes, drop, is_some}
+use Rattle.std.specs.Prelude.{ℕ, List, [], ◌∷◌, Bool, true, false, ◌==◌, if◌then◌else◌, Option, Some, None, codes, drop, is_some, length}
 use Rattle.std.specs.Option.{option_map}
 use Rattle.hsail_reader.specs.Bytes.{behind, align_at, width_at, ◌>>=◌}
 use Rattle.hsail_reader.specs.Rows.{InstructionRow, rows, types_of, type_name}
@@ -123,7 +123,7 @@ other_word None text =
     else instruction_word (instruction_at text)
 
 abbrev pub named_word : Option Numeral → List ℕ → Word
-named_word (Some n) text = word.Align n.value
+named_word (Some n) text = if n.length == length text then word.Align n.value else word.Unknown
 named_word None text = other_word (behind (codes "kernarg_") text) text
 
 -- what a word is

@@ -3,6 +3,7 @@
 #![tactic(auto)]
 
 mod fault;
+mod grammar;
 mod instructions;
 mod kernels;
 mod lexeme;

@@ -186,7 +186,11 @@ pub fn classify(text: &[u8]) -> Word
         return Word::Kernel;
     }
     if let Some(found) = align(text) {
-        return Word::Align(found.value);
+        return if found.length == text.len() {
+            Word::Align(found.value)
+        } else {
+            Word::Unknown
+        };
     }
     if let Some(rest) = strip(b"kernarg_", text) {
         return match among(types(TypeSet::Memory), rest) {

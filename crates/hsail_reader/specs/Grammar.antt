@@ -1,0 +1,239 @@
+-- The grammar of kernel text: which tokens spell a module, line by line as the format has it
+-- (PRM, Syntax; what may be left out is (own)).
+use Rattle.std.specs.Prelude.{◌≡◌, ℕ, ◌<◌, ◌≤◌, ◌⊎◌, List, [], ◌∷◌, Bool, true, false, Option, Some, None, length}
+use Rattle.hsail_reader.specs.TextTokens.{AreTokens}
+use Rattle.hsail_reader.specs.Tokens.{Piece}
+use Rattle.hsail_reader.specs.Types.{alignment_bytes}
+use Rattle.hsail_reader.specs.WordSpelling.{SpellsWord}
+use Rattle.hsail_reader.specs.declared.module.Address.{Address}
+use Rattle.hsail_reader.specs.declared.module.Address.TheVariants as address
+use Rattle.hsail_reader.specs.declared.module.Argument.{Argument}
+use Rattle.hsail_reader.specs.declared.module.Item.{Item}
+use Rattle.hsail_reader.specs.declared.module.Item.TheVariants as item
+use Rattle.hsail_reader.specs.declared.module.Kernel.{Kernel}
+use Rattle.hsail_reader.specs.declared.module.Module.{Module}
+use Rattle.hsail_reader.specs.declared.module.Operation.{Operation}
+use Rattle.hsail_reader.specs.declared.module.Operation.TheVariants as operation
+use Rattle.hsail_reader.specs.declared.module.Place.{Place}
+use Rattle.hsail_reader.specs.declared.module.Place.TheVariants as place
+use Rattle.hsail_reader.specs.declared.module.Profile.{Profile}
+use Rattle.hsail_reader.specs.declared.module.Profile.TheVariants as profile
+use Rattle.hsail_reader.specs.declared.module.Rounding.{Rounding}
+use Rattle.hsail_reader.specs.declared.module.Rounding.TheVariants as rounding
+use Rattle.hsail_reader.specs.declared.token.Header.{Header}
+use Rattle.hsail_reader.specs.declared.token.Header.TheVariants as header
+use Rattle.hsail_reader.specs.declared.token.TokenKind.TheVariants as token
+use Rattle.hsail_reader.specs.declared.types.Alignment.{Alignment}
+use Rattle.hsail_reader.specs.declared.types.Constant.{Constant}
+use Rattle.hsail_reader.specs.declared.types.Register.{Register}
+use Rattle.hsail_reader.specs.declared.types.Source.{Source}
+use Rattle.hsail_reader.specs.declared.types.Source.TheVariants as source
+use Rattle.hsail_reader.specs.declared.words.Opcode.{Opcode}
+use Rattle.hsail_reader.specs.declared.words.Opcode.TheVariants as opcode
+use Rattle.hsail_reader.specs.declared.words.Word.{Word}
+use Rattle.hsail_reader.specs.declared.words.Word.TheVariants as word
+
+-- what is spelled by the tokens from one place in a text to another
+abbrev pub Spelled : Type 1
+Spelled = List Piece → List Piece → Type 0
+
+-- one behind the other
+infixr 5 ◌▸◌
+abbrev pub ◌▸◌ : Spelled → Spelled → Spelled
+(A ▸ B) from to = (between : List Piece) × A from between × B between to
+
+-- nothing
+abbrev pub nothing : Spelled
+nothing from to = from ≡ to
+
+-- what may be absent
+abbrev pub optional : Spelled → Spelled
+optional A from to = nothing from to ⊎ A from to
+
+-- one token
+abbrev pub one : (Piece → Type 0) → Spelled
+one IsIt from to = (t : Piece) × (from ≡ t ∷ to) × IsIt t
+
+-- a mark, by its byte
+abbrev pub mark : ℕ → Spelled
+mark b = one (λ t. t.kind ≡ token.Mark b)
+
+abbrev pub plus : Spelled
+plus = mark 43
+
+abbrev pub minus : Spelled
+minus = mark 45
+
+abbrev pub comma : Spelled
+comma = mark 44
+
+abbrev pub colon : Spelled
+colon = mark 58
+
+abbrev pub semicolon : Spelled
+semicolon = mark 59
+
+abbrev pub in_parentheses : Spelled → Spelled
+in_parentheses A = mark 40 ▸ A ▸ mark 41
+
+abbrev pub in_brackets : Spelled → Spelled
+in_brackets A = mark 91 ▸ A ▸ mark 93
+
+abbrev pub in_braces : Spelled → Spelled
+in_braces A = mark 123 ▸ A ▸ mark 125
+
+abbrev pub number : ℕ → Spelled
+number n = one (λ t. t.kind ≡ token.Number n)
+
+abbrev pub register : Register → Spelled
+register r = one (λ t. t.kind ≡ token.Register r)
+
+abbrev pub header : Header → Spelled
+header h = one (λ t. t.kind ≡ token.Header h)
+
+abbrev pub word : Word → Spelled
+word w = one (λ t. (t.kind ≡ token.Word) × SpellsWord w t.text)
+
+-- &name
+abbrev pub global : List ℕ → Spelled
+global name = one (λ t. (t.kind ≡ token.Global) × (t.text ≡ name))
+
+-- %name
+abbrev pub variable : List ℕ → Spelled
+variable name = one (λ t. (t.kind ≡ token.Variable) × (t.text ≡ name))
+
+-- @name
+abbrev pub label : List ℕ → Spelled
+label name = one (λ t. (t.kind ≡ token.Label) × (t.text ≡ name))
+
+abbrev pub IsFirstLine : ℕ → List Piece → Type 0
+IsFirstLine line [] = ⊥
+IsFirstLine line (t ∷ tokens) = t.line ≡ line
+
+-- with its first token on this line
+abbrev pub on_line : ℕ → Spelled → Spelled
+on_line line A from to = IsFirstLine line from × A from to
+
+-- one after the other
+abbrev pub each : {X : Type 0} → (X → Spelled) → List X → Spelled
+each spelled [] = nothing
+each spelled (x ∷ xs) = spelled x ▸ each spelled xs
+
+-- one after the other, each behind a comma
+abbrev pub each_behind_comma : {X : Type 0} → (X → Spelled) → List X → Spelled
+each_behind_comma spelled xs = each (λ x. comma ▸ spelled x) xs
+
+-- one after the other, with commas between
+abbrev pub separated : {X : Type 0} → (X → Spelled) → List X → Spelled
+separated spelled [] = nothing
+separated spelled (x ∷ xs) = spelled x ▸ each_behind_comma spelled xs
+
+-- a number whose sign may be absent: - n, + n or n
+abbrev pub sign : Bool → Spelled
+sign true = minus
+sign false = optional plus
+
+abbrev pub constant : Constant → Spelled
+constant c = sign c.negative ▸ number c.magnitude
+
+-- a source: a register or a constant
+abbrev pub source : Source → Spelled
+source (source.Register r) = register r
+source (source.Constant c) = constant c
+
+-- what is added to a register: + n or - n; nothing stands for + 0
+abbrev pub offset_sign : Bool → Spelled
+offset_sign true = minus
+offset_sign false = plus
+
+abbrev pub no_offset : Constant
+no_offset = record { negative = false; magnitude = 0 }
+
+abbrev pub offset : Constant → Spelled
+offset c from to =
+    (offset_sign c.negative ▸ number c.magnitude) from to ⊎ (nothing from to × (c ≡ no_offset))
+
+-- a place: n, $d, $d+n or $d-n
+abbrev pub place : Place → Spelled
+place (place.Absolute n) = number n
+place (place.Relative p) = register p.register ▸ offset p.offset
+
+-- an address: [%x], [place] or [%x][place]
+abbrev pub address : Address → Spelled
+address (address.Variable x) = in_brackets (variable x)
+address (address.Place p) = in_brackets (place p)
+address (address.Indexed i) = in_brackets (variable i.variable) ▸ in_brackets (place i.place)
+
+-- the word of an instruction
+abbrev pub opcode : Opcode → Spelled
+opcode code = word (word.Instruction code)
+
+-- an instruction: its word, and its operands by its row
+abbrev pub instruction : Operation → Spelled
+instruction (operation.Unary u) =
+    opcode (opcode.Unary u.operation u.kind) ▸ register u.target ▸ comma ▸ source u.source
+instruction (operation.Binary b) =
+    opcode (opcode.Binary b.operation b.kind) ▸ register b.target ▸ comma ▸ source b.left
+    ▸ comma ▸ source b.right
+instruction (operation.Ternary t) =
+    opcode (opcode.Ternary t.operation t.kind) ▸ register t.target ▸ comma ▸ source t.first
+    ▸ comma ▸ source t.second ▸ comma ▸ source t.third
+instruction (operation.Load l) =
+    opcode (opcode.Load l.segment l.modifiers l.kind) ▸ register l.target ▸ comma ▸ address l.address
+instruction (operation.Store s) =
+    opcode (opcode.Store s.align s.kind) ▸ source s.source ▸ comma ▸ address s.address
+instruction (operation.Branch x) = opcode opcode.Branch ▸ label x
+instruction (operation.ConditionalBranch c) =
+    opcode (opcode.ConditionalBranch c.width) ▸ source c.condition ▸ comma ▸ label c.label
+instruction operation.Return = opcode opcode.Return
+instruction (operation.Identify i) =
+    opcode (opcode.Identify i.query i.kind) ▸ register i.target ▸ comma ▸ number i.dimension
+
+-- an item of a kernel: @name : or an instruction ;
+abbrev pub item : Item → Spelled
+item (item.Label l) = on_line l.line (label l.name ▸ colon)
+item (item.Instruction i) = on_line i.line (instruction i.operation ▸ semicolon)
+
+-- align(1), align(2), align(4), align(8) or align(16), or nothing
+abbrev pub alignment : Option Alignment → Spelled
+alignment None = nothing
+alignment (Some a) = word (word.Align (alignment_bytes a))
+
+-- an argument: align(n), which may be absent, kernarg_T %name
+abbrev pub argument : Argument → Spelled
+argument a = on_line a.line (alignment a.align ▸ word (word.Argument a.kind) ▸ variable a.name)
+
+-- a kernel: prog, which may be absent, kernel &name ( arguments ) { items } and ; which may be absent
+abbrev pub kernel : Kernel → Spelled
+kernel k = on_line k.line (optional (word word.Prog) ▸ word word.Kernel ▸ global k.name
+    ▸ in_parentheses (separated argument k.arguments) ▸ in_braces (each item k.items) ▸ optional semicolon)
+
+-- the minor version: 0, 1 or 2
+abbrev pub minor : ℕ → Spelled
+minor n from to = number n from to × (n < 3)
+
+-- $base or $full
+abbrev pub profile : Profile → Spelled
+profile profile.Base = header header.Base
+profile profile.Full = header header.Full
+
+-- $default, $zero or $near
+abbrev pub rounding : Rounding → Spelled
+rounding rounding.Default = header header.Default
+rounding rounding.Zero = header header.Zero
+rounding rounding.Near = header header.Near
+
+-- a module: module &name : 1 : minor : profile : $large : round ; and kernels
+abbrev pub module_text : Module → Spelled
+module_text m = word word.Module ▸ global m.name ▸ colon ▸ number 1 ▸ colon ▸ minor m.minor
+    ▸ colon ▸ profile m.profile ▸ colon ▸ header header.Large ▸ colon ▸ rounding m.rounding ▸ semicolon
+    ▸ each kernel m.kernels
+
+-- the tokens spell the module, to the end
+abbrev pub SpellModule : List Piece → Module → Type 0
+SpellModule tokens m = module_text m tokens []
+
+-- The text spells the module: it has at most 65,536 bytes, and its tokens spell it.
+abbrev pub IsTextOf : List ℕ → Module → Type 0
+IsTextOf text m =
+    (length text ≤ 65536) × ((tokens : List Piece) × AreTokens 0 1 text tokens × SpellModule tokens m)
