@@ -6,32 +6,32 @@ use Rattle.hsail_reader.specs.Tokens.{Piece}
 use Rattle.hsail_reader.specs.Types.{alignment_bytes}
 use Rattle.hsail_reader.specs.WordSpelling.{SpellsWord}
 use Rattle.hsail_reader.specs.declared.module.Address.{Address}
-use Rattle.hsail_reader.specs.declared.module.Address.TheVariants as address
+use Rattle.hsail_reader.specs.declared.module.Address.TheVariants as addresses
 use Rattle.hsail_reader.specs.declared.module.Argument.{Argument}
 use Rattle.hsail_reader.specs.declared.module.Item.{Item}
-use Rattle.hsail_reader.specs.declared.module.Item.TheVariants as item
+use Rattle.hsail_reader.specs.declared.module.Item.TheVariants as items
 use Rattle.hsail_reader.specs.declared.module.Kernel.{Kernel}
 use Rattle.hsail_reader.specs.declared.module.Module.{Module}
 use Rattle.hsail_reader.specs.declared.module.Operation.{Operation}
-use Rattle.hsail_reader.specs.declared.module.Operation.TheVariants as operation
+use Rattle.hsail_reader.specs.declared.module.Operation.TheVariants as operations
 use Rattle.hsail_reader.specs.declared.module.Place.{Place}
-use Rattle.hsail_reader.specs.declared.module.Place.TheVariants as place
+use Rattle.hsail_reader.specs.declared.module.Place.TheVariants as places
 use Rattle.hsail_reader.specs.declared.module.Profile.{Profile}
-use Rattle.hsail_reader.specs.declared.module.Profile.TheVariants as profile
+use Rattle.hsail_reader.specs.declared.module.Profile.TheVariants as profiles
 use Rattle.hsail_reader.specs.declared.module.Rounding.{Rounding}
-use Rattle.hsail_reader.specs.declared.module.Rounding.TheVariants as rounding
+use Rattle.hsail_reader.specs.declared.module.Rounding.TheVariants as roundings
 use Rattle.hsail_reader.specs.declared.token.Header.{Header}
-use Rattle.hsail_reader.specs.declared.token.Header.TheVariants as header
+use Rattle.hsail_reader.specs.declared.token.Header.TheVariants as headers
 use Rattle.hsail_reader.specs.declared.token.TokenKind.TheVariants as token
 use Rattle.hsail_reader.specs.declared.types.Alignment.{Alignment}
 use Rattle.hsail_reader.specs.declared.types.Constant.{Constant}
 use Rattle.hsail_reader.specs.declared.types.Register.{Register}
 use Rattle.hsail_reader.specs.declared.types.Source.{Source}
-use Rattle.hsail_reader.specs.declared.types.Source.TheVariants as source
+use Rattle.hsail_reader.specs.declared.types.Source.TheVariants as sources
 use Rattle.hsail_reader.specs.declared.words.Opcode.{Opcode}
-use Rattle.hsail_reader.specs.declared.words.Opcode.TheVariants as opcode
+use Rattle.hsail_reader.specs.declared.words.Opcode.TheVariants as opcodes
 use Rattle.hsail_reader.specs.declared.words.Word.{Word}
-use Rattle.hsail_reader.specs.declared.words.Word.TheVariants as word
+use Rattle.hsail_reader.specs.declared.words.Word.TheVariants as words
 
 -- what is spelled by the tokens from one place in a text to another
 abbrev pub Spelled : Type 1
@@ -138,8 +138,8 @@ constant c = sign c.negative ▸ number c.magnitude
 
 -- a source: a register or a constant
 abbrev pub source : Source → Spelled
-source (source.Register r) = register r
-source (source.Constant c) = constant c
+source (sources.Register r) = register r
+source (sources.Constant c) = constant c
 
 -- what is added to a register: + n or - n; nothing stands for + 0
 abbrev pub offset_sign : Bool → Spelled
@@ -155,57 +155,57 @@ offset c from to =
 
 -- a place: n, $d, $d+n or $d-n
 abbrev pub place : Place → Spelled
-place (place.Absolute n) = number n
-place (place.Relative p) = register p.register ▸ offset p.offset
+place (places.Absolute n) = number n
+place (places.Relative p) = register p.register ▸ offset p.offset
 
 -- an address: [%x], [place] or [%x][place]
 abbrev pub address : Address → Spelled
-address (address.Variable x) = in_brackets (variable x)
-address (address.Place p) = in_brackets (place p)
-address (address.Indexed i) = in_brackets (variable i.variable) ▸ in_brackets (place i.place)
+address (addresses.Variable x) = in_brackets (variable x)
+address (addresses.Place p) = in_brackets (place p)
+address (addresses.Indexed i) = in_brackets (variable i.variable) ▸ in_brackets (place i.place)
 
 -- the word of an instruction
 abbrev pub opcode : Opcode → Spelled
-opcode code = word (word.Instruction code)
+opcode code = word (words.Instruction code)
 
 -- an instruction: its word, and its operands by its row
 abbrev pub instruction : Operation → Spelled
-instruction (operation.Unary u) =
-    opcode (opcode.Unary u.operation u.kind) ▸ register u.target ▸ comma ▸ source u.source
-instruction (operation.Binary b) =
-    opcode (opcode.Binary b.operation b.kind) ▸ register b.target ▸ comma ▸ source b.left
+instruction (operations.Unary u) =
+    opcode (opcodes.Unary u.operation u.kind) ▸ register u.target ▸ comma ▸ source u.source
+instruction (operations.Binary b) =
+    opcode (opcodes.Binary b.operation b.kind) ▸ register b.target ▸ comma ▸ source b.left
     ▸ comma ▸ source b.right
-instruction (operation.Ternary t) =
-    opcode (opcode.Ternary t.operation t.kind) ▸ register t.target ▸ comma ▸ source t.first
+instruction (operations.Ternary t) =
+    opcode (opcodes.Ternary t.operation t.kind) ▸ register t.target ▸ comma ▸ source t.first
     ▸ comma ▸ source t.second ▸ comma ▸ source t.third
-instruction (operation.Load l) =
-    opcode (opcode.Load l.segment l.modifiers l.kind) ▸ register l.target ▸ comma ▸ address l.address
-instruction (operation.Store s) =
-    opcode (opcode.Store s.align s.kind) ▸ source s.source ▸ comma ▸ address s.address
-instruction (operation.Branch x) = opcode opcode.Branch ▸ label x
-instruction (operation.ConditionalBranch c) =
-    opcode (opcode.ConditionalBranch c.width) ▸ source c.condition ▸ comma ▸ label c.label
-instruction operation.Return = opcode opcode.Return
-instruction (operation.Identify i) =
-    opcode (opcode.Identify i.query i.kind) ▸ register i.target ▸ comma ▸ number i.dimension
+instruction (operations.Load l) =
+    opcode (opcodes.Load l.segment l.modifiers l.kind) ▸ register l.target ▸ comma ▸ address l.address
+instruction (operations.Store s) =
+    opcode (opcodes.Store s.align s.kind) ▸ source s.source ▸ comma ▸ address s.address
+instruction (operations.Branch x) = opcode opcodes.Branch ▸ label x
+instruction (operations.ConditionalBranch c) =
+    opcode (opcodes.ConditionalBranch c.width) ▸ source c.condition ▸ comma ▸ label c.label
+instruction operations.Return = opcode opcodes.Return
+instruction (operations.Identify i) =
+    opcode (opcodes.Identify i.query i.kind) ▸ register i.target ▸ comma ▸ number i.dimension
 
 -- an item of a kernel: @name : or an instruction ;
 abbrev pub item : Item → Spelled
-item (item.Label l) = on_line l.line (label l.name ▸ colon)
-item (item.Instruction i) = on_line i.line (instruction i.operation ▸ semicolon)
+item (items.Label l) = on_line l.line (label l.name ▸ colon)
+item (items.Instruction i) = on_line i.line (instruction i.operation ▸ semicolon)
 
 -- align(1), align(2), align(4), align(8) or align(16), or nothing
 abbrev pub alignment : Option Alignment → Spelled
 alignment None = nothing
-alignment (Some a) = word (word.Align (alignment_bytes a))
+alignment (Some a) = word (words.Align (alignment_bytes a))
 
 -- an argument: align(n), which may be absent, kernarg_T %name
 abbrev pub argument : Argument → Spelled
-argument a = on_line a.line (alignment a.align ▸ word (word.Argument a.kind) ▸ variable a.name)
+argument a = on_line a.line (alignment a.align ▸ word (words.Argument a.kind) ▸ variable a.name)
 
 -- a kernel: prog, which may be absent, kernel &name ( arguments ) { items } and ; which may be absent
 abbrev pub kernel : Kernel → Spelled
-kernel k = on_line k.line (optional (word word.Prog) ▸ word word.Kernel ▸ global k.name
+kernel k = on_line k.line (optional (word words.Prog) ▸ word words.Kernel ▸ global k.name
     ▸ in_parentheses (separated argument k.arguments) ▸ in_braces (each item k.items) ▸ optional semicolon)
 
 -- the minor version: 0, 1 or 2
@@ -214,19 +214,19 @@ minor n from to = number n from to × (n < 3)
 
 -- $base or $full
 abbrev pub profile : Profile → Spelled
-profile profile.Base = header header.Base
-profile profile.Full = header header.Full
+profile profiles.Base = header headers.Base
+profile profiles.Full = header headers.Full
 
 -- $default, $zero or $near
 abbrev pub rounding : Rounding → Spelled
-rounding rounding.Default = header header.Default
-rounding rounding.Zero = header header.Zero
-rounding rounding.Near = header header.Near
+rounding roundings.Default = header headers.Default
+rounding roundings.Zero = header headers.Zero
+rounding roundings.Near = header headers.Near
 
 -- a module: module &name : 1 : minor : profile : $large : round ; and kernels
 abbrev pub module_text : Module → Spelled
-module_text m = word word.Module ▸ global m.name ▸ colon ▸ number 1 ▸ colon ▸ minor m.minor
-    ▸ colon ▸ profile m.profile ▸ colon ▸ header header.Large ▸ colon ▸ rounding m.rounding ▸ semicolon
+module_text m = word words.Module ▸ global m.name ▸ colon ▸ number 1 ▸ colon ▸ minor m.minor
+    ▸ colon ▸ profile m.profile ▸ colon ▸ header headers.Large ▸ colon ▸ rounding m.rounding ▸ semicolon
     ▸ each kernel m.kernels
 
 -- the tokens spell the module, to the end
