@@ -7,3 +7,5 @@ pub mod WordReaches
 pub mod Spelled
 pub mod WordSpelled
 pub mod OperandsRead
+pub mod Operations
+pub mod OperationsRead

@@ -1,4 +1,4 @@
-use Rattle.hsail_reader.proofs.OperandsRead.{address_read}
+use Rattle.hsail_reader.proofs.OperationsRead.{operation_read}
 use Rattle.hsail_reader.proofs.grammar.modules_are_read_as_spelled.Goals as goal
 
 pub returns-clause-read : goal.returns-clause-read
