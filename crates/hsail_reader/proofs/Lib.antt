@@ -9,3 +9,5 @@ pub mod WordSpelled
 pub mod OperandsRead
 pub mod Operations
 pub mod OperationsRead
+pub mod Lengths
+pub mod ItemsRead
