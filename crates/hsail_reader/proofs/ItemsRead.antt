@@ -65,13 +65,13 @@ item_read read (items.Instruction i) from to s = instruction_read read i.line i.
 pub word_read : WordsAreRead → (w : Word) (t : Piece) → (t.kind ≡ token.Word) × SpellsWord w t.text → word_at t ≡ Some w
 word_read read w t s = ap (λ k. word_kind k t.text) s.0 ∙ ap Some (read w t.text s.1)
 
-named_read : (line : ℕ) (align : Option Alignment) (kind : DataType) (name : List ℕ) (from to : List Piece) →
+pub named_read : (line : ℕ) (align : Option Alignment) (kind : DataType) (name : List ℕ) (from to : List Piece) →
     variable name from to →
     named_argument line align kind from ≡ Ok (record { line = line; align = align; kind = kind; name = name }, to)
 unfolding named_argument
 named_read line align kind name from to s = rw (variable_read name from to s) refl
 
-alignment_read : (a : Alignment) → alignment_of (alignment_bytes a) ≡ Some a
+pub alignment_read : (a : Alignment) → alignment_of (alignment_bytes a) ≡ Some a
 alignment_read alignments.One = refl
 alignment_read alignments.Two = refl
 alignment_read alignments.Four = refl

@@ -11,3 +11,5 @@ pub mod Operations
 pub mod OperationsRead
 pub mod Lengths
 pub mod ItemsRead
+pub mod ArgumentsRead
+pub mod KernelsRead
