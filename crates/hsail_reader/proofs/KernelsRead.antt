@@ -20,7 +20,7 @@ use Rattle.hsail_reader.proofs.OperandsRead.{mark_read, global_read}
 use Rattle.hsail_reader.proofs.Operations.{parts}
 
 -- the first token is of a kind that isn't this mark
-another_first : (m : ℕ) (kind : TokenKind) (t : Piece) (from rest : List Piece) → from ≡ t ∷ rest → t.kind ≡ kind →
+pub another_first : (m : ℕ) (kind : TokenKind) (t : Piece) (from rest : List Piece) → from ≡ t ∷ rest → t.kind ≡ kind →
     is_mark_kind m kind ≡ false → begins_with_mark m from ≡ false
 another_first m kind t from rest there is other = ap (begins_with_mark m) there ∙ ap (is_mark_kind m) is ∙ other
 

@@ -13,3 +13,4 @@ pub mod Lengths
 pub mod ItemsRead
 pub mod ArgumentsRead
 pub mod KernelsRead
+pub mod ModuleRead

@@ -1,5 +1,5 @@
 use Rattle.hsail_reader.proofs.OperationsRead.{operation_read}
-use Rattle.hsail_reader.proofs.KernelsRead.{kernel_read}
+use Rattle.hsail_reader.proofs.ModuleRead.{module_read}
 use Rattle.hsail_reader.proofs.grammar.modules_are_read_as_spelled.Goals as goal
 
 pub returns-clause-read : goal.returns-clause-read
