@@ -14,3 +14,4 @@ pub mod ItemsRead
 pub mod ArgumentsRead
 pub mod KernelsRead
 pub mod ModuleRead
+pub mod OperandsSpelled
