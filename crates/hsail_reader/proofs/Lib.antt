@@ -15,3 +15,4 @@ pub mod ArgumentsRead
 pub mod KernelsRead
 pub mod ModuleRead
 pub mod OperandsSpelled
+pub mod AddressesSpelled

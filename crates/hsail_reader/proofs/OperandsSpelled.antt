@@ -51,7 +51,7 @@ one_spelled {X} read (t ∷ tokens) y is = found (read t) refl is
         let p : (x, tokens) ≡ y = same (x, tokens) y is in
         (t, ap (λ q. t ∷ q.1) p, e ∙ ap (λ q. Some q.0) p)
 
-mark_is : (m : ℕ) (k : TokenKind) → is_mark_kind m k ≡ true → k ≡ token.Mark m
+pub mark_is : (m : ℕ) (k : TokenKind) → is_mark_kind m k ≡ true → k ≡ token.Mark m
 mark_is m (token.Mark b) is = ⊎_elim (λ w. ap token.Mark w.1) (λ w. contradiction (sym is ∙ w.0)) (eqb_tells b m)
 mark_is m _ is = cc
 
@@ -71,7 +71,7 @@ number_is : (k : TokenKind) (n : ℕ) → number_kind k ≡ Some n → k ≡ tok
 number_is (token.Number m) n is = cc
 number_is _ n is = cc
 
-variable_is : (k : TokenKind) (text name : List ℕ) → variable_kind k text ≡ Some name → (k ≡ token.Variable) × (text ≡ name)
+pub variable_is : (k : TokenKind) (text name : List ℕ) → variable_kind k text ≡ Some name → (k ≡ token.Variable) × (text ≡ name)
 variable_is token.Variable text name is = (refl, cc)
 variable_is _ text name is = cc
 
