@@ -16,3 +16,4 @@ pub mod KernelsRead
 pub mod ModuleRead
 pub mod OperandsSpelled
 pub mod AddressesSpelled
+pub mod OperationsSpelled
