@@ -17,3 +17,4 @@ pub mod ModuleRead
 pub mod OperandsSpelled
 pub mod AddressesSpelled
 pub mod OperationsSpelled
+pub mod ItemsSpelled
