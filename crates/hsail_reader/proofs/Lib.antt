@@ -18,3 +18,4 @@ pub mod OperandsSpelled
 pub mod AddressesSpelled
 pub mod OperationsSpelled
 pub mod ItemsSpelled
+pub mod KernelsSpelled
