@@ -23,11 +23,11 @@ use Rattle.hsail_reader.proofs.ItemsSpelled.{WordsAreSpelled, no_reading, item_s
 use Rattle.hsail_reader.proofs.OperandsSpelled.{same, bound, chosen, mark_is, mark_spelled, variable_spelled, global_spelled}
 use Rattle.std.proofs.lemmas.Bool.Decides.{eqb_tells}
 
-contradiction : {A : Type 0} → true ≡ false → A
+pub contradiction : {A : Type 0} → true ≡ false → A
 contradiction e = cc
 
 -- what is read as a word is a word token of that word
-word_token : (k : TokenKind) (text : List ℕ) (w : Word) → word_kind k text ≡ Some w → (k ≡ token.Word) × (word_of text ≡ w)
+pub word_token : (k : TokenKind) (text : List ℕ) (w : Word) → word_kind k text ≡ Some w → (k ≡ token.Word) × (word_of text ≡ w)
 word_token token.Word text w is = (refl, cc)
 word_token _ text w is = cc
 

@@ -19,3 +19,4 @@ pub mod AddressesSpelled
 pub mod OperationsSpelled
 pub mod ItemsSpelled
 pub mod KernelsSpelled
+pub mod ModuleSpelled
