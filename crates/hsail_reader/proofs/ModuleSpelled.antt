@@ -127,3 +127,123 @@ profile_spelled from y is =
     by (token.Header headers.Full) profiles.Full t between to e kind is = (t, e, kind)
     by (token.Header _) p t between to e kind is = cc
     by _ p t between to e kind is = cc
+
+rounding_spelled : (from : List Piece) (y : Rounding × List Piece) → field_at rounding_kind from ≡ Ok y →
+    (colon ▸ rounding y.0) from y.1
+rounding_spelled from y is =
+    let f = field_spelled rounding_kind from y is in
+    (f.0, f.1, by f.2.0.kind y.0 f.2.0 f.0 y.1 f.2.1 refl f.2.2)
+  where
+    by : (k : TokenKind) (r : Rounding) (t : Piece) (between to : List Piece) → between ≡ t ∷ to → t.kind ≡ k →
+        rounding_kind k ≡ Some r → rounding r between to
+    by (token.Header headers.Default) roundings.Default t between to e kind is = (t, e, kind)
+    by (token.Header headers.Zero) roundings.Zero t between to e kind is = (t, e, kind)
+    by (token.Header headers.Near) roundings.Near t between to e kind is = (t, e, kind)
+    by (token.Header _) r t between to e kind is = cc
+    by _ r t between to e kind is = cc
+
+large_is : (k : TokenKind) (one : Unit {0}) → large_kind k ≡ Some one → k ≡ token.Header headers.Large
+large_is (token.Header headers.Large) one is = refl
+large_is (token.Header _) one is = cc
+large_is _ one is = cc
+
+module_word_is : (o : Option Word) (one : Unit {0}) → module_word o ≡ Some one → o ≡ Some words.Module
+module_word_is None one is = cc
+module_word_is (Some words.Module) one is = refl
+module_word_is (Some _) one is = cc
+
+-- : 1 : minor : profile : $large : round
+abbrev pub spelled_fields : Fields → List Piece → List Piece → Type 0
+spelled_fields f = colon ▸ number 1 ▸ colon ▸ minor f.minor ▸ colon ▸ profile f.profile ▸ colon
+    ▸ header headers.Large ▸ colon ▸ rounding f.rounding
+
+abbrev pub the_fields : ℕ → Profile → Rounding → Fields
+the_fields minor profile rounding = record { minor = minor; profile = profile; rounding = rounding }
+
+fields_spelled : (from : List Piece) (y : Fields × List Piece) → fields_at from ≡ Ok y → spelled_fields y.0 from y.1
+unfolding fields_at
+fields_spelled from y is =
+    let a = bound (field_at major_kind from)
+    (λ major. field_at minor_kind major.1 >>= λ minor. field_at profile_kind minor.1 >>=
+    λ profile. field_at large_kind profile.1 >>= λ large. field_at rounding_kind large.1 >>=
+    λ rounding. Ok (the_fields minor.0 profile.0 rounding.0, rounding.1)) y is in
+    let b = bound (field_at minor_kind a.0.1)
+    (λ minor. field_at profile_kind minor.1 >>= λ profile. field_at large_kind profile.1 >>=
+    λ large. field_at rounding_kind large.1 >>=
+    λ rounding. Ok (the_fields minor.0 profile.0 rounding.0, rounding.1)) y a.2 in
+    let c = bound (field_at profile_kind b.0.1)
+    (λ profile. field_at large_kind profile.1 >>= λ large. field_at rounding_kind large.1 >>=
+    λ rounding. Ok (the_fields b.0.0 profile.0 rounding.0, rounding.1)) y b.2 in
+    let d = bound (field_at large_kind c.0.1)
+    (λ large. field_at rounding_kind large.1 >>= λ rounding. Ok (the_fields b.0.0 c.0.0 rounding.0, rounding.1)) y c.2 in
+    let e = bound (field_at rounding_kind d.0.1)
+    (λ rounding. Ok (the_fields b.0.0 c.0.0 rounding.0, rounding.1)) y d.2 in
+    let major = field_spelled major_kind from a.0 a.1 in
+    let minor = field_spelled minor_kind a.0.1 b.0 b.1 in
+    let small = minor_is minor.2.0.kind b.0.0 minor.2.2 in
+    let profile = profile_spelled b.0.1 c.0 c.1 in
+    let large = field_spelled large_kind c.0.1 d.0 d.1 in
+    let rounding = rounding_spelled d.0.1 e.0 e.1 in
+    subst (λ q. spelled_fields q.0 from q.1) (same (the_fields b.0.0 c.0.0 e.0.0, e.0.1) y e.2)
+    (major.0, major.1, (
+      a.0.1,
+      (major.2.0, major.2.1, major_is major.2.0.kind a.0.0 major.2.2),
+      (minor.0, minor.1, (
+        b.0.1,
+        ((minor.2.0, minor.2.1, small.0), small.1),
+        (profile.0, profile.1, (
+          c.0.1,
+          profile.2,
+          (large.0, large.1, (
+            d.0.1,
+            (large.2.0, large.2.1, large_is large.2.0.kind d.0.0 large.2.2),
+            rounding,
+          )),
+        )),
+      )),
+    ))
+
+-- the tokens that are left are none
+all_taken : (tokens : List Piece) → is_none_left tokens ≡ true → tokens ≡ []
+all_taken [] e = refl
+all_taken (t ∷ tokens) e = contradiction (sym e)
+
+kernels_spelled : WordsAreSpelled → (from : List Piece) (y : List Kernel × List Piece) → kernels_at from ≡ Ok y →
+    (semicolon ▸ each grammar.kernel y.0) from []
+unfolding kernels_at
+kernels_spelled law from y is =
+    let m = bound (mark_at 59 from) (all_at is_none_left kernel_at) y is in
+    let s = many_spelled grammar.kernel is_none_left kernel_at (kernel_spelled law) (suc (length m.0)) m.0 y m.2 in
+    (m.0, mark_spelled 59 from m.0 m.1, subst (λ end. each grammar.kernel y.0 m.0 end) (all_taken y.1 s.1) s.0)
+
+-- the fields of a module between its name and its kernels
+module_parts : (name : List ℕ) (f : Fields) (ks : List Kernel) (from a b c : List Piece) → word words.Module from a →
+    grammar.global name a b → spelled_fields f b c → (semicolon ▸ each grammar.kernel ks) c [] →
+    SpellModule from (whole_module name f ks)
+module_parts name f ks from a b c first second fields kernels =
+    let minor = fields.2.2 in
+    let profile = minor.2.2 in
+    let large = profile.2.2 in
+    let rounding = large.2.2 in
+    (a, first, (b, second, (fields.0, fields.1, (fields.2.0, fields.2.1, (minor.0, minor.1, (minor.2.0, minor.2.1,
+    (profile.0, profile.1, (profile.2.0, profile.2.1, (large.0, large.1, (large.2.0, large.2.1,
+    (rounding.0, rounding.1, (c, rounding.2, kernels))))))))))))
+
+pub module_spelled : WordsAreSpelled → (tokens : List Piece) (m : Module) → module_at tokens ≡ Ok m → SpellModule tokens m
+unfolding module_at
+module_spelled law tokens m is =
+    let a = bound (token_at (λ t. module_word (word_at t)) tokens)
+    (λ first. global_at first.1 >>= λ name. fields_at name.1 >>= λ fields. kernels_at fields.1 >>=
+    λ kernels. Ok (whole_module name.0 fields.0 kernels.0)) m is in
+    let b = bound (global_at a.0.1)
+    (λ name. fields_at name.1 >>= λ fields. kernels_at fields.1 >>=
+    λ kernels. Ok (whole_module name.0 fields.0 kernels.0)) m a.2 in
+    let c = bound (fields_at b.0.1)
+    (λ fields. kernels_at fields.1 >>= λ kernels. Ok (whole_module b.0.0 fields.0 kernels.0)) m b.2 in
+    let d = bound (kernels_at c.0.1) (λ kernels. Ok (whole_module b.0.0 c.0.0 kernels.0)) m c.2 in
+    let first = one_spelled (λ t. module_word (word_at t)) tokens a.0 a.1 in
+    let w = word_token first.0.kind first.0.text words.Module (module_word_is (word_at first.0) a.0.0 first.2) in
+    subst (SpellModule tokens) (same (whole_module b.0.0 c.0.0 d.0.0) m d.2)
+    (module_parts b.0.0 c.0.0 d.0.0 tokens a.0.1 b.0.1 c.0.1
+    (first.0, first.1, (w.0, law words.Module first.0.text w.1 refl))
+    (global_spelled a.0.1 b.0 b.1) (fields_spelled b.0.1 c.0 c.1) (kernels_spelled law c.0.1 d.0 d.1))
