@@ -6,3 +6,4 @@ pub mod Reaches
 pub mod WordReaches
 pub mod Spelled
 pub mod WordSpelled
+pub mod NumberSpelling
