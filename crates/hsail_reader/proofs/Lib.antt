@@ -7,3 +7,4 @@ pub mod WordReaches
 pub mod Spelled
 pub mod WordSpelled
 pub mod NumberSpelling
+pub mod WordRows
