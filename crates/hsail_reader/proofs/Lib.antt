@@ -8,3 +8,4 @@ pub mod Spelled
 pub mod WordSpelled
 pub mod NumberSpelling
 pub mod WordRows
+pub mod ModifierSpelling
