@@ -9,3 +9,5 @@ pub mod WordSpelled
 pub mod NumberSpelling
 pub mod WordRows
 pub mod ModifierSpelling
+pub mod FormSpelling
+pub mod WordSpellings

@@ -84,7 +84,7 @@ width_of All value spelled = ap (λ xs. codes "_width(" ++ (xs ++ codes ")")) sp
 width_of WaveSize value spelled = ap (λ xs. codes "_width(" ++ (xs ++ codes ")")) spelled
 
 -- _align(n) is read at the front
-align_part_is_read : (a : Option ℕ) (text more : List ℕ) → SpellsAlign a text → align_part more ≡ (None, more) →
+pub align_part_is_read : (a : Option ℕ) (text more : List ℕ) → SpellsAlign a text → align_part more ≡ (None, more) →
     align_part (text ++ more) ≡ (a, more)
 align_part_is_read None text more spelled none =
     subst (λ (xs : List ℕ). align_part (xs ++ more) ≡ (None, more)) (sym spelled) none
@@ -103,7 +103,7 @@ width_at_front w text more spelled =
     (ap (λ o. width_behind o bytes (95 ∷ bytes)) (width_is_read w v.0 more v.2)
     ∙ ap (λ (xs : List ℕ). (Some w, xs)) (inside_drop (codes "width(") v.0 more refl))
 
-width_part_is_read : (w : Option Width) (text more : List ℕ) → SpellsWidth w text → width_part more ≡ (None, more) →
+pub width_part_is_read : (w : Option Width) (text more : List ℕ) → SpellsWidth w text → width_part more ≡ (None, more) →
     width_part (text ++ more) ≡ (w, more)
 width_part_is_read None text more spelled none =
     subst (λ (xs : List ℕ). width_part (xs ++ more) ≡ (None, more)) (sym spelled) none

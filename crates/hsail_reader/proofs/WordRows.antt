@@ -40,7 +40,7 @@ pub contains_cases : {A : Type 0} (y x : A) (ys : List A) → Contains (y ∷ ys
 contains_cases y x ys (zero, lt, e) = inl e
 contains_cases y x ys (suc k, lt, e) = inr (k, omega arith, e)
 
-contains_none : {A : Type 0} (x : A) → Contains [] x → ⊥
+pub contains_none : {A : Type 0} (x : A) → Contains [] x → ⊥
 contains_none x c = omega (arith, c.1)
 
 contains_first : {A : Type 0} (y : A) (ys : List A) → Contains (y ∷ ys) y
