@@ -1,8 +1,7 @@
 -- What stands behind the stem of a row is read as it is spelled: the modifiers and the type of an instruction's word.
-use Rattle.std.proofs.Common.{◌≡◌, ℕ, ◌+◌, ⊎_elim, List, [], ◌∷◌, ◌++◌, Some, refl, sym, ap, subst, ◌∙◌, codes}
+use Rattle.std.proofs.Common.{◌≡◌, ℕ, ⊎_elim, List, [], ◌∷◌, ◌++◌, Some, refl, sym, ap, subst, ◌∙◌, codes}
 use Rattle.std.specs.List.{Contains}
 use Rattle.std.specs.Option.{option_map}
-use Rattle.hsail_reader.specs.Bytes.{behind}
 use Rattle.hsail_reader.specs.Rows.{types_of, type_name}
 use Rattle.hsail_reader.specs.Words.{type_at, align_part, width_part, modifiers_at, at_end, opcode_at}
 use Rattle.hsail_reader.specs.WordSpelling.{SpellsTypeBehind, SpellsBehindStem}
@@ -14,10 +13,10 @@ use Rattle.hsail_reader.specs.declared.types.DataType.{DataType}
 use Rattle.hsail_reader.specs.declared.types.DataType.TheVariants.{B1, B8, B16, B32, B64, U8, U16, U32, U64, S8, S16, S32, S64}
 use Rattle.hsail_reader.specs.declared.words.Opcode.{Opcode}
 use Rattle.hsail_reader.specs.declared.words.Opcode.TheVariants as opcode
-use Rattle.hsail_reader.specs.declared.words.Word.TheVariants as word
 use Rattle.hsail_reader.proofs.Reaches.{mapped}
 use Rattle.hsail_reader.proofs.Spelled.{nothing}
-use Rattle.hsail_reader.proofs.ModifierSpelling.{NoModifier, align_part_is_read, width_part_is_read, modifiers_are_read, align_is_found, width_is_found, modifiers_are_found}
+use Rattle.hsail_reader.proofs.ModifierSpelling.{NoModifier, align_part_is_read, width_part_is_read, modifiers_are_read}
+use Rattle.hsail_reader.proofs.ModifiersFound.{align_is_found, width_is_found, modifiers_are_found}
 use Rattle.hsail_reader.proofs.WordRows.{contains_cases, contains_none, type_is_read, type_behind_bar}
 
 -- no modifier stands where a type does
@@ -36,6 +35,7 @@ type_not_modifier S16 = (refl, refl)
 type_not_modifier S32 = (refl, refl)
 type_not_modifier S64 = (refl, refl)
 
+-- a type is read behind `_`
 type_at_is_read : (set : TypeSet) (t : DataType) (text : List ℕ) → SpellsTypeBehind [] set t text →
     type_at set text ≡ Some t
 type_at_is_read set t text (e, c) = ap (type_at set) e ∙ type_is_read set t c
@@ -44,11 +44,14 @@ type_at_is_read set t text (e, c) = ap (type_at set) e ∙ type_is_read set t c
 pub form_is_read : (f : Form) (code : Opcode) (text : List ℕ) → SpellsBehindStem f code text →
     opcode_at f text ≡ Some code
 form_is_read (form.Unary op set) (opcode.Unary o t) text (same, spelled) =
-    ap (option_map (opcode.Unary op)) (type_at_is_read set t text spelled) ∙ ap (λ x. Some (opcode.Unary x t)) (sym same)
+    ap (option_map (opcode.Unary op)) (type_at_is_read set t text spelled)
+    ∙ ap (λ x. Some (opcode.Unary x t)) (sym same)
 form_is_read (form.Binary op set) (opcode.Binary o t) text (same, spelled) =
-    ap (option_map (opcode.Binary op)) (type_at_is_read set t text spelled) ∙ ap (λ x. Some (opcode.Binary x t)) (sym same)
+    ap (option_map (opcode.Binary op)) (type_at_is_read set t text spelled)
+    ∙ ap (λ x. Some (opcode.Binary x t)) (sym same)
 form_is_read (form.Ternary op set) (opcode.Ternary o t) text (same, spelled) =
-    ap (option_map (opcode.Ternary op)) (type_at_is_read set t text spelled) ∙ ap (λ x. Some (opcode.Ternary x t)) (sym same)
+    ap (option_map (opcode.Ternary op)) (type_at_is_read set t text spelled)
+    ∙ ap (λ x. Some (opcode.Ternary x t)) (sym same)
 form_is_read (form.Load segment) (opcode.Load s m t) text (same, (modifiers, spelled, (e, c))) =
     let more = codes "_" ++ type_name t in
     ap (λ p. option_map (opcode.Load segment p.0) (type_at Memory p.1))
@@ -67,17 +70,21 @@ form_is_read form.ConditionalBranch (opcode.ConditionalBranch width) text (modif
     (ap width_part e ∙ width_part_is_read width modifier more spelled (type_not_modifier B1).1)
 form_is_read form.Return opcode.Return text e = ap (at_end opcode.Return) e
 form_is_read (form.Identify query set) (opcode.Identify q t) text (same, spelled) =
-    ap (option_map (opcode.Identify query)) (type_at_is_read set t text spelled) ∙ ap (λ x. Some (opcode.Identify x t)) (sym same)
+    ap (option_map (opcode.Identify query)) (type_at_is_read set t text spelled)
+    ∙ ap (λ x. Some (opcode.Identify x t)) (sym same)
 form_is_read _ _ text spelled = absurd spelled
 
+-- what is read is one instruction
 same_opcode : (a b : Opcode) → Some a ≡ Some b → a ≡ b
 same_opcode a b e = cc
 
+-- an instruction with nothing behind its stem
 at_end_is : (f : Form) (code other : Opcode) (text : List ℕ) → SpellsBehindStem f code [] →
     at_end code text ≡ Some other → SpellsBehindStem f other text
 at_end_is f code other [] spelled is = subst (λ x. SpellsBehindStem f x []) (same_opcode code other is) spelled
 at_end_is f code other (b ∷ text) spelled is = nothing other is
 
+-- the set of one bit has one type
 only_bit : (t : DataType) → Contains (types_of Bit) t → B1 ≡ t
 only_bit t c = ⊎_elim (λ e. e) (λ none. absurd (contains_none t none)) (contains_cases B1 t [] c)
 
@@ -116,8 +123,12 @@ form_is_spelled form.ConditionalBranch code text is =
     let m = mapped (λ (t : DataType). opcode.ConditionalBranch p.0) (type_at Bit p.1) code is in
     let f = width_is_found text in
     let b = type_behind_bar Bit p.1 m.0 m.1 in
-    subst (λ x. SpellsBehindStem form.ConditionalBranch x text) (same_opcode (opcode.ConditionalBranch p.0) code m.2)
-    (f.0, f.2, subst (λ t. SpellsTypeBehind f.0 Bit t text) (sym (only_bit m.0 b.1)) (f.1 ∙ ap (λ xs. f.0 ++ xs) b.0, b.1))
+    subst (λ x. SpellsBehindStem form.ConditionalBranch x text) (same_opcode (opcode.ConditionalBranch p.0) code m.2) (
+      f.0,
+      f.2,
+      subst (λ t. SpellsTypeBehind f.0 Bit t text) (sym (only_bit m.0 b.1))
+          (f.1 ∙ ap (λ xs. f.0 ++ xs) b.0, b.1),
+    )
 form_is_spelled form.Return code text is = at_end_is form.Return opcode.Return code text refl is
 form_is_spelled (form.Identify query set) code text is =
     let m = mapped (opcode.Identify query) (type_at set text) code is in

@@ -9,5 +9,6 @@ pub mod WordSpelled
 pub mod NumberSpelling
 pub mod WordRows
 pub mod ModifierSpelling
+pub mod ModifiersFound
 pub mod FormSpelling
 pub mod WordSpellings

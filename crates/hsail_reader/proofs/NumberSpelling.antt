@@ -41,6 +41,7 @@ digits_are_read radix value before (d ∷ digits) more pass ends fits some =
 first_value : (b : ℕ) (digits : List ℕ) → digits_value 10 (b ∷ digits) ≡ digits_value_after 10 (digit_value b) digits
 first_value b digits = ap (λ v. digits_value_after 10 v digits) (omega arith)
 
+-- a 0 as the first digit stands alone, and spells 0
 zero_alone : (n b : ℕ) (digits : List ℕ) → b ≡ 48 → digits ≡ [] → n ≡ digits_value 10 (b ∷ digits) →
     Some (numeral 0 1) ≡ Some (numeral n (length (b ∷ digits)))
 zero_alone n b digits zero' alone value =
@@ -87,6 +88,7 @@ decimal_number_is_read n text more spelled fits ends other =
     ap (λ o. numeral_behind o (text ++ more)) (no_hexadecimal text more spelled.0 other)
     ∙ decimal_is_read n text more spelled fits ends
 
+-- a hexadecimal number is read, by its digits
 hexadecimal_go : (n d : ℕ) (digits more : List ℕ) → is_digit d 16 ≡ true → AllPass (λ d. is_digit d 16) digits →
     n ≡ digits_value 16 (d ∷ digits) → n < 2 ^ 64 → begins_digit 16 more ≡ false →
     numeral_at (48 ∷ 120 ∷ d ∷ digits ++ more) ≡ Some (numeral n (length (48 ∷ 120 ∷ d ∷ digits)))
@@ -100,6 +102,7 @@ hexadecimal_go n d digits more first pass value fits ends =
     taken : {A : Type 0} (p : Bool) (x y : A) → p ≡ true → (if p then x else y) ≡ x
     taken p x y e = rw e refl
 
+-- the digits behind `0x` are what stands there
 same_digits : (x y : List ℕ) → 48 ∷ 120 ∷ x ≡ 48 ∷ 120 ∷ y → x ≡ y
 same_digits x y e = cc
 
@@ -119,6 +122,7 @@ number_before_bracket_is_read n text more (fits, inl spelled) =
 number_before_bracket_is_read n text more (fits, inr spelled) =
     hexadecimal_number_is_read n text (41 ∷ more) spelled fits refl
 
+-- what is read is one number
 same_numeral : (a b : Numeral) → Some a ≡ Some b → a ≡ b
 same_numeral a b e = cc
 
@@ -128,6 +132,7 @@ DigitsSpelled radix value before bytes m =
     (text : List ℕ) × (more : List ℕ) × (bytes ≡ text ++ more) × (before + length text ≡ m.length)
     × (m.value < 2 ^ 64) × AllPass (λ d. is_digit d radix) text × (m.value ≡ digits_value_after radix value text)
 
+-- where no digit stands, nothing more is read
 no_digits : (radix value before : ℕ) (bytes : List ℕ) (m : Numeral) → value < 2 ^ 64 →
     Some (numeral value before) ≡ Some m → DigitsSpelled radix value before bytes m
 no_digits radix value before bytes m fits is =
@@ -135,6 +140,7 @@ no_digits radix value before bytes m fits is =
     let values : m.value ≡ value = sym (ap (λ (n : Numeral). n.value) same) in
     ([], bytes, refl, omega (arith, numeral_length (numeral value before) m is), rw values fits, tt, values)
 
+-- what is read as digits is spelled by them
 digits_are_spelled : (radix value before : ℕ) (bytes : List ℕ) (m : Numeral) → value < 2 ^ 64 →
     digits_at radix value before bytes ≡ Some m → DigitsSpelled radix value before bytes m
 digits_are_spelled radix value before [] m fits is = no_digits radix value before [] m fits is
@@ -157,6 +163,7 @@ DecimalSpelled bytes m =
     (text : List ℕ) × (more : List ℕ) × (bytes ≡ text ++ more) × (length text ≡ m.length)
     × (m.value < 2 ^ 64) × SpellsDecimal m.value text
 
+-- a 0 in front is the decimal number 0
 zero_is_spelled : (b : ℕ) (bytes : List ℕ) (m : Numeral) → (b == 48) ≡ true → is_digit b 10 ≡ true →
     Some (numeral 0 1) ≡ Some m → DecimalSpelled (b ∷ bytes) m
 zero_is_spelled b bytes m zero' digit is =
@@ -198,17 +205,19 @@ abbrev NumberSpelled : List ℕ → Numeral → Type 0
 NumberSpelled bytes m =
     (text : List ℕ) × (more : List ℕ) × (bytes ≡ text ++ more) × (length text ≡ m.length) × SpellsNumber m.value text
 
+-- a decimal number that is read as a number
 decimal_number : (bytes : List ℕ) (m : Numeral) → decimal_at bytes ≡ Some m → NumberSpelled bytes m
 decimal_number bytes m is =
     let r = decimal_is_spelled bytes m is in (r.0, r.1, r.2, r.3, (r.4, inl r.5))
 
+-- a hexadecimal number that is read behind `0x`
 hexadecimal_number : (bytes : List ℕ) (d : ℕ) (rest : List ℕ) (m : Numeral) → bytes ≡ 48 ∷ 120 ∷ d ∷ rest →
     is_digit d 16 ≡ true → digits_at 16 0 2 (d ∷ rest) ≡ Some m → NumberSpelled bytes m
 hexadecimal_number bytes d rest m whole digit is =
+    let next = 0 * 16 + digit_value d in
     ⊎_elim
     (λ w. ⊎_elim
-    (λ v. let next = 0 * 16 + digit_value d in
-    let r = digits_are_spelled 16 next 3 rest m (ltb-true next (2 ^ 64) v.0) v.1 in (
+    (λ v. let r = digits_are_spelled 16 next 3 rest m (ltb-true next (2 ^ 64) v.0) v.1 in (
       48 ∷ 120 ∷ d ∷ r.0,
       r.1,
       whole ∙ ap (λ xs. 48 ∷ 120 ∷ d ∷ xs) r.2,
@@ -216,12 +225,13 @@ hexadecimal_number bytes d rest m whole digit is =
       (r.4, inr ((d, r.0, refl, digit, r.5), (d ∷ r.0, refl, r.6))),
     ))
     (λ v. nothing m v.1)
-    (chosen (nat_lt (0 * 16 + digit_value d) (2 ^ 64)) (digits_at 16 (0 * 16 + digit_value d) 3 rest) None (Some m) w.1))
+    (chosen (nat_lt next (2 ^ 64)) (digits_at 16 next 3 rest) None (Some m) w.1))
     (λ w. true_is_not_false (is_digit d 16) digit w.0)
     (chosen (is_digit d 16)
-    (if nat_lt (0 * 16 + digit_value d) (2 ^ 64) then digits_at 16 (0 * 16 + digit_value d) 3 rest else None)
+    (if nat_lt next (2 ^ 64) then digits_at 16 next 3 rest else None)
     (Some (numeral 0 2)) (Some m) is)
 
+-- a number by what stands behind `0x`, if that stands in front
 number_go : (o : Option (List ℕ)) (bytes : List ℕ) (m : Numeral) → behind (codes "0x") bytes ≡ o →
     numeral_behind o bytes ≡ Some m → NumberSpelled bytes m
 number_go None bytes m found is = decimal_number bytes m is

@@ -1,6 +1,6 @@
 -- The rows of the table spell different words, and so do the types of a set: the first that spells a text
 -- is the one that does.
-use Rattle.std.proofs.Common.{◌≡◌, ℕ, zero, suc, ◌<◌, ◌⊎◌, inl, inr, ⊎_elim, List, [], ◌∷◌, ◌++◌, length, Bool, true, false, ◌&&◌, ◌||◌, not, ◌==◌, if◌then◌else◌, Option, Some, None, refl, sym, ap, subst, ◌∙◌, codes, append-nil, arith}
+use Rattle.std.proofs.Common.{◌≡◌, ℕ, zero, suc, ◌⊎◌, inl, inr, ⊎_elim, List, [], ◌∷◌, ◌++◌, Bool, true, false, ◌&&◌, ◌||◌, not, ◌==◌, if◌then◌else◌, Option, Some, None, refl, sym, ap, subst, ◌∙◌, codes, append-nil, arith}
 use Rattle.std.proofs.lemmas.Bool.Decides.{eqb_tells}
 use Rattle.std.specs.List.{Contains}
 use Rattle.hsail_reader.specs.Bytes.{behind, ◌>>=◌}
@@ -40,15 +40,19 @@ pub contains_cases : {A : Type 0} (y x : A) (ys : List A) → Contains (y ∷ ys
 contains_cases y x ys (zero, lt, e) = inl e
 contains_cases y x ys (suc k, lt, e) = inr (k, omega arith, e)
 
+-- the empty list has no elements
 pub contains_none : {A : Type 0} (x : A) → Contains [] x → ⊥
 contains_none x c = omega (arith, c.1)
 
+-- a list has its first element
 contains_first : {A : Type 0} (y : A) (ys : List A) → Contains (y ∷ ys) y
 contains_first y ys = (0, omega arith, refl)
 
+-- a list has the elements of its rest
 contains_later : {A : Type 0} (y x : A) (ys : List A) → Contains ys x → Contains (y ∷ ys) x
 contains_later y x ys c = (suc c.0, omega (arith, c.1), c.2)
 
+-- a conjunction holds where both of its parts do
 both : (p q : Bool) → (p && q) ≡ true → (p ≡ true) × (q ≡ true)
 both true q e = (refl, e)
 both false q e = true_is_not_false false e refl
@@ -90,7 +94,8 @@ row_is_read (r ∷ others) row rest code e c is =
     (λ (here : opcode_at r.form rest ≡ Some code).
     let after = opcode_among others (r.stem ++ rest) in
     ap (λ o. or_else (o >>= opcode_at r.form) after) (behind_front r.stem rest) ∙ ap (λ o. or_else o after) here) is)
-    (λ (later : Contains others row). ap (λ o. or_else (o >>= opcode_at r.form) (opcode_among others (row.stem ++ rest)))
+    (λ (later : Contains others row).
+    ap (λ o. or_else (o >>= opcode_at r.form) (opcode_among others (row.stem ++ rest)))
     (clashes_not_behind r.stem others row rest parts.0 later)
     ∙ row_is_read others row rest code parts.1 later is)
     (contains_cases r row others c)
@@ -101,6 +106,7 @@ RowFound rows text code =
     (row : InstructionRow) × (rest : List ℕ) × Contains rows row × (text ≡ row.stem ++ rest)
     × (opcode_at row.form rest ≡ Some code)
 
+-- the row found, by what the first row reads
 row_go : (r : InstructionRow) (others : List InstructionRow) (text : List ℕ) (code : Opcode) (o : Option Opcode) →
     (behind r.stem text >>= opcode_at r.form) ≡ o → or_else o (opcode_among others text) ≡ Some code →
     (opcode_among others text ≡ Some code → RowFound others text code) → RowFound (r ∷ others) text code
@@ -126,9 +132,11 @@ spelled_is spelling text e = go (behind spelling text) refl e
     go (Some []) found e = behind_parts spelling text [] found ∙ append-nil spelling
     go (Some (b ∷ rest)) found e = true_is_not_false false e refl
 
+-- a text is spelled as itself
 pub spells_itself : (text : List ℕ) → is_spelled text text ≡ true
 spells_itself text = ap is_end (ap (behind text) (sym (append-nil text)) ∙ behind_front text [])
 
+-- a text that differs from another is not spelled so
 clash_not_spelled : (spelling text : List ℕ) → clash spelling text ≡ true → is_spelled spelling text ≡ false
 clash_not_spelled spelling text e =
     ap is_end (ap (behind spelling) (sym (append-nil text)) ∙ clash_not_behind spelling text [] e)
@@ -138,10 +146,12 @@ abbrev names_clash : DataType → List DataType → Bool
 names_clash t [] = true
 names_clash t (u ∷ types) = clash (type_name t) (type_name u) && names_clash t types
 
+-- the names of these types differ from one another
 abbrev names_differ : List DataType → Bool
 names_differ [] = true
 names_differ (t ∷ types) = names_clash t types && names_differ types
 
+-- so no other of these types is spelled so
 name_not_spelled : (t u : DataType) (types : List DataType) → names_clash t types ≡ true → Contains types u →
     is_spelled (type_name t) (type_name u) ≡ false
 name_not_spelled t u [] e c = absurd (contains_none u c)
@@ -153,12 +163,15 @@ name_not_spelled t u (v ∷ types) e c =
     (λ (later : Contains types u). name_not_spelled t u types parts.1 later)
     (contains_cases v u types c)
 
+-- the first branch of a test that holds
 taken : {A : Type 0} (p : Bool) (x y : A) → p ≡ true → (if p then x else y) ≡ x
 taken p x y e = rw e refl
 
+-- the other branch of a test that does not hold
 passed : {A : Type 0} (p : Bool) (x y : A) → p ≡ false → (if p then x else y) ≡ y
 passed p x y e = rw e refl
 
+-- where the names differ, a name is read as its type
 name_is_read : (types : List DataType) (t : DataType) → names_differ types ≡ true → Contains types t →
     type_among types (type_name t) ≡ Some t
 name_is_read [] t e c = absurd (contains_none t c)
@@ -174,6 +187,7 @@ name_is_read (u ∷ types) t e c =
     ∙ name_is_read types t parts.1 later)
     (contains_cases u t types c)
 
+-- the names of the types of a set differ
 types_differ : (set : TypeSet) → names_differ (types_of set) ≡ true
 types_differ Bit = refl
 types_differ Bits = refl
