@@ -20,3 +20,9 @@ pub mod OperationsSpelled
 pub mod ItemsSpelled
 pub mod KernelsSpelled
 pub mod ModuleSpelled
+pub mod NumberSpelling
+pub mod WordRows
+pub mod ModifierSpelling
+pub mod ModifiersFound
+pub mod FormSpelling
+pub mod WordSpellings

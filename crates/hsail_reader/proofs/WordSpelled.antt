@@ -18,20 +18,20 @@ use Rattle.hsail_reader.proofs.Spelled.{behind_parts, nothing, number_read}
 use Rattle.hsail_reader.proofs.WordReaches.{piece_if, width_length_of}
 
 -- the bracket behind a value
-bracket_parts : (inside text more rest : List ℕ) (n : ℕ) → inside ≡ text ++ more → length text ≡ n →
+pub bracket_parts : (inside text more rest : List ℕ) (n : ℕ) → inside ≡ text ++ more → length text ≡ n →
     behind (codes ")") (drop n inside) ≡ Some rest → more ≡ 41 ∷ rest
 bracket_parts inside text more rest n parts counts is =
     let there : drop n inside ≡ more =
     ap (drop n) parts ∙ ap (λ k. drop k (text ++ more)) (sym counts) ∙ drop-append_seam text more in
     sym there ∙ behind_parts (codes ")") (drop n inside) rest is
 
-bracket_again : (text after : List ℕ) (n : ℕ) → length text ≡ n →
+pub bracket_again : (text after : List ℕ) (n : ℕ) → length text ≡ n →
     behind (codes ")") (drop n (text ++ 41 ∷ after)) ≡ Some after
 bracket_again text after n counts =
     ap (λ k. behind (codes ")") (drop k (text ++ 41 ∷ after))) (sym counts)
     ∙ ap (behind (codes ")")) (drop-append_seam text (41 ∷ after))
 
-joined : (front bytes inside text more rest : List ℕ) → bytes ≡ front ++ inside → inside ≡ text ++ more →
+pub joined : (front bytes inside text more rest : List ℕ) → bytes ≡ front ++ inside → inside ≡ text ++ more →
     more ≡ 41 ∷ rest → bytes ≡ front ++ ((text ++ 41 ∷ []) ++ rest)
 joined front bytes inside text more rest whole parts close =
     whole ∙ ap (λ xs. front ++ xs)
@@ -79,7 +79,7 @@ record ValueRead (bytes : List ℕ) (w : SpelledWidth) : Type 0 where
   counts : length text ≡ w.length
   again : (after : List ℕ) → width_value_at (text ++ 41 ∷ after) ≡ Some w
 
-some_rest : (o : Option (List ℕ)) → is_some o ≡ true → (rest : List ℕ) × (o ≡ Some rest)
+pub some_rest : (o : Option (List ℕ)) → is_some o ≡ true → (rest : List ℕ) × (o ≡ Some rest)
 some_rest None is = absurd (no' is)
   where
     no' : false ≡ true → ⊥
@@ -108,7 +108,7 @@ skipped : {A : Type 0} (p q : Bool) (x y z : A) → p ≡ false → q ≡ false 
     (if p then x else if q then y else z) ≡ z
 skipped p q x y z no' nor = rw (no', nor) refl
 
-number_value : (text after : List ℕ) (n : Numeral) (w : SpelledWidth) → IsNumber text →
+pub number_value : (text after : List ℕ) (n : Numeral) (w : SpelledWidth) → IsNumber text →
     numeral_at (text ++ 41 ∷ after) ≡ Some n → Some (spelled_width (Number n.value) n.length) ≡ Some w →
     width_value_at (text ++ 41 ∷ after) ≡ Some w
 number_value text after n w spelled number is =

@@ -1,0 +1,166 @@
+-- A text is read as the word that it spells, and as no other.
+use Rattle.std.proofs.Common.{◌≡◌, ℕ, ◌+◌, ⊎_elim, List, [], ◌∷◌, ◌++◌, length, true, false, ◌==◌, if◌then◌else◌, Option, Some, None, refl, sym, ap, subst, ◌∙◌, codes, append-nil, length-append, arith}
+use Rattle.std.proofs.lemmas.Bool.{eqb-true}
+use Rattle.std.proofs.lemmas.Bool.Decides.{eqb_tells}
+use Rattle.std.specs.List.{Contains}
+use Rattle.std.specs.Option.{is_some}
+use Rattle.hsail_reader.specs.Bytes.{behind, align_at}
+use Rattle.hsail_reader.specs.Rows.{InstructionRow, rows, types_of}
+use Rattle.hsail_reader.specs.Words.{is_spelled, is_end, type_among, opcode_among, instruction_at, argument_word, instruction_word, other_word, named_word, word_of}
+use Rattle.hsail_reader.specs.WordSpelling.{SpellsNumber, SpellsBehindStem, SpellsWord, stands_in_modules}
+use Rattle.hsail_reader.specs.declared.rows.TypeSet.TheVariants.{Memory}
+use Rattle.hsail_reader.specs.declared.token.Numeral.{Numeral}
+use Rattle.hsail_reader.specs.declared.types.DataType.{DataType}
+use Rattle.hsail_reader.specs.declared.words.Opcode.{Opcode}
+use Rattle.hsail_reader.specs.declared.words.Word.{Word}
+use Rattle.hsail_reader.specs.declared.words.Word.TheVariants as word
+use Rattle.hsail_reader.proofs.FormSpelling.{form_is_read, form_is_spelled}
+use Rattle.hsail_reader.proofs.ModifierSpelling.{align_is_read}
+use Rattle.hsail_reader.proofs.ModifiersFound.{align_is_spelled}
+use Rattle.hsail_reader.proofs.Reaches.{chosen, true_is_not_false}
+use Rattle.hsail_reader.proofs.Spelled.{behind_parts}
+use Rattle.hsail_reader.proofs.WordRows.{clashes_all, clashes_not_behind, row_is_read, row_is_found, spelled_is, type_is_read, type_is_found}
+
+-- equal numbers pass the test
+same_tested : (a b : ℕ) → a ≡ b → (a == b) ≡ true
+same_tested a b e = ⊎_elim (λ w. w.0) (λ w. absurd (w.1 e)) (eqb_tells a b)
+
+-- align(n) is read as a word
+align_word : (n : ℕ) (number : List ℕ) → SpellsNumber n number →
+    word_of (codes "align(" ++ (number ++ codes ")")) ≡ word.Align n
+align_word n number spelled =
+    let text = codes "align(" ++ (number ++ codes ")") in
+    let whole : length number + 7 ≡ length text = omega (arith, length-append number (codes ")")) in
+    ap (λ o. named_word o text)
+    (ap (λ xs. align_at (codes "align(" ++ xs)) (sym (append-nil (number ++ codes ")")))
+    ∙ align_is_read n number [] spelled)
+    ∙ ap (λ p. if p then word.Align n else word.Unknown) (same_tested (length number + 7) (length text) whole)
+
+-- the tests before the words of instructions
+word_steps : (text : List ℕ) (w : Word) → is_spelled (codes "module") text ≡ false →
+    is_spelled (codes "prog") text ≡ false → is_spelled (codes "kernel") text ≡ false → align_at text ≡ None →
+    behind (codes "kernarg_") text ≡ None → behind (codes "group_") text ≡ None →
+    instruction_word (instruction_at text) ≡ w → word_of text ≡ w
+word_steps text w m p k a r g is = rw (m, p, k, a, r, g) is
+
+-- the row that spells the word of an instruction reads it
+instruction_steps : (row : InstructionRow) (rest : List ℕ) (code : Opcode) → Contains rows row →
+    SpellsBehindStem row.form code rest → instruction_at (row.stem ++ rest) ≡ Some code
+unfolding instruction_at
+instruction_steps row rest code c spelled =
+    row_is_read rows row rest code refl c (form_is_read row.form code rest spelled)
+
+-- no align(n) is read where its name does not stand
+no_align : (bytes : List ℕ) → behind (codes "align(") bytes ≡ None → align_at bytes ≡ None
+no_align bytes e = rw e
+
+-- the word of an instruction is read
+instruction_is_read : (row : InstructionRow) (rest : List ℕ) (code : Opcode) → Contains rows row →
+    SpellsBehindStem row.form code rest → word_of (row.stem ++ rest) ≡ word.Instruction code
+instruction_is_read row rest code c spelled =
+    let not_behind =
+    λ (front : List ℕ) (e : clashes_all front rows ≡ true). clashes_not_behind front rows row rest e c in
+    word_steps (row.stem ++ rest) (word.Instruction code)
+    (ap is_end (not_behind (codes "module") refl))
+    (ap is_end (not_behind (codes "prog") refl))
+    (ap is_end (not_behind (codes "kernel") refl))
+    (no_align (row.stem ++ rest) (not_behind (codes "align(") refl))
+    (not_behind (codes "kernarg_") refl)
+    (not_behind (codes "group_") refl)
+    (ap instruction_word (instruction_steps row rest code c spelled))
+
+-- a text is read as the word that it spells
+pub word_is_read : (w : Word) (text : List ℕ) → SpellsWord w text → word_of text ≡ w
+word_is_read word.Module text e = ap word_of e
+word_is_read word.Prog text e = ap word_of e
+word_is_read word.Kernel text e = ap word_of e
+word_is_read (word.Align n) text (number, e, spelled) = ap word_of e ∙ align_word n number spelled
+word_is_read (word.Argument t) text (e, c) = ap word_of e ∙ ap argument_word (type_is_read Memory t c)
+word_is_read (word.Instruction code) text (row, rest, c, e, spelled) =
+    ap word_of e ∙ instruction_is_read row rest code c spelled
+word_is_read word.Outside text spelled = absurd spelled
+word_is_read word.Unknown text spelled = absurd spelled
+
+-- a text spells a word that is the one it spells
+spelled_of : (w other : Word) (text : List ℕ) → SpellsWord w text → w ≡ other → SpellsWord other text
+spelled_of w other text spelled e = subst (λ x. SpellsWord x text) e spelled
+
+-- a word that stands in no module is not one that does
+outside : (w other : Word) (text : List ℕ) → stands_in_modules w ≡ false → w ≡ other → stands_in_modules other ≡ true →
+    SpellsWord other text
+outside w other text no' e stands = true_is_not_false (stands_in_modules w) (ap stands_in_modules e ∙ stands) no'
+
+-- a list of length 0 is empty
+no_more : (xs : List ℕ) → length xs ≡ 0 → xs ≡ []
+no_more [] e = refl
+no_more (x ∷ xs) e = absurd (omega (arith, e))
+
+-- align(n) as a word is spelled
+align_is_word : (text : List ℕ) (m : Numeral) → align_at text ≡ Some m → m.length ≡ length text →
+    SpellsWord (word.Align m.value) text
+align_is_word text m is whole =
+    let r = align_is_spelled text m is in
+    let inside = r.0 ++ codes ")" in
+    let long = length-append inside r.1 in
+    let none : length r.1 ≡ 0 = omega (arith, whole, r.3, ap length r.2, long, length-append r.0 (codes ")")) in
+    let empty = no_more r.1 none in (
+      r.0,
+      r.2 ∙ ap (λ xs. codes "align(" ++ (inside ++ xs)) empty ∙ ap (λ xs. codes "align(" ++ xs) (append-nil inside),
+      r.4,
+    )
+
+-- a word behind `kernarg_` is spelled
+argument_is_spelled : (text rest : List ℕ) (o : Option DataType) (w : Word) → text ≡ codes "kernarg_" ++ rest →
+    type_among (types_of Memory) rest ≡ o → argument_word o ≡ w → stands_in_modules w ≡ true → SpellsWord w text
+argument_is_spelled text rest None w parts found e stands = outside word.Outside w text refl e stands
+argument_is_spelled text rest (Some t) w parts found e stands =
+    let f = type_is_found (types_of Memory) rest t found in
+    spelled_of (word.Argument t) w text (parts ∙ ap (λ xs. codes "kernarg_" ++ xs) f.0, f.1) e
+
+-- the word of an instruction is spelled
+instruction_is_spelled : (text : List ℕ) (o : Option Opcode) (w : Word) → opcode_among rows text ≡ o →
+    instruction_word o ≡ w → stands_in_modules w ≡ true → SpellsWord w text
+instruction_is_spelled text None w found e stands = outside word.Unknown w text refl e stands
+instruction_is_spelled text (Some code) w found e stands =
+    let f = row_is_found rows text code found in
+    spelled_of (word.Instruction code) w text (f.0, f.1, f.2, f.3, form_is_spelled f.0.form code f.1 f.4) e
+
+-- a word that is not align(n) is spelled
+other_is_spelled : (o : Option (List ℕ)) (text : List ℕ) (w : Word) → behind (codes "kernarg_") text ≡ o →
+    other_word o text ≡ w → stands_in_modules w ≡ true → SpellsWord w text
+unfolding instruction_at
+other_is_spelled (Some rest) text w found e stands =
+    argument_is_spelled text rest (type_among (types_of Memory) rest) w
+    (behind_parts (codes "kernarg_") text rest found) refl e stands
+other_is_spelled None text w found e stands =
+    ⊎_elim
+    (λ g. outside word.Outside w text refl g.1 stands)
+    (λ g. instruction_is_spelled text (opcode_among rows text) w refl g.1 stands)
+    (chosen (is_some (behind (codes "group_") text)) word.Outside (instruction_word (instruction_at text)) w e)
+
+-- a word that is not one of a module's beginning is spelled
+named_is_spelled : (o : Option Numeral) (text : List ℕ) (w : Word) → align_at text ≡ o → named_word o text ≡ w →
+    stands_in_modules w ≡ true → SpellsWord w text
+named_is_spelled (Some n) text w found e stands =
+    ⊎_elim
+    (λ g. spelled_of (word.Align n.value) w text (align_is_word text n found (eqb-true n.length (length text) g.0)) g.1)
+    (λ g. outside word.Unknown w text refl g.1 stands)
+    (chosen (n.length == length text) (word.Align n.value) word.Unknown w e)
+named_is_spelled None text w found e stands = other_is_spelled (behind (codes "kernarg_") text) text w refl e stands
+
+-- a text spells the word that it is read as, if that word stands in modules
+pub word_is_spelled : (w : Word) (text : List ℕ) → word_of text ≡ w → stands_in_modules w ≡ true → SpellsWord w text
+word_is_spelled w text e stands =
+    let named = named_word (align_at text) text in
+    let kernel = if is_spelled (codes "kernel") text then word.Kernel else named in
+    let prog = if is_spelled (codes "prog") text then word.Prog else kernel in
+    ⊎_elim
+    (λ m. spelled_of word.Module w text (spelled_is (codes "module") text m.0) m.1)
+    (λ m. ⊎_elim
+    (λ p. spelled_of word.Prog w text (spelled_is (codes "prog") text p.0) p.1)
+    (λ p. ⊎_elim
+    (λ k. spelled_of word.Kernel w text (spelled_is (codes "kernel") text k.0) k.1)
+    (λ k. named_is_spelled (align_at text) text w refl k.1 stands)
+    (chosen (is_spelled (codes "kernel") text) word.Kernel named w p.1))
+    (chosen (is_spelled (codes "prog") text) word.Prog kernel w m.1))
+    (chosen (is_spelled (codes "module") text) word.Module prog w e)
