@@ -6,3 +6,6 @@ pub mod Reaches
 pub mod WordReaches
 pub mod Spelled
 pub mod WordSpelled
+pub mod FirstBytes
+pub mod NumberSpelling
+pub mod LexemeFronts
