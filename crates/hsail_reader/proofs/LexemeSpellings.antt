@@ -1,5 +1,5 @@
 -- The lexeme that is found at the front of some bytes is a lexeme of its kind.
-use Rattle.std.proofs.Common.{◌≡◌, ℕ, ◌+◌, ◌^◌, ◌<◌, ◌⊎◌, inl, inr, ⊎_elim, List, [], ◌∷◌, ◌++◌, length, drop, Bool, true, false, ◌==◌, Option, Some, None, refl, sym, ap, subst, ◌∙◌, codes, arith}
+use Rattle.std.proofs.Common.{◌≡◌, ℕ, ◌+◌, ◌^◌, ◌<◌, ◌⊎◌, inl, inr, ⊎_elim, List, [], ◌∷◌, ◌++◌, length, drop, Bool, true, false, ◌==◌, if◌then◌else◌, Option, Some, None, refl, sym, ap, subst, ◌∙◌, codes, arith}
 use Rattle.std.proofs.lemmas.Bool.{cases_Bool}
 use Rattle.std.proofs.lemmas.Bool.Decides.{eqb_tells}
 use Rattle.std.specs.List.{prefix_len}
@@ -138,11 +138,118 @@ register_spelled (c ∷ bytes) found is =
     )
 
 -- each word of the header has its spelling behind the dollar
-AreNamed : List HeaderWord → Type 0
-unfolding AreNamed
+abbrev AreNamed : List HeaderWord → Type 0
 AreNamed [] = Unit {0}
 AreNamed (h ∷ words) = (36 ∷ h.name ≡ header_name h.header) × AreNamed words
 
 some_rest : (o : Option (List ℕ)) → is_some o ≡ true → (rest : List ℕ) × (o ≡ Some rest)
 some_rest None is = cc
 some_rest (Some rest) is = (rest, refl)
+
+header_spelled : (words : List HeaderWord) (bytes : List ℕ) (found : Lexeme) → AreNamed words →
+    header_among words bytes ≡ Some found → FoundSpelled (36 ∷ bytes) found
+header_spelled [] bytes found named is = nothing found is
+header_spelled (h ∷ words) bytes found named is =
+    ⊎_elim
+    (λ yes'. let l = lexed (Token (token.Header h.header)) (length h.name + 1) in
+    let e : Some l ≡ Some found = rw yes' at is in
+    let rest = some_rest (behind h.name bytes) yes' in
+    the_found (36 ∷ bytes) l found e (
+      36 ∷ h.name,
+      rest.0,
+      ap (λ xs. 36 ∷ xs) (behind_parts h.name bytes rest.0 rest.1),
+      omega arith,
+      named.0,
+      tt,
+    ))
+    (λ no'. header_spelled words bytes found named.1 (rw no' at is))
+    (cases_Bool (is_some (behind h.name bytes)))
+
+either : (o other : Option Lexeme) (found : Lexeme) → or_else o other ≡ Some found →
+    (o ≡ Some found) ⊎ (other ≡ Some found)
+either None other found is = inr is
+either (Some l) other found is = inl is
+
+dollar_spelled : (bytes : List ℕ) (found : Lexeme) → dollar_at bytes ≡ Some found → FoundSpelled (36 ∷ bytes) found
+dollar_spelled bytes found is =
+    ⊎_elim (register_spelled bytes found)
+    (header_spelled header_words bytes found (refl, (refl, (refl, (refl, (refl, (refl, tt)))))))
+    (either (register_at bytes) (header_among header_words bytes) found is)
+
+number_spelled : (bytes : List ℕ) (found : Lexeme) → number_at bytes ≡ Some found → FoundSpelled bytes found
+number_spelled bytes found is =
+    let m = mapped (λ (n : Numeral). lexed (Token (token.Number n.value)) n.length) (numeral_at bytes) found is in
+    let r = number_is_spelled bytes m.0 m.1 in
+    the_found bytes (lexed (Token (token.Number m.0.value)) m.0.length) found m.2
+    (r.0, r.1, r.2, r.3, r.4.1, r.4.0)
+
+pub word_kind : (a : Option Numeral) (bytes : List ℕ) → Token token.Word ≡ (word_of a bytes).kind
+word_kind None bytes = refl
+word_kind (Some n) bytes = refl
+
+word_spelled : (b : ℕ) (bytes : List ℕ) (found : Lexeme) → is_name_start b ≡ true → Some (word_at (b ∷ bytes)) ≡ Some found →
+    FoundSpelled (b ∷ bytes) found
+word_spelled b bytes found starts is =
+    let r = words (b ∷ bytes) found (rw starts is) in
+    of_kind (Token token.Word) (b ∷ bytes) r.0 r.1 found
+    (word_kind (align_at (b ∷ bytes)) (b ∷ bytes) ∙ same_kind (word_at (b ∷ bytes)) found is)
+    r.2 (omega (arith, r.4)) r.3 tt
+
+one_byte_spelled : (b : ℕ) (bytes : List ℕ) (kind : LexemeKind) (found : Lexeme) → IsLexeme kind (b ∷ []) →
+    IsWithin64Bits kind → Some (lexed kind 1) ≡ Some found → FoundSpelled (b ∷ bytes) found
+one_byte_spelled b bytes kind found is_one within is =
+    the_found (b ∷ bytes) (lexed kind 1) found is (b ∷ [], bytes, refl, refl, is_one, within)
+
+-- behind another first byte
+behind_byte : (b c : ℕ) (bytes : List ℕ) (found : Lexeme) → b ≡ c → FoundSpelled (c ∷ bytes) found → FoundSpelled (b ∷ bytes) found
+behind_byte b c bytes found e = subst (λ x. FoundSpelled (x ∷ bytes) found) (sym e)
+
+-- behind a byte that is no blank, and begins no comment, name or register
+plain_spelled : (b : ℕ) (bytes : List ℕ) (found : Lexeme) →
+    (if is_mark b then Some (lexed (Token (token.Mark b)) 1)
+    else if is_name_start b then Some (word_at (b ∷ bytes))
+    else number_at (b ∷ bytes)) ≡ Some found → FoundSpelled (b ∷ bytes) found
+plain_spelled b bytes found is =
+    ⊎_elim
+    (λ mark. one_byte_spelled b bytes (Token (token.Mark b)) found (refl, mark) tt (rw mark at is))
+    (λ (other : is_mark b ≡ false). ⊎_elim
+    (λ starts. word_spelled b bytes found starts (rw (other, starts) at is))
+    (λ (plain : is_name_start b ≡ false). number_spelled (b ∷ bytes) found (rw (other, plain) at is))
+    (cases_Bool (is_name_start b)))
+    (cases_Bool (is_mark b))
+
+-- behind a byte that is no blank, and begins no comment
+sign_spelled : (b : ℕ) (bytes : List ℕ) (found : Lexeme) →
+    (if b == 38 then name_at token.Global bytes
+    else if b == 37 then name_at token.Variable bytes
+    else if b == 64 then name_at token.Label bytes
+    else if b == 36 then dollar_at bytes
+    else if is_mark b then Some (lexed (Token (token.Mark b)) 1)
+    else if is_name_start b then Some (word_at (b ∷ bytes))
+    else number_at (b ∷ bytes)) ≡ Some found → FoundSpelled (b ∷ bytes) found
+sign_spelled b bytes found is =
+    ⊎_elim
+    (λ u. behind_byte b 38 bytes found u.1 (global_spelled bytes found (rw u.0 at is)))
+    (λ u. ⊎_elim
+    (λ v. behind_byte b 37 bytes found v.1 (variable_spelled bytes found (rw (u.0, v.0) at is)))
+    (λ v. ⊎_elim
+    (λ w. behind_byte b 64 bytes found w.1 (label_spelled bytes found (rw (u.0, v.0, w.0) at is)))
+    (λ w. ⊎_elim
+    (λ x. behind_byte b 36 bytes found x.1 (dollar_spelled bytes found (rw (u.0, v.0, w.0, x.0) at is)))
+    (λ x. plain_spelled b bytes found (rw (u.0, v.0, w.0, x.0) at is))
+    (eqb_tells b 36))
+    (eqb_tells b 64))
+    (eqb_tells b 37))
+    (eqb_tells b 38)
+
+-- a front of the length that is found is a lexeme of the kind that is found
+pub found_is_lexeme : (bytes : List ℕ) (found : Lexeme) → lexeme_at bytes ≡ Some found → FoundSpelled bytes found
+found_is_lexeme [] found is = nothing found is
+found_is_lexeme (b ∷ bytes) found is =
+    ⊎_elim
+    (λ blank. one_byte_spelled b bytes Blank found (b, refl, blank) tt (rw blank at is))
+    (λ (other : is_blank b ≡ false). ⊎_elim
+    (λ w. behind_byte b 47 bytes found w.1 (comment_spelled bytes found (rw (other, w.0) at is)))
+    (λ w. sign_spelled b bytes found (rw (other, w.0) at is))
+    (eqb_tells b 47))
+    (cases_Bool (is_blank b))

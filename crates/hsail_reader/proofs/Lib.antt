@@ -9,3 +9,5 @@ pub mod WordSpelled
 pub mod FirstBytes
 pub mod NumberSpelling
 pub mod LexemeFronts
+pub mod LexemeSpellings
+pub mod LexemeFound
