@@ -64,7 +64,8 @@ is_plain test b passes blanks slash ampersand percent at' dollar = record {
 pub at_blank : (b : ℕ) (bytes : List ℕ) → is_blank b ≡ true → lexeme_at (b ∷ bytes) ≡ Some (lexed Blank 1)
 at_blank b bytes blank = rw blank refl
 
-pub at_mark : (b : ℕ) (bytes : List ℕ) → is_mark b ≡ true → lexeme_at (b ∷ bytes) ≡ Some (lexed (Token (token.Mark b)) 1)
+pub at_mark : (b : ℕ) (bytes : List ℕ) → is_mark b ≡ true →
+    lexeme_at (b ∷ bytes) ≡ Some (lexed (Token (token.Mark b)) 1)
 at_mark b bytes mark =
     let p = is_plain is_mark b mark (refl, (refl, (refl, (refl, tt)))) refl refl refl refl refl in
     rw (p.blank, p.slash, p.ampersand, p.percent, p.at, p.dollar, mark) refl

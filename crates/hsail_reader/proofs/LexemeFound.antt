@@ -55,7 +55,8 @@ decimal_found n (b ∷ digits) more spelled fits ends =
     (eqb_tells b 48)
   where
     no_digit : (b ≡ 48 → ⊥) → (more : List ℕ) →
-        ((c : ℕ) (rest : List ℕ) → more ≡ c ∷ rest → IsDecimal (b ∷ digits ++ c ∷ []) → ⊥) → begins_digit 10 more ≡ false
+        ((c : ℕ) (rest : List ℕ) → more ≡ c ∷ rest → IsDecimal (b ∷ digits ++ c ∷ []) → ⊥) →
+        begins_digit 10 more ≡ false
     no_digit other [] ends = refl
     no_digit other (c ∷ more) ends =
         ⊎_elim
@@ -73,6 +74,7 @@ decimal_number_found n text more spelled fits longest = by (behind (codes "0x") 
     decimal = decimal_found n text more spelled fits (λ c rest e is.
         no_longer (Token (token.Number (digits_value 10 (text ++ c ∷ [])))) text rest c
         (subst (λ xs. IsLongestFront text (text ++ xs)) e longest) (inl (is, refl)))
+
     by : (o : Option (List ℕ)) → behind (codes "0x") (text ++ more) ≡ o →
         numeral_behind o (text ++ more) ≡ Some (numeral n (length text))
     by None e = decimal
@@ -102,7 +104,10 @@ hexadecimal_number_found n text more spelled fits longest =
         let whole : text ++ c ∷ [] ≡ 48 ∷ 120 ∷ d ∷ (digits ++ c ∷ []) = ap (λ xs. xs ++ c ∷ []) e in
         let all = d ∷ (digits ++ c ∷ []) in
         absurd (no_longer (Token (token.Number (digits_value 16 all))) text more c longest
-        (inr ((d, digits ++ c ∷ [], whole, first, pass_more (λ d. is_digit d 16) digits c pass digit), (all, whole, refl)))))
+        (inr (
+          (d, digits ++ c ∷ [], whole, first, pass_more (λ d. is_digit d 16) digits c pass digit),
+          (all, whole, refl),
+        ))))
         (λ no'. no')
         (cases_Bool (is_digit c 16))
 
@@ -140,3 +145,73 @@ register_read : (class : RegisterClass) (digits more : List ℕ) (n : Numeral) �
 register_read Control digits more n is = ap (λ o. o >>= λ (m : Numeral). Some (register Control m)) is
 register_read Single digits more n is = ap (λ o. o >>= λ (m : Numeral). Some (register Single m)) is
 register_read Double digits more n is = ap (λ o. o >>= λ (m : Numeral). Some (register Double m)) is
+
+register_found : (class : RegisterClass) (digits more : List ℕ) (n : ℕ) → SpellsDecimal n digits → n < 2 ^ 64 →
+    IsLongestFront (class_name class ++ digits) ((class_name class ++ digits) ++ more) →
+    IsFound (Token (token.Register (record { class = class; number = n }))) ((class_name class ++ digits) ++ more)
+register_found class [] more n spelled fits longest = absurd spelled.0
+register_found class (b ∷ digits) more n spelled fits longest =
+    let found = at_register class b digits more spelled.0.0 ∙ register_read class (b ∷ digits) more read decimal in
+    (register class read, found, refl)
+  where
+    text : List ℕ
+    text = class_name class ++ b ∷ digits
+
+    read : Numeral
+    read = numeral n (length (b ∷ digits))
+
+    decimal : decimal_at ((b ∷ digits) ++ more) ≡ Some read
+    decimal = decimal_found n (b ∷ digits) more spelled fits (λ c rest e is.
+        let all = (b ∷ digits) ++ c ∷ [] in
+        no_longer (Token (token.Register (record { class = class; number = digits_value 10 all }))) text rest c
+        (subst (λ xs. IsLongestFront text (text ++ xs)) e longest)
+        (all, append_assoc (class_name class) (b ∷ digits) (c ∷ []), (is, refl)))
+
+number_found : (n : ℕ) (text more : List ℕ) → IsNumber text →
+    numeral_at (text ++ more) ≡ Some (numeral n (length text)) → IsFound (Token (token.Number n)) (text ++ more)
+number_found n text more spelled read = (
+  lexed (Token (token.Number n)) (length text),
+  at_number text more spelled ∙ ap (option_map (λ (n : Numeral). lexed (Token (token.Number n.value)) n.length)) read,
+  refl,
+)
+
+-- where the longest front that is a lexeme is of this kind, a lexeme of this kind is found
+kind_is_found : (kind : LexemeKind) (front more : List ℕ) → IsLexeme kind front → IsWithin64Bits kind →
+    IsLongestFront front (front ++ more) → IsFound kind (front ++ more)
+kind_is_found Blank front more (b, e, blank) within longest =
+    subst (λ xs. IsFound Blank (xs ++ more)) (sym e) (lexed Blank 1, at_blank b more blank, refl)
+kind_is_found Comment front more (rest, e, spelled) within longest =
+    subst (λ xs. IsFound Comment (xs ++ more)) (sym e) (comment_found rest more spelled)
+kind_is_found (Token token.Global) front more (rest, e, spelled) within longest =
+    subst (λ xs. IsFound (Token token.Global) (xs ++ more)) (sym e) (name_found token.Global rest more spelled)
+kind_is_found (Token token.Variable) front more (rest, e, spelled) within longest =
+    subst (λ xs. IsFound (Token token.Variable) (xs ++ more)) (sym e) (name_found token.Variable rest more spelled)
+kind_is_found (Token token.Label) front more (rest, e, spelled) within longest =
+    subst (λ xs. IsFound (Token token.Label) (xs ++ more)) (sym e) (name_found token.Label rest more spelled)
+kind_is_found (Token (token.Register r)) front more (digits, e, spelled) within longest =
+    let Long : List ℕ → Type 0 = λ xs. IsLongestFront xs (xs ++ more) in
+    subst (λ xs. IsFound (Token (token.Register r)) (xs ++ more)) (sym e)
+    (register_found r.class digits more r.number spelled within (subst Long e longest))
+kind_is_found (Token (token.Header h)) front more e within longest =
+    subst (λ xs. IsFound (Token (token.Header h)) (xs ++ more)) (sym e)
+    (lexed (Token (token.Header h)) (length (header_name h)), at_header h more, refl)
+kind_is_found (Token (token.Number n)) front more (inl spelled) within longest =
+    number_found n front more (inl spelled.0) (decimal_number_found n front more spelled within longest)
+kind_is_found (Token (token.Number n)) front more (inr spelled) within longest =
+    number_found n front more (inr spelled.0) (hexadecimal_number_found n front more spelled within longest)
+kind_is_found (Token (token.Mark b)) front more (e, mark) within longest =
+    subst (λ xs. IsFound (Token (token.Mark b)) (xs ++ more)) (sym e)
+    (lexed (Token (token.Mark b)) 1, at_mark b more mark, refl)
+kind_is_found (Token token.Word) front more spelled within longest =
+    (word_at (front ++ more), at_word front more spelled, sym (word_kind (align_at (front ++ more)) (front ++ more)))
+
+-- the longest front that is a lexeme is found, as long as it is and of its kind
+pub longest_is_found : (kind : LexemeKind) (front more : List ℕ) → IsLexeme kind front → IsWithin64Bits kind →
+    IsLongestFront front (front ++ more) → lexeme_at (front ++ more) ≡ Some (lexed kind (length front))
+longest_is_found kind front more is within longest =
+    let found = kind_is_found kind front more is within longest in
+    let least = lexeme_reaches kind front more found.0 is found.1 in
+    let spelled = found_is_lexeme (front ++ more) found.0 found.1 in
+    let most = longest found.0.kind spelled.0 spelled.1 spelled.2 spelled.4 in
+    let whole : found.0.length ≡ length front = omega (arith, least, most, spelled.3) in
+    found.1 ∙ ap (λ k. Some (lexed k found.0.length)) found.2 ∙ ap (λ n. Some (lexed kind n)) whole

@@ -119,7 +119,8 @@ dollar_reaches : (class : RegisterClass) (digits more : List ℕ) (found : Lexem
     Reaches (class_name class ++ digits) more found
 dollar_reaches class [] more found spelled is = absurd spelled
 dollar_reaches class (b ∷ digits) more found spelled is =
-    let e : register_at ((letter class ∷ b ∷ digits) ++ more) ≡ Some found = sym (at_register class b digits more spelled.0) ∙ is in
+    let e : register_at ((letter class ∷ b ∷ digits) ++ more) ≡ Some found =
+    sym (at_register class b digits more spelled.0) ∙ is in
     let reach = reaches.registers (letter class ∷ b ∷ digits) more found (is_letter class, spelled) e in
     omega (arith, reach, register_length class b digits)
 
@@ -146,11 +147,14 @@ lexeme_reaches Blank text more found (b, e, blank) =
 lexeme_reaches Comment text more found (rest, e, spelled) =
     subst (λ xs. Reaches xs more found) (sym e) (λ is. omega (arith, reaches.comments rest more found spelled is))
 lexeme_reaches (Token token.Global) text more found (rest, e, spelled) =
-    subst (λ xs. Reaches xs more found) (sym e) (λ is. omega (arith, reaches.names token.Global rest more found spelled is))
+    subst (λ xs. Reaches xs more found) (sym e)
+    (λ is. omega (arith, reaches.names token.Global rest more found spelled is))
 lexeme_reaches (Token token.Variable) text more found (rest, e, spelled) =
-    subst (λ xs. Reaches xs more found) (sym e) (λ is. omega (arith, reaches.names token.Variable rest more found spelled is))
+    subst (λ xs. Reaches xs more found) (sym e)
+    (λ is. omega (arith, reaches.names token.Variable rest more found spelled is))
 lexeme_reaches (Token token.Label) text more found (rest, e, spelled) =
-    subst (λ xs. Reaches xs more found) (sym e) (λ is. omega (arith, reaches.names token.Label rest more found spelled is))
+    subst (λ xs. Reaches xs more found) (sym e)
+    (λ is. omega (arith, reaches.names token.Label rest more found spelled is))
 lexeme_reaches (Token (token.Register r)) text more found (digits, e, spelled) =
     subst (λ xs. Reaches xs more found) (sym e) (dollar_reaches r.class digits more found spelled.0)
 lexeme_reaches (Token (token.Header h)) text more found e =

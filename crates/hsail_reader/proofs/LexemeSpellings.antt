@@ -53,7 +53,8 @@ comment_kind (b ∷ bytes) found is =
     (λ w. let e : Some (lexed Comment (prefix_len is_not_line_feed bytes + 2)) ≡ Some found = rw w.0 at is in
     same_kind (lexed Comment (prefix_len is_not_line_feed bytes + 2)) found e)
     (λ w. ⊎_elim
-    (λ v. let e : option_map (λ length. lexed Comment (length + 2)) (closing_at 0 bytes) ≡ Some found = rw (w.0, v.0) at is in
+    (λ v. let e : option_map (λ length. lexed Comment (length + 2)) (closing_at 0 bytes) ≡ Some found =
+    rw (w.0, v.0) at is in
     let m = mapped (λ (n : ℕ). lexed Comment (n + 2)) (closing_at 0 bytes) found e in
     same_kind (lexed Comment (m.0 + 2)) found m.2)
     (λ v. nothing found (rw (w.0, v.0) at is))
@@ -73,19 +74,22 @@ name_kind kind bytes found is =
     ⊎_elim (λ w. same_kind l found w.1) (λ w. nothing found w.1)
     (chosen (begins_name bytes) (Some l) None (Some found) is)
 
-global_spelled : (bytes : List ℕ) (found : Lexeme) → name_at token.Global bytes ≡ Some found → FoundSpelled (38 ∷ bytes) found
+global_spelled : (bytes : List ℕ) (found : Lexeme) → name_at token.Global bytes ≡ Some found →
+    FoundSpelled (38 ∷ bytes) found
 global_spelled bytes found is =
     let r = spelled.names token.Global bytes found is in
     of_kind (Token token.Global) (38 ∷ bytes) (38 ∷ r.0) r.1 found (name_kind token.Global bytes found is)
     (ap (λ xs. 38 ∷ xs) r.2) (omega (arith, r.4)) (r.0, refl, r.3) tt
 
-variable_spelled : (bytes : List ℕ) (found : Lexeme) → name_at token.Variable bytes ≡ Some found → FoundSpelled (37 ∷ bytes) found
+variable_spelled : (bytes : List ℕ) (found : Lexeme) → name_at token.Variable bytes ≡ Some found →
+    FoundSpelled (37 ∷ bytes) found
 variable_spelled bytes found is =
     let r = spelled.names token.Variable bytes found is in
     of_kind (Token token.Variable) (37 ∷ bytes) (37 ∷ r.0) r.1 found (name_kind token.Variable bytes found is)
     (ap (λ xs. 37 ∷ xs) r.2) (omega (arith, r.4)) (r.0, refl, r.3) tt
 
-label_spelled : (bytes : List ℕ) (found : Lexeme) → name_at token.Label bytes ≡ Some found → FoundSpelled (64 ∷ bytes) found
+label_spelled : (bytes : List ℕ) (found : Lexeme) → name_at token.Label bytes ≡ Some found →
+    FoundSpelled (64 ∷ bytes) found
 label_spelled bytes found is =
     let r = spelled.names token.Label bytes found is in
     of_kind (Token token.Label) (64 ∷ bytes) (64 ∷ r.0) r.1 found (name_kind token.Label bytes found is)
@@ -110,7 +114,7 @@ class_named c bytes text class is =
     (eqb_tells c 115))
     (eqb_tells c 99)
 
-class_length : (class : RegisterClass) (digits : List ℕ) → length (class_name class ++ digits) ≡ length digits + 2
+pub class_length : (class : RegisterClass) (digits : List ℕ) → length (class_name class ++ digits) ≡ length digits + 2
 class_length Control digits = omega arith
 class_length Single digits = omega arith
 class_length Double digits = omega arith
@@ -187,8 +191,8 @@ pub word_kind : (a : Option Numeral) (bytes : List ℕ) → Token token.Word ≡
 word_kind None bytes = refl
 word_kind (Some n) bytes = refl
 
-word_spelled : (b : ℕ) (bytes : List ℕ) (found : Lexeme) → is_name_start b ≡ true → Some (word_at (b ∷ bytes)) ≡ Some found →
-    FoundSpelled (b ∷ bytes) found
+word_spelled : (b : ℕ) (bytes : List ℕ) (found : Lexeme) → is_name_start b ≡ true →
+    Some (word_at (b ∷ bytes)) ≡ Some found → FoundSpelled (b ∷ bytes) found
 word_spelled b bytes found starts is =
     let r = words (b ∷ bytes) found (rw starts is) in
     of_kind (Token token.Word) (b ∷ bytes) r.0 r.1 found
@@ -201,7 +205,8 @@ one_byte_spelled b bytes kind found is_one within is =
     the_found (b ∷ bytes) (lexed kind 1) found is (b ∷ [], bytes, refl, refl, is_one, within)
 
 -- behind another first byte
-behind_byte : (b c : ℕ) (bytes : List ℕ) (found : Lexeme) → b ≡ c → FoundSpelled (c ∷ bytes) found → FoundSpelled (b ∷ bytes) found
+behind_byte : (b c : ℕ) (bytes : List ℕ) (found : Lexeme) → b ≡ c → FoundSpelled (c ∷ bytes) found →
+    FoundSpelled (b ∷ bytes) found
 behind_byte b c bytes found e = subst (λ x. FoundSpelled (x ∷ bytes) found) (sym e)
 
 -- behind a byte that is no blank, and begins no comment, name or register

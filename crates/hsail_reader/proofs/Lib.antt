@@ -11,3 +11,4 @@ pub mod NumberSpelling
 pub mod LexemeFronts
 pub mod LexemeSpellings
 pub mod LexemeFound
+pub mod TextCut

@@ -66,6 +66,6 @@ IsLongestFront front bytes =
 pub data AreTokens : ℕ → ℕ → List ℕ → List Piece → Type 0 where
   none : (place line : ℕ) → AreTokens place line [] []
   lexeme : (place line : ℕ) (kind : LexemeKind) (bytes front behind : List ℕ) (tokens : List Piece) →
-    bytes ≡ front ++ behind → IsLexeme kind front → IsWithin64Bits kind → IsLongestFront front bytes →
-    AreTokens (place + length front) (line_after line front) behind tokens →
-    AreTokens place line bytes (kept kind front place line ++ tokens)
+      bytes ≡ front ++ behind → IsLexeme kind front → IsWithin64Bits kind → IsLongestFront front bytes →
+      AreTokens (place + length front) (line_after line front) behind tokens →
+      AreTokens place line bytes (kept kind front place line ++ tokens)
