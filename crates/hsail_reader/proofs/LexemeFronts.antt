@@ -1,9 +1,9 @@
 -- No front of some bytes that is longer than the lexeme found there is a lexeme of any kind.
-use Rattle.std.proofs.Common.{◌≡◌, ℕ, ◌+◌, ◌<◌, ◌≤◌, ◌⊎◌, inl, inr, ⊎_elim, List, [], ◌∷◌, ◌++◌, length, Bool, true, false, Option, Some, None, refl, sym, ap, subst, ◌∙◌, codes, arith}
+use Rattle.std.proofs.Common.{◌≡◌, ℕ, ◌+◌, ◌≤◌, ◌⊎◌, inl, inr, List, [], ◌∷◌, ◌++◌, length, true, Option, Some, None, refl, sym, ap, subst, ◌∙◌, codes, arith}
 use Rattle.std.specs.Char.{is_digit}
-use Rattle.hsail_reader.specs.Bytes.{is_name_start, behind, align_at, ◌>>=◌}
-use Rattle.hsail_reader.specs.Lexemes.{lexed, class_at, comment_at, name_at, register_at, header_among, header_words, dollar_at, or_else, number_at, word_at, lexeme_at}
-use Rattle.hsail_reader.specs.Spelling.{IsName, IsDecimal, IsNumber, IsRegister, IsComment, IsModifiedName, IsAlign, IsWord, word_found}
+use Rattle.hsail_reader.specs.Bytes.{is_name_start}
+use Rattle.hsail_reader.specs.Lexemes.{lexed, register_at, header_among, header_words, dollar_at, or_else, number_at, word_at, lexeme_at}
+use Rattle.hsail_reader.specs.Spelling.{IsDecimal, IsNumber, IsWord}
 use Rattle.hsail_reader.specs.TextTokens.{IsLexeme, class_name, header_name}
 use Rattle.hsail_reader.specs.declared.token.Header.{Header}
 use Rattle.hsail_reader.specs.declared.token.Header.TheVariants.{Base, Full, Large, Default, Zero, Near}
@@ -15,9 +15,9 @@ use Rattle.hsail_reader.specs.declared.types.RegisterClass.{RegisterClass}
 use Rattle.hsail_reader.specs.declared.types.RegisterClass.TheVariants.{Control, Single, Double}
 use Rattle.hsail_reader.proofs.FirstBytes.{at_blank, at_mark, at_name_start, at_digit, differs}
 use Rattle.hsail_reader.proofs.Reaches as reaches
-use Rattle.hsail_reader.proofs.Reaches.{bound, same_length}
+use Rattle.hsail_reader.proofs.Reaches.{same_length}
 use Rattle.hsail_reader.proofs.WordReaches.{align_length, words}
-use Rattle.hsail_reader.proofs.Spelled.{behind_parts, nothing}
+use Rattle.hsail_reader.proofs.Spelled.{behind_parts}
 
 -- a front is no longer than the lexeme found there
 abbrev Reaches : List ℕ → List ℕ → Lexeme → Type 0

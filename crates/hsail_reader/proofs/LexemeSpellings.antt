@@ -1,14 +1,12 @@
 -- The lexeme that is found at the front of some bytes is a lexeme of its kind.
-use Rattle.std.proofs.Common.{◌≡◌, ℕ, ◌+◌, ◌^◌, ◌<◌, ◌⊎◌, inl, inr, ⊎_elim, List, [], ◌∷◌, ◌++◌, length, drop, Bool, true, false, ◌==◌, if◌then◌else◌, Option, Some, None, refl, sym, ap, subst, ◌∙◌, codes, arith}
+use Rattle.std.proofs.Common.{◌≡◌, ℕ, ◌+◌, ◌⊎◌, inl, inr, ⊎_elim, List, [], ◌∷◌, ◌++◌, length, true, false, ◌==◌, if◌then◌else◌, Option, Some, None, refl, sym, ap, subst, ◌∙◌, arith}
 use Rattle.std.proofs.lemmas.Bool.{cases_Bool}
 use Rattle.std.proofs.lemmas.Bool.Decides.{eqb_tells}
 use Rattle.std.specs.List.{prefix_len}
 use Rattle.std.specs.Option.{is_some, option_map}
 use Rattle.hsail_reader.specs.Bytes.{is_name_byte, is_name_start, is_not_line_feed, begins_name, behind, closing_at, decimal_at, numeral_at, align_at, ◌>>=◌}
 use Rattle.hsail_reader.specs.Lexemes.{HeaderWord, lexed, is_blank, is_mark, comment_at, name_at, class_at, register, register_at, header_words, header_among, or_else, dollar_at, number_at, word_of, word_at, lexeme_at}
-use Rattle.hsail_reader.specs.Spelling.{IsName, IsComment, IsWord, begun_word}
 use Rattle.hsail_reader.specs.TextTokens.{IsLexeme, IsWithin64Bits, class_name, header_name}
-use Rattle.hsail_reader.specs.WordSpelling.{SpellsDecimal, SpellsHexadecimal}
 use Rattle.hsail_reader.specs.declared.token.Lexeme.{Lexeme}
 use Rattle.hsail_reader.specs.declared.token.LexemeKind.{LexemeKind}
 use Rattle.hsail_reader.specs.declared.token.LexemeKind.TheVariants.{Blank, Comment, Token}

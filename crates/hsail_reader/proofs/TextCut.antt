@@ -3,7 +3,7 @@ use Rattle.std.proofs.Common.{◌≡◌, ℕ, zero, suc, ◌+◌, ◌<◌, ◌�
 use Rattle.std.proofs.Math.Seq.{take-append_seam, drop-append_seam}
 use Rattle.hsail_reader.specs.Faults.{refusal, with_front}
 use Rattle.hsail_reader.specs.Lexemes.{lexed, lexeme_at}
-use Rattle.hsail_reader.specs.TextTokens.{IsLexeme, IsWithin64Bits, IsLongestFront, AreTokens, none, lexeme, header_name}
+use Rattle.hsail_reader.specs.TextTokens.{IsLexeme, IsLongestFront, AreTokens, none, lexeme, header_name}
 use Rattle.hsail_reader.specs.Tokens.{Piece, kept, tokens_from, line_after, line_behind, further, before_rest}
 use Rattle.hsail_reader.specs.declared.fault.Flaw.TheVariants as flaw
 use Rattle.hsail_reader.specs.declared.fault.Refusal.{Refusal}
