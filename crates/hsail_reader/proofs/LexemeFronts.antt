@@ -3,7 +3,8 @@ use Rattle.std.proofs.Common.{◌≡◌, ℕ, ◌+◌, ◌≤◌, ◌⊎◌, inl
 use Rattle.std.specs.Char.{is_digit}
 use Rattle.hsail_reader.specs.Bytes.{is_name_start}
 use Rattle.hsail_reader.specs.Lexemes.{lexed, register_at, header_among, header_words, dollar_at, or_else, number_at, word_at, lexeme_at}
-use Rattle.hsail_reader.specs.Spelling.{IsDecimal, IsNumber, IsWord}
+use Rattle.hsail_reader.specs.Spelling.{IsDecimal, IsNumber}
+use Rattle.hsail_reader.specs.WordLexemes.{IsWord}
 use Rattle.hsail_reader.specs.TextTokens.{IsLexeme, class_name, header_name}
 use Rattle.hsail_reader.specs.declared.token.Header.{Header}
 use Rattle.hsail_reader.specs.declared.token.Header.TheVariants.{Base, Full, Large, Default, Zero, Near}
@@ -16,8 +17,7 @@ use Rattle.hsail_reader.specs.declared.types.RegisterClass.TheVariants.{Control,
 use Rattle.hsail_reader.proofs.FirstBytes.{at_blank, at_mark, at_name_start, at_digit, differs}
 use Rattle.hsail_reader.proofs.Reaches as reaches
 use Rattle.hsail_reader.proofs.Reaches.{same_length}
-use Rattle.hsail_reader.proofs.WordReaches.{align_length, words}
-use Rattle.hsail_reader.proofs.Spelled.{behind_parts}
+use Rattle.hsail_reader.proofs.WordReaches.{words}
 
 -- a front is no longer than the lexeme found there
 abbrev Reaches : List ℕ → List ℕ → Lexeme → Type 0
@@ -47,24 +47,12 @@ number_reaches : (text more : List ℕ) (found : Lexeme) → IsNumber text → R
 number_reaches text more found spelled is =
     omega (arith, reaches.numbers text more found spelled (sym (at_number text more spelled) ∙ is))
 
--- align(n) begins with the first letter of `align`
-align_first : (text rest : List ℕ) → text ++ [] ≡ codes "align(" ++ rest →
-    (after : List ℕ) × (text ≡ 97 ∷ after)
-align_first [] rest e = absurd (omega (arith, ap length e))
-align_first (b ∷ text) rest e = (text, ap (λ x. x ∷ text) (heads b 97 (text ++ []) (codes "lign(" ++ rest) e))
-  where
-    heads : (x y : ℕ) (xs ys : List ℕ) → x ∷ xs ≡ y ∷ ys → x ≡ y
-    heads x y xs ys e = cc
-
 -- the first byte of a word begins a name
 pub word_first : (text : List ℕ) → IsWord text →
     (b : ℕ) × (rest : List ℕ) × (text ≡ b ∷ rest) × (is_name_start b ≡ true)
 word_first [] (inl spelled) = absurd spelled
 word_first (b ∷ rest) (inl spelled) = (b, rest, refl, spelled.0)
-word_first text (inr spelled) =
-    let l = align_length (text ++ []) spelled.n (spelled.read []) in
-    let a = align_first text l.1.0 (behind_parts (codes "align(") (text ++ []) l.1.0 l.1.1) in
-    (97, a.0, a.1, refl)
+word_first text (inr (n, (number, e, spelled))) = (97, codes "lign(" ++ (number ++ codes ")"), e, refl)
 
 -- behind what begins a name, a word is found
 pub at_word : (text more : List ℕ) → IsWord text → lexeme_at (text ++ more) ≡ Some (word_at (text ++ more))

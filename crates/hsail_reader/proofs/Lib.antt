@@ -12,3 +12,4 @@ pub mod LexemeFronts
 pub mod LexemeSpellings
 pub mod LexemeFound
 pub mod TextCut
+pub mod BracketSpelling

@@ -2,8 +2,9 @@
 -- (PRM, Lexical Elements; blanks and comments are (own)).
 use Rattle.std.specs.Prelude.{◌≡◌, ℕ, ◌+◌, ◌^◌, ◌<◌, ◌≤◌, ◌⊎◌, List, [], ◌∷◌, ◌++◌, true, codes, length}
 use Rattle.hsail_reader.specs.Lexemes.{is_blank, is_mark}
-use Rattle.hsail_reader.specs.Spelling.{IsComment, IsName, IsWord}
+use Rattle.hsail_reader.specs.Spelling.{IsComment, IsName}
 use Rattle.hsail_reader.specs.Tokens.{Piece, kept, line_after}
+use Rattle.hsail_reader.specs.WordLexemes.{IsWord}
 use Rattle.hsail_reader.specs.WordSpelling.{SpellsDecimal, SpellsHexadecimal}
 use Rattle.hsail_reader.specs.declared.token.Header.{Header}
 use Rattle.hsail_reader.specs.declared.token.Header.TheVariants.{Base, Full, Large, Default, Zero, Near}
