@@ -26,3 +26,9 @@ pub mod ModifierSpelling
 pub mod ModifiersFound
 pub mod FormSpelling
 pub mod WordSpellings
+pub mod FirstBytes
+pub mod LexemeFronts
+pub mod LexemeSpellings
+pub mod LexemeFound
+pub mod TextCut
+pub mod BracketSpelling

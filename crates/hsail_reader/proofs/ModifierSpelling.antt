@@ -10,8 +10,7 @@ use Rattle.hsail_reader.specs.declared.token.SpelledWidth.{SpelledWidth}
 use Rattle.hsail_reader.specs.declared.types.Modifiers.{Modifiers}
 use Rattle.hsail_reader.specs.declared.types.Width.{Width}
 use Rattle.hsail_reader.specs.declared.types.Width.TheVariants.{Number, All, WaveSize}
-use Rattle.hsail_reader.proofs.NumberSpelling.{number_before_bracket_is_read}
-use Rattle.hsail_reader.proofs.WordSpelled.{number_value}
+use Rattle.hsail_reader.proofs.BracketSpelling.{align_is_read, width_is_read, value_in}
 
 -- behind a front of six bytes, what stands in the bracket and the bracket, the rest stands
 pub inside_drop : (front inside rest : List ℕ) → length front ≡ 6 →
@@ -22,75 +21,6 @@ inside_drop front inside rest six =
     ap (drop (length inside + 7)) (sym (append_assoc front (inside ++ codes ")") rest))
     ∙ ap (λ k. drop k ((front ++ (inside ++ codes ")")) ++ rest)) count
     ∙ drop-append_seam (front ++ (inside ++ codes ")")) rest
-
--- behind what stands in the bracket, the bracket closes
-bracket_behind : (inside rest : List ℕ) → behind (codes ")") (drop (length inside) (inside ++ 41 ∷ rest)) ≡ Some rest
-bracket_behind inside rest = ap (behind (codes ")")) (drop-append_seam inside (41 ∷ rest))
-
--- what align(n) is read as, where its number is read
-abbrev pub align_end : List ℕ → Numeral → Option Numeral
-align_end inside m = behind (codes ")") (drop m.length inside) >>= λ rest. Some (numeral m.value (m.length + 7))
-
--- what width(w) is read as, where its value is read
-abbrev pub width_end : List ℕ → SpelledWidth → Option SpelledWidth
-width_end inside v = behind (codes ")") (drop v.length inside) >>= λ rest. Some (spelled_width v.width (v.length + 7))
-
--- align(n) is read
-pub align_is_read : (n : ℕ) (number rest : List ℕ) → SpellsNumber n number →
-    align_at (codes "align(" ++ ((number ++ codes ")") ++ rest)) ≡ Some (numeral n (length number + 7))
-align_is_read n number rest spelled =
-    ap (λ xs. align_at (codes "align(" ++ xs)) (append_assoc number (codes ")") rest)
-    ∙ ap (λ o. o >>= align_end (number ++ 41 ∷ rest)) (number_before_bracket_is_read n number rest spelled)
-    ∙ ap (λ o. o >>= λ (r : List ℕ). Some (numeral n (length number + 7))) (bracket_behind number rest)
-
--- how the value of a width is spelled
-abbrev pub SpellsValue : Width → List ℕ → Type 0
-SpellsValue (Number n) text = SpellsNumber n text
-SpellsValue All text = text ≡ codes "all"
-SpellsValue WaveSize text = text ≡ codes "WAVESIZE"
-
--- what spells a number is the text of one
-is_number : (n : ℕ) (text : List ℕ) → SpellsNumber n text → IsNumber text
-is_number n text (fits, inl spelled) = inl spelled.0
-is_number n text (fits, inr spelled) = inr spelled.0
-
--- the value of a width is read before a bracket
-value_is_read : (w : Width) (value rest : List ℕ) → SpellsValue w value →
-    width_value_at (value ++ 41 ∷ rest) ≡ Some (spelled_width w (length value))
-value_is_read (Number n) value rest spelled =
-    number_value value rest (numeral n (length value)) (spelled_width (Number n) (length value))
-    (is_number n value spelled) (number_before_bracket_is_read n value rest spelled) refl
-value_is_read All value rest spelled =
-    subst (λ (xs : List ℕ). width_value_at (xs ++ 41 ∷ rest) ≡ Some (spelled_width All (length xs)))
-    (sym spelled) refl
-value_is_read WaveSize value rest spelled =
-    subst (λ (xs : List ℕ). width_value_at (xs ++ 41 ∷ rest) ≡ Some (spelled_width WaveSize (length xs)))
-    (sym spelled) refl
-
--- width(w) is read
-width_is_read : (w : Width) (value rest : List ℕ) → SpellsValue w value →
-    width_at (codes "width(" ++ ((value ++ codes ")") ++ rest)) ≡ Some (spelled_width w (length value + 7))
-width_is_read w value rest spelled =
-    ap (λ xs. width_at (codes "width(" ++ xs)) (append_assoc value (codes ")") rest)
-    ∙ ap (λ o. o >>= width_end (value ++ 41 ∷ rest)) (value_is_read w value rest spelled)
-    ∙ ap (λ o. o >>= λ (r : List ℕ). Some (spelled_width w (length value + 7))) (bracket_behind value rest)
-
--- the value between the brackets of a width
-abbrev SpellsValueIn : Width → List ℕ → Type 0
-SpellsValueIn w text = (value : List ℕ) × (text ≡ codes "_width(" ++ (value ++ codes ")")) × SpellsValue w value
-
--- a width is spelled by its value in the brackets
-value_in : (w : Width) (text : List ℕ) → SpellsWidth (Some w) text → SpellsValueIn w text
-value_in (Number n) text spelled = spelled
-value_in All text spelled = (codes "all", spelled, refl)
-value_in WaveSize text spelled = (codes "WAVESIZE", spelled, refl)
-
--- a value in the brackets spells a width
-pub width_of : (w : Width) (value : List ℕ) → SpellsValue w value →
-    SpellsWidth (Some w) (codes "_width(" ++ (value ++ codes ")"))
-width_of (Number n) value spelled = (value, refl, spelled)
-width_of All value spelled = ap (λ xs. codes "_width(" ++ (xs ++ codes ")")) spelled
-width_of WaveSize value spelled = ap (λ xs. codes "_width(" ++ (xs ++ codes ")")) spelled
 
 -- _align(n) is read at the front
 pub align_part_is_read : (a : Option ℕ) (text more : List ℕ) → SpellsAlign a text → align_part more ≡ (None, more) →

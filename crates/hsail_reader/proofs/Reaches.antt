@@ -168,7 +168,7 @@ zero_first b bytes rest is =
     nothing : None ≡ Some rest → ⊥
     nothing e = cc
 
-decimal_short : (text more rest : List ℕ) → IsDecimal text → behind (codes "0x") (text ++ more) ≡ Some rest → length text ≤ 1
+pub decimal_short : (text more rest : List ℕ) → IsDecimal text → behind (codes "0x") (text ++ more) ≡ Some rest → length text ≤ 1
 decimal_short [] more rest spelled is = omega arith
 decimal_short (b ∷ digits) more rest spelled is =
     omega (arith, ap length (spelled.2 (zero_first b (digits ++ more) rest is)))

@@ -5,10 +5,13 @@ use Rattle.std.proofs.Math.Dec.{eqb-zero-suc}
 use Rattle.std.proofs.Math.Seq.{drop-append_seam}
 use Rattle.hsail_reader.specs.Bytes.{is_name_byte, is_name_start, behind, numeral_at, align_at, width_value_at, width_at, numeral, spelled_width, ◌>>=◌}
 use Rattle.hsail_reader.specs.Lexemes.{length_of, modifier_length, piece_length, pieces_length, word_of}
-use Rattle.hsail_reader.specs.Spelling.{AllPass, IsModifier, ArePieces, none, byte, modifier, IsWord, IsLongest, word_found}
+use Rattle.hsail_reader.specs.Spelling.{AllPass, IsLongest, word_found}
+use Rattle.hsail_reader.specs.WordLexemes.{IsModifier, ArePieces, none, byte, modifier, IsWord}
+use Rattle.hsail_reader.specs.WordSpelling.{SpellsNumber}
 use Rattle.hsail_reader.specs.declared.token.Lexeme.{Lexeme}
 use Rattle.hsail_reader.specs.declared.token.Numeral.{Numeral}
 use Rattle.hsail_reader.specs.declared.token.SpelledWidth.{SpelledWidth}
+use Rattle.hsail_reader.proofs.BracketSpelling.{align_is_read, modifier_is_read, modifier_is_some}
 use Rattle.hsail_reader.proofs.Reaches.{bound, numeral_length, same_length, name_start_continues, true_is_not_false}
 use Rattle.hsail_reader.proofs.Pieces.{pieces_length_step}
 
@@ -88,11 +91,11 @@ tails x y xs ys e = cc
 modifier_bar : (c : ℕ) (m : List ℕ) → IsModifier (c ∷ m) → (c == 95) ≡ true
 modifier_bar c m is =
     ⊎_elim (λ w. w.0)
-    (λ w. let none' : 0 ≡ length (c ∷ m) = rw w.0 at (is.whole []) in absurd (omega (arith, none')))
+    (λ w. let none' : 0 ≡ length (c ∷ m) = rw w.0 at (modifier_is_read (c ∷ m) [] is) in absurd (omega (arith, none')))
     (eqb_tells c 95)
 
 no_modifier : (m : List ℕ) (b : ℕ) (rest after : List ℕ) → (b == 95) ≡ false → IsModifier m → m ++ after ≡ b ∷ rest → ⊥
-no_modifier [] b rest after plain is e = absurd (omega (arith, is.some))
+no_modifier [] b rest after plain is e = absurd (omega (arith, modifier_is_some [] is))
 no_modifier (c ∷ m) b rest after plain is e =
     let P : ℕ → Type 0 = λ x. (x == 95) ≡ true in
     true_is_not_false (b == 95) (subst P (heads c b (m ++ after) rest e) (modifier_bar c m is)) plain
@@ -170,8 +173,9 @@ pieces_reach before _ more (byte b rest ok pieces) =
     (piece_if (modifier_length (b ∷ rest ++ more)) (if is_name_byte b then 1 else 0))
 pieces_reach before _ more (modifier m rest text is whole pieces) =
     let bytes = m ++ (rest ++ more) in
+    let some = modifier_is_some m is in
     let step = pieces_length_step before (length m) bytes
-    (piece_of_modifier bytes (length m) (is.whole (rest ++ more)) is.some) is.some in
+    (piece_of_modifier bytes (length m) (modifier_is_read m (rest ++ more) is) some) some in
     let later = pieces_reach (before + length m) rest more pieces in
     let there : pieces_length 0 before bytes ≡ pieces_length 0 (before + length m) (rest ++ more) =
     step ∙ ap (pieces_length 0 (before + length m)) (drop-append_seam m (rest ++ more)) in
@@ -191,11 +195,22 @@ word_go b rest more found (Some n) starts pieces read is =
     let short = align_stuck (b ∷ rest) more (byte b rest (name_start_continues b starts) pieces) l.1 in
     omega (arith, same_length (word_of (Some n) (b ∷ rest ++ more)) found is, l.0, short)
 
+align_reaches : (n : ℕ) (number more : List ℕ) (found : Lexeme) → SpellsNumber n number →
+    Some (word_of (align_at (codes "align(" ++ ((number ++ codes ")") ++ more))) (codes "align(" ++ ((number ++ codes ")") ++ more)))
+    ≡ Some found → length (codes "align(" ++ (number ++ codes ")")) ≤ found.length
+align_reaches n number more found spelled is =
+    let bytes = codes "align(" ++ ((number ++ codes ")") ++ more) in
+    let read = numeral n (length number + 7) in
+    let e : Some (word_of (Some read) bytes) ≡ Some found =
+    ap (λ a. Some (word_of a bytes)) (sym (align_is_read n number more spelled)) ∙ is in
+    omega (arith, same_length (word_of (Some read) bytes) found e, length-append number (codes ")"))
+
 pub words : IsLongest 0 IsWord word_found
 words [] more found (inl spelled) is = absurd spelled
 words (b ∷ rest) more found (inl spelled) is =
     omega (arith, word_go b rest more found (align_at (b ∷ rest ++ more)) spelled.0 spelled.1 refl is)
-words text more found (inr spelled) is =
-    let P : Option Numeral → Type 0 = λ a. Some (word_of a (text ++ more)) ≡ Some found in
-    let e = subst P (spelled.read more) is in
-    omega (arith, same_length (word_of (Some spelled.n) (text ++ more)) found e, spelled.whole)
+words text more found (inr (n, (number, e, spelled))) is =
+    let P : List ℕ → Type 0 = λ xs.
+    Some (word_of (align_at (xs ++ more)) (xs ++ more)) ≡ Some found → length xs ≤ found.length in
+    let reach = subst P (sym e) (align_reaches n number more found spelled) is in
+    omega (arith, reach)

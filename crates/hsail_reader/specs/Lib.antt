@@ -10,5 +10,6 @@ pub mod Instructions
 pub mod Syntax
 pub mod Spelling
 pub mod WordSpelling
+pub mod WordLexemes
 pub mod TextTokens
 pub mod Grammar

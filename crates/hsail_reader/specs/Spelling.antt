@@ -1,10 +1,9 @@
--- Which whole texts are lexemes of each kind (PRM, Lexical Elements; comments and modifiers are (own)).
-use Rattle.std.specs.Prelude.{◌≡◌, ℕ, ◌+◌, ◌<◌, ◌≤◌, ◌⊎◌, List, [], ◌∷◌, ◌++◌, Bool, true, false, ◌&&◌, ◌==◌, if◌then◌else◌, Option, Some, None, length}
+-- Which whole texts are lexemes of each kind but words (PRM, Lexical Elements; comments are (own)).
+use Rattle.std.specs.Prelude.{◌≡◌, ℕ, ◌+◌, ◌≤◌, ◌⊎◌, List, [], ◌∷◌, ◌++◌, Bool, true, false, ◌&&◌, ◌==◌, if◌then◌else◌, Option, Some, None, length}
 use Rattle.std.specs.Char.{is_digit}
-use Rattle.hsail_reader.specs.Bytes.{is_name_byte, is_name_start, is_not_line_feed, begins_name, begins_with, align_at}
-use Rattle.hsail_reader.specs.Lexemes.{modifier_length, word_at}
+use Rattle.hsail_reader.specs.Bytes.{is_name_byte, is_name_start, is_not_line_feed, begins_name, begins_with}
+use Rattle.hsail_reader.specs.Lexemes.{word_at}
 use Rattle.hsail_reader.specs.declared.token.Lexeme.{Lexeme}
-use Rattle.hsail_reader.specs.declared.token.Numeral.{Numeral}
 
 -- each byte passes the test
 abbrev pub AllPass : (ℕ → Bool) → List ℕ → Type 0
@@ -52,31 +51,6 @@ IsBlockComment text = (inside : List ℕ) × (text ≡ 42 ∷ inside) × IsClose
 
 abbrev pub IsComment : List ℕ → Type 0
 IsComment text = IsLineComment text ⊎ IsBlockComment text
-
--- `_align(n)` or `_width(w)`: what is read as a modifier, whatever stands behind it
-pub record IsModifier (text : List ℕ) : Type 0 where
-  pub some : 0 < length text
-  pub whole : (more : List ℕ) → modifier_length (text ++ more) ≡ length text
-
--- bytes of a name, and modifiers between them
-pub data ArePieces : List ℕ → Type 0 where
-  none : ArePieces []
-  byte : (b : ℕ) (rest : List ℕ) → is_name_byte b ≡ true → ArePieces rest → ArePieces (b ∷ rest)
-  modifier : (m rest text : List ℕ) → IsModifier m → text ≡ m ++ rest → ArePieces rest → ArePieces text
-
--- a name, with modifiers inside or at its end
-abbrev pub IsModifiedName : List ℕ → Type 0
-IsModifiedName [] = ⊥
-IsModifiedName (b ∷ rest) = (is_name_start b ≡ true) × ArePieces rest
-
--- align(n): what is read as one, whatever stands behind it
-pub record IsAlign (text : List ℕ) : Type 0 where
-  pub n : Numeral
-  pub read : (more : List ℕ) → align_at (text ++ more) ≡ Some n
-  pub whole : n.length ≡ length text
-
-abbrev pub IsWord : List ℕ → Type 0
-IsWord text = IsModifiedName text ⊎ IsAlign text
 
 -- where a lexeme is found, no front that is spelled so is longer; `first` bytes stand before
 abbrev pub IsLongest : ℕ → (List ℕ → Type 0) → (List ℕ → Option Lexeme) → Type 0

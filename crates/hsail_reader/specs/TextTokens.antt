@@ -2,8 +2,9 @@
 -- (PRM, Lexical Elements; blanks and comments are (own)).
 use Rattle.std.specs.Prelude.{◌≡◌, ℕ, ◌+◌, ◌^◌, ◌<◌, ◌≤◌, ◌⊎◌, List, [], ◌∷◌, ◌++◌, true, codes, length}
 use Rattle.hsail_reader.specs.Lexemes.{is_blank, is_mark}
-use Rattle.hsail_reader.specs.Spelling.{IsComment, IsName, IsWord}
+use Rattle.hsail_reader.specs.Spelling.{IsComment, IsName}
 use Rattle.hsail_reader.specs.Tokens.{Piece, kept, line_after}
+use Rattle.hsail_reader.specs.WordLexemes.{IsWord}
 use Rattle.hsail_reader.specs.WordSpelling.{SpellsDecimal, SpellsHexadecimal}
 use Rattle.hsail_reader.specs.declared.token.Header.{Header}
 use Rattle.hsail_reader.specs.declared.token.Header.TheVariants.{Base, Full, Large, Default, Zero, Near}
@@ -66,6 +67,6 @@ IsLongestFront front bytes =
 pub data AreTokens : ℕ → ℕ → List ℕ → List Piece → Type 0 where
   none : (place line : ℕ) → AreTokens place line [] []
   lexeme : (place line : ℕ) (kind : LexemeKind) (bytes front behind : List ℕ) (tokens : List Piece) →
-    bytes ≡ front ++ behind → IsLexeme kind front → IsWithin64Bits kind → IsLongestFront front bytes →
-    AreTokens (place + length front) (line_after line front) behind tokens →
-    AreTokens place line bytes (kept kind front place line ++ tokens)
+      bytes ≡ front ++ behind → IsLexeme kind front → IsWithin64Bits kind → IsLongestFront front bytes →
+      AreTokens (place + length front) (line_after line front) behind tokens →
+      AreTokens place line bytes (kept kind front place line ++ tokens)

@@ -2,7 +2,8 @@
 
 ghost use Rattle.std.specs.Prelude.{codes};
 ghost use Rattle.hsail_reader.specs.Lexemes.{comment_at, name_at, register_at, number_at};
-ghost use Rattle.hsail_reader.specs.Spelling.{IsComment, IsName, IsRegister, IsNumber, IsWord, IsModifier, IsLongest, IsFoundSpelled, word_found, begun_word};
+ghost use Rattle.hsail_reader.specs.Spelling.{IsComment, IsName, IsRegister, IsNumber, IsLongest, IsFoundSpelled, word_found, begun_word};
+ghost use Rattle.hsail_reader.specs.WordLexemes.{IsModifier, IsWord};
 ghost use Rattle.hsail_reader.specs.declared.token.TokenKind.{TokenKind};
 
 /// Where a lexeme is found at the front of some bytes, no front that is longer is a lexeme of its

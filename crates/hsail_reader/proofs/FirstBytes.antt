@@ -1,0 +1,94 @@
+-- Which kind of lexeme is looked for behind which first byte.
+use Rattle.std.proofs.Common.{◌≡◌, ℕ, ⊎_elim, List, [], ◌∷◌, Bool, true, false, not, ◌==◌, ◌<◌, Some, refl, sym, ap, ◌∙◌, codes, arith}
+use Rattle.std.proofs.lemmas.Bool.Decides.{eqb_tells, nat_tests}
+use Rattle.std.proofs.lemmas.Str.Parse.{digit_from_value}
+use Rattle.std.specs.Char.{is_digit, digit_value}
+use Rattle.std.specs.Int.{IsInRange}
+use Rattle.std.specs.List.{list_any}
+use Rattle.hsail_reader.specs.Bytes.{is_name_start}
+use Rattle.hsail_reader.specs.Lexemes.{lexed, is_blank, is_mark, number_at, word_at, lexeme_at}
+use Rattle.hsail_reader.specs.Spelling.{AllPass}
+use Rattle.hsail_reader.specs.declared.token.LexemeKind.TheVariants.{Blank, Token}
+use Rattle.hsail_reader.specs.declared.token.TokenKind.TheVariants as token
+use Rattle.hsail_reader.proofs.Reaches.{true_is_not_false}
+
+-- a byte that passes a test is none that doesn't
+pub differs : (test : ℕ → Bool) (b c : ℕ) → test b ≡ true → test c ≡ false → (b == c) ≡ false
+differs test b c passes fails =
+    ⊎_elim (λ w. true_is_not_false (test b) passes (ap test w.1 ∙ fails)) (λ w. w.0) (eqb_tells b c)
+
+is_none_of : (test : ℕ → Bool) (b : ℕ) (cs : List ℕ) → test b ≡ true → AllPass (λ c. not (test c)) cs →
+    list_any (λ m. m == b) cs ≡ false
+is_none_of test b [] passes fail = refl
+is_none_of test b (c ∷ cs) passes fail =
+    ⊎_elim
+    (λ w. true_is_not_false (not (test c)) fail.0 (ap (λ x. not (test x)) w.1 ∙ ap not passes))
+    (λ w. rw w.0 (is_none_of test b cs passes fail.1))
+    (eqb_tells c b)
+
+-- a byte that is no blank, and begins no comment, name or register
+record IsPlain (b : ℕ) : Type 0 where
+  blank : is_blank b ≡ false
+  slash : (b == 47) ≡ false
+  ampersand : (b == 38) ≡ false
+  percent : (b == 37) ≡ false
+  at : (b == 64) ≡ false
+  dollar : (b == 36) ≡ false
+
+is_no_blank : (test : ℕ → Bool) (b : ℕ) → test b ≡ true → AllPass (λ c. not (test c)) (32 ∷ 9 ∷ 10 ∷ 13 ∷ []) →
+    is_blank b ≡ false
+is_no_blank test b passes fail =
+    rw (
+      differs test b 32 passes (fails (test 32) fail.0),
+      differs test b 9 passes (fails (test 9) fail.1.0),
+      differs test b 10 passes (fails (test 10) fail.1.1.0),
+      differs test b 13 passes (fails (test 13) fail.1.1.1.0),
+    ) refl
+  where
+    fails : (p : Bool) → not p ≡ true → p ≡ false
+    fails true e = sym e
+    fails false e = refl
+
+is_plain : (test : ℕ → Bool) (b : ℕ) → test b ≡ true →
+    AllPass (λ c. not (test c)) (32 ∷ 9 ∷ 10 ∷ 13 ∷ []) →
+    test 47 ≡ false → test 38 ≡ false → test 37 ≡ false → test 64 ≡ false → test 36 ≡ false → IsPlain b
+is_plain test b passes blanks slash ampersand percent at' dollar = record {
+  blank = is_no_blank test b passes blanks;
+  slash = differs test b 47 passes slash;
+  ampersand = differs test b 38 passes ampersand;
+  percent = differs test b 37 passes percent;
+  at = differs test b 64 passes at';
+  dollar = differs test b 36 passes dollar;
+}
+
+pub at_blank : (b : ℕ) (bytes : List ℕ) → is_blank b ≡ true → lexeme_at (b ∷ bytes) ≡ Some (lexed Blank 1)
+at_blank b bytes blank = rw blank refl
+
+pub at_mark : (b : ℕ) (bytes : List ℕ) → is_mark b ≡ true →
+    lexeme_at (b ∷ bytes) ≡ Some (lexed (Token (token.Mark b)) 1)
+at_mark b bytes mark =
+    let p = is_plain is_mark b mark (refl, (refl, (refl, (refl, tt)))) refl refl refl refl refl in
+    rw (p.blank, p.slash, p.ampersand, p.percent, p.at, p.dollar, mark) refl
+
+pub at_name_start : (b : ℕ) (bytes : List ℕ) → is_name_start b ≡ true →
+    lexeme_at (b ∷ bytes) ≡ Some (word_at (b ∷ bytes))
+at_name_start b bytes starts =
+    let p = is_plain is_name_start b starts (refl, (refl, (refl, (refl, tt)))) refl refl refl refl refl in
+    let no_mark : is_mark b ≡ false = is_none_of is_name_start b (codes "(){}[],;:+-") starts
+    (refl, (refl, (refl, (refl, (refl, (refl, (refl, (refl, (refl, (refl, (refl, tt))))))))))) in
+    rw (p.blank, p.slash, p.ampersand, p.percent, p.at, p.dollar, no_mark, starts) refl
+
+-- a digit begins no name
+digit_is_no_start : (b : ℕ) → is_digit b 10 ≡ true → is_name_start b ≡ false
+digit_is_no_start b digit =
+    let small : digit_value b < 10 = grind (arith, nat_tests) in
+    let range : IsInRange 48 57 b = digit_from_value b small in
+    grind (arith, nat_tests)
+
+pub at_digit : (b : ℕ) (bytes : List ℕ) → is_digit b 10 ≡ true → lexeme_at (b ∷ bytes) ≡ number_at (b ∷ bytes)
+at_digit b bytes digit =
+    let test : ℕ → Bool = λ c. is_digit c 10 in
+    let p = is_plain test b digit (refl, (refl, (refl, (refl, tt)))) refl refl refl refl refl in
+    let no_mark : is_mark b ≡ false = is_none_of test b (codes "(){}[],;:+-") digit
+    (refl, (refl, (refl, (refl, (refl, (refl, (refl, (refl, (refl, (refl, (refl, tt))))))))))) in
+    rw (p.blank, p.slash, p.ampersand, p.percent, p.at, p.dollar, no_mark, digit_is_no_start b digit) refl

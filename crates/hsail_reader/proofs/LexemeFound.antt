@@ -1,0 +1,217 @@
+-- The longest front of some bytes that is a lexeme is the lexeme that is found there.
+use Rattle.std.proofs.Common.{◌≡◌, ℕ, ◌+◌, ◌^◌, ◌<◌, ◌⊎◌, inl, inr, ⊎_elim, List, [], ◌∷◌, ◌++◌, length, Bool, true, false, Option, Some, None, refl, sym, ap, subst, ◌∙◌, codes, append_assoc, length-append, arith}
+use Rattle.std.proofs.lemmas.Bool.{cases_Bool}
+use Rattle.std.proofs.lemmas.Bool.Decides.{eqb_tells}
+use Rattle.std.specs.Char.{is_digit}
+use Rattle.std.specs.List.{prefix_len}
+use Rattle.std.specs.Option.{option_map}
+use Rattle.std.specs.Str.Parse.{digits_value}
+use Rattle.hsail_reader.specs.Bytes.{is_name_byte, is_not_line_feed, begins_digit, behind, closing_at, decimal_at, numeral_at, numeral_behind, numeral, align_at, ◌>>=◌}
+use Rattle.hsail_reader.specs.Lexemes.{lexed, name_at, register, register_at, word_at, lexeme_at}
+use Rattle.hsail_reader.specs.Spelling.{AllPass, IsName, IsDecimal, IsNumber, IsClosed, IsComment}
+use Rattle.hsail_reader.specs.TextTokens.{IsLexeme, IsWithin64Bits, IsLongestFront, class_name, header_name}
+use Rattle.hsail_reader.specs.WordSpelling.{SpellsDecimal, SpellsHexadecimal}
+use Rattle.hsail_reader.specs.declared.token.Lexeme.{Lexeme}
+use Rattle.hsail_reader.specs.declared.token.LexemeKind.{LexemeKind}
+use Rattle.hsail_reader.specs.declared.token.LexemeKind.TheVariants.{Blank, Comment, Token}
+use Rattle.hsail_reader.specs.declared.token.Numeral.{Numeral}
+use Rattle.hsail_reader.specs.declared.token.TokenKind.{TokenKind}
+use Rattle.hsail_reader.specs.declared.token.TokenKind.TheVariants as token
+use Rattle.hsail_reader.specs.declared.types.RegisterClass.{RegisterClass}
+use Rattle.hsail_reader.specs.declared.types.RegisterClass.TheVariants.{Control, Single, Double}
+use Rattle.hsail_reader.proofs.FirstBytes.{at_blank, at_mark}
+use Rattle.hsail_reader.proofs.LexemeFronts.{letter, at_register, at_header, at_number, at_word, lexeme_reaches}
+use Rattle.hsail_reader.proofs.LexemeSpellings.{word_kind, found_is_lexeme}
+use Rattle.hsail_reader.proofs.NumberSpelling.{decimal_is_read, hexadecimal_number_is_read}
+use Rattle.hsail_reader.proofs.Reaches.{decimal_short}
+use Rattle.hsail_reader.proofs.Spelled.{behind_parts}
+
+-- a front with one more byte is no lexeme
+no_longer : (kind : LexemeKind) (front rest : List ℕ) (c : ℕ) → IsLongestFront front (front ++ c ∷ rest) →
+    IsLexeme kind (front ++ c ∷ []) → ⊥
+no_longer kind front rest c longest is =
+    let more : length (front ++ c ∷ []) ≡ length front + 1 = length-append front (c ∷ []) in
+    let le = longest kind (front ++ c ∷ []) rest (sym (append_assoc front (c ∷ []) rest)) is in
+    absurd (omega (arith, more, le))
+
+-- one more byte that passes
+pass_more : (test : ℕ → Bool) (bytes : List ℕ) (c : ℕ) → AllPass test bytes → test c ≡ true →
+    AllPass test (bytes ++ c ∷ [])
+pass_more test [] c pass one = (one, tt)
+pass_more test (b ∷ bytes) c pass one = (pass.0, pass_more test bytes c pass.1 one)
+
+-- digits with no digit behind them, and 0, are read whole
+decimal_found : (n : ℕ) (text more : List ℕ) → SpellsDecimal n text → n < 2 ^ 64 →
+    ((c : ℕ) (rest : List ℕ) → more ≡ c ∷ rest → IsDecimal (text ++ c ∷ []) → ⊥) →
+    decimal_at (text ++ more) ≡ Some (numeral n (length text))
+decimal_found n [] more spelled fits ends = absurd spelled.0
+decimal_found n (b ∷ digits) more spelled fits ends =
+    ⊎_elim
+    (λ w. let only : b ∷ digits ≡ 48 ∷ [] = ap (λ x. x ∷ digits) w.1 ∙ ap (λ xs. 48 ∷ xs) (spelled.0.2 w.1) in
+    let none : n ≡ 0 = spelled.1 ∙ ap (digits_value 10) only in
+    let P : List ℕ → Type 0 = λ xs. decimal_at (xs ++ more) ≡ Some (numeral n (length xs)) in
+    subst P (sym only) (ap (λ k. Some (numeral k 1)) (sym none)))
+    (λ w. decimal_is_read n (b ∷ digits) more spelled fits (no_digit w.1 more ends))
+    (eqb_tells b 48)
+  where
+    no_digit : (b ≡ 48 → ⊥) → (more : List ℕ) →
+        ((c : ℕ) (rest : List ℕ) → more ≡ c ∷ rest → IsDecimal (b ∷ digits ++ c ∷ []) → ⊥) →
+        begins_digit 10 more ≡ false
+    no_digit other [] ends = refl
+    no_digit other (c ∷ more) ends =
+        ⊎_elim
+        (λ (digit : is_digit c 10 ≡ true). absurd (ends c more refl
+        (spelled.0.0, pass_more (λ d. is_digit d 10) digits c spelled.0.1 digit, λ zero'. absurd (other zero'))))
+        (λ no'. no')
+        (cases_Bool (is_digit c 10))
+
+-- a decimal number that is no front of a longer number is read whole
+decimal_number_found : (n : ℕ) (text more : List ℕ) → SpellsDecimal n text → n < 2 ^ 64 →
+    IsLongestFront text (text ++ more) → numeral_at (text ++ more) ≡ Some (numeral n (length text))
+decimal_number_found n text more spelled fits longest = by (behind (codes "0x") (text ++ more)) refl
+  where
+    decimal : decimal_at (text ++ more) ≡ Some (numeral n (length text))
+    decimal = decimal_found n text more spelled fits (λ c rest e is.
+        no_longer (Token (token.Number (digits_value 10 (text ++ c ∷ [])))) text rest c
+        (subst (λ xs. IsLongestFront text (text ++ xs)) e longest) (inl (is, refl)))
+
+    by : (o : Option (List ℕ)) → behind (codes "0x") (text ++ more) ≡ o →
+        numeral_behind o (text ++ more) ≡ Some (numeral n (length text))
+    by None e = decimal
+    by (Some []) e = decimal
+    by (Some (d ∷ rest)) e =
+        ⊎_elim
+        (λ (digit : is_digit d 16 ≡ true).
+        let le = longest (Token (token.Number (digits_value 16 (d ∷ [])))) (48 ∷ 120 ∷ d ∷ []) rest
+        (behind_parts (codes "0x") (text ++ more) (d ∷ rest) e)
+        (inr ((d, [], refl, digit, tt), (d ∷ [], refl, refl))) in
+        absurd (omega (arith, le, decimal_short text more (d ∷ rest) spelled.0 e)))
+        (λ (other : is_digit d 16 ≡ false). rw other decimal)
+        (cases_Bool (is_digit d 16))
+
+-- a hexadecimal number that is no front of a longer number is read whole
+hexadecimal_number_found : (n : ℕ) (text more : List ℕ) → SpellsHexadecimal n text → n < 2 ^ 64 →
+    IsLongestFront text (text ++ more) → numeral_at (text ++ more) ≡ Some (numeral n (length text))
+hexadecimal_number_found n text more spelled fits longest =
+    hexadecimal_number_is_read n text more spelled fits (no_digit more longest)
+  where
+    no_digit : (more : List ℕ) → IsLongestFront text (text ++ more) → begins_digit 16 more ≡ false
+    no_digit [] longest = refl
+    no_digit (c ∷ more) longest =
+        ⊎_elim
+        (λ (digit : is_digit c 16 ≡ true).
+        let (d, digits, e, first, pass) = spelled.0 in
+        let whole : text ++ c ∷ [] ≡ 48 ∷ 120 ∷ d ∷ (digits ++ c ∷ []) = ap (λ xs. xs ++ c ∷ []) e in
+        let all = d ∷ (digits ++ c ∷ []) in
+        absurd (no_longer (Token (token.Number (digits_value 16 all))) text more c longest
+        (inr (
+          (d, digits ++ c ∷ [], whole, first, pass_more (λ d. is_digit d 16) digits c pass digit),
+          (all, whole, refl),
+        ))))
+        (λ no'. no')
+        (cases_Bool (is_digit c 16))
+
+-- a comment's end is found
+closing_found : (before : ℕ) (inside more : List ℕ) → IsClosed inside →
+    (n : ℕ) × (closing_at before (inside ++ more) ≡ Some n)
+closing_found before [] more closed = absurd closed
+closing_found before (b ∷ inside) more (inl e) =
+    let P : List ℕ → Type 0 = λ xs. (n : ℕ) × (closing_at before (xs ++ more) ≡ Some n) in
+    subst P (sym e) (before + 2, refl)
+closing_found before (b ∷ []) more (inr w) = absurd w.1
+closing_found before (b ∷ c ∷ inside) more (inr w) = rw w.0 (closing_found (before + 1) (c ∷ inside) more w.1)
+
+-- a lexeme of this kind is found at the front of these bytes
+abbrev IsFound : LexemeKind → List ℕ → Type 0
+IsFound kind bytes = (found : Lexeme) × (lexeme_at bytes ≡ Some found) × (found.kind ≡ kind)
+
+comment_found : (text more : List ℕ) → IsComment text → IsFound Comment (47 ∷ text ++ more)
+comment_found text more (inl (line, e, pass)) =
+    let P : List ℕ → Type 0 = λ xs. IsFound Comment (47 ∷ xs ++ more) in
+    subst P (sym e) (lexed Comment (prefix_len is_not_line_feed (line ++ more) + 2), refl, refl)
+comment_found text more (inr (inside, e, closed)) =
+    let P : List ℕ → Type 0 = λ xs. IsFound Comment (47 ∷ xs ++ more) in
+    let c = closing_found 0 inside more closed in
+    subst P (sym e) (lexed Comment (c.0 + 2), ap (option_map (λ n. lexed Comment (n + 2))) c.1, refl)
+
+name_found : (kind : TokenKind) (text more : List ℕ) → IsName text →
+    (found : Lexeme) × (name_at kind (text ++ more) ≡ Some found) × (found.kind ≡ Token kind)
+name_found kind [] more spelled = absurd spelled
+name_found kind (b ∷ text) more spelled =
+    (lexed (Token kind) (prefix_len is_name_byte (b ∷ text ++ more) + 1), rw spelled.0 refl, refl)
+
+register_read : (class : RegisterClass) (digits more : List ℕ) (n : Numeral) → decimal_at (digits ++ more) ≡ Some n →
+    register_at ((letter class ∷ digits) ++ more) ≡ Some (register class n)
+register_read Control digits more n is = ap (λ o. o >>= λ (m : Numeral). Some (register Control m)) is
+register_read Single digits more n is = ap (λ o. o >>= λ (m : Numeral). Some (register Single m)) is
+register_read Double digits more n is = ap (λ o. o >>= λ (m : Numeral). Some (register Double m)) is
+
+register_found : (class : RegisterClass) (digits more : List ℕ) (n : ℕ) → SpellsDecimal n digits → n < 2 ^ 64 →
+    IsLongestFront (class_name class ++ digits) ((class_name class ++ digits) ++ more) →
+    IsFound (Token (token.Register (record { class = class; number = n }))) ((class_name class ++ digits) ++ more)
+register_found class [] more n spelled fits longest = absurd spelled.0
+register_found class (b ∷ digits) more n spelled fits longest =
+    let found = at_register class b digits more spelled.0.0 ∙ register_read class (b ∷ digits) more read decimal in
+    (register class read, found, refl)
+  where
+    text : List ℕ
+    text = class_name class ++ b ∷ digits
+
+    read : Numeral
+    read = numeral n (length (b ∷ digits))
+
+    decimal : decimal_at ((b ∷ digits) ++ more) ≡ Some read
+    decimal = decimal_found n (b ∷ digits) more spelled fits (λ c rest e is.
+        let all = (b ∷ digits) ++ c ∷ [] in
+        no_longer (Token (token.Register (record { class = class; number = digits_value 10 all }))) text rest c
+        (subst (λ xs. IsLongestFront text (text ++ xs)) e longest)
+        (all, append_assoc (class_name class) (b ∷ digits) (c ∷ []), (is, refl)))
+
+number_found : (n : ℕ) (text more : List ℕ) → IsNumber text →
+    numeral_at (text ++ more) ≡ Some (numeral n (length text)) → IsFound (Token (token.Number n)) (text ++ more)
+number_found n text more spelled read = (
+  lexed (Token (token.Number n)) (length text),
+  at_number text more spelled ∙ ap (option_map (λ (n : Numeral). lexed (Token (token.Number n.value)) n.length)) read,
+  refl,
+)
+
+-- where the longest front that is a lexeme is of this kind, a lexeme of this kind is found
+kind_is_found : (kind : LexemeKind) (front more : List ℕ) → IsLexeme kind front → IsWithin64Bits kind →
+    IsLongestFront front (front ++ more) → IsFound kind (front ++ more)
+kind_is_found Blank front more (b, e, blank) within longest =
+    subst (λ xs. IsFound Blank (xs ++ more)) (sym e) (lexed Blank 1, at_blank b more blank, refl)
+kind_is_found Comment front more (rest, e, spelled) within longest =
+    subst (λ xs. IsFound Comment (xs ++ more)) (sym e) (comment_found rest more spelled)
+kind_is_found (Token token.Global) front more (rest, e, spelled) within longest =
+    subst (λ xs. IsFound (Token token.Global) (xs ++ more)) (sym e) (name_found token.Global rest more spelled)
+kind_is_found (Token token.Variable) front more (rest, e, spelled) within longest =
+    subst (λ xs. IsFound (Token token.Variable) (xs ++ more)) (sym e) (name_found token.Variable rest more spelled)
+kind_is_found (Token token.Label) front more (rest, e, spelled) within longest =
+    subst (λ xs. IsFound (Token token.Label) (xs ++ more)) (sym e) (name_found token.Label rest more spelled)
+kind_is_found (Token (token.Register r)) front more (digits, e, spelled) within longest =
+    let Long : List ℕ → Type 0 = λ xs. IsLongestFront xs (xs ++ more) in
+    subst (λ xs. IsFound (Token (token.Register r)) (xs ++ more)) (sym e)
+    (register_found r.class digits more r.number spelled within (subst Long e longest))
+kind_is_found (Token (token.Header h)) front more e within longest =
+    subst (λ xs. IsFound (Token (token.Header h)) (xs ++ more)) (sym e)
+    (lexed (Token (token.Header h)) (length (header_name h)), at_header h more, refl)
+kind_is_found (Token (token.Number n)) front more (inl spelled) within longest =
+    number_found n front more (inl spelled.0) (decimal_number_found n front more spelled within longest)
+kind_is_found (Token (token.Number n)) front more (inr spelled) within longest =
+    number_found n front more (inr spelled.0) (hexadecimal_number_found n front more spelled within longest)
+kind_is_found (Token (token.Mark b)) front more (e, mark) within longest =
+    subst (λ xs. IsFound (Token (token.Mark b)) (xs ++ more)) (sym e)
+    (lexed (Token (token.Mark b)) 1, at_mark b more mark, refl)
+kind_is_found (Token token.Word) front more spelled within longest =
+    (word_at (front ++ more), at_word front more spelled, sym (word_kind (align_at (front ++ more)) (front ++ more)))
+
+-- the longest front that is a lexeme is found, as long as it is and of its kind
+pub longest_is_found : (kind : LexemeKind) (front more : List ℕ) → IsLexeme kind front → IsWithin64Bits kind →
+    IsLongestFront front (front ++ more) → lexeme_at (front ++ more) ≡ Some (lexed kind (length front))
+longest_is_found kind front more is within longest =
+    let found = kind_is_found kind front more is within longest in
+    let least = lexeme_reaches kind front more found.0 is found.1 in
+    let spelled = found_is_lexeme (front ++ more) found.0 found.1 in
+    let most = longest found.0.kind spelled.0 spelled.1 spelled.2 spelled.4 in
+    let whole : found.0.length ≡ length front = omega (arith, least, most, spelled.3) in
+    found.1 ∙ ap (λ k. Some (lexed k found.0.length)) found.2 ∙ ap (λ n. Some (lexed kind n)) whole

@@ -1,0 +1,139 @@
+-- A text is cut into tokens just where these are its tokens by their spelling.
+use Rattle.std.proofs.Common.{◌≡◌, ℕ, zero, suc, ◌+◌, ◌<◌, ◌≤◌, inl, inr, List, [], ◌∷◌, ◌++◌, length, take, drop, Result, Ok, Err, Option, Some, None, refl, sym, ap, subst, ◌∙◌, length-append, arith}
+use Rattle.std.proofs.Math.Seq.{take-append_seam, drop-append_seam}
+use Rattle.hsail_reader.specs.Faults.{refusal, with_front}
+use Rattle.hsail_reader.specs.Lexemes.{lexed, lexeme_at}
+use Rattle.hsail_reader.specs.TextTokens.{IsLexeme, IsLongestFront, AreTokens, none, lexeme, header_name}
+use Rattle.hsail_reader.specs.Tokens.{Piece, kept, tokens_from, line_after, line_behind, further, before_rest}
+use Rattle.hsail_reader.specs.declared.fault.Flaw.TheVariants as flaw
+use Rattle.hsail_reader.specs.declared.fault.Refusal.{Refusal}
+use Rattle.hsail_reader.specs.declared.token.Header.{Header}
+use Rattle.hsail_reader.specs.declared.token.Header.TheVariants.{Base, Full, Large, Default, Zero, Near}
+use Rattle.hsail_reader.specs.declared.token.Lexeme.{Lexeme}
+use Rattle.hsail_reader.specs.declared.token.LexemeKind.{LexemeKind}
+use Rattle.hsail_reader.specs.declared.token.LexemeKind.TheVariants.{Blank, Comment, Token}
+use Rattle.hsail_reader.specs.declared.token.TokenKind.TheVariants as token
+use Rattle.hsail_reader.proofs.LexemeFound.{longest_is_found}
+use Rattle.hsail_reader.proofs.LexemeFronts.{number_first, word_first, lexeme_reaches}
+use Rattle.hsail_reader.proofs.LexemeSpellings.{FoundSpelled, class_length, found_is_lexeme}
+use Rattle.hsail_reader.proofs.Lexing.{tokens_from_step}
+
+-- the tokens behind a lexeme that is found, by its front and what stands behind it
+step : (place line : ℕ) (kind : LexemeKind) (front behind : List ℕ) → 0 < length front →
+    lexeme_at (front ++ behind) ≡ Some (lexed kind (length front)) →
+    tokens_from 0 place line (front ++ behind)
+    ≡ with_front (kept kind front place line) (tokens_from 0 (place + length front) (line_after line front) behind)
+step place line kind front behind some is =
+    let long = length-append front behind in
+    tokens_from_step place line (front ++ behind) (lexed kind (length front)) is some (omega (arith, long))
+    ∙ ap (λ xs. with_front (kept kind xs place line)
+    (tokens_from 0 (place + length front) (line_after line xs) (drop (length front) (front ++ behind))))
+    (take-append_seam front behind)
+    ∙ ap (λ xs. with_front (kept kind front place line)
+    (tokens_from 0 (place + length front) (line_after line front) xs))
+    (drop-append_seam front behind)
+
+header_is_some : (h : Header) → 0 < length (header_name h)
+header_is_some Base = omega arith
+header_is_some Full = omega arith
+header_is_some Large = omega arith
+header_is_some Default = omega arith
+header_is_some Zero = omega arith
+header_is_some Near = omega arith
+
+-- a lexeme has a byte at least
+lexeme_is_some : (kind : LexemeKind) (front : List ℕ) → IsLexeme kind front → 0 < length front
+lexeme_is_some Blank front (b, e, blank) = omega (arith, ap length e)
+lexeme_is_some Comment front (rest, e, spelled) = omega (arith, ap length e)
+lexeme_is_some (Token token.Global) front (rest, e, spelled) = omega (arith, ap length e)
+lexeme_is_some (Token token.Variable) front (rest, e, spelled) = omega (arith, ap length e)
+lexeme_is_some (Token token.Label) front (rest, e, spelled) = omega (arith, ap length e)
+lexeme_is_some (Token (token.Register r)) front (digits, e, spelled) =
+    omega (arith, ap length e, class_length r.class digits)
+lexeme_is_some (Token (token.Header h)) front e = omega (arith, ap length e, header_is_some h)
+lexeme_is_some (Token (token.Number n)) front (inl spelled) =
+    omega (arith, ap length (number_first front (inl spelled.0)).2)
+lexeme_is_some (Token (token.Number n)) front (inr spelled) =
+    omega (arith, ap length (number_first front (inr spelled.0)).2)
+lexeme_is_some (Token (token.Mark b)) front (e, mark) = omega (arith, ap length e)
+lexeme_is_some (Token token.Word) front spelled = omega (arith, ap length (word_first front spelled).2)
+
+-- tokens by their spelling are those that are cut
+tokens_are_cut : (place line : ℕ) (bytes : List ℕ) (tokens : List Piece) → AreTokens place line bytes tokens →
+    tokens_from 0 place line bytes ≡ Ok tokens
+tokens_are_cut _ _ _ _ (none place line) = refl
+tokens_are_cut _ _ _ _ (lexeme place line kind bytes front behind tokens parts is within longest rest) =
+    let Long : List ℕ → Type 0 = λ xs. IsLongestFront front xs in
+    let found = longest_is_found kind front behind is within (subst Long parts longest) in
+    ap (tokens_from 0 place line) parts
+    ∙ step place line kind front behind (lexeme_is_some kind front is) found
+    ∙ ap (with_front (kept kind front place line))
+    (tokens_are_cut (place + length front) (line_after line front) behind tokens rest)
+
+pub cut : (text : List ℕ) (tokens : List Piece) → AreTokens 0 1 text tokens → tokens_from 0 0 1 text ≡ Ok tokens
+cut text tokens are = tokens_are_cut 0 1 text tokens are
+
+-- the tokens, as reading them gives them
+abbrev read_as : List Piece → Result (List Piece) Refusal
+read_as tokens = Ok tokens
+
+same_tokens : (a b : List Piece) → read_as a ≡ read_as b → a ≡ b
+same_tokens a b e = cc
+
+not_both : {A : Type 0} (r : Refusal) (tokens : List Piece) → Err r ≡ Ok tokens → A
+not_both r tokens e = cc
+
+-- the tokens behind some, where all are read
+behind_some : (front tokens : List Piece) (rest : Result (List Piece) Refusal) → with_front front rest ≡ Ok tokens →
+    (later : List Piece) × (rest ≡ Ok later) × (front ++ later ≡ tokens)
+behind_some front tokens (Ok later) is = (later, refl, same_tokens (front ++ later) tokens is)
+behind_some front tokens (Err r) is = not_both r tokens is
+
+-- where the tokens behind it are spelled, so are those of the lexeme found and of what stands behind it
+found_goes_on : (place line : ℕ) (bytes : List ℕ) (tokens : List Piece) (found : Lexeme) →
+    lexeme_at bytes ≡ Some found → tokens_from 0 place line bytes ≡ Ok tokens → FoundSpelled bytes found →
+    ((place line : ℕ) (behind : List ℕ) (tokens : List Piece) → length behind < length bytes →
+    tokens_from 0 place line behind ≡ Ok tokens → AreTokens place line behind tokens) →
+    AreTokens place line bytes tokens
+found_goes_on place line bytes tokens found at' is (front, behind, parts, counts, spelled, within) goes_on =
+    let At : List ℕ → Type 0 = λ xs. lexeme_at xs ≡ Some found in
+    let there : lexeme_at (front ++ behind) ≡ Some (lexed found.kind (length front)) =
+    subst At parts at' ∙ ap (λ n. Some (lexed found.kind n)) (sym counts) in
+    let some = lexeme_is_some found.kind front spelled in
+    let whole = sym (step place line found.kind front behind some there)
+    ∙ ap (tokens_from 0 place line) (sym parts) ∙ is in
+    let later = behind_some (kept found.kind front place line) tokens
+    (tokens_from 0 (place + length front) (line_after line front) behind) whole in
+    let longest : IsLongestFront front bytes = λ kind text more e lex.
+    omega (arith, counts, lexeme_reaches kind text more found lex (ap lexeme_at (sym e) ∙ at')) in
+    let shorter : length behind < length bytes = omega (arith, ap length parts, length-append front behind, some) in
+    let rest = goes_on (place + length front) (line_after line front) behind later.0 shorter later.1 in
+    subst (AreTokens place line bytes) later.2
+    (lexeme place line found.kind bytes front behind later.0 parts spelled within longest rest)
+
+-- the tokens that are cut at the front of some bytes are those by their spelling, where those behind it are
+cut_goes_on : (o : Option Lexeme) (place line b : ℕ) (bytes : List ℕ) (tokens : List Piece) →
+    lexeme_at (b ∷ bytes) ≡ o → tokens_from 0 place line (b ∷ bytes) ≡ Ok tokens →
+    ((place line : ℕ) (behind : List ℕ) (tokens : List Piece) → length behind < length (b ∷ bytes) →
+    tokens_from 0 place line behind ≡ Ok tokens → AreTokens place line behind tokens) →
+    AreTokens place line (b ∷ bytes) tokens
+cut_goes_on None place line b bytes tokens e is goes_on =
+    let P : Option Lexeme → Type 0 = λ o.
+    before_rest o (b ∷ bytes) place line (tokens_from (further o) (place + 1) (line_behind line b) bytes)
+    ≡ Ok tokens in
+    not_both (refusal (Some place) flaw.Lexeme) tokens (subst P e is)
+cut_goes_on (Some found) place line b bytes tokens e is goes_on =
+    found_goes_on place line (b ∷ bytes) tokens found e is (found_is_lexeme (b ∷ bytes) found e) goes_on
+
+-- the tokens that are cut are those by their spelling, in at most `fuel` bytes
+cut_is_spelled : (fuel place line : ℕ) (bytes : List ℕ) (tokens : List Piece) → length bytes ≤ fuel →
+    tokens_from 0 place line bytes ≡ Ok tokens → AreTokens place line bytes tokens
+cut_is_spelled fuel place line [] tokens fits is =
+    subst (AreTokens place line []) (same_tokens [] tokens is) (none place line)
+cut_is_spelled zero place line (b ∷ bytes) tokens fits is = absurd (omega arith)
+cut_is_spelled (suc fuel) place line (b ∷ bytes) tokens fits is =
+    cut_goes_on (lexeme_at (b ∷ bytes)) place line b bytes tokens refl is
+    (λ place line behind tokens shorter is. cut_is_spelled fuel place line behind tokens (omega arith) is)
+
+pub spelled : (text : List ℕ) (tokens : List Piece) → tokens_from 0 0 1 text ≡ Ok tokens → AreTokens 0 1 text tokens
+spelled text tokens is = cut_is_spelled (length text) 0 1 text tokens (omega arith) is

@@ -1,0 +1,27 @@
+-- Which whole texts are words: names with modifiers inside or at their end, and align(n) (all (own)).
+use Rattle.std.specs.Prelude.{◌≡◌, ℕ, ◌⊎◌, List, [], ◌∷◌, ◌++◌, true, Some, codes}
+use Rattle.hsail_reader.specs.Bytes.{is_name_byte, is_name_start}
+use Rattle.hsail_reader.specs.WordSpelling.{SpellsNumberIn, SpellsAlign, SpellsWidth}
+use Rattle.hsail_reader.specs.declared.types.Width.{Width}
+
+-- align(n)
+abbrev pub IsAlign : List ℕ → Type 0
+IsAlign text = (n : ℕ) × SpellsNumberIn (codes "align(") n (codes ")") text
+
+-- _align(n) or _width(w)
+abbrev pub IsModifier : List ℕ → Type 0
+IsModifier text = ((n : ℕ) × SpellsAlign (Some n) text) ⊎ ((w : Width) × SpellsWidth (Some w) text)
+
+-- bytes of a name, and modifiers between them
+pub data ArePieces : List ℕ → Type 0 where
+  none : ArePieces []
+  byte : (b : ℕ) (rest : List ℕ) → is_name_byte b ≡ true → ArePieces rest → ArePieces (b ∷ rest)
+  modifier : (m rest text : List ℕ) → IsModifier m → text ≡ m ++ rest → ArePieces rest → ArePieces text
+
+-- a name, with modifiers inside or at its end
+abbrev pub IsModifiedName : List ℕ → Type 0
+IsModifiedName [] = ⊥
+IsModifiedName (b ∷ rest) = (is_name_start b ≡ true) × ArePieces rest
+
+abbrev pub IsWord : List ℕ → Type 0
+IsWord text = IsModifiedName text ⊎ IsAlign text
