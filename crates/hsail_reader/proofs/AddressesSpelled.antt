@@ -15,7 +15,7 @@ use Rattle.hsail_reader.specs.declared.types.Constant.{Constant}
 use Rattle.hsail_reader.specs.declared.types.Register.{Register}
 use Rattle.hsail_reader.specs.declared.types.Source.{Source}
 use Rattle.hsail_reader.specs.declared.types.Source.TheVariants as sources
-use Rattle.hsail_reader.proofs.OperandsSpelled.{same, refused, bound, chosen, mark_is, mark_spelled, variable_is, constant_spelled}
+use Rattle.hsail_reader.proofs.OperandsSpelled.{same, carried, refused, bound, chosen, mark_is, mark_spelled, variable_is, constant_spelled}
 
 -- a constant behind its sign
 signed_spelled : (negative : Bool) (from : List Piece) (y : Source × List Piece) → signed_at negative from ≡ Ok y →
@@ -30,9 +30,9 @@ signed_spelled negative from y is =
 source_by : (k : TokenKind) (t : Piece) (tokens : List Piece) (y : Source × List Piece) → t.kind ≡ k →
     source_from k (t ∷ tokens) tokens ≡ Ok y → source y.0 (t ∷ tokens) y.1
 source_by (token.Register r) t tokens y kind is =
-    subst (λ q. source q.0 (t ∷ tokens) q.1) (same (sources.Register r, tokens) y is) (t, refl, kind)
+    carried (λ q. source q.0 (t ∷ tokens) q.1) (sources.Register r, tokens) y is (t, refl, kind)
 source_by (token.Number n) t tokens y kind is =
-    subst (λ q. source q.0 (t ∷ tokens) q.1) (same (sources.Constant (constant false n), tokens) y is)
+    carried (λ q. source q.0 (t ∷ tokens) q.1) (sources.Constant (constant false n), tokens) y is
     (t ∷ tokens, inl refl, (t, refl, kind))
 source_by (token.Mark b) t tokens y kind is =
     ⊎_elim
@@ -98,7 +98,7 @@ offset_spelled r (t ∷ tokens) y is = offset_by_kind t.kind r t tokens y refl i
 place_by : (k : TokenKind) (t : Piece) (tokens : List Piece) (y : Place × List Piece) → t.kind ≡ k →
     place_from k (t ∷ tokens) tokens ≡ Ok y → place y.0 (t ∷ tokens) y.1
 place_by (token.Number n) t tokens y kind is =
-    subst (λ q. place q.0 (t ∷ tokens) q.1) (same (places.Absolute n, tokens) y is) (t, refl, kind)
+    carried (λ q. place q.0 (t ∷ tokens) q.1) (places.Absolute n, tokens) y is (t, refl, kind)
 place_by (token.Register r) t tokens y kind is =
     let c = offset_spelled r tokens y is in
     subst (λ p. place p (t ∷ tokens) y.1) (sym c.1) (tokens, (t, refl, kind), c.2)
@@ -115,7 +115,7 @@ unfolding place_in_brackets
 place_in_brackets_spelled from y is =
     let p = bound (place_at from) (λ p. mark_at 93 p.1 >>= λ rest. Ok (p.0, rest)) y is in
     let m = bound (mark_at 93 p.0.1) (λ rest. Ok (p.0.0, rest)) y p.2 in
-    subst (λ q. (place q.0 ▸ mark 93) from q.1) (same (p.0.0, m.0) y m.2)
+    carried (λ q. (place q.0 ▸ mark 93) from q.1) (p.0.0, m.0) y m.2
     (p.0.1, place_spelled from p.0 p.1, mark_spelled 93 p.0.1 m.0 m.1)
 
 -- what stands behind [%x]
@@ -126,9 +126,9 @@ index_spelled x before from y s is =
     ⊎_elim
     (λ w. let m = bound (mark_at 91 from) (λ rest. place_in_brackets rest >>= λ p. Ok (indexed x p.0, p.1)) y w.1 in
     let p = bound (place_in_brackets m.0) (λ p. Ok (indexed x p.0, p.1)) y m.2 in
-    subst (λ q. address q.0 before q.1) (same (indexed x p.0.0, p.0.1) y p.2)
+    carried (λ q. address q.0 before q.1) (indexed x p.0.0, p.0.1) y p.2
     (from, s, (m.0, mark_spelled 91 from m.0 m.1, place_in_brackets_spelled m.0 p.0 p.1)))
-    (λ w. subst (λ q. address q.0 before q.1) (same (addresses.Variable x, from) y w.1) s)
+    (λ w. carried (λ q. address q.0 before q.1) (addresses.Variable x, from) y w.1 s)
     (chosen (begins_with_mark 91 from) (mark_at 91 from >>= λ rest. place_in_brackets rest >>= λ p. Ok (indexed x p.0, p.1))
     (Ok (addresses.Variable x, from)) (Ok y) is)
 
@@ -141,7 +141,7 @@ inside_by (Some x) t before tokens y s e is =
     (t ∷ tokens, s, (tokens, (t, refl, variable_is t.kind t.text x e), mark_spelled 93 tokens m.0 m.1)) m.2
 inside_by None t before tokens y s e is =
     let p = bound (place_in_brackets (t ∷ tokens)) (λ p. Ok (addresses.Place p.0, p.1)) y is in
-    subst (λ q. address q.0 before q.1) (same (addresses.Place p.0.0, p.0.1) y p.2)
+    carried (λ q. address q.0 before q.1) (addresses.Place p.0.0, p.0.1) y p.2
     (t ∷ tokens, s, place_in_brackets_spelled (t ∷ tokens) p.0 p.1)
 
 inside_spelled : (before from : List Piece) (y : Address × List Piece) → mark 91 before from →

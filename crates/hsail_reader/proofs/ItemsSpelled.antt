@@ -20,7 +20,7 @@ use Rattle.hsail_reader.specs.declared.words.Word.{Word}
 use Rattle.hsail_reader.specs.declared.words.Word.TheVariants as words
 use Rattle.hsail_reader.proofs.Operations.{code_of, operands_of, whole}
 use Rattle.hsail_reader.proofs.OperationsSpelled.{operation_spelled}
-use Rattle.hsail_reader.proofs.OperandsSpelled.{same, bound, chosen, mark_spelled}
+use Rattle.hsail_reader.proofs.OperandsSpelled.{same, carried, bound, chosen, mark_spelled}
 
 -- a text that is read as a word of a module spells it
 abbrev pub WordsAreSpelled : Type 0
@@ -40,7 +40,7 @@ label_spelled : (t : Piece) (rest : List Piece) (y : Item × List Piece) → t.k
     (mark_at 58 rest >>= λ end. Ok (labelled t.line t.text, end)) ≡ Ok y → item y.0 (t ∷ rest) y.1
 label_spelled t rest y kind is =
     let m = bound (mark_at 58 rest) (λ end. Ok (labelled t.line t.text, end)) y is in
-    subst (λ q. item q.0 (t ∷ rest) q.1) (same (labelled t.line t.text, m.0) y m.2)
+    carried (λ q. item q.0 (t ∷ rest) q.1) (labelled t.line t.text, m.0) y m.2
     (refl, (rest, (t, refl, (kind, refl)), mark_spelled 58 rest m.0 m.1))
 
 instruction_spelled : (code : Opcode) (t : Piece) (rest : List Piece) (y : Item × List Piece) → t.kind ≡ token.Word →
@@ -52,7 +52,7 @@ instruction_spelled code t rest y kind spelled is =
     let m = bound (mark_at 59 x.0.1) (λ end. Ok (performed t.line x.0.0, end)) y x.2 in
     let s = operation_spelled code rest x.0 x.1 in
     let w = subst (λ c. SpellsWord (words.Instruction c) t.text) (sym s.0) spelled in
-    subst (λ q. item q.0 (t ∷ rest) q.1) (same (performed t.line x.0.0, m.0) y m.2)
+    carried (λ q. item q.0 (t ∷ rest) q.1) (performed t.line x.0.0, m.0) y m.2
     (refl, (x.0.1, whole x.0.0 (t ∷ rest) x.0.1 (rest, (t, refl, (kind, w)), s.1), mark_spelled 59 x.0.1 m.0 m.1))
 
 word_item_spelled : WordsAreSpelled → (w : Word) (t : Piece) (rest : List Piece) (y : Item × List Piece) →
@@ -80,15 +80,15 @@ pub many_spelled : {X : Type 0} (spelled : X → Spelled) (stops : List Piece �
     many_at stops reads n from ≡ Ok y → each spelled y.0 from y.1 × (stops y.1 ≡ true)
 many_spelled {X} spelled stops reads law zero from y is =
     ⊎_elim
-    (λ w. subst (λ q. each spelled q.0 from q.1 × (stops q.1 ≡ true)) (same ([], from) y w.1) (refl, w.0))
+    (λ w. carried (λ q. each spelled q.0 from q.1 × (stops q.1 ≡ true)) ([], from) y w.1 (refl, w.0))
     (λ w. no_reading from Syntax y w.1)
     (chosen (stops from) (Ok ([], from)) (refuse from Syntax) (Ok y) is)
 many_spelled {X} spelled stops reads law (suc n) from y is =
     ⊎_elim
-    (λ w. subst (λ q. each spelled q.0 from q.1 × (stops q.1 ≡ true)) (same ([], from) y w.1) (refl, w.0))
+    (λ w. carried (λ q. each spelled q.0 from q.1 × (stops q.1 ≡ true)) ([], from) y w.1 (refl, w.0))
     (λ w. let x = bound (reads from) (λ x. with_first x.0 (many_at stops reads n x.1)) y w.1 in
     let xs = bound (many_at stops reads n x.0.1) (λ xs. Ok (x.0.0 ∷ xs.0, xs.1)) y x.2 in
     let others = many_spelled spelled stops reads law n x.0.1 xs.0 xs.1 in
-    subst (λ q. each spelled q.0 from q.1 × (stops q.1 ≡ true)) (same (x.0.0 ∷ xs.0.0, xs.0.1) y xs.2)
+    carried (λ q. each spelled q.0 from q.1 × (stops q.1 ≡ true)) (x.0.0 ∷ xs.0.0, xs.0.1) y xs.2
     ((x.0.1, law from x.0 x.1, others.0), others.1))
     (chosen (stops from) (Ok ([], from)) (reads from >>= λ x. with_first x.0 (many_at stops reads n x.1)) (Ok y) is)

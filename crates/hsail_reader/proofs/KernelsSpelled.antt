@@ -20,7 +20,7 @@ use Rattle.hsail_reader.specs.declared.words.Word.{Word}
 use Rattle.hsail_reader.specs.declared.words.Word.TheVariants as words
 use Rattle.hsail_reader.proofs.ArgumentsRead.{the_argument}
 use Rattle.hsail_reader.proofs.ItemsSpelled.{WordsAreSpelled, no_reading, item_spelled, many_spelled}
-use Rattle.hsail_reader.proofs.OperandsSpelled.{same, bound, chosen, mark_is, mark_spelled, variable_spelled, global_spelled}
+use Rattle.hsail_reader.proofs.OperandsSpelled.{same, carried, bound, chosen, mark_is, mark_spelled, variable_spelled, global_spelled}
 use Rattle.std.proofs.lemmas.Bool.Decides.{eqb_tells}
 
 pub contradiction : {A : Type 0} → true ≡ false → A
@@ -125,7 +125,7 @@ some_arguments_spelled law from y is =
     let xs = bound (all_at (begins_with_mark 41) next_argument_at x.0.1) (λ xs. Ok (x.0.0 ∷ xs.0, xs.1)) y x.2 in
     let others = many_spelled (λ a. comma ▸ argument a) (begins_with_mark 41) next_argument_at (next_argument_spelled law)
     (suc (length x.0.1)) x.0.1 xs.0 xs.1 in
-    subst (λ q. separated argument q.0 from q.1) (same (x.0.0 ∷ xs.0.0, xs.0.1) y xs.2)
+    carried (λ q. separated argument q.0 from q.1) (x.0.0 ∷ xs.0.0, xs.0.1) y xs.2
     (x.0.1, argument_spelled law from x.0 x.1, others.0)
 
 arguments_spelled : WordsAreSpelled → (from : List Piece) (y : List Argument × List Piece) → arguments_at from ≡ Ok y →
@@ -133,7 +133,7 @@ arguments_spelled : WordsAreSpelled → (from : List Piece) (y : List Argument �
 unfolding arguments_at
 arguments_spelled law from y is =
     ⊎_elim
-    (λ w. subst (λ q. separated argument q.0 from q.1) (same ([], from) y w.1) refl)
+    (λ w. carried (λ q. separated argument q.0 from q.1) ([], from) y w.1 refl)
     (λ w. some_arguments_spelled law from y w.1)
     (chosen (begins_with_mark 41 from) (Ok ([], from)) (some_arguments_at from) (Ok y) is)
 
@@ -145,7 +145,7 @@ signature_spelled law from y is =
     (λ inside. arguments_at inside >>= λ arguments. mark_at 41 arguments.1 >>= λ end. Ok (arguments.0, end)) y is in
     let x = bound (arguments_at m.0) (λ arguments. mark_at 41 arguments.1 >>= λ end. Ok (arguments.0, end)) y m.2 in
     let e = bound (mark_at 41 x.0.1) (λ end. Ok (x.0.0, end)) y x.2 in
-    subst (λ q. in_parentheses (separated argument q.0) from q.1) (same (x.0.0, e.0) y e.2)
+    carried (λ q. in_parentheses (separated argument q.0) from q.1) (x.0.0, e.0) y e.2
     (m.0, mark_spelled 40 from m.0 m.1, (x.0.1, arguments_spelled law m.0 x.0 x.1, mark_spelled 41 x.0.1 e.0 e.1))
 
 skipped_spelled : (from : List Piece) → optional semicolon from (skip_mark 59 from)
@@ -164,5 +164,5 @@ body_spelled law from y is =
     let e = bound (mark_at 125 x.0.1) (λ end. Ok (x.0.0, skip_mark 59 end)) y x.2 in
     let m = bound (mark_at 123 from) (all_at (begins_with_mark 125) item_at) x.0 x.1 in
     let items = many_spelled item (begins_with_mark 125) item_at (item_spelled law) (suc (length m.0)) m.0 x.0 m.2 in
-    subst (λ q. (in_braces (each item q.0) ▸ optional semicolon) from q.1) (same (x.0.0, skip_mark 59 e.0) y e.2)
+    carried (λ q. (in_braces (each item q.0) ▸ optional semicolon) from q.1) (x.0.0, skip_mark 59 e.0) y e.2
     (e.0, (m.0, mark_spelled 123 from m.0 m.1, (x.0.1, items.0, mark_spelled 125 x.0.1 e.0 e.1)), skipped_spelled e.0)

@@ -32,3 +32,4 @@ pub mod LexemeSpellings
 pub mod LexemeFound
 pub mod TextCut
 pub mod BracketSpelling
+pub mod TextSpelled

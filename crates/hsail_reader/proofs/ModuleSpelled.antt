@@ -25,7 +25,7 @@ use Rattle.hsail_reader.specs.declared.words.Word.TheVariants as words
 use Rattle.hsail_reader.proofs.ItemsSpelled.{WordsAreSpelled, no_reading, many_spelled}
 use Rattle.hsail_reader.proofs.KernelsRead.{behind_word}
 use Rattle.hsail_reader.proofs.KernelsSpelled.{contradiction, word_token, signature_spelled, body_spelled}
-use Rattle.hsail_reader.proofs.OperandsSpelled.{same, bound, chosen, one_spelled, mark_spelled, global_spelled}
+use Rattle.hsail_reader.proofs.OperandsSpelled.{same, carried, bound, chosen, one_spelled, mark_spelled, global_spelled}
 
 -- a kernel behind its word
 behind_spelled : WordsAreSpelled → (line : ℕ) (from : List Piece) (y : Kernel × List Piece) → kernel_behind line from ≡ Ok y →
@@ -39,7 +39,7 @@ behind_spelled law line from y is =
     (λ arguments. body_at arguments.1 >>= λ items. Ok (kernel line n.0.0 arguments.0 items.0, items.1)) y n.2 in
     let b = bound (body_at a.0.1) (λ items. Ok (kernel line n.0.0 a.0.0 items.0, items.1)) y a.2 in
     let body = body_spelled law a.0.1 b.0 b.1 in
-    subst (λ q. (line ≡ q.0.line) × behind_word q.0 from q.1) (same (kernel line n.0.0 a.0.0 b.0.0, b.0.1) y b.2)
+    carried (λ q. (line ≡ q.0.line) × behind_word q.0 from q.1) (kernel line n.0.0 a.0.0 b.0.0, b.0.1) y b.2
     (refl, (
       n.0.1,
       global_spelled from n.0 n.1,
@@ -184,7 +184,7 @@ fields_spelled from y is =
     let profile = profile_spelled b.0.1 c.0 c.1 in
     let large = field_spelled large_kind c.0.1 d.0 d.1 in
     let rounding = rounding_spelled d.0.1 e.0 e.1 in
-    subst (λ q. spelled_fields q.0 from q.1) (same (the_fields b.0.0 c.0.0 e.0.0, e.0.1) y e.2)
+    carried (λ q. spelled_fields q.0 from q.1) (the_fields b.0.0 c.0.0 e.0.0, e.0.1) y e.2
     (major.0, major.1, (
       a.0.1,
       (major.2.0, major.2.1, major_is major.2.0.kind a.0.0 major.2.2),
@@ -243,7 +243,7 @@ module_spelled law tokens m is =
     let d = bound (kernels_at c.0.1) (λ kernels. Ok (whole_module b.0.0 c.0.0 kernels.0)) m c.2 in
     let first = one_spelled (λ t. module_word (word_at t)) tokens a.0 a.1 in
     let w = word_token first.0.kind first.0.text words.Module (module_word_is (word_at first.0) a.0.0 first.2) in
-    subst (SpellModule tokens) (same (whole_module b.0.0 c.0.0 d.0.0) m d.2)
+    carried (SpellModule tokens) (whole_module b.0.0 c.0.0 d.0.0) m d.2
     (module_parts b.0.0 c.0.0 d.0.0 tokens a.0.1 b.0.1 c.0.1
     (first.0, first.1, (w.0, law words.Module first.0.text w.1 refl))
     (global_spelled a.0.1 b.0 b.1) (fields_spelled b.0.1 c.0 c.1) (kernels_spelled law c.0.1 d.0 d.1))

@@ -21,6 +21,10 @@ use Rattle.hsail_reader.specs.declared.types.Source.TheVariants as sources
 pub same : {A : Type 0} (x y : A) → ◌≡◌ {A = Result A Refusal} (Ok x) (Ok y) → x ≡ y
 same x y is = cc
 
+-- what holds of one reading holds of the same reading
+pub carried : {A : Type 0} (P : A → Type 0) (x y : A) → ◌≡◌ {A = Result A Refusal} (Ok x) (Ok y) → P x → P y
+carried P x y is p = subst P (same x y is) p
+
 contradiction : {A : Type 0} → true ≡ false → A
 contradiction e = cc
 

@@ -19,7 +19,7 @@ use Rattle.hsail_reader.specs.declared.words.Opcode.{Opcode}
 use Rattle.hsail_reader.specs.declared.words.Opcode.TheVariants as opcodes
 use Rattle.hsail_reader.proofs.AddressesSpelled.{source_spelled, address_spelled}
 use Rattle.hsail_reader.proofs.Operations.{code_of, operands_of}
-use Rattle.hsail_reader.proofs.OperandsSpelled.{same, bound, mark_spelled, register_spelled, number_spelled, label_spelled}
+use Rattle.hsail_reader.proofs.OperandsSpelled.{same, carried, bound, mark_spelled, register_spelled, number_spelled, label_spelled}
 
 -- an operation with this word, and its operands
 abbrev pub SpellsBehind : Opcode → List Piece → Operation × List Piece → Type 0
@@ -37,8 +37,8 @@ unfolding unary_at
 unary_spelled op kind from y is =
     let d = bound (register_at from) (λ d. next_source_at d.1 >>= λ a. Ok (unary op kind d.0 a.0, a.1)) y is in
     let a = bound (next_source_at d.0.1) (λ a. Ok (unary op kind d.0.0 a.0, a.1)) y d.2 in
-    subst (SpellsBehind (opcodes.Unary op kind) from) (same (unary op kind d.0.0 a.0.0, a.0.1) y a.2)
-    (refl, (d.0.1, register_spelled from d.0 d.1, next_source_spelled d.0.1 a.0 a.1))
+    carried (SpellsBehind (opcodes.Unary op kind) from) (unary op kind d.0.0 a.0.0, a.0.1) y a.2
+    (refl {a = opcodes.Unary op kind}, (d.0.1, register_spelled from d.0 d.1, next_source_spelled d.0.1 a.0 a.1))
 
 binary_spelled : (op : BinaryOperation) (kind : DataType) (from : List Piece) (y : Operation × List Piece) →
     binary_at op kind from ≡ Ok y → SpellsBehind (opcodes.Binary op kind) from y
@@ -50,8 +50,8 @@ binary_spelled op kind from y is =
     (λ a. next_source_at a.1 >>= λ b. Ok (binary op kind d.0.0 a.0 b.0, b.1)) y d.2 in
     let b = bound (next_source_at a.0.1) (λ b. Ok (binary op kind d.0.0 a.0.0 b.0, b.1)) y a.2 in
     let first = next_source_spelled d.0.1 a.0 a.1 in
-    subst (SpellsBehind (opcodes.Binary op kind) from) (same (binary op kind d.0.0 a.0.0 b.0.0, b.0.1) y b.2)
-    (refl, (
+    carried (SpellsBehind (opcodes.Binary op kind) from) (binary op kind d.0.0 a.0.0 b.0.0, b.0.1) y b.2
+    (refl {a = opcodes.Binary op kind}, (
       d.0.1,
       register_spelled from d.0 d.1,
       (first.0, first.1, (a.0.1, first.2, next_source_spelled a.0.1 b.0 b.1)),
@@ -72,8 +72,8 @@ ternary_spelled op kind from y is =
     let first = next_source_spelled d.0.1 a.0 a.1 in
     let second = next_source_spelled a.0.1 b.0 b.1 in
     let third = next_source_spelled b.0.1 c.0 c.1 in
-    subst (SpellsBehind (opcodes.Ternary op kind) from) (same (ternary op kind d.0.0 a.0.0 b.0.0 c.0.0, c.0.1) y c.2)
-    (refl, (
+    carried (SpellsBehind (opcodes.Ternary op kind) from) (ternary op kind d.0.0 a.0.0 b.0.0 c.0.0, c.0.1) y c.2
+    (refl {a = opcodes.Ternary op kind}, (
       d.0.1,
       register_spelled from d.0 d.1,
       (first.0, first.1, (a.0.1, first.2, (second.0, second.1, (b.0.1, second.2, third)))),
@@ -88,9 +88,9 @@ load_spelled segment modifiers kind from y is =
     let m = bound (mark_at 44 d.0.1)
     (λ comma. address_at comma >>= λ a. Ok (load segment modifiers kind d.0.0 a.0, a.1)) y d.2 in
     let a = bound (address_at m.0) (λ a. Ok (load segment modifiers kind d.0.0 a.0, a.1)) y m.2 in
-    subst (SpellsBehind (opcodes.Load segment modifiers kind) from)
-    (same (load segment modifiers kind d.0.0 a.0.0, a.0.1) y a.2)
-    (refl, (d.0.1, register_spelled from d.0 d.1, (m.0, mark_spelled 44 d.0.1 m.0 m.1, address_spelled m.0 a.0 a.1)))
+    carried (SpellsBehind (opcodes.Load segment modifiers kind) from)
+    (load segment modifiers kind d.0.0 a.0.0, a.0.1) y a.2
+    (refl {a = opcodes.Load segment modifiers kind}, (d.0.1, register_spelled from d.0 d.1, (m.0, mark_spelled 44 d.0.1 m.0 m.1, address_spelled m.0 a.0 a.1)))
 
 store_spelled : (align : Option ℕ) (kind : DataType) (from : List Piece) (y : Operation × List Piece) →
     store_at align kind from ≡ Ok y → SpellsBehind (opcodes.Store align kind) from y
@@ -101,14 +101,14 @@ store_spelled align kind from y is =
     let m = bound (mark_at 44 s.0.1)
     (λ comma. address_at comma >>= λ a. Ok (store align kind s.0.0 a.0, a.1)) y s.2 in
     let a = bound (address_at m.0) (λ a. Ok (store align kind s.0.0 a.0, a.1)) y m.2 in
-    subst (SpellsBehind (opcodes.Store align kind) from) (same (store align kind s.0.0 a.0.0, a.0.1) y a.2)
-    (refl, (s.0.1, source_spelled from s.0 s.1, (m.0, mark_spelled 44 s.0.1 m.0 m.1, address_spelled m.0 a.0 a.1)))
+    carried (SpellsBehind (opcodes.Store align kind) from) (store align kind s.0.0 a.0.0, a.0.1) y a.2
+    (refl {a = opcodes.Store align kind}, (s.0.1, source_spelled from s.0 s.1, (m.0, mark_spelled 44 s.0.1 m.0 m.1, address_spelled m.0 a.0 a.1)))
 
 branch_spelled : (from : List Piece) (y : Operation × List Piece) → branch_at from ≡ Ok y → SpellsBehind opcodes.Branch from y
 unfolding branch_at
 branch_spelled from y is =
     let x = bound (label_at from) (λ x. Ok (operations.Branch x.0, x.1)) y is in
-    subst (SpellsBehind opcodes.Branch from) (same (operations.Branch x.0.0, x.0.1) y x.2)
+    carried (SpellsBehind opcodes.Branch from) (operations.Branch x.0.0, x.0.1) y x.2
     (refl, label_spelled from x.0 x.1)
 
 conditional_branch_spelled : (width : Option Width) (from : List Piece) (y : Operation × List Piece) →
@@ -120,9 +120,9 @@ conditional_branch_spelled width from y is =
     let m = bound (mark_at 44 a.0.1)
     (λ comma. label_at comma >>= λ x. Ok (conditional_branch width a.0.0 x.0, x.1)) y a.2 in
     let x = bound (label_at m.0) (λ x. Ok (conditional_branch width a.0.0 x.0, x.1)) y m.2 in
-    subst (SpellsBehind (opcodes.ConditionalBranch width) from)
-    (same (conditional_branch width a.0.0 x.0.0, x.0.1) y x.2)
-    (refl, (a.0.1, source_spelled from a.0 a.1, (m.0, mark_spelled 44 a.0.1 m.0 m.1, label_spelled m.0 x.0 x.1)))
+    carried (SpellsBehind (opcodes.ConditionalBranch width) from)
+    (conditional_branch width a.0.0 x.0.0, x.0.1) y x.2
+    (refl {a = opcodes.ConditionalBranch width}, (a.0.1, source_spelled from a.0 a.1, (m.0, mark_spelled 44 a.0.1 m.0 m.1, label_spelled m.0 x.0 x.1)))
 
 identify_spelled : (query : Query) (kind : DataType) (from : List Piece) (y : Operation × List Piece) →
     identify_at query kind from ≡ Ok y → SpellsBehind (opcodes.Identify query kind) from y
@@ -133,8 +133,8 @@ identify_spelled query kind from y is =
     let m = bound (mark_at 44 d.0.1)
     (λ comma. number_at comma >>= λ k. Ok (identify query kind d.0.0 k.0, k.1)) y d.2 in
     let k = bound (number_at m.0) (λ k. Ok (identify query kind d.0.0 k.0, k.1)) y m.2 in
-    subst (SpellsBehind (opcodes.Identify query kind) from) (same (identify query kind d.0.0 k.0.0, k.0.1) y k.2)
-    (refl, (d.0.1, register_spelled from d.0 d.1, (m.0, mark_spelled 44 d.0.1 m.0 m.1, number_spelled m.0 k.0 k.1)))
+    carried (SpellsBehind (opcodes.Identify query kind) from) (identify query kind d.0.0 k.0.0, k.0.1) y k.2
+    (refl {a = opcodes.Identify query kind}, (d.0.1, register_spelled from d.0 d.1, (m.0, mark_spelled 44 d.0.1 m.0 m.1, number_spelled m.0 k.0 k.1)))
 
 pub operation_spelled : (code : Opcode) (from : List Piece) (y : Operation × List Piece) → operation_at code from ≡ Ok y →
     SpellsBehind code from y

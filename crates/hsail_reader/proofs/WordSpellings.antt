@@ -15,8 +15,8 @@ use Rattle.hsail_reader.specs.declared.words.Opcode.{Opcode}
 use Rattle.hsail_reader.specs.declared.words.Word.{Word}
 use Rattle.hsail_reader.specs.declared.words.Word.TheVariants as word
 use Rattle.hsail_reader.proofs.FormSpelling.{form_is_read, form_is_spelled}
-use Rattle.hsail_reader.proofs.ModifierSpelling.{align_is_read}
-use Rattle.hsail_reader.proofs.ModifiersFound.{align_is_spelled}
+use Rattle.hsail_reader.proofs.BracketSpelling.{align_is_read}
+use Rattle.hsail_reader.proofs.BracketSpelling.{align_is_spelled}
 use Rattle.hsail_reader.proofs.Reaches.{chosen, true_is_not_false}
 use Rattle.hsail_reader.proofs.Spelled.{behind_parts}
 use Rattle.hsail_reader.proofs.WordRows.{clashes_all, clashes_not_behind, row_is_read, row_is_found, spelled_is, type_is_read, type_is_found}

@@ -1,10 +1,12 @@
 -- The grammar of kernel text: which tokens spell a module, line by line as the format has it
 -- (PRM, Syntax; what may be left out is (own)).
-use Rattle.std.specs.Prelude.{◌≡◌, ℕ, ◌<◌, ◌≤◌, ◌⊎◌, List, [], ◌∷◌, Bool, true, false, Option, Some, None, length}
+use Rattle.std.specs.Prelude.{◌≡◌, ℕ, ◌<◌, ◌≤◌, ◌⊎◌, List, [], ◌∷◌, Bool, true, false, Option, Some, None, Result, Ok, Err, length}
 use Rattle.hsail_reader.specs.TextTokens.{AreTokens}
 use Rattle.hsail_reader.specs.Tokens.{Piece}
 use Rattle.hsail_reader.specs.Types.{alignment_bytes}
 use Rattle.hsail_reader.specs.WordSpelling.{SpellsWord}
+use Rattle.hsail_reader.specs.declared.fault.ReadError.{ReadError}
+use Rattle.hsail_reader.specs.declared.fault.ReadError.TheVariants as error
 use Rattle.hsail_reader.specs.declared.module.Address.{Address}
 use Rattle.hsail_reader.specs.declared.module.Address.TheVariants as addresses
 use Rattle.hsail_reader.specs.declared.module.Argument.{Argument}
@@ -237,3 +239,9 @@ SpellModule tokens m = module_text m tokens []
 abbrev pub IsTextOf : List ℕ → Module → Type 0
 IsTextOf text m =
     (length text ≤ 65536) × ((tokens : List Piece) × AreTokens 0 1 text tokens × SpellModule tokens m)
+
+-- A module is answered for a text of it, and a fault for a text of no module; want of memory for any.
+abbrev pub AnswersByGrammar : List ℕ → Result Module ReadError → Type 0
+AnswersByGrammar text (Ok m) = IsTextOf text m
+AnswersByGrammar text (Err error.OutOfMemory) = Unit {0}
+AnswersByGrammar text (Err (error.Fault f)) = (m : Module) → IsTextOf text m → ⊥

@@ -4,6 +4,7 @@ ghost use Rattle.std.specs.Prelude.{◌≡◌, ◌<◌, ◌≤◌, ◌↔◌, le
 ghost use Rattle.hsail_reader.specs.Faults.{Gives, too_long};
 ghost use Rattle.hsail_reader.specs.Operands.{mark_at};
 ghost use Rattle.hsail_reader.specs.Tokens.{token_views};
+ghost use Rattle.hsail_reader.specs.Grammar.{AnswersByGrammar};
 ghost use Rattle.hsail_reader.specs.Syntax.{field_at, major_kind, minor_kind, profile_kind, large_kind, rounding_kind, fields_at, module_at, read_at, reading, Answers};
 
 use crate::fault::{Cause, Flaw, ReadError, ReadFault, Stop, located};
@@ -159,6 +160,7 @@ fn parsed(alloc: Global, text: &[u8]) -> Result<Module, Stop>
 #[tactic(auto, unfolding(crate::specs::Syntax::reading))]
 pub fn read_module(alloc: Global, text: &[u8]) -> Result<Module, ReadError>
     ensures exact { Answers result (reading text.now) }
+    ensures grammar { AnswersByGrammar text.now result }
     ensures too_long { (result ≡ Err (ReadError.Fault too_long)) ↔ (65536 < length text.now) }
 {
     if text.len() > MAX_TEXT {

@@ -1,0 +1,5 @@
+use Rattle.hsail_reader.proofs.TextSpelled.{text_is_read, text_is_spelled}
+use Rattle.hsail_reader.proofs.grammar.texts_are_read_as_spelled.Goals as goal
+
+pub returns : goal.returns
+returns c = record { read = text_is_read; spelled = text_is_spelled }
