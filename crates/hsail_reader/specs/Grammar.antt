@@ -236,7 +236,7 @@ abbrev pub SpellModule : List Piece → Module → Type 0
 SpellModule tokens m = module_text m tokens []
 
 -- The text spells the module: it has at most 65,536 bytes, and its tokens spell it.
-abbrev pub IsTextOf : List ℕ → Module → Type 0
+unfoldable pub IsTextOf : List ℕ → Module → Type 0
 IsTextOf text m =
     (length text ≤ 65536) × ((tokens : List Piece) × AreTokens 0 1 text tokens × SpellModule tokens m)
 
