@@ -75,12 +75,16 @@ number_value text after n w spelled number is =
 bracket_behind : (inside rest : List ℕ) → behind (codes ")") (drop (length inside) (inside ++ 41 ∷ rest)) ≡ Some rest
 bracket_behind inside rest = ap (behind (codes ")")) (drop-append_seam inside (41 ∷ rest))
 
+-- what is read behind the number of align(n)
+abbrev align_behind : List ℕ → Numeral → Option Numeral
+align_behind inside m = behind (codes ")") (drop m.length inside) >>= λ rest. Some (numeral m.value (m.length + 7))
+
 -- align(n) is read
 pub align_is_read : (n : ℕ) (number rest : List ℕ) → SpellsNumber n number →
     align_at (codes "align(" ++ ((number ++ codes ")") ++ rest)) ≡ Some (numeral n (length number + 7))
 align_is_read n number rest spelled =
     ap (λ xs. align_at (codes "align(" ++ xs)) (append_assoc number (codes ")") rest)
-    ∙ ap (λ o. o >>= λ m. behind (codes ")") (drop m.length (number ++ 41 ∷ rest)) >>= λ r. Some (numeral m.value (m.length + 7)))
+    ∙ ap (λ o. o >>= align_behind (number ++ 41 ∷ rest))
     (number_before_bracket_is_read n number rest spelled)
     ∙ ap (λ o. o >>= λ (r : List ℕ). Some (numeral n (length number + 7))) (bracket_behind number rest)
 
@@ -97,19 +101,25 @@ is_number n text (fits, inr spelled) = inr spelled.0
 value_is_read : (w : Width) (value rest : List ℕ) → SpellsValue w value →
     width_value_at (value ++ 41 ∷ rest) ≡ Some (spelled_width w (length value))
 value_is_read (Number n) value rest spelled =
-    number_value value rest (numeral n (length value)) (spelled_width (Number n) (length value)) (is_number n value spelled)
-    (number_before_bracket_is_read n value rest spelled) refl
+    number_value value rest (numeral n (length value)) (spelled_width (Number n) (length value))
+    (is_number n value spelled) (number_before_bracket_is_read n value rest spelled) refl
 value_is_read All value rest spelled =
     subst (λ (xs : List ℕ). width_value_at (xs ++ 41 ∷ rest) ≡ Some (spelled_width All (length xs))) (sym spelled) refl
 value_is_read WaveSize value rest spelled =
-    subst (λ (xs : List ℕ). width_value_at (xs ++ 41 ∷ rest) ≡ Some (spelled_width WaveSize (length xs))) (sym spelled) refl
+    subst (λ (xs : List ℕ). width_value_at (xs ++ 41 ∷ rest) ≡ Some (spelled_width WaveSize (length xs)))
+    (sym spelled) refl
+
+-- what is read behind the value of width(w)
+abbrev width_behind : List ℕ → SpelledWidth → Option SpelledWidth
+width_behind inside v =
+    behind (codes ")") (drop v.length inside) >>= λ rest. Some (spelled_width v.width (v.length + 7))
 
 -- width(w) is read
 pub width_is_read : (w : Width) (value rest : List ℕ) → SpellsValue w value →
     width_at (codes "width(" ++ ((value ++ codes ")") ++ rest)) ≡ Some (spelled_width w (length value + 7))
 width_is_read w value rest spelled =
     ap (λ xs. width_at (codes "width(" ++ xs)) (append_assoc value (codes ")") rest)
-    ∙ ap (λ o. o >>= λ v. behind (codes ")") (drop v.length (value ++ 41 ∷ rest)) >>= λ r. Some (spelled_width v.width (v.length + 7)))
+    ∙ ap (λ o. o >>= width_behind (value ++ 41 ∷ rest))
     (value_is_read w value rest spelled)
     ∙ ap (λ o. o >>= λ (r : List ℕ). Some (spelled_width w (length value + 7))) (bracket_behind value rest)
 
@@ -140,9 +150,8 @@ pub align_is_spelled : (bytes : List ℕ) (m : Numeral) → align_at bytes ≡ S
     × (m.length ≡ length number + 7) × SpellsNumber m.value number
 align_is_spelled bytes m is =
     let p = bound (behind (codes "align(") bytes)
-    (λ inside. numeral_at inside >>= λ m. behind (codes ")") (drop m.length inside) >>= λ rest. Some (numeral m.value (m.length + 7))) m is in
-    let q = bound (numeral_at p.0)
-    (λ m. behind (codes ")") (drop m.length p.0) >>= λ rest. Some (numeral m.value (m.length + 7))) m p.2 in
+    (λ inside. numeral_at inside >>= align_behind inside) m is in
+    let q = bound (numeral_at p.0) (align_behind p.0) m p.2 in
     let r = bound (behind (codes ")") (drop q.0.length p.0))
     (λ rest. Some (numeral q.0.value (q.0.length + 7))) m q.2 in
     let v = number_is_spelled p.0 q.0 q.1 in
@@ -197,9 +206,8 @@ pub width_is_spelled : (bytes : List ℕ) (m : SpelledWidth) → width_at bytes 
     × (m.length ≡ length value + 7) × SpellsValue m.width value
 width_is_spelled bytes m is =
     let p = bound (behind (codes "width(") bytes)
-    (λ inside. width_value_at inside >>= λ v. behind (codes ")") (drop v.length inside) >>= λ rest. Some (spelled_width v.width (v.length + 7))) m is in
-    let q = bound (width_value_at p.0)
-    (λ v. behind (codes ")") (drop v.length p.0) >>= λ rest. Some (spelled_width v.width (v.length + 7))) m p.2 in
+    (λ inside. width_value_at inside >>= width_behind inside) m is in
+    let q = bound (width_value_at p.0) (width_behind p.0) m p.2 in
     let r = bound (behind (codes ")") (drop q.0.length p.0))
     (λ rest. Some (spelled_width q.0.width (q.0.length + 7))) m q.2 in
     let v = value_is_spelled p.0 q.0 q.1 in
