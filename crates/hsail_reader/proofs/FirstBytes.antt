@@ -17,6 +17,7 @@ pub differs : (test : ℕ → Bool) (b c : ℕ) → test b ≡ true → test c �
 differs test b c passes fails =
     ⊎_elim (λ w. true_is_not_false (test b) passes (ap test w.1 ∙ fails)) (λ w. w.0) (eqb_tells b c)
 
+-- nor is it one of some that all fail it
 is_none_of : (test : ℕ → Bool) (b : ℕ) (cs : List ℕ) → test b ≡ true → AllPass (λ c. not (test c)) cs →
     list_any (λ m. m == b) cs ≡ false
 is_none_of test b [] passes fail = refl
@@ -35,6 +36,7 @@ record IsPlain (b : ℕ) : Type 0 where
   at : (b == 64) ≡ false
   dollar : (b == 36) ≡ false
 
+-- where no blank passes a test, a byte that passes it is no blank
 is_no_blank : (test : ℕ → Bool) (b : ℕ) → test b ≡ true → AllPass (λ c. not (test c)) (32 ∷ 9 ∷ 10 ∷ 13 ∷ []) →
     is_blank b ≡ false
 is_no_blank test b passes fail =
@@ -49,6 +51,7 @@ is_no_blank test b passes fail =
     fails true e = sym e
     fails false e = refl
 
+-- a byte is plain that passes a test which no blank and no first byte of a comment, name or register passes
 is_plain : (test : ℕ → Bool) (b : ℕ) → test b ≡ true →
     AllPass (λ c. not (test c)) (32 ∷ 9 ∷ 10 ∷ 13 ∷ []) →
     test 47 ≡ false → test 38 ≡ false → test 37 ≡ false → test 64 ≡ false → test 36 ≡ false → IsPlain b
@@ -61,15 +64,18 @@ is_plain test b passes blanks slash ampersand percent at' dollar = record {
   dollar = differs test b 36 passes dollar;
 }
 
+-- behind a blank, just the blank is found
 pub at_blank : (b : ℕ) (bytes : List ℕ) → is_blank b ≡ true → lexeme_at (b ∷ bytes) ≡ Some (lexed Blank 1)
 at_blank b bytes blank = rw blank refl
 
+-- behind a mark, just the mark is found
 pub at_mark : (b : ℕ) (bytes : List ℕ) → is_mark b ≡ true →
     lexeme_at (b ∷ bytes) ≡ Some (lexed (Token (token.Mark b)) 1)
 at_mark b bytes mark =
     let p = is_plain is_mark b mark (refl, (refl, (refl, (refl, tt)))) refl refl refl refl refl in
     rw (p.blank, p.slash, p.ampersand, p.percent, p.at, p.dollar, mark) refl
 
+-- behind a letter or `_`, a word is found
 pub at_name_start : (b : ℕ) (bytes : List ℕ) → is_name_start b ≡ true →
     lexeme_at (b ∷ bytes) ≡ Some (word_at (b ∷ bytes))
 at_name_start b bytes starts =
@@ -85,6 +91,7 @@ digit_is_no_start b digit =
     let range : IsInRange 48 57 b = digit_from_value b small in
     grind (arith, nat_tests)
 
+-- behind a digit, a number is looked for
 pub at_digit : (b : ℕ) (bytes : List ℕ) → is_digit b 10 ≡ true → lexeme_at (b ∷ bytes) ≡ number_at (b ∷ bytes)
 at_digit b bytes digit =
     let test : ℕ → Bool = λ c. is_digit c 10 in

@@ -125,6 +125,7 @@ closing_found before (b ∷ c ∷ inside) more (inr w) = rw w.0 (closing_found (
 abbrev IsFound : LexemeKind → List ℕ → Type 0
 IsFound kind bytes = (found : Lexeme) × (lexeme_at bytes ≡ Some found) × (found.kind ≡ kind)
 
+-- behind the first slash of a comment, a comment is found
 comment_found : (text more : List ℕ) → IsComment text → IsFound Comment (47 ∷ text ++ more)
 comment_found text more (inl (line, e, pass)) =
     let P : List ℕ → Type 0 = λ xs. IsFound Comment (47 ∷ xs ++ more) in
@@ -134,18 +135,21 @@ comment_found text more (inr (inside, e, closed)) =
     let c = closing_found 0 inside more closed in
     subst P (sym e) (lexed Comment (c.0 + 2), ap (option_map (λ n. lexed Comment (n + 2))) c.1, refl)
 
+-- a name is found behind its first byte
 name_found : (kind : TokenKind) (text more : List ℕ) → IsName text →
     (found : Lexeme) × (name_at kind (text ++ more) ≡ Some found) × (found.kind ≡ Token kind)
 name_found kind [] more spelled = absurd spelled
 name_found kind (b ∷ text) more spelled =
     (lexed (Token kind) (prefix_len is_name_byte (b ∷ text ++ more) + 1), rw spelled.0 refl, refl)
 
+-- a register is read where its number is
 register_read : (class : RegisterClass) (digits more : List ℕ) (n : Numeral) → decimal_at (digits ++ more) ≡ Some n →
     register_at ((letter class ∷ digits) ++ more) ≡ Some (register class n)
 register_read Control digits more n is = ap (λ o. o >>= λ (m : Numeral). Some (register Control m)) is
 register_read Single digits more n is = ap (λ o. o >>= λ (m : Numeral). Some (register Single m)) is
 register_read Double digits more n is = ap (λ o. o >>= λ (m : Numeral). Some (register Double m)) is
 
+-- a register that is no front of a longer one is found
 register_found : (class : RegisterClass) (digits more : List ℕ) (n : ℕ) → SpellsDecimal n digits → n < 2 ^ 64 →
     IsLongestFront (class_name class ++ digits) ((class_name class ++ digits) ++ more) →
     IsFound (Token (token.Register (record { class = class; number = n }))) ((class_name class ++ digits) ++ more)
@@ -167,6 +171,7 @@ register_found class (b ∷ digits) more n spelled fits longest =
         (subst (λ xs. IsLongestFront text (text ++ xs)) e longest)
         (all, append_assoc (class_name class) (b ∷ digits) (c ∷ []), (is, refl)))
 
+-- a number that is read is found
 number_found : (n : ℕ) (text more : List ℕ) → IsNumber text →
     numeral_at (text ++ more) ≡ Some (numeral n (length text)) → IsFound (Token (token.Number n)) (text ++ more)
 number_found n text more spelled read = (

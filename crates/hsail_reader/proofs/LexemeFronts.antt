@@ -23,6 +23,7 @@ use Rattle.hsail_reader.proofs.WordReaches.{words}
 abbrev Reaches : List ℕ → List ℕ → Lexeme → Type 0
 Reaches text more found = lexeme_at (text ++ more) ≡ Some found → length text ≤ found.length
 
+-- a lexeme of one byte
 one_byte : (b : ℕ) (more : List ℕ) (kind : LexemeKind) (found : Lexeme) →
     lexeme_at (b ∷ more) ≡ Some (lexed kind 1) → Reaches (b ∷ []) more found
 one_byte b more kind found at' is =
@@ -43,6 +44,7 @@ at_number text more spelled =
     let P : List ℕ → Type 0 = λ xs. lexeme_at (xs ++ more) ≡ number_at (xs ++ more) in
     subst P (sym f.2) (at_digit f.0 (f.1 ++ more) f.3)
 
+-- a number is no longer than what is found there
 number_reaches : (text more : List ℕ) (found : Lexeme) → IsNumber text → Reaches text more found
 number_reaches text more found spelled is =
     omega (arith, reaches.numbers text more found spelled (sym (at_number text more spelled) ∙ is))
@@ -61,10 +63,12 @@ at_word text more spelled =
     let P : List ℕ → Type 0 = λ xs. lexeme_at (xs ++ more) ≡ Some (word_at (xs ++ more)) in
     subst P (sym f.2) (at_name_start f.0 (f.1 ++ more) f.3)
 
+-- a word is no longer than what is found there
 word_reaches : (text more : List ℕ) (found : Lexeme) → IsWord text → Reaches text more found
 word_reaches text more found spelled is =
     omega (arith, words text more found spelled (sym (at_word text more spelled) ∙ is))
 
+-- nothing else
 or_none : (o : Option Lexeme) → or_else o None ≡ o
 or_none None = refl
 or_none (Some l) = refl
@@ -92,17 +96,20 @@ at_register Control b digits more digit = no_header Control b digits more digit
 at_register Single b digits more digit = no_header Single b digits more digit
 at_register Double b digits more digit = no_header Double b digits more digit
 
+-- the letter of a class is one of three
 is_letter : (class : RegisterClass) → (letter class ≡ 99) ⊎ (letter class ≡ 115) ⊎ (letter class ≡ 100)
 is_letter Control = inl refl
 is_letter Single = inr (inl refl)
 is_letter Double = inr (inr refl)
 
+-- the dollar is one byte more
 register_length : (class : RegisterClass) (b : ℕ) (digits : List ℕ) →
     length (class_name class ++ b ∷ digits) ≡ 1 + length (letter class ∷ b ∷ digits)
 register_length Control b digits = omega arith
 register_length Single b digits = omega arith
 register_length Double b digits = omega arith
 
+-- a register is no longer than what is found there
 dollar_reaches : (class : RegisterClass) (digits more : List ℕ) (found : Lexeme) → IsDecimal digits →
     Reaches (class_name class ++ digits) more found
 dollar_reaches class [] more found spelled is = absurd spelled
@@ -112,6 +119,7 @@ dollar_reaches class (b ∷ digits) more found spelled is =
     let reach = reaches.registers (letter class ∷ b ∷ digits) more found (is_letter class, spelled) e in
     omega (arith, reach, register_length class b digits)
 
+-- behind a word of the header, that word is found
 pub at_header : (h : Header) (more : List ℕ) →
     lexeme_at (header_name h ++ more) ≡ Some (lexed (Token (token.Header h)) (length (header_name h)))
 at_header Base more = refl
@@ -121,6 +129,7 @@ at_header Default more = refl
 at_header Zero more = refl
 at_header Near more = refl
 
+-- a word of the header is no longer than what is found there
 header_reaches : (h : Header) (more : List ℕ) (found : Lexeme) → Reaches (header_name h) more found
 header_reaches h more found is =
     let l = lexed (Token (token.Header h)) (length (header_name h)) in

@@ -15,8 +15,9 @@ use Rattle.hsail_reader.specs.declared.token.TokenKind.{TokenKind}
 use Rattle.hsail_reader.specs.declared.token.TokenKind.TheVariants as token
 use Rattle.hsail_reader.specs.declared.types.RegisterClass.{RegisterClass}
 use Rattle.hsail_reader.specs.declared.types.RegisterClass.TheVariants.{Control, Single, Double}
+use Rattle.hsail_reader.proofs.BracketSpelling.{some_rest}
 use Rattle.hsail_reader.proofs.NumberSpelling.{number_is_spelled, decimal_is_spelled}
-use Rattle.hsail_reader.proofs.Reaches.{bound, chosen, mapped}
+use Rattle.hsail_reader.proofs.Reaches.{bound, chosen, mapped, same_lexeme}
 use Rattle.hsail_reader.proofs.Spelled as spelled
 use Rattle.hsail_reader.proofs.Spelled.{behind_parts, nothing}
 use Rattle.hsail_reader.proofs.WordSpelled.{words}
@@ -27,10 +28,8 @@ FoundSpelled bytes found =
     (front : List ℕ) × (behind : List ℕ) × (bytes ≡ front ++ behind) × (length front ≡ found.length)
     × IsLexeme found.kind front × IsWithin64Bits found.kind
 
-same_lexeme : (a b : Lexeme) → Some a ≡ Some b → a ≡ b
-same_lexeme a b e = cc
-
-pub same_kind : (a b : Lexeme) → Some a ≡ Some b → a.kind ≡ b.kind
+-- two lexemes that are one are of one kind
+same_kind : (a b : Lexeme) → Some a ≡ Some b → a.kind ≡ b.kind
 same_kind a b e = ap (λ (l : Lexeme). l.kind) (same_lexeme a b e)
 
 -- one lexeme is found
@@ -44,7 +43,8 @@ of_kind : (kind : LexemeKind) (bytes front behind : List ℕ) (found : Lexeme) �
 of_kind kind bytes front behind found e parts counts is within =
     (front, behind, parts, counts, subst (λ k. IsLexeme k front) e is, subst IsWithin64Bits e within)
 
-pub comment_kind : (bytes : List ℕ) (found : Lexeme) → comment_at bytes ≡ Some found → Comment ≡ found.kind
+-- what is found as a comment is of that kind
+comment_kind : (bytes : List ℕ) (found : Lexeme) → comment_at bytes ≡ Some found → Comment ≡ found.kind
 comment_kind [] found is = nothing found is
 comment_kind (b ∷ bytes) found is =
     ⊎_elim
@@ -59,19 +59,22 @@ comment_kind (b ∷ bytes) found is =
     (eqb_tells b 42))
     (eqb_tells b 47)
 
+-- a comment that is found is one, with its first slash
 comment_spelled : (bytes : List ℕ) (found : Lexeme) → comment_at bytes ≡ Some found → FoundSpelled (47 ∷ bytes) found
 comment_spelled bytes found is =
     let r = spelled.comments bytes found is in
     of_kind Comment (47 ∷ bytes) (47 ∷ r.0) r.1 found (comment_kind bytes found is)
     (ap (λ xs. 47 ∷ xs) r.2) (omega (arith, r.4)) (r.0, refl, r.3) tt
 
-pub name_kind : (kind : TokenKind) (bytes : List ℕ) (found : Lexeme) → name_at kind bytes ≡ Some found →
+-- what is found as a name is of the kind that its first byte says
+name_kind : (kind : TokenKind) (bytes : List ℕ) (found : Lexeme) → name_at kind bytes ≡ Some found →
     Token kind ≡ found.kind
 name_kind kind bytes found is =
     let l = lexed (Token kind) (prefix_len is_name_byte bytes + 1) in
     ⊎_elim (λ w. same_kind l found w.1) (λ w. nothing found w.1)
     (chosen (begins_name bytes) (Some l) None (Some found) is)
 
+-- a name behind `&`
 global_spelled : (bytes : List ℕ) (found : Lexeme) → name_at token.Global bytes ≡ Some found →
     FoundSpelled (38 ∷ bytes) found
 global_spelled bytes found is =
@@ -79,6 +82,7 @@ global_spelled bytes found is =
     of_kind (Token token.Global) (38 ∷ bytes) (38 ∷ r.0) r.1 found (name_kind token.Global bytes found is)
     (ap (λ xs. 38 ∷ xs) r.2) (omega (arith, r.4)) (r.0, refl, r.3) tt
 
+-- a name behind `%`
 variable_spelled : (bytes : List ℕ) (found : Lexeme) → name_at token.Variable bytes ≡ Some found →
     FoundSpelled (37 ∷ bytes) found
 variable_spelled bytes found is =
@@ -86,6 +90,7 @@ variable_spelled bytes found is =
     of_kind (Token token.Variable) (37 ∷ bytes) (37 ∷ r.0) r.1 found (name_kind token.Variable bytes found is)
     (ap (λ xs. 37 ∷ xs) r.2) (omega (arith, r.4)) (r.0, refl, r.3) tt
 
+-- a name behind `@`
 label_spelled : (bytes : List ℕ) (found : Lexeme) → name_at token.Label bytes ≡ Some found →
     FoundSpelled (64 ∷ bytes) found
 label_spelled bytes found is =
@@ -93,6 +98,7 @@ label_spelled bytes found is =
     of_kind (Token token.Label) (64 ∷ bytes) (64 ∷ r.0) r.1 found (name_kind token.Label bytes found is)
     (ap (λ xs. 64 ∷ xs) r.2) (omega (arith, r.4)) (r.0, refl, r.3) tt
 
+-- two classes that are one
 same_class : (a b : RegisterClass) → Some a ≡ Some b → a ≡ b
 same_class a b e = cc
 
@@ -112,6 +118,7 @@ class_named c bytes text class is =
     (eqb_tells c 115))
     (eqb_tells c 99)
 
+-- the dollar and the letter of a class are two bytes
 pub class_length : (class : RegisterClass) (digits : List ℕ) → length (class_name class ++ digits) ≡ length digits + 2
 class_length Control digits = omega arith
 class_length Single digits = omega arith
@@ -123,6 +130,7 @@ register_parts : (class : RegisterClass) (c : ℕ) (bytes text more : List ℕ) 
 register_parts class c bytes text more parts named =
     ap (λ xs. 36 ∷ c ∷ xs) parts ∙ ap (λ xs. xs ++ more) named
 
+-- a register that is found is one, with its class and its number
 register_spelled : (bytes : List ℕ) (found : Lexeme) → register_at bytes ≡ Some found → FoundSpelled (36 ∷ bytes) found
 register_spelled [] found is = nothing found is
 register_spelled (c ∷ bytes) found is =
@@ -144,10 +152,7 @@ abbrev AreNamed : List HeaderWord → Type 0
 AreNamed [] = Unit {0}
 AreNamed (h ∷ words) = (36 ∷ h.name ≡ header_name h.header) × AreNamed words
 
-some_rest : (o : Option (List ℕ)) → is_some o ≡ true → (rest : List ℕ) × (o ≡ Some rest)
-some_rest None is = cc
-some_rest (Some rest) is = (rest, refl)
-
+-- a word of the header that is found is one
 header_spelled : (words : List HeaderWord) (bytes : List ℕ) (found : Lexeme) → AreNamed words →
     header_among words bytes ≡ Some found → FoundSpelled (36 ∷ bytes) found
 header_spelled [] bytes found named is = nothing found is
@@ -167,17 +172,20 @@ header_spelled (h ∷ words) bytes found named is =
     (λ no'. header_spelled words bytes found named.1 (rw no' at is))
     (cases_Bool (is_some (behind h.name bytes)))
 
+-- the one is found, or the other
 either : (o other : Option Lexeme) (found : Lexeme) → or_else o other ≡ Some found →
     (o ≡ Some found) ⊎ (other ≡ Some found)
 either None other found is = inr is
 either (Some l) other found is = inl is
 
+-- behind a dollar, a register or a word of the header
 dollar_spelled : (bytes : List ℕ) (found : Lexeme) → dollar_at bytes ≡ Some found → FoundSpelled (36 ∷ bytes) found
 dollar_spelled bytes found is =
     ⊎_elim (register_spelled bytes found)
     (header_spelled header_words bytes found (refl, (refl, (refl, (refl, (refl, (refl, tt)))))))
     (either (register_at bytes) (header_among header_words bytes) found is)
 
+-- a number that is found is one, and has the value found
 number_spelled : (bytes : List ℕ) (found : Lexeme) → number_at bytes ≡ Some found → FoundSpelled bytes found
 number_spelled bytes found is =
     let m = mapped (λ (n : Numeral). lexed (Token (token.Number n.value)) n.length) (numeral_at bytes) found is in
@@ -185,10 +193,12 @@ number_spelled bytes found is =
     the_found bytes (lexed (Token (token.Number m.0.value)) m.0.length) found m.2
     (r.0, r.1, r.2, r.3, r.4.1, r.4.0)
 
+-- what is found as a word is of that kind
 pub word_kind : (a : Option Numeral) (bytes : List ℕ) → Token token.Word ≡ (word_of a bytes).kind
 word_kind None bytes = refl
 word_kind (Some n) bytes = refl
 
+-- a word that is found is one
 word_spelled : (b : ℕ) (bytes : List ℕ) (found : Lexeme) → is_name_start b ≡ true →
     Some (word_at (b ∷ bytes)) ≡ Some found → FoundSpelled (b ∷ bytes) found
 word_spelled b bytes found starts is =
@@ -197,6 +207,7 @@ word_spelled b bytes found starts is =
     (word_kind (align_at (b ∷ bytes)) (b ∷ bytes) ∙ same_kind (word_at (b ∷ bytes)) found is)
     r.2 (omega (arith, r.4)) r.3 tt
 
+-- a lexeme of one byte that is found is one
 one_byte_spelled : (b : ℕ) (bytes : List ℕ) (kind : LexemeKind) (found : Lexeme) → IsLexeme kind (b ∷ []) →
     IsWithin64Bits kind → Some (lexed kind 1) ≡ Some found → FoundSpelled (b ∷ bytes) found
 one_byte_spelled b bytes kind found is_one within is =

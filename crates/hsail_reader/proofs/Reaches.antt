@@ -22,7 +22,7 @@ run_reaches test (b ∷ text) more pass =
     let rest = run_reaches test text more pass.1 in
     rw pass.0 (omega (arith, rest))
 
-same_lexeme : (a b : Lexeme) → Some a ≡ Some b → a ≡ b
+pub same_lexeme : (a b : Lexeme) → Some a ≡ Some b → a ≡ b
 same_lexeme a b e = cc
 
 pub same_length : (a b : Lexeme) → Some a ≡ Some b → a.length ≡ b.length

@@ -1,5 +1,5 @@
 -- What is found at the front of some bytes is a lexeme of its kind.
-use Rattle.std.proofs.Common.{◌≡◌, ℕ, ◌+◌, ◌*◌, ◌^◌, ◌⊎◌, inl, inr, ⊎_elim, List, [], ◌∷◌, ◌++◌, length, Bool, true, false, ◌&&◌, ◌==◌, if◌then◌else◌, Option, Some, None, refl, sym, ap, subst, ◌∙◌, codes, nat_lt, arith}
+use Rattle.std.proofs.Common.{◌≡◌, ℕ, ◌+◌, ◌*◌, ◌^◌, ◌⊎◌, inl, inr, ⊎_elim, List, [], ◌∷◌, ◌++◌, length, Bool, true, false, ◌&&◌, ◌==◌, if◌then◌else◌, Option, Some, None, refl, sym, ap, ◌∙◌, codes, nat_lt, arith}
 use Rattle.std.proofs.lemmas.Bool.{cases_Bool}
 use Rattle.std.proofs.lemmas.Bool.Decides.{eqb_tells}
 use Rattle.std.specs.List.{prefix_len}
@@ -113,7 +113,7 @@ comments (b ∷ bytes) found is =
     (eqb_tells b 42))
     (eqb_tells b 47)
 
--- the digits that are read, and that they are read alike where a bracket stands behind them
+-- the digits that are read, and that no other stands behind them
 record DigitsRead (radix value before : ℕ) (bytes : List ℕ) (f : Numeral) : Type 0 where
   text : List ℕ
   more : List ℕ
@@ -121,7 +121,6 @@ record DigitsRead (radix value before : ℕ) (bytes : List ℕ) (f : Numeral) : 
   counts : before + length text ≡ f.length
   pass : AllPass (λ d. is_digit d radix) text
   ends : begins_digit radix more ≡ false
-  again : (after : List ℕ) → digits_at radix value before (text ++ 41 ∷ after) ≡ Some f
 
 digits_go : (p q : Bool) (x : Option Numeral) (v k : ℕ) (f : Numeral) →
     (if p then (if q then x else None) else Some (numeral v k)) ≡ Some f →
@@ -130,20 +129,19 @@ digits_go true true x v k f e = inl (refl, refl, e)
 digits_go true false x v k f e = nothing f e
 digits_go false q x v k f e = inr (refl, e)
 
-digits_read : (radix value before : ℕ) (bytes : List ℕ) (f : Numeral) → is_digit 41 radix ≡ false →
+digits_read : (radix value before : ℕ) (bytes : List ℕ) (f : Numeral) →
     digits_at radix value before bytes ≡ Some f → DigitsRead radix value before bytes f
-digits_read radix value before [] f bracket is = record {
+digits_read radix value before [] f is = record {
   text = [];
   more = [];
   parts = refl;
   counts = omega (arith, numeral_length (numeral value before) f is);
   pass = tt;
   ends = refl;
-  again = λ after. rw bracket is;
 }
-digits_read radix value before (b ∷ bytes) f bracket is =
+digits_read radix value before (b ∷ bytes) f is =
     ⊎_elim
-    (λ w. let r = digits_read radix (value * radix + digit_value b) (before + 1) bytes f bracket w.2 in
+    (λ w. let r = digits_read radix (value * radix + digit_value b) (before + 1) bytes f w.2 in
     record {
       text = b ∷ r.text;
       more = r.more;
@@ -151,7 +149,6 @@ digits_read radix value before (b ∷ bytes) f bracket is =
       counts = omega (arith, r.counts);
       pass = (w.0, r.pass);
       ends = r.ends;
-      again = λ after. rw (w.0, w.1) (r.again after);
     })
     (λ w. record {
       text = [];
@@ -160,23 +157,17 @@ digits_read radix value before (b ∷ bytes) f bracket is =
       counts = omega (arith, numeral_length (numeral value before) f w.1);
       pass = tt;
       ends = w.0;
-      again = λ after. rw bracket w.1;
     })
     (digits_go (is_digit b radix) (nat_lt (value * radix + digit_value b) (2 ^ 64))
     (digits_at radix (value * radix + digit_value b) (before + 1) bytes) value before f is)
 
--- the decimal number that is read, and that it is read alike where a bracket stands behind it
+-- the decimal number that is read
 record DecimalRead (bytes : List ℕ) (f : Numeral) : Type 0 where
   text : List ℕ
   more : List ℕ
   parts : bytes ≡ text ++ more
   counts : length text ≡ f.length
   spelled : IsDecimal text
-  again : (after : List ℕ) → decimal_at (text ++ 41 ∷ after) ≡ Some f
-
-decimal_more : (b : ℕ) (bytes : List ℕ) (f : Numeral) → is_digit b 10 ≡ true → (b == 48) ≡ false →
-    digits_at 10 (digit_value b) 1 bytes ≡ Some f → decimal_at (b ∷ bytes) ≡ Some f
-decimal_more b bytes f digit plain is = rw (digit, plain) is
 
 decimal_read : (bytes : List ℕ) (f : Numeral) → decimal_at bytes ≡ Some f → DecimalRead bytes f
 decimal_read [] f is = nothing f is
@@ -191,30 +182,27 @@ decimal_read (b ∷ bytes) f is =
       parts = refl;
       counts = omega (arith, numeral_length (numeral 0 1) f one);
       spelled = (digit, tt, λ zero'. refl);
-      again = λ after. rw (digit, w.0) one;
     })
     (λ w. let later : digits_at 10 (digit_value b) 1 bytes ≡ Some f = rw w.0 at e in
-    let r = digits_read 10 (digit_value b) 1 bytes f refl later in
+    let r = digits_read 10 (digit_value b) 1 bytes f later in
     record {
       text = b ∷ r.text;
       more = r.more;
       parts = ap (λ xs. b ∷ xs) r.parts;
       counts = omega (arith, r.counts);
       spelled = (digit, r.pass, λ zero'. absurd (w.1 zero'));
-      again = λ after. decimal_more b (r.text ++ 41 ∷ after) f digit w.0 (r.again after);
     })
     (eqb_tells b 48))
     (λ other. nothing f (rw other at is))
     (cases_Bool (is_digit b 10))
 
--- the number that is read, and that it is read alike where a bracket stands behind it
-pub record NumberRead (bytes : List ℕ) (f : Numeral) : Type 0 where
-  pub text : List ℕ
-  pub more : List ℕ
-  pub parts : bytes ≡ text ++ more
-  pub counts : length text ≡ f.length
-  pub spelled : IsNumber text
-  pub again : (after : List ℕ) → numeral_at (text ++ 41 ∷ after) ≡ Some f
+-- the number that is read
+record NumberRead (bytes : List ℕ) (f : Numeral) : Type 0 where
+  text : List ℕ
+  more : List ℕ
+  parts : bytes ≡ text ++ more
+  counts : length text ≡ f.length
+  spelled : IsNumber text
 
 pub behind_parts : (front bytes rest : List ℕ) → behind front bytes ≡ Some rest → bytes ≡ front ++ rest
 behind_parts [] bytes rest is = cc
@@ -226,15 +214,6 @@ behind_parts (f ∷ front) (b ∷ bytes) rest is =
     (λ w. nothing rest (rw w.0 at is))
     (eqb_tells b f)
 
-no_hexadecimal : (text after : List ℕ) → IsDecimal text → behind (codes "0x") (text ++ 41 ∷ after) ≡ None
-no_hexadecimal [] after spelled = absurd spelled
-no_hexadecimal (b ∷ digits) after spelled =
-    ⊎_elim
-    (λ w. let P : List ℕ → Type 0 = λ xs. behind (codes "0x") (b ∷ xs ++ 41 ∷ after) ≡ None in
-    subst P (sym (spelled.2 w.1)) (rw w.0 refl))
-    (λ w. rw w.0 refl)
-    (eqb_tells b 48)
-
 decimal_number : (bytes : List ℕ) (f : Numeral) → decimal_at bytes ≡ Some f → NumberRead bytes f
 decimal_number bytes f is =
     let r = decimal_read bytes f is in
@@ -244,26 +223,19 @@ decimal_number bytes f is =
       parts = r.parts;
       counts = r.counts;
       spelled = inl r.spelled;
-      again = λ after. ap (λ o. numeral_behind o (r.text ++ 41 ∷ after)) (no_hexadecimal r.text after r.spelled) ∙ r.again after;
     }
-
-taken : {A : Type 0} (p : Bool) (x y : A) → p ≡ true → (if p then x else y) ≡ x
-taken p x y e = rw e refl
 
 hexadecimal_number : (bytes : List ℕ) (d : ℕ) (rest : List ℕ) (f : Numeral) (text more : List ℕ) →
     bytes ≡ 48 ∷ 120 ∷ d ∷ rest → is_digit d 16 ≡ true → d ∷ rest ≡ text ++ more → 2 + length text ≡ f.length →
-    AllPass (λ d. is_digit d 16) text → begins_digit 16 more ≡ false →
-    ((after : List ℕ) → digits_at 16 0 2 (text ++ 41 ∷ after) ≡ Some f) → NumberRead bytes f
-hexadecimal_number bytes d rest f [] more whole first parts counts pass ends again =
+    AllPass (λ d. is_digit d 16) text → begins_digit 16 more ≡ false → NumberRead bytes f
+hexadecimal_number bytes d rest f [] more whole first parts counts pass ends =
     true_is_not_false (is_digit d 16) first (ap (begins_digit 16) parts ∙ ends)
-hexadecimal_number bytes d rest f (c ∷ text) more whole first parts counts pass ends again = record {
+hexadecimal_number bytes d rest f (c ∷ text) more whole first parts counts pass ends = record {
   text = 48 ∷ 120 ∷ c ∷ text;
   more = more;
   parts = whole ∙ ap (λ xs. 48 ∷ 120 ∷ xs) parts;
   counts = omega (arith, counts);
   spelled = inr (c, text, refl, pass.0, pass.1);
-  again = λ after. taken (is_digit c 16) (digits_at 16 0 2 (c ∷ text ++ 41 ∷ after))
-      (decimal_at (48 ∷ 120 ∷ c ∷ text ++ 41 ∷ after)) pass.0 ∙ again after;
 }
 
 number_go : (o : Option (List ℕ)) (bytes : List ℕ) (f : Numeral) → behind (codes "0x") bytes ≡ o →
@@ -272,13 +244,13 @@ number_go None bytes f found is = decimal_number bytes f is
 number_go (Some []) bytes f found is = decimal_number bytes f is
 number_go (Some (d ∷ rest)) bytes f found is =
     ⊎_elim
-    (λ w. let r = digits_read 16 0 2 (d ∷ rest) f refl w.1 in
+    (λ w. let r = digits_read 16 0 2 (d ∷ rest) f w.1 in
     hexadecimal_number bytes d rest f r.text r.more (behind_parts (codes "0x") bytes (d ∷ rest) found) w.0
-    r.parts r.counts r.pass r.ends r.again)
+    r.parts r.counts r.pass r.ends)
     (λ w. decimal_number bytes f w.1)
     (chosen (is_digit d 16) (digits_at 16 0 2 (d ∷ rest)) (decimal_at bytes) (Some f) is)
 
-pub number_read : (bytes : List ℕ) (f : Numeral) → numeral_at bytes ≡ Some f → NumberRead bytes f
+number_read : (bytes : List ℕ) (f : Numeral) → numeral_at bytes ≡ Some f → NumberRead bytes f
 number_read bytes f is = number_go (behind (codes "0x") bytes) bytes f refl is
 
 pub numbers : IsFoundSpelled 0 IsNumber number_at

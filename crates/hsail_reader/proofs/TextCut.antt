@@ -33,6 +33,7 @@ step place line kind front behind some is =
     (tokens_from 0 (place + length front) (line_after line front) xs))
     (drop-append_seam front behind)
 
+-- a word of the header has a byte at least
 header_is_some : (h : Header) → 0 < length (header_name h)
 header_is_some Base = omega arith
 header_is_some Full = omega arith
@@ -70,6 +71,7 @@ tokens_are_cut _ _ _ _ (lexeme place line kind bytes front behind tokens parts i
     ∙ ap (with_front (kept kind front place line))
     (tokens_are_cut (place + length front) (line_after line front) behind tokens rest)
 
+-- the tokens of a text by their spelling are those that it is cut into
 pub cut : (text : List ℕ) (tokens : List Piece) → AreTokens 0 1 text tokens → tokens_from 0 0 1 text ≡ Ok tokens
 cut text tokens are = tokens_are_cut 0 1 text tokens are
 
@@ -77,9 +79,11 @@ cut text tokens are = tokens_are_cut 0 1 text tokens are
 abbrev read_as : List Piece → Result (List Piece) Refusal
 read_as tokens = Ok tokens
 
+-- tokens that are read alike are the same
 same_tokens : (a b : List Piece) → read_as a ≡ read_as b → a ≡ b
 same_tokens a b e = cc
 
+-- a text is not both refused and read
 not_both : {A : Type 0} (r : Refusal) (tokens : List Piece) → Err r ≡ Ok tokens → A
 not_both r tokens e = cc
 
@@ -135,5 +139,6 @@ cut_is_spelled (suc fuel) place line (b ∷ bytes) tokens fits is =
     cut_goes_on (lexeme_at (b ∷ bytes)) place line b bytes tokens refl is
     (λ place line behind tokens shorter is. cut_is_spelled fuel place line behind tokens (omega arith) is)
 
+-- the tokens that a text is cut into are its tokens by their spelling
 pub spelled : (text : List ℕ) (tokens : List Piece) → tokens_from 0 0 1 text ≡ Ok tokens → AreTokens 0 1 text tokens
 spelled text tokens is = cut_is_spelled (length text) 0 1 text tokens (omega arith) is

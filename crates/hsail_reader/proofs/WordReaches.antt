@@ -195,9 +195,13 @@ word_go b rest more found (Some n) starts pieces read is =
     let short = align_stuck (b ∷ rest) more (byte b rest (name_start_continues b starts) pieces) l.1 in
     omega (arith, same_length (word_of (Some n) (b ∷ rest ++ more)) found is, l.0, short)
 
+-- no longer than what is found at the front of these bytes
+abbrev ReachesWord : List ℕ → List ℕ → Lexeme → Type 0
+ReachesWord text more found =
+    Some (word_of (align_at (text ++ more)) (text ++ more)) ≡ Some found → length text ≤ found.length
+
 align_reaches : (n : ℕ) (number more : List ℕ) (found : Lexeme) → SpellsNumber n number →
-    Some (word_of (align_at (codes "align(" ++ ((number ++ codes ")") ++ more))) (codes "align(" ++ ((number ++ codes ")") ++ more)))
-    ≡ Some found → length (codes "align(" ++ (number ++ codes ")")) ≤ found.length
+    ReachesWord (codes "align(" ++ (number ++ codes ")")) more found
 align_reaches n number more found spelled is =
     let bytes = codes "align(" ++ ((number ++ codes ")") ++ more) in
     let read = numeral n (length number + 7) in
@@ -210,7 +214,5 @@ words [] more found (inl spelled) is = absurd spelled
 words (b ∷ rest) more found (inl spelled) is =
     omega (arith, word_go b rest more found (align_at (b ∷ rest ++ more)) spelled.0 spelled.1 refl is)
 words text more found (inr (n, (number, e, spelled))) is =
-    let P : List ℕ → Type 0 = λ xs.
-    Some (word_of (align_at (xs ++ more)) (xs ++ more)) ≡ Some found → length xs ≤ found.length in
-    let reach = subst P (sym e) (align_reaches n number more found spelled) is in
+    let reach = subst (λ xs. ReachesWord xs more found) (sym e) (align_reaches n number more found spelled) is in
     omega (arith, reach)
