@@ -6,7 +6,6 @@ use Rattle.std.specs.Char.{is_digit}
 use Rattle.std.specs.Option.{is_some, option_map}
 use Rattle.hsail_reader.specs.Bytes.{behind, numeral_at, align_at, width_value_at, width_at, numeral, spelled_width, ◌>>=◌}
 use Rattle.hsail_reader.specs.Lexemes.{length_of, modifier_length}
-use Rattle.hsail_reader.specs.Spelling.{IsNumber}
 use Rattle.hsail_reader.specs.WordLexemes.{IsModifier}
 use Rattle.hsail_reader.specs.WordSpelling.{SpellsNumber, SpellsWidth}
 use Rattle.hsail_reader.specs.declared.token.Numeral.{Numeral}
@@ -16,6 +15,7 @@ use Rattle.hsail_reader.specs.declared.types.Width.TheVariants.{Number, All, Wav
 use Rattle.hsail_reader.proofs.NumberSpelling.{number_before_bracket_is_read, number_is_spelled}
 use Rattle.hsail_reader.proofs.Reaches.{bound, chosen, mapped, true_is_not_false}
 use Rattle.hsail_reader.proofs.Spelled.{behind_parts}
+use Rattle.hsail_reader.proofs.Fronts.{IsNumber}
 
 -- the bracket behind a value
 pub bracket_parts : (inside text more rest : List ℕ) (n : ℕ) → inside ≡ text ++ more → length text ≡ n →

@@ -8,7 +8,7 @@ use Rattle.std.specs.Option.{option_map}
 use Rattle.std.specs.Str.Parse.{digits_value}
 use Rattle.hsail_reader.specs.Bytes.{is_name_byte, is_not_line_feed, begins_digit, behind, closing_at, decimal_at, numeral_at, numeral_behind, numeral, align_at, ◌>>=◌}
 use Rattle.hsail_reader.specs.Lexemes.{lexed, name_at, register, register_at, word_at, lexeme_at}
-use Rattle.hsail_reader.specs.Spelling.{AllPass, IsName, IsDecimal, IsNumber, IsClosed, IsComment}
+use Rattle.hsail_reader.specs.Spelling.{AllPass, IsName, IsDecimal, IsClosed, IsComment}
 use Rattle.hsail_reader.specs.TextTokens.{IsLexeme, IsWithin64Bits, IsLongestFront, class_name, header_name}
 use Rattle.hsail_reader.specs.WordSpelling.{SpellsDecimal, SpellsHexadecimal}
 use Rattle.hsail_reader.specs.declared.token.Lexeme.{Lexeme}
@@ -25,6 +25,7 @@ use Rattle.hsail_reader.proofs.LexemeSpellings.{word_kind, found_is_lexeme}
 use Rattle.hsail_reader.proofs.NumberSpelling.{decimal_is_read, hexadecimal_number_is_read}
 use Rattle.hsail_reader.proofs.Reaches.{decimal_short}
 use Rattle.hsail_reader.proofs.Spelled.{behind_parts}
+use Rattle.hsail_reader.proofs.Fronts.{IsNumber}
 
 -- a front with one more byte is no lexeme
 no_longer : (kind : LexemeKind) (front rest : List ℕ) (c : ℕ) → IsLongestFront front (front ++ c ∷ rest) →

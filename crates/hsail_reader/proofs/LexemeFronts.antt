@@ -3,7 +3,7 @@ use Rattle.std.proofs.Common.{◌≡◌, ℕ, ◌+◌, ◌≤◌, ◌⊎◌, inl
 use Rattle.std.specs.Char.{is_digit}
 use Rattle.hsail_reader.specs.Bytes.{is_name_start}
 use Rattle.hsail_reader.specs.Lexemes.{lexed, register_at, header_among, header_words, dollar_at, or_else, number_at, word_at, lexeme_at}
-use Rattle.hsail_reader.specs.Spelling.{IsDecimal, IsNumber}
+use Rattle.hsail_reader.specs.Spelling.{IsDecimal}
 use Rattle.hsail_reader.specs.WordLexemes.{IsWord}
 use Rattle.hsail_reader.specs.TextTokens.{IsLexeme, class_name, header_name}
 use Rattle.hsail_reader.specs.declared.token.Header.{Header}
@@ -18,6 +18,7 @@ use Rattle.hsail_reader.proofs.FirstBytes.{at_blank, at_mark, at_name_start, at_
 use Rattle.hsail_reader.proofs.Reaches as reaches
 use Rattle.hsail_reader.proofs.Reaches.{same_length}
 use Rattle.hsail_reader.proofs.WordReaches.{words}
+use Rattle.hsail_reader.proofs.Fronts.{IsNumber}
 
 -- a front is no longer than the lexeme found there
 abbrev Reaches : List ℕ → List ℕ → Lexeme → Type 0

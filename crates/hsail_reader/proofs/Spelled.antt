@@ -7,13 +7,14 @@ use Rattle.std.specs.Option.{option_map}
 use Rattle.std.specs.Char.{is_digit, digit_value}
 use Rattle.hsail_reader.specs.Bytes.{is_name_byte, is_name_start, is_not_line_feed, begins_with, begins_digit, behind, closing_at, digits_at, decimal_at, numeral_at, numeral_behind, numeral, ◌>>=◌}
 use Rattle.hsail_reader.specs.Lexemes.{lexed, name_at, comment_at, class_at, register, register_at, number_at}
-use Rattle.hsail_reader.specs.Spelling.{AllPass, IsName, IsDecimal, IsNumber, IsRegister, IsClosed, IsComment, IsFoundSpelled}
+use Rattle.hsail_reader.specs.Spelling.{AllPass, IsName, IsDecimal, IsClosed, IsComment}
 use Rattle.hsail_reader.specs.declared.token.LexemeKind.TheVariants.{Comment, Token}
 use Rattle.hsail_reader.specs.declared.token.Numeral.{Numeral}
 use Rattle.hsail_reader.specs.declared.token.TokenKind.{TokenKind}
 use Rattle.hsail_reader.specs.declared.token.TokenKind.TheVariants as token
 use Rattle.hsail_reader.specs.declared.types.RegisterClass.{RegisterClass}
 use Rattle.hsail_reader.proofs.Reaches.{bound, chosen, mapped, name_start_continues, numeral_length, same_length, true_is_not_false}
+use Rattle.hsail_reader.proofs.Fronts.{IsNumber, IsRegister, IsFoundSpelled}
 
 -- the run of bytes that pass is a front, and each of its bytes passes
 run_passes : (test : ℕ → Bool) (bytes : List ℕ) →

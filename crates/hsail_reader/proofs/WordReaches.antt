@@ -5,7 +5,7 @@ use Rattle.std.proofs.Math.Dec.{eqb-zero-suc}
 use Rattle.std.proofs.Math.Seq.{drop-append_seam}
 use Rattle.hsail_reader.specs.Bytes.{is_name_byte, is_name_start, behind, numeral_at, align_at, width_value_at, width_at, numeral, spelled_width, ◌>>=◌}
 use Rattle.hsail_reader.specs.Lexemes.{length_of, modifier_length, piece_length, pieces_length, word_of}
-use Rattle.hsail_reader.specs.Spelling.{AllPass, IsLongest, word_found}
+use Rattle.hsail_reader.specs.Spelling.{AllPass}
 use Rattle.hsail_reader.specs.WordLexemes.{IsModifier, ArePieces, none, byte, modifier, IsWord}
 use Rattle.hsail_reader.specs.WordSpelling.{SpellsNumber}
 use Rattle.hsail_reader.specs.declared.token.Lexeme.{Lexeme}
@@ -14,6 +14,7 @@ use Rattle.hsail_reader.specs.declared.token.SpelledWidth.{SpelledWidth}
 use Rattle.hsail_reader.proofs.BracketSpelling.{align_is_read, modifier_is_read, modifier_is_some}
 use Rattle.hsail_reader.proofs.Reaches.{bound, numeral_length, same_length, name_start_continues, true_is_not_false}
 use Rattle.hsail_reader.proofs.Pieces.{pieces_length_step}
+use Rattle.hsail_reader.proofs.Fronts.{IsLongest, word_found}
 
 grow_if : (p before r : ℕ) → before + p ≤ r → before ≤ (if 0 == p then before else r)
 grow_if zero before r le = omega arith

@@ -5,7 +5,6 @@ use Rattle.std.proofs.lemmas.Bool.Decides.{eqb_tells}
 use Rattle.std.proofs.Math.Seq.{drop-append_seam}
 use Rattle.hsail_reader.specs.Bytes.{is_name_byte, is_name_start, align_at, width_at}
 use Rattle.hsail_reader.specs.Lexemes.{length_of, modifier_length, piece_length, pieces_length, word_of}
-use Rattle.hsail_reader.specs.Spelling.{IsFoundSpelled, begun_word}
 use Rattle.hsail_reader.specs.WordLexemes.{IsModifier, ArePieces, none, byte, modifier, IsWord}
 use Rattle.hsail_reader.specs.declared.token.Lexeme.{Lexeme}
 use Rattle.hsail_reader.specs.declared.token.Numeral.{Numeral}
@@ -15,6 +14,7 @@ use Rattle.hsail_reader.proofs.Pieces.{pieces_length_step}
 use Rattle.hsail_reader.proofs.Reaches.{bound, same_length}
 use Rattle.hsail_reader.proofs.Spelled.{nothing}
 use Rattle.hsail_reader.proofs.WordReaches.{piece_if}
+use Rattle.hsail_reader.proofs.Fronts.{IsFoundSpelled, begun_word}
 
 -- a modifier of so many bytes stands at the front
 abbrev ModifierRead : List ℕ → ℕ → Type 0

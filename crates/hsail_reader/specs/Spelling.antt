@@ -27,14 +27,6 @@ IsHexadecimal text =
     (digit : ℕ) × (digits : List ℕ) × (text ≡ 48 ∷ 120 ∷ digit ∷ digits)
     × (is_digit digit 16 ≡ true) × AllPass (λ d. is_digit d 16) digits
 
-abbrev pub IsNumber : List ℕ → Type 0
-IsNumber text = IsDecimal text ⊎ IsHexadecimal text
-
--- the letter of a register's class and a decimal number, behind the dollar
-abbrev pub IsRegister : List ℕ → Type 0
-IsRegister [] = ⊥
-IsRegister (c ∷ digits) = ((c ≡ 99) ⊎ (c ≡ 115) ⊎ (c ≡ 100)) × IsDecimal digits
-
 -- the rest of a line, behind the first slash of a comment
 abbrev pub IsLineComment : List ℕ → Type 0
 IsLineComment text = (line : List ℕ) × (text ≡ 47 ∷ line) × AllPass is_not_line_feed line
@@ -51,23 +43,3 @@ IsBlockComment text = (inside : List ℕ) × (text ≡ 42 ∷ inside) × IsClose
 
 abbrev pub IsComment : List ℕ → Type 0
 IsComment text = IsLineComment text ⊎ IsBlockComment text
-
--- where a lexeme is found, no front that is spelled so is longer; `first` bytes stand before
-abbrev pub IsLongest : ℕ → (List ℕ → Type 0) → (List ℕ → Option Lexeme) → Type 0
-IsLongest first IsSpelled at =
-    (text more : List ℕ) (found : Lexeme) → IsSpelled text → at (text ++ more) ≡ Some found →
-    first + length text ≤ found.length
-
--- where a lexeme is found, a front of its length is spelled so; `first` bytes stand before
-abbrev pub IsFoundSpelled : ℕ → (List ℕ → Type 0) → (List ℕ → Option Lexeme) → Type 0
-IsFoundSpelled first IsSpelled at =
-    (bytes : List ℕ) (found : Lexeme) → at bytes ≡ Some found →
-    (text : List ℕ) × (more : List ℕ) × (bytes ≡ text ++ more) × IsSpelled text
-    × (first + length text ≡ found.length)
-
-abbrev pub word_found : List ℕ → Option Lexeme
-word_found bytes = Some (word_at bytes)
-
--- the word, where the first byte begins a name
-abbrev pub begun_word : List ℕ → Option Lexeme
-begun_word bytes = if begins_name bytes then word_found bytes else None

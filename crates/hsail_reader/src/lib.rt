@@ -7,7 +7,6 @@ mod grammar;
 mod instructions;
 mod kernels;
 mod lexeme;
-mod longest;
 mod module;
 mod operands;
 mod reading;
@@ -19,7 +18,10 @@ mod types;
 mod words;
 
 pub use fault::{Cause, ReadError, ReadFault};
-pub use longest::{found_lexemes_are_spelled, lexemes_are_longest};
+pub use grammar::{
+    modules_are_read_as_spelled, texts_are_cut_as_spelled, texts_are_read_as_spelled,
+    words_are_read_as_spelled,
+};
 pub use module::{
     Address, Argument, Binary, ConditionalBranch, Identify, Indexed, Instruction, Item, Kernel,
     Label, Load, Module, Operation, Place, Profile, Relative, Rounding, Store, Ternary, Unary,
