@@ -1,8 +1,7 @@
 -- What is read as a source or an address spells it.
-use Rattle.std.proofs.Common.{◌≡◌, ◌⊎◌, ℕ, ⊎_elim, inl, inr, List, [], ◌∷◌, Bool, true, false, ◌==◌, if◌then◌else◌, Option, Some, None, Result, Ok, Err, refl, sym, ap, subst, ◌∙◌}
-use Rattle.std.proofs.lemmas.Bool.Decides.{eqb_tells}
-use Rattle.hsail_reader.specs.Grammar.{◌▸◌, mark, in_brackets, number, register, variable, source, no_offset, offset, place, address}
-use Rattle.hsail_reader.specs.Operands.{Reading, ◌>>=◌, refuse, mark_at, variable_kind, number_at, constant, constant_at, signed_at, source_from, source_at, offset_from, offset_by, offset_at, relative, place_from, place_at, place_in_brackets, indexed, index_at, address_from, address_inside, address_at, begins_with_mark, is_mark_kind}
+use Rattle.std.proofs.Common.{◌≡◌, ℕ, ⊎_elim, inl, inr, List, [], ◌∷◌, Bool, true, false, ◌==◌, if◌then◌else◌, Option, Some, None, Ok, refl, sym, ap, subst, ◌∙◌}
+use Rattle.hsail_reader.specs.Grammar.{◌▸◌, mark, in_brackets, number, variable, source, no_offset, offset, place, address}
+use Rattle.hsail_reader.specs.Operands.{Reading, ◌>>=◌, refuse, mark_at, variable_kind, constant, constant_at, signed_at, source_from, source_at, offset_from, offset_by, offset_at, relative, place_from, place_at, place_in_brackets, indexed, index_at, address_from, address_inside, address_at, begins_with_mark}
 use Rattle.hsail_reader.specs.Tokens.{Piece}
 use Rattle.hsail_reader.specs.declared.fault.Flaw.TheVariants.{Syntax}
 use Rattle.hsail_reader.specs.declared.module.Address.{Address}

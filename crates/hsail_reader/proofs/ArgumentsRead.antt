@@ -1,19 +1,16 @@
 -- What spells arguments is read as them, one after the other.
-use Rattle.std.proofs.Common.{◌≡◌, ℕ, zero, suc, ◌+◌, ◌<◌, ◌≤◌, List, [], ◌∷◌, length, Bool, true, false, if◌then◌else◌, Option, Some, None, Ok, refl, sym, ap, subst, ◌∙◌, arith}
-use Rattle.hsail_reader.specs.Grammar.{Spelled, ◌▸◌, mark, comma, variable, word, IsFirstLine, each, alignment, argument, separated}
-use Rattle.hsail_reader.specs.Operands.{Reading, ◌>>=◌, begins_with_mark, is_mark_kind, mark_at}
-use Rattle.hsail_reader.specs.Syntax.{argument_from, argument_at, aligned_argument, aligned_from, named_argument, next_argument_at, with_first, many_at, all_at, some_arguments_at, arguments_at}
+use Rattle.std.proofs.Common.{◌≡◌, ℕ, zero, suc, ◌≤◌, List, [], ◌∷◌, length, Bool, true, false, Option, Some, None, Ok, refl, sym, ap, subst, ◌∙◌, arith}
+use Rattle.hsail_reader.specs.Grammar.{Spelled, ◌▸◌, comma, IsFirstLine, each, argument}
+use Rattle.hsail_reader.specs.Operands.{Reading}
+use Rattle.hsail_reader.specs.Syntax.{argument_from, argument_at, aligned_argument, aligned_from, named_argument, next_argument_at, many_at, all_at}
 use Rattle.hsail_reader.specs.Tokens.{Piece}
 use Rattle.hsail_reader.specs.Types.{alignment_bytes}
-use Rattle.hsail_reader.specs.WordSpelling.{SpellsWord}
 use Rattle.hsail_reader.specs.declared.module.Argument.{Argument}
-use Rattle.hsail_reader.specs.declared.token.TokenKind.TheVariants as token
 use Rattle.hsail_reader.specs.declared.types.Alignment.{Alignment}
 use Rattle.hsail_reader.specs.declared.types.DataType.{DataType}
-use Rattle.hsail_reader.specs.declared.words.Word.{Word}
 use Rattle.hsail_reader.specs.declared.words.Word.TheVariants as words
 use Rattle.hsail_reader.proofs.ItemsRead.{WordsAreRead, word_read, named_read, alignment_read}
-use Rattle.hsail_reader.proofs.Lengths.{TakesSome, next_arguments}
+use Rattle.hsail_reader.proofs.Lengths.{TakesSome}
 use Rattle.hsail_reader.proofs.OperandsRead.{mark_read}
 
 abbrev pub the_argument : ℕ → Option Alignment → DataType → List ℕ → Argument

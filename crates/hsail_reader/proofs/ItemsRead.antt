@@ -1,14 +1,12 @@
 -- What spells an item or an argument is read as it; and what spells several is read one after the other.
-use Rattle.std.proofs.Common.{◌≡◌, ℕ, zero, suc, ◌+◌, ◌<◌, ◌≤◌, List, [], ◌∷◌, length, Bool, true, false, Option, Some, None, Ok, refl, sym, ap, subst, ◌∙◌, arith}
-use Rattle.hsail_reader.specs.Grammar.{Spelled, ◌▸◌, mark, comma, semicolon, variable, word, IsFirstLine, each, item, alignment, argument, instruction, separated}
-use Rattle.hsail_reader.specs.Operands.{Reading, ◌>>=◌, begins_with_mark, is_mark_kind, mark_at}
-use Rattle.hsail_reader.specs.Syntax.{word_kind, word_at, word_item, item_from, item_at, performed, labelled, argument_from, argument_at, aligned_from, named_argument, next_argument_at, with_first, many_at, all_at, some_arguments_at, arguments_at}
-use Rattle.hsail_reader.specs.Instructions.{operation_at}
+use Rattle.std.proofs.Common.{◌≡◌, ℕ, List, ◌∷◌, Option, Some, Ok, refl, ap, subst, ◌∙◌}
+use Rattle.hsail_reader.specs.Grammar.{variable, IsFirstLine, item}
+use Rattle.hsail_reader.specs.Operands.{◌>>=◌, mark_at}
+use Rattle.hsail_reader.specs.Syntax.{word_kind, word_at, word_item, item_from, item_at, performed, labelled, named_argument}
 use Rattle.hsail_reader.specs.Tokens.{Piece}
 use Rattle.hsail_reader.specs.Types.{alignment_bytes}
 use Rattle.hsail_reader.specs.Words.{word_of, alignment_of}
 use Rattle.hsail_reader.specs.WordSpelling.{SpellsWord}
-use Rattle.hsail_reader.specs.declared.module.Argument.{Argument}
 use Rattle.hsail_reader.specs.declared.module.Item.{Item}
 use Rattle.hsail_reader.specs.declared.module.Item.TheVariants as items
 use Rattle.hsail_reader.specs.declared.module.Operation.{Operation}
@@ -18,7 +16,6 @@ use Rattle.hsail_reader.specs.declared.types.Alignment.TheVariants as alignments
 use Rattle.hsail_reader.specs.declared.types.DataType.{DataType}
 use Rattle.hsail_reader.specs.declared.words.Word.{Word}
 use Rattle.hsail_reader.specs.declared.words.Word.TheVariants as words
-use Rattle.hsail_reader.proofs.Lengths.{TakesSome, next_arguments}
 use Rattle.hsail_reader.proofs.OperandsRead.{mark_read, variable_read}
 use Rattle.hsail_reader.proofs.Operations.{code_of, parts}
 use Rattle.hsail_reader.proofs.OperationsRead.{operation_read}

@@ -1,7 +1,6 @@
 -- What is read as an item spells it; and what is read one after the other spells each.
-use Rattle.std.proofs.Common.{◌≡◌, ◌⊎◌, ℕ, zero, suc, ⊎_elim, List, [], ◌∷◌, Bool, true, false, if◌then◌else◌, Option, Some, None, Result, Ok, refl, sym, ap, subst, ◌∙◌}
-use Rattle.hsail_reader.specs.Faults.{refusal}
-use Rattle.hsail_reader.specs.Grammar.{Spelled, ◌▸◌, item, each, instruction, semicolon}
+use Rattle.std.proofs.Common.{◌≡◌, ℕ, zero, suc, ⊎_elim, List, [], ◌∷◌, Bool, true, Option, Some, None, Ok, refl, sym, subst}
+use Rattle.hsail_reader.specs.Grammar.{Spelled, item, each}
 use Rattle.hsail_reader.specs.Instructions.{operation_at}
 use Rattle.hsail_reader.specs.Operands.{Reading, ◌>>=◌, refuse, mark_at}
 use Rattle.hsail_reader.specs.Syntax.{labelled, performed, aligned_item, word_item, item_from, item_at, with_first, many_at, flaw_at_begin, flaw_behind_align, word_at}
@@ -11,16 +10,15 @@ use Rattle.hsail_reader.specs.Words.{word_of, alignment_of}
 use Rattle.hsail_reader.specs.declared.fault.Flaw.{Flaw}
 use Rattle.hsail_reader.specs.declared.fault.Flaw.TheVariants.{Syntax}
 use Rattle.hsail_reader.specs.declared.module.Item.{Item}
-use Rattle.hsail_reader.specs.declared.module.Item.TheVariants as items
 use Rattle.hsail_reader.specs.declared.token.TokenKind.{TokenKind}
 use Rattle.hsail_reader.specs.declared.token.TokenKind.TheVariants as token
 use Rattle.hsail_reader.specs.declared.types.Alignment.{Alignment}
 use Rattle.hsail_reader.specs.declared.words.Opcode.{Opcode}
 use Rattle.hsail_reader.specs.declared.words.Word.{Word}
 use Rattle.hsail_reader.specs.declared.words.Word.TheVariants as words
-use Rattle.hsail_reader.proofs.Operations.{code_of, operands_of, whole}
+use Rattle.hsail_reader.proofs.Operations.{whole}
 use Rattle.hsail_reader.proofs.OperationsSpelled.{operation_spelled}
-use Rattle.hsail_reader.proofs.OperandsSpelled.{same, carried, bound, chosen, mark_spelled}
+use Rattle.hsail_reader.proofs.OperandsSpelled.{carried, bound, chosen, mark_spelled}
 
 -- a text that is read as a word of a module spells it
 abbrev pub WordsAreSpelled : Type 0

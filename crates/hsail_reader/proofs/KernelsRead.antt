@@ -1,8 +1,8 @@
 -- What spells a kernel is read as it.
-use Rattle.std.proofs.Common.{◌≡◌, ℕ, ⊎_elim, List, [], ◌∷◌, Bool, true, false, if◌then◌else◌, Option, Some, None, Ok, refl, sym, ap, subst, ◌∙◌}
+use Rattle.std.proofs.Common.{◌≡◌, ℕ, ⊎_elim, List, [], ◌∷◌, true, false, if◌then◌else◌, Option, Some, None, Ok, refl, ap, subst, ◌∙◌}
 use Rattle.hsail_reader.specs.Grammar.{Spelled, ◌▸◌, optional, mark, comma, semicolon, in_parentheses, in_braces, global, word, IsFirstLine, each, separated, item, argument, kernel}
-use Rattle.hsail_reader.specs.Operands.{◌>>=◌, refuse, begins_with_mark, is_mark_kind, mark_at}
-use Rattle.hsail_reader.specs.Syntax.{item_at, items_at, argument_at, next_argument_at, with_first, some_arguments_at, arguments_at, skip_mark, signature_at, body_at, kernel_behind, kernel_from, prog_kernel, is_kernel, kernel_at, is_none_left}
+use Rattle.hsail_reader.specs.Operands.{refuse, begins_with_mark, is_mark_kind}
+use Rattle.hsail_reader.specs.Syntax.{item_at, items_at, next_argument_at, some_arguments_at, arguments_at, skip_mark, signature_at, body_at, kernel_behind, kernel_from, prog_kernel, is_kernel, kernel_at}
 use Rattle.hsail_reader.specs.Tokens.{Piece}
 use Rattle.hsail_reader.specs.declared.fault.Flaw.TheVariants.{Syntax}
 use Rattle.hsail_reader.specs.declared.module.Argument.{Argument}
@@ -144,7 +144,9 @@ kernel_read read k from to s none =
   where
     w : word words.Kernel s.1.0 s.1.2.0
     w = s.1.2.1
+
     t : Piece
     t = w.0
+
     behind : kernel_behind k.line s.1.2.0 ≡ Ok (k, to)
     behind = behind_word_read read k s.1.2.0 to s.1.2.2 none

@@ -1,16 +1,14 @@
 -- What is read as arguments or as a kernel spells it.
-use Rattle.std.proofs.Common.{◌≡◌, ◌⊎◌, ℕ, zero, suc, ⊎_elim, inl, inr, List, [], ◌∷◌, length, Bool, true, false, ◌==◌, if◌then◌else◌, Option, Some, None, Result, Ok, refl, sym, ap, subst, ◌∙◌}
-use Rattle.hsail_reader.specs.Grammar.{Spelled, ◌▸◌, optional, mark, comma, semicolon, in_parentheses, in_braces, variable, word, global, each, separated, item, alignment, argument, kernel}
-use Rattle.hsail_reader.specs.Operands.{Reading, ◌>>=◌, refuse, mark_at, variable_at, global_at, begins_with_mark, is_mark_kind}
-use Rattle.hsail_reader.specs.Syntax.{word_kind, word_at, flaw_at_begin, flaw_behind_align, named_argument, aligned_from, aligned_argument, argument_from, argument_at, next_argument_at, with_first, many_at, all_at, item_at, items_at, some_arguments_at, arguments_at, skip_mark, signature_at, body_at, kernel_behind, is_kernel, prog_kernel, kernel_from, kernel_at}
+use Rattle.std.proofs.Common.{◌≡◌, ℕ, suc, ⊎_elim, inl, inr, List, [], ◌∷◌, length, Bool, true, false, ◌==◌, if◌then◌else◌, Option, Some, None, Ok, refl, sym, ap, subst, ◌∙◌}
+use Rattle.hsail_reader.specs.Grammar.{◌▸◌, optional, comma, semicolon, in_parentheses, in_braces, variable, each, separated, item, argument}
+use Rattle.hsail_reader.specs.Operands.{◌>>=◌, mark_at, variable_at, begins_with_mark, is_mark_kind}
+use Rattle.hsail_reader.specs.Syntax.{word_kind, word_at, flaw_at_begin, flaw_behind_align, named_argument, aligned_from, aligned_argument, argument_from, argument_at, next_argument_at, with_first, all_at, item_at, items_at, some_arguments_at, arguments_at, skip_mark, signature_at, body_at}
 use Rattle.hsail_reader.specs.Tokens.{Piece}
 use Rattle.hsail_reader.specs.Types.{alignment_bytes}
-use Rattle.hsail_reader.specs.WordSpelling.{SpellsWord}
 use Rattle.hsail_reader.specs.Words.{word_of, alignment_of}
 use Rattle.hsail_reader.specs.declared.fault.Flaw.TheVariants.{Syntax}
 use Rattle.hsail_reader.specs.declared.module.Argument.{Argument}
 use Rattle.hsail_reader.specs.declared.module.Item.{Item}
-use Rattle.hsail_reader.specs.declared.module.Kernel.{Kernel}
 use Rattle.hsail_reader.specs.declared.token.TokenKind.{TokenKind}
 use Rattle.hsail_reader.specs.declared.token.TokenKind.TheVariants as token
 use Rattle.hsail_reader.specs.declared.types.Alignment.{Alignment}
@@ -20,7 +18,7 @@ use Rattle.hsail_reader.specs.declared.words.Word.{Word}
 use Rattle.hsail_reader.specs.declared.words.Word.TheVariants as words
 use Rattle.hsail_reader.proofs.ArgumentsRead.{the_argument}
 use Rattle.hsail_reader.proofs.ItemsSpelled.{WordsAreSpelled, no_reading, item_spelled, many_spelled}
-use Rattle.hsail_reader.proofs.OperandsSpelled.{same, carried, bound, chosen, mark_is, mark_spelled, variable_spelled, global_spelled}
+use Rattle.hsail_reader.proofs.OperandsSpelled.{same, carried, bound, chosen, mark_is, mark_spelled, variable_spelled}
 use Rattle.std.proofs.lemmas.Bool.Decides.{eqb_tells}
 
 pub contradiction : {A : Type 0} → true ≡ false → A
@@ -81,12 +79,14 @@ aligned_by law (Some (words.Argument kind)) n a t u rest y first bytes e is =
     let w = word_token u.kind u.text (words.Argument kind) e in
     let x = named_spelled t.line (Some a) kind rest y is in
     let spelled = law (words.Align (alignment_bytes a)) t.text (v.1 ∙ ap words.Align (sym bytes)) refl in
-    subst (λ a. argument a (t ∷ u ∷ rest) y.1) (sym x.1)
-    (refl, (
-      u ∷ rest,
-      (t, refl, (v.0, spelled)),
-      (rest, (u, refl, (w.0, law (words.Argument kind) u.text w.1 refl)), x.2),
-    ))
+    subst (λ a. argument a (t ∷ u ∷ rest) y.1) (sym x.1) (
+      refl,
+      (
+        u ∷ rest,
+        (t, refl, (v.0, spelled)),
+        (rest, (u, refl, (w.0, law (words.Argument kind) u.text w.1 refl)), x.2),
+      ),
+    )
 aligned_by law o n a t u rest y first bytes e is = no_reading (u ∷ rest) (flaw_behind_align o) y is
 
 aligned_spelled : WordsAreSpelled → (o : Option Alignment) (n : ℕ) (t : Piece) (rest : List Piece) (y : Argument × List Piece) →

@@ -1,6 +1,6 @@
 -- What is spelled takes tokens: behind it there are no more than before.
-use Rattle.std.proofs.Common.{◌≡◌, ℕ, ◌+◌, ◌<◌, ◌≤◌, ⊎_elim, inl, inr, List, [], ◌∷◌, length, Bool, true, false, Option, Some, None, refl, sym, ap, subst, arith}
-use Rattle.hsail_reader.specs.Grammar.{Spelled, ◌▸◌, nothing, optional, one, mark, plus, minus, comma, colon, semicolon, in_parentheses, in_brackets, in_braces, number, register, variable, label, global, word, on_line, each, each_behind_comma, separated, sign, constant, source, offset_sign, offset, place, address, opcode, instruction, item, alignment, argument, kernel}
+use Rattle.std.proofs.Common.{◌≡◌, ℕ, ◌<◌, ◌≤◌, ⊎_elim, List, [], ◌∷◌, length, Bool, true, false, Option, Some, None, ap, arith}
+use Rattle.hsail_reader.specs.Grammar.{Spelled, ◌▸◌, nothing, optional, one, mark, plus, comma, colon, semicolon, in_parentheses, in_brackets, in_braces, number, register, variable, label, global, word, each, separated, sign, source, offset_sign, offset, place, address, opcode, instruction, item, alignment, argument, kernel}
 use Rattle.hsail_reader.specs.Tokens.{Piece}
 use Rattle.hsail_reader.specs.Types.{alignment_bytes}
 use Rattle.hsail_reader.specs.WordSpelling.{SpellsWord}

@@ -1,16 +1,11 @@
 -- The modifiers of a word are read where they are spelled.
 use Rattle.std.proofs.Common.{◌≡◌, ℕ, ◌+◌, inl, inr, List, [], ◌∷◌, ◌++◌, length, drop, Option, Some, None, refl, sym, ap, subst, ◌∙◌, codes, append_assoc, length-append, arith}
 use Rattle.std.proofs.Math.Seq.{drop-append_seam}
-use Rattle.hsail_reader.specs.Bytes.{behind, align_at, width_value_at, width_at, numeral, spelled_width, ◌>>=◌}
 use Rattle.hsail_reader.specs.Words.{align_behind, align_part, width_behind, width_part, modifiers, modifiers_behind, modifiers_at}
-use Rattle.hsail_reader.specs.WordSpelling.{SpellsNumber, SpellsAlign, SpellsWidth, SpellsModifiers}
-use Rattle.hsail_reader.specs.declared.token.Numeral.{Numeral}
-use Rattle.hsail_reader.specs.declared.token.SpelledWidth.{SpelledWidth}
+use Rattle.hsail_reader.specs.WordSpelling.{SpellsAlign, SpellsWidth, SpellsModifiers}
 use Rattle.hsail_reader.specs.declared.types.Modifiers.{Modifiers}
 use Rattle.hsail_reader.specs.declared.types.Width.{Width}
-use Rattle.hsail_reader.specs.declared.types.Width.TheVariants.{Number, All, WaveSize}
 use Rattle.hsail_reader.proofs.BracketSpelling.{align_is_read, width_is_read, value_in}
-use Rattle.hsail_reader.proofs.Fronts.{IsNumber}
 
 -- behind a front of six bytes, what stands in the bracket and the bracket, the rest stands
 pub inside_drop : (front inside rest : List ℕ) → length front ≡ 6 →

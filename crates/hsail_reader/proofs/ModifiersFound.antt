@@ -1,15 +1,13 @@
 -- The modifiers that are read at the front of some bytes are spelled there.
-use Rattle.std.proofs.Common.{◌≡◌, ℕ, ◌+◌, inl, inr, ⊎_elim, List, [], ◌∷◌, ◌++◌, length, drop, if◌then◌else◌, Option, Some, None, refl, sym, ap, subst, ◌∙◌, codes, append_assoc, arith}
+use Rattle.std.proofs.Common.{◌≡◌, ℕ, ◌+◌, inl, inr, ⊎_elim, List, [], ◌∷◌, ◌++◌, length, drop, Option, Some, None, refl, sym, ap, ◌∙◌, codes, append_assoc}
 use Rattle.std.proofs.lemmas.Bool.Decides.{eqb_tells}
-use Rattle.std.specs.Option.{is_some, option_map}
-use Rattle.hsail_reader.specs.Bytes.{behind, numeral_at, align_at, width_value_at, width_at, numeral, spelled_width, ◌>>=◌}
+use Rattle.hsail_reader.specs.Bytes.{align_at, width_at}
 use Rattle.hsail_reader.specs.Words.{align_behind, align_part, width_behind, width_part, modifiers_behind, modifiers_at}
-use Rattle.hsail_reader.specs.WordSpelling.{SpellsNumber, SpellsAlign, SpellsWidth, SpellsModifiers}
+use Rattle.hsail_reader.specs.WordSpelling.{SpellsAlign, SpellsWidth, SpellsModifiers}
 use Rattle.hsail_reader.specs.declared.token.Numeral.{Numeral}
 use Rattle.hsail_reader.specs.declared.token.SpelledWidth.{SpelledWidth}
 use Rattle.hsail_reader.specs.declared.types.Modifiers.{Modifiers}
 use Rattle.hsail_reader.specs.declared.types.Width.{Width}
-use Rattle.hsail_reader.specs.declared.types.Width.TheVariants.{Number, All, WaveSize}
 use Rattle.hsail_reader.proofs.BracketSpelling.{align_is_spelled, width_is_spelled, width_of}
 use Rattle.hsail_reader.proofs.ModifierSpelling.{inside_drop}
 

@@ -1,8 +1,8 @@
 -- What spells a module is read as it.
-use Rattle.std.proofs.Common.{◌≡◌, ℕ, ◌<◌, ⊎_elim, List, [], ◌∷◌, Bool, true, false, if◌then◌else◌, nat_lt, Option, Some, None, Ok, refl, sym, ap, ◌∙◌, arith}
+use Rattle.std.proofs.Common.{◌≡◌, ℕ, ◌<◌, ⊎_elim, List, [], ◌∷◌, true, false, nat_lt, Option, Some, Ok, refl, ap, ◌∙◌}
 use Rattle.std.proofs.lemmas.Bool.{lt-ltb}
-use Rattle.hsail_reader.specs.Grammar.{Spelled, ◌▸◌, colon, semicolon, number, one, header, minor, profile, rounding, kernel, each, SpellModule, word}
-use Rattle.hsail_reader.specs.Operands.{Reading, ◌>>=◌, begins_with_mark, mark_at, token_at}
+use Rattle.hsail_reader.specs.Grammar.{◌▸◌, colon, semicolon, number, one, header, minor, profile, rounding, kernel, each, SpellModule, word}
+use Rattle.hsail_reader.specs.Operands.{begins_with_mark, token_at}
 use Rattle.hsail_reader.specs.Syntax.{field_at, major_kind, minor_kind, profile_kind, large_kind, rounding_kind, fields_at, kernel_at, kernels_at, is_none_left, module_word, word_at, module_at}
 use Rattle.hsail_reader.specs.Tokens.{Piece}
 use Rattle.hsail_reader.specs.WordSpelling.{SpellsWord}

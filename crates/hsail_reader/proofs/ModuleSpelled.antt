@@ -1,14 +1,12 @@
 -- What is read as a kernel or a module spells it.
-use Rattle.std.proofs.Common.{◌≡◌, ◌⊎◌, ◌<◌, ℕ, suc, ⊎_elim, inl, inr, List, [], ◌∷◌, length, Bool, true, false, ◌==◌, nat_lt, if◌then◌else◌, Option, Some, None, Ok, refl, sym, ap, subst, ◌∙◌}
+use Rattle.std.proofs.Common.{◌≡◌, ◌<◌, ℕ, suc, ⊎_elim, inl, inr, List, [], ◌∷◌, length, true, ◌==◌, nat_lt, Option, Some, None, Ok, refl, sym, ap, subst, ◌∙◌}
 use Rattle.std.proofs.lemmas.Bool.{ltb-true}
 use Rattle.std.proofs.lemmas.Bool.Decides.{eqb_tells}
 use Rattle.hsail_reader.specs.Grammar.{◌▸◌, colon, semicolon, number, header, mark, minor, profile, rounding, each, word, SpellModule}
 use Rattle.hsail_reader.specs.Grammar as grammar
-use Rattle.hsail_reader.specs.Operands.{Reading, ◌>>=◌, refuse, mark_at, token_at, global_at}
+use Rattle.hsail_reader.specs.Operands.{◌>>=◌, refuse, mark_at, token_at, global_at}
 use Rattle.hsail_reader.specs.Syntax.{word_at, flaw_at_begin, kernel, kernel_behind, is_kernel, prog_kernel, kernel_from, kernel_at, is_none_left, all_at, kernels_at, field_at, major_kind, minor_kind, profile_kind, large_kind, rounding_kind, fields_at, module_word, whole_module, signature_at, body_at, module_at}
 use Rattle.hsail_reader.specs.Tokens.{Piece}
-use Rattle.hsail_reader.specs.WordSpelling.{SpellsWord}
-use Rattle.hsail_reader.specs.Words.{word_of}
 use Rattle.hsail_reader.specs.declared.fault.Flaw.TheVariants.{Syntax}
 use Rattle.hsail_reader.specs.declared.module.Kernel.{Kernel}
 use Rattle.hsail_reader.specs.declared.module.Module.{Module}
@@ -25,7 +23,7 @@ use Rattle.hsail_reader.specs.declared.words.Word.TheVariants as words
 use Rattle.hsail_reader.proofs.ItemsSpelled.{WordsAreSpelled, no_reading, many_spelled}
 use Rattle.hsail_reader.proofs.KernelsRead.{behind_word}
 use Rattle.hsail_reader.proofs.KernelsSpelled.{contradiction, word_token, signature_spelled, body_spelled}
-use Rattle.hsail_reader.proofs.OperandsSpelled.{same, carried, bound, chosen, one_spelled, mark_spelled, global_spelled}
+use Rattle.hsail_reader.proofs.OperandsSpelled.{carried, bound, chosen, one_spelled, mark_spelled, global_spelled}
 
 -- a kernel behind its word
 behind_spelled : WordsAreSpelled → (line : ℕ) (from : List Piece) (y : Kernel × List Piece) → kernel_behind line from ≡ Ok y →
@@ -39,12 +37,14 @@ behind_spelled law line from y is =
     (λ arguments. body_at arguments.1 >>= λ items. Ok (kernel line n.0.0 arguments.0 items.0, items.1)) y n.2 in
     let b = bound (body_at a.0.1) (λ items. Ok (kernel line n.0.0 a.0.0 items.0, items.1)) y a.2 in
     let body = body_spelled law a.0.1 b.0 b.1 in
-    carried (λ q. (line ≡ q.0.line) × behind_word q.0 from q.1) (kernel line n.0.0 a.0.0 b.0.0, b.0.1) y b.2
-    (refl, (
-      n.0.1,
-      global_spelled from n.0 n.1,
-      (a.0.1, signature_spelled law n.0.1 a.0 a.1, body),
-    ))
+    carried (λ q. (line ≡ q.0.line) × behind_word q.0 from q.1) (kernel line n.0.0 a.0.0 b.0.0, b.0.1) y b.2 (
+      refl,
+      (
+        n.0.1,
+        global_spelled from n.0 n.1,
+        (a.0.1, signature_spelled law n.0.1 a.0 a.1, body),
+      ),
+    )
 
 kernel_word : (o : Option Word) → is_kernel o ≡ true → o ≡ Some words.Kernel
 kernel_word None e = contradiction (sym e)
@@ -58,12 +58,14 @@ behind_prog law t (u ∷ rest) y e is =
     ⊎_elim
     (λ w. let first = word_token t.kind t.text words.Prog e in
     let second = word_token u.kind u.text words.Kernel (kernel_word (word_at u) w.0) in
-    let k = behind_spelled law t.line rest y w.1 in
-    (k.0, (
-      u ∷ rest,
-      inr (t, refl, (first.0, law words.Prog t.text first.1 refl)),
-      (rest, (u, refl, (second.0, law words.Kernel u.text second.1 refl)), k.1),
-    )))
+    let k = behind_spelled law t.line rest y w.1 in (
+      k.0,
+      (
+        u ∷ rest,
+        inr (t, refl, (first.0, law words.Prog t.text first.1 refl)),
+        (rest, (u, refl, (second.0, law words.Kernel u.text second.1 refl)), k.1),
+      ),
+    ))
     (λ w. no_reading (u ∷ rest) Syntax y w.1)
     (chosen (is_kernel (word_at u)) (kernel_behind t.line rest) (refuse (u ∷ rest) Syntax) (Ok y) is)
 
@@ -73,12 +75,14 @@ kernel_by law None t rest y e is = no_reading (t ∷ rest) Syntax y is
 kernel_by law (Some words.Prog) t rest y e is = behind_prog law t rest y e is
 kernel_by law (Some words.Kernel) t rest y e is =
     let first = word_token t.kind t.text words.Kernel e in
-    let k = behind_spelled law t.line rest y is in
-    (k.0, (
-      t ∷ rest,
-      inl refl,
-      (rest, (t, refl, (first.0, law words.Kernel t.text first.1 refl)), k.1),
-    ))
+    let k = behind_spelled law t.line rest y is in (
+      k.0,
+      (
+        t ∷ rest,
+        inl refl,
+        (rest, (t, refl, (first.0, law words.Kernel t.text first.1 refl)), k.1),
+      ),
+    )
 kernel_by law (Some w) t rest y e is = no_reading (t ∷ rest) (flaw_at_begin w) y is
 
 pub kernel_spelled : WordsAreSpelled → (from : List Piece) (y : Kernel × List Piece) → kernel_at from ≡ Ok y →
@@ -184,24 +188,39 @@ fields_spelled from y is =
     let profile = profile_spelled b.0.1 c.0 c.1 in
     let large = field_spelled large_kind c.0.1 d.0 d.1 in
     let rounding = rounding_spelled d.0.1 e.0 e.1 in
-    carried (λ q. spelled_fields q.0 from q.1) (the_fields b.0.0 c.0.0 e.0.0, e.0.1) y e.2
-    (major.0, major.1, (
-      a.0.1,
-      (major.2.0, major.2.1, major_is major.2.0.kind a.0.0 major.2.2),
-      (minor.0, minor.1, (
-        b.0.1,
-        ((minor.2.0, minor.2.1, small.0), small.1),
-        (profile.0, profile.1, (
-          c.0.1,
-          profile.2,
-          (large.0, large.1, (
-            d.0.1,
-            (large.2.0, large.2.1, large_is large.2.0.kind d.0.0 large.2.2),
-            rounding,
-          )),
-        )),
-      )),
-    ))
+    carried (λ q. spelled_fields q.0 from q.1) (the_fields b.0.0 c.0.0 e.0.0, e.0.1) y e.2 (
+      major.0,
+      major.1,
+      (
+        a.0.1,
+        (major.2.0, major.2.1, major_is major.2.0.kind a.0.0 major.2.2),
+        (
+          minor.0,
+          minor.1,
+          (
+            b.0.1,
+            ((minor.2.0, minor.2.1, small.0), small.1),
+            (
+              profile.0,
+              profile.1,
+              (
+                c.0.1,
+                profile.2,
+                (
+                  large.0,
+                  large.1,
+                  (
+                    d.0.1,
+                    (large.2.0, large.2.1, large_is large.2.0.kind d.0.0 large.2.2),
+                    rounding,
+                  ),
+                ),
+              ),
+            ),
+          ),
+        ),
+      ),
+    )
 
 -- the tokens that are left are none
 all_taken : (tokens : List Piece) → is_none_left tokens ≡ true → tokens ≡ []
@@ -224,10 +243,47 @@ module_parts name f ks from a b c first second fields kernels =
     let minor = fields.2.2 in
     let profile = minor.2.2 in
     let large = profile.2.2 in
-    let rounding = large.2.2 in
-    (a, first, (b, second, (fields.0, fields.1, (fields.2.0, fields.2.1, (minor.0, minor.1, (minor.2.0, minor.2.1,
-    (profile.0, profile.1, (profile.2.0, profile.2.1, (large.0, large.1, (large.2.0, large.2.1,
-    (rounding.0, rounding.1, (c, rounding.2, kernels))))))))))))
+    let rounding = large.2.2 in (
+      a,
+      first,
+      (
+        b,
+        second,
+        (
+          fields.0,
+          fields.1,
+          (
+            fields.2.0,
+            fields.2.1,
+            (
+              minor.0,
+              minor.1,
+              (
+                minor.2.0,
+                minor.2.1,
+                (
+                  profile.0,
+                  profile.1,
+                  (
+                    profile.2.0,
+                    profile.2.1,
+                    (
+                      large.0,
+                      large.1,
+                      (
+                        large.2.0,
+                        large.2.1,
+                        (rounding.0, rounding.1, (c, rounding.2, kernels)),
+                      ),
+                    ),
+                  ),
+                ),
+              ),
+            ),
+          ),
+        ),
+      ),
+    )
 
 pub module_spelled : WordsAreSpelled → (tokens : List Piece) (m : Module) → module_at tokens ≡ Ok m → SpellModule tokens m
 unfolding module_at

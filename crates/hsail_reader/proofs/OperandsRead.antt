@@ -1,8 +1,8 @@
 -- What spells an operand is read as that operand.
-use Rattle.std.proofs.Common.{◌≡◌, ℕ, ⊎_elim, List, [], ◌∷◌, Bool, true, false, ◌==◌, if◌then◌else◌, Option, Some, None, Result, Ok, refl, sym, ap, ◌∙◌}
+use Rattle.std.proofs.Common.{◌≡◌, ℕ, ⊎_elim, List, ◌∷◌, Bool, true, false, ◌==◌, Option, Some, None, Ok, refl, sym, ap, ◌∙◌}
 use Rattle.std.proofs.lemmas.Bool.Decides.{eqb_tells}
-use Rattle.hsail_reader.specs.Grammar.{◌▸◌, nothing, one, mark, plus, minus, comma, semicolon, in_brackets, number, register, variable, label, global, header, sign, constant, source, offset_sign, no_offset, offset, place, address}
-use Rattle.hsail_reader.specs.Operands.{Reading, ◌>>=◌, mark_at, token_at, register_kind, number_kind, variable_kind, label_kind, global_kind, register_at, number_at, variable_at, label_at, global_at, constant_at, signed_at, source_at, offset_at, offset_from, relative, place_at, place_in_brackets, indexed, index_at, address_inside, address_from, address_at, begins_with_mark, is_mark_kind}
+use Rattle.hsail_reader.specs.Grammar.{◌▸◌, one, mark, semicolon, in_brackets, number, register, variable, label, global, sign, source, offset_sign, no_offset, offset, place, address}
+use Rattle.hsail_reader.specs.Operands.{◌>>=◌, mark_at, token_at, register_kind, number_kind, variable_kind, label_kind, global_kind, register_at, number_at, variable_at, label_at, global_at, constant_at, source_at, offset_at, offset_from, relative, place_at, place_in_brackets, indexed, index_at, address_inside, address_from, address_at}
 use Rattle.hsail_reader.specs.Tokens.{Piece}
 use Rattle.hsail_reader.specs.declared.module.Address.{Address}
 use Rattle.hsail_reader.specs.declared.module.Address.TheVariants as addresses
@@ -116,6 +116,7 @@ place_inside_read p from to s = begun p s.1
     inside : (t : Piece) (rest : List Piece) → from ≡ t ∷ rest → variable_kind t.kind t.text ≡ None →
         address_inside from ≡ Ok (addresses.Place p, to)
     inside t rest there none = begun_by_no_variable p from t rest to there none s
+
     begun : (q : Place) → place q from s.0 → address_inside from ≡ Ok (addresses.Place p, to)
     begun (places.Absolute n) first = inside first.0 s.0 first.1 (ap (λ k. variable_kind k first.0.text) first.2)
     begun (places.Relative q) first = inside first.1.0 first.0 first.1.1 (ap (λ k. variable_kind k first.1.0.text) first.1.2)

@@ -1,22 +1,15 @@
 -- What is read as an operand spells it.
-use Rattle.std.proofs.Common.{◌≡◌, ◌⊎◌, ℕ, ⊎_elim, inl, inr, List, [], ◌∷◌, Bool, true, false, ◌==◌, if◌then◌else◌, Option, Some, None, Result, Ok, Err, refl, sym, ap, subst, ◌∙◌}
-use Rattle.std.proofs.lemmas.Bool.{cases_Bool}
+use Rattle.std.proofs.Common.{◌≡◌, ◌⊎◌, ℕ, ⊎_elim, inl, inr, List, [], ◌∷◌, Bool, true, false, if◌then◌else◌, Option, Some, None, Result, Ok, Err, refl, sym, ap, subst, ◌∙◌}
 use Rattle.std.proofs.lemmas.Bool.Decides.{eqb_tells}
-use Rattle.hsail_reader.specs.Grammar.{◌▸◌, nothing, one, mark, comma, in_brackets, number, register, variable, label, global, sign, source, offset_sign, no_offset, offset, place, address}
-use Rattle.hsail_reader.specs.Operands.{Reading, ◌>>=◌, refuse, found_at, mark_at, token_at, register_kind, number_kind, variable_kind, label_kind, global_kind, register_at, number_at, variable_at, label_at, global_at, constant, constant_at, signed_at, source_from, source_at, offset_from, offset_by, offset_at, relative, place_from, place_at, place_in_brackets, indexed, index_at, address_from, address_inside, address_at, begins_with_mark, is_mark_kind}
+use Rattle.hsail_reader.specs.Grammar.{mark, number, register, variable, label, global}
+use Rattle.hsail_reader.specs.Operands.{◌>>=◌, refuse, found_at, mark_at, token_at, register_kind, number_kind, variable_kind, label_kind, global_kind, register_at, number_at, variable_at, label_at, global_at, constant, constant_at, is_mark_kind}
 use Rattle.hsail_reader.specs.Tokens.{Piece}
 use Rattle.hsail_reader.specs.declared.fault.Flaw.TheVariants.{Syntax}
 use Rattle.hsail_reader.specs.declared.fault.Refusal.{Refusal}
-use Rattle.hsail_reader.specs.declared.module.Address.{Address}
-use Rattle.hsail_reader.specs.declared.module.Address.TheVariants as addresses
-use Rattle.hsail_reader.specs.declared.module.Place.{Place}
-use Rattle.hsail_reader.specs.declared.module.Place.TheVariants as places
 use Rattle.hsail_reader.specs.declared.token.TokenKind.{TokenKind}
 use Rattle.hsail_reader.specs.declared.token.TokenKind.TheVariants as token
 use Rattle.hsail_reader.specs.declared.types.Constant.{Constant}
 use Rattle.hsail_reader.specs.declared.types.Register.{Register}
-use Rattle.hsail_reader.specs.declared.types.Source.{Source}
-use Rattle.hsail_reader.specs.declared.types.Source.TheVariants as sources
 
 pub same : {A : Type 0} (x y : A) → ◌≡◌ {A = Result A Refusal} (Ok x) (Ok y) → x ≡ y
 same x y is = cc

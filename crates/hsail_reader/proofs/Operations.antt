@@ -1,5 +1,5 @@
 -- An operation as its word and what stands behind it.
-use Rattle.std.proofs.Common.{◌≡◌, List, refl, subst}
+use Rattle.std.proofs.Common.{List, refl, subst}
 use Rattle.hsail_reader.specs.Grammar.{◌▸◌, Spelled, nothing, comma, number, register, label, source, address, opcode, instruction}
 use Rattle.hsail_reader.specs.Tokens.{Piece}
 use Rattle.hsail_reader.specs.declared.module.Operation.{Operation}

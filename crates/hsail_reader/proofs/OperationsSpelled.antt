@@ -2,7 +2,7 @@
 use Rattle.std.proofs.Common.{◌≡◌, ℕ, List, Option, Ok, refl, subst}
 use Rattle.hsail_reader.specs.Grammar.{◌▸◌, comma, source}
 use Rattle.hsail_reader.specs.Instructions.{next_source_at, unary, unary_at, binary, binary_at, ternary, ternary_at, load, load_at, store, store_at, branch_at, conditional_branch, conditional_branch_at, identify, identify_at, operation_at}
-use Rattle.hsail_reader.specs.Operands.{Reading, ◌>>=◌, mark_at, register_at, number_at, label_at, source_at, address_at}
+use Rattle.hsail_reader.specs.Operands.{◌>>=◌, mark_at, register_at, number_at, label_at, source_at, address_at}
 use Rattle.hsail_reader.specs.Tokens.{Piece}
 use Rattle.hsail_reader.specs.declared.module.Operation.{Operation}
 use Rattle.hsail_reader.specs.declared.module.Operation.TheVariants as operations
@@ -50,12 +50,14 @@ binary_spelled op kind from y is =
     (λ a. next_source_at a.1 >>= λ b. Ok (binary op kind d.0.0 a.0 b.0, b.1)) y d.2 in
     let b = bound (next_source_at a.0.1) (λ b. Ok (binary op kind d.0.0 a.0.0 b.0, b.1)) y a.2 in
     let first = next_source_spelled d.0.1 a.0 a.1 in
-    carried (SpellsBehind (opcodes.Binary op kind) from) (binary op kind d.0.0 a.0.0 b.0.0, b.0.1) y b.2
-    (refl {a = opcodes.Binary op kind}, (
-      d.0.1,
-      register_spelled from d.0 d.1,
-      (first.0, first.1, (a.0.1, first.2, next_source_spelled a.0.1 b.0 b.1)),
-    ))
+    carried (SpellsBehind (opcodes.Binary op kind) from) (binary op kind d.0.0 a.0.0 b.0.0, b.0.1) y b.2 (
+      refl {a = opcodes.Binary op kind},
+      (
+        d.0.1,
+        register_spelled from d.0 d.1,
+        (first.0, first.1, (a.0.1, first.2, next_source_spelled a.0.1 b.0 b.1)),
+      ),
+    )
 
 ternary_spelled : (op : TernaryOperation) (kind : DataType) (from : List Piece) (y : Operation × List Piece) →
     ternary_at op kind from ≡ Ok y → SpellsBehind (opcodes.Ternary op kind) from y
@@ -72,12 +74,14 @@ ternary_spelled op kind from y is =
     let first = next_source_spelled d.0.1 a.0 a.1 in
     let second = next_source_spelled a.0.1 b.0 b.1 in
     let third = next_source_spelled b.0.1 c.0 c.1 in
-    carried (SpellsBehind (opcodes.Ternary op kind) from) (ternary op kind d.0.0 a.0.0 b.0.0 c.0.0, c.0.1) y c.2
-    (refl {a = opcodes.Ternary op kind}, (
-      d.0.1,
-      register_spelled from d.0 d.1,
-      (first.0, first.1, (a.0.1, first.2, (second.0, second.1, (b.0.1, second.2, third)))),
-    ))
+    carried (SpellsBehind (opcodes.Ternary op kind) from) (ternary op kind d.0.0 a.0.0 b.0.0 c.0.0, c.0.1) y c.2 (
+      refl {a = opcodes.Ternary op kind},
+      (
+        d.0.1,
+        register_spelled from d.0 d.1,
+        (first.0, first.1, (a.0.1, first.2, (second.0, second.1, (b.0.1, second.2, third)))),
+      ),
+    )
 
 load_spelled : (segment : Segment) (modifiers : Modifiers) (kind : DataType) (from : List Piece) (y : Operation × List Piece) →
     load_at segment modifiers kind from ≡ Ok y → SpellsBehind (opcodes.Load segment modifiers kind) from y

@@ -1,7 +1,7 @@
 -- A text is read as a module just where the grammar has it as a text of that module.
-use Rattle.std.proofs.Common.{◌≡◌, ℕ, ◌<◌, ◌≤◌, ⊎_elim, List, length, Bool, true, false, nat_lt, if◌then◌else◌, Result, Ok, Err, refl, sym, ap, ◌∙◌, arith}
+use Rattle.std.proofs.Common.{◌≡◌, ℕ, ◌<◌, ◌≤◌, ⊎_elim, List, length, true, false, nat_lt, if◌then◌else◌, Result, Ok, Err, sym, ap, ◌∙◌, arith}
 use Rattle.std.proofs.lemmas.Bool.{cases_Bool, cases_lt, ltb-true, lt-ltb}
-use Rattle.hsail_reader.specs.Faults.{too_long, fault_of}
+use Rattle.hsail_reader.specs.Faults.{too_long}
 use Rattle.hsail_reader.specs.Grammar.{IsTextOf}
 use Rattle.hsail_reader.specs.Operands.{◌>>=◌}
 use Rattle.hsail_reader.specs.Syntax.{module_at, read_at, located, reading}

@@ -1,9 +1,7 @@
 -- Which whole texts are lexemes of each kind but words (PRM, Lexical Elements; comments are (own)).
-use Rattle.std.specs.Prelude.{◌≡◌, ℕ, ◌+◌, ◌≤◌, ◌⊎◌, List, [], ◌∷◌, ◌++◌, Bool, true, false, ◌&&◌, ◌==◌, if◌then◌else◌, Option, Some, None, length}
+use Rattle.std.specs.Prelude.{◌≡◌, ℕ, ◌⊎◌, List, [], ◌∷◌, Bool, true, false, ◌&&◌, ◌==◌}
 use Rattle.std.specs.Char.{is_digit}
-use Rattle.hsail_reader.specs.Bytes.{is_name_byte, is_name_start, is_not_line_feed, begins_name, begins_with}
-use Rattle.hsail_reader.specs.Lexemes.{word_at}
-use Rattle.hsail_reader.specs.declared.token.Lexeme.{Lexeme}
+use Rattle.hsail_reader.specs.Bytes.{is_name_byte, is_name_start, is_not_line_feed, begins_with}
 
 -- each byte passes the test
 abbrev pub AllPass : (ℕ → Bool) → List ℕ → Type 0
