@@ -1,4 +1,5 @@
--- The operands of each family of instructions, in their order (PRM, HSAIL Instructions).
+-- How the operands of each family of instructions are read, in their order (PRM, HSAIL Instructions).
+-- What spells them stands in `Grammar`.
 use Rattle.std.specs.Prelude.{ℕ, List, Option, Ok}
 use Rattle.hsail_reader.specs.Operands.{Reading, ◌>>=◌, mark_at, register_at, number_at, label_at, source_at, address_at}
 use Rattle.hsail_reader.specs.Tokens.{Piece}

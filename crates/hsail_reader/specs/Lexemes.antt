@@ -1,4 +1,5 @@
--- The lexemes of kernel text (PRM, Lexical Elements; blanks, comments and modifiers are (own)).
+-- How the lexeme at the front of some bytes is found (PRM, Lexical Elements; blanks, comments and
+-- modifiers are (own)). What spells each stands in `TextTokens`.
 use Rattle.std.specs.Prelude.{ℕ, zero, suc, ◌+◌, ◌-◌, List, [], ◌∷◌, Bool, ◌||◌, ◌==◌, if◌then◌else◌, Option, Some, None, codes, length, drop}
 use Rattle.std.specs.List.{prefix_len, list_any}
 use Rattle.std.specs.Option.{is_some, option_map}

@@ -1,5 +1,5 @@
--- The operands of instructions, read from the tokens at the front; the next token decides each choice
--- (PRM, Operands; Address Expressions).
+-- How the operands of instructions are read from the tokens at the front: the next token decides each
+-- choice (PRM, Operands; Address Expressions). What spells them stands in `Grammar`.
 use Rattle.std.specs.Prelude.{ℕ, List, [], ◌∷◌, Bool, true, false, ◌==◌, if◌then◌else◌, Option, Some, None, Result, Ok, Err}
 use Rattle.hsail_reader.specs.Faults.{refusal}
 use Rattle.hsail_reader.specs.Tokens.{Piece}

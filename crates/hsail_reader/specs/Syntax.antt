@@ -1,5 +1,6 @@
--- Items, arguments, kernels and the module, read from the tokens at the front; the next token decides
--- each choice (PRM, Syntax; what may be left out is (own)).
+-- How items, arguments, kernels and the module are read from the tokens at the front, and the first
+-- token at which no reading goes on: the next token decides each choice (PRM, Syntax; what may be left
+-- out is (own)). What spells them stands in `Grammar`.
 use Rattle.std.specs.Prelude.{◌≡◌, ℕ, zero, suc, List, [], ◌∷◌, Bool, true, false, ◌==◌, nat_lt, if◌then◌else◌, Option, Some, None, Result, Ok, Err, length}
 use Rattle.hsail_reader.specs.Faults.{fault_of, too_long}
 use Rattle.hsail_reader.specs.declared.fault.ReadError.{ReadError}

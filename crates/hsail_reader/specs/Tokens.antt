@@ -1,4 +1,5 @@
--- The tokens of a text: its lexemes from the first byte on, without blanks and comments.
+-- How a text is cut into tokens: its lexemes from the first byte on, without blanks and comments.
+-- Which tokens a text has stands in `TextTokens`.
 use Rattle.std.specs.Prelude.{ℕ, zero, suc, ◌+◌, ◌-◌, List, [], ◌∷◌, ◌==◌, if◌then◌else◌, Option, Some, None, Result, Ok, Err, take, map}
 use Rattle.hsail_reader.specs.Faults.{refusal, with_front}
 use Rattle.hsail_reader.specs.Lexemes.{lexeme_at}
