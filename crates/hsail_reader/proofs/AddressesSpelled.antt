@@ -2,7 +2,7 @@
 use Rattle.std.proofs.Common.{◌≡◌, ℕ, ⊎_elim, inl, inr, List, [], ◌∷◌, Bool, true, false, ◌==◌, if◌then◌else◌, Option, Some, None, Ok, refl, sym, ap, subst, ◌∙◌}
 use Rattle.hsail_reader.specs.Grammar.{◌▸◌, mark, in_brackets, number, variable, source, no_offset, offset, place, address}
 use Rattle.hsail_reader.specs.Operands.{Reading, ◌>>=◌, refuse, mark_at, variable_kind, constant, constant_at, signed_at, source_from, source_at, offset_from, offset_by, offset_at, relative, place_from, place_at, place_in_brackets, indexed, index_at, address_from, address_inside, address_at, begins_with_mark}
-use Rattle.hsail_reader.specs.Tokens.{Piece}
+use Rattle.hsail_reader.specs.TextTokens.{PlacedToken}
 use Rattle.hsail_reader.specs.declared.fault.Flaw.TheVariants.{Syntax}
 use Rattle.hsail_reader.specs.declared.module.Address.{Address}
 use Rattle.hsail_reader.specs.declared.module.Address.TheVariants as addresses
@@ -17,7 +17,7 @@ use Rattle.hsail_reader.specs.declared.types.Source.TheVariants as sources
 use Rattle.hsail_reader.proofs.OperandsSpelled.{same, carried, refused, bound, chosen, mark_is, mark_spelled, variable_is, constant_spelled}
 
 -- a constant behind its sign
-signed_spelled : (negative : Bool) (from : List Piece) (y : Source × List Piece) → signed_at negative from ≡ Ok y →
+signed_spelled : (negative : Bool) (from : List PlacedToken) (y : Source × List PlacedToken) → signed_at negative from ≡ Ok y →
     (n : ℕ) × (y.0 ≡ sources.Constant (constant negative n)) × number n from y.1
 signed_spelled negative from y is =
     let c = bound (constant_at negative from) (λ c. Ok (sources.Constant c.0, c.1)) y is in
@@ -26,7 +26,7 @@ signed_spelled negative from y is =
     (n.0, ap (λ q. q.0) (sym p) ∙ ap sources.Constant n.1, subst (λ q. number n.0 from q.1) p n.2)
 
 -- a source whose first token is of this kind
-source_by : (k : TokenKind) (t : Piece) (tokens : List Piece) (y : Source × List Piece) → t.kind ≡ k →
+source_by : (k : TokenKind) (t : PlacedToken) (tokens : List PlacedToken) (y : Source × List PlacedToken) → t.kind ≡ k →
     source_from k (t ∷ tokens) tokens ≡ Ok y → source y.0 (t ∷ tokens) y.1
 source_by (token.Register r) t tokens y kind is =
     carried (λ q. source q.0 (t ∷ tokens) q.1) (sources.Register r, tokens) y is (t, refl, kind)
@@ -48,13 +48,13 @@ source_by (token.Mark b) t tokens y kind is =
     (if b == 45 then signed_at true tokens else refuse (t ∷ tokens) Syntax) (Ok y) is)
 source_by _ t tokens y kind is = refused (t ∷ tokens) y is
 
-pub source_spelled : (from : List Piece) (y : Source × List Piece) → source_at from ≡ Ok y → source y.0 from y.1
+pub source_spelled : (from : List PlacedToken) (y : Source × List PlacedToken) → source_at from ≡ Ok y → source y.0 from y.1
 unfolding source_at
 source_spelled [] y is = refused [] y is
 source_spelled (t ∷ tokens) y is = source_by t.kind t tokens y refl is
 
 -- what is added to a register, behind its sign
-added_spelled : (r : Register) (negative : Bool) (from : List Piece) (y : Place × List Piece) →
+added_spelled : (r : Register) (negative : Bool) (from : List PlacedToken) (y : Place × List PlacedToken) →
     offset_by r (constant_at negative from) ≡ Ok y →
     (n : ℕ) × (y.0 ≡ relative r (constant negative n)) × number n from y.1
 added_spelled r negative from y is =
@@ -64,16 +64,16 @@ added_spelled r negative from y is =
     (n.0, ap (λ q. q.0) (sym p) ∙ ap (relative r) n.1, subst (λ q. number n.0 from q.1) p n.2)
 
 -- the place that a register and what is added to it are
-abbrev pub IsRelative : Register → Place → List Piece → List Piece → Type 0
+abbrev pub IsRelative : Register → Place → List PlacedToken → List PlacedToken → Type 0
 IsRelative r p from to = (c : Constant) × (p ≡ relative r c) × offset c from to
 
-not_added : (r : Register) (from : List Piece) (y : Place × List Piece) →
+not_added : (r : Register) (from : List PlacedToken) (y : Place × List PlacedToken) →
     ◌≡◌ {A = Reading Place} (Ok (relative r no_offset, from)) (Ok y) → IsRelative r y.0 from y.1
 not_added r from y is =
     let p = same (relative r no_offset, from) y is in
     (no_offset, ap (λ q. q.0) (sym p), inr (ap (λ q. q.1) p, refl))
 
-offset_by_kind : (k : TokenKind) (r : Register) (t : Piece) (tokens : List Piece) (y : Place × List Piece) → t.kind ≡ k →
+offset_by_kind : (k : TokenKind) (r : Register) (t : PlacedToken) (tokens : List PlacedToken) (y : Place × List PlacedToken) → t.kind ≡ k →
     offset_from k r (t ∷ tokens) tokens ≡ Ok y → IsRelative r y.0 (t ∷ tokens) y.1
 offset_by_kind (token.Mark b) r t tokens y kind is =
     ⊎_elim
@@ -88,13 +88,13 @@ offset_by_kind (token.Mark b) r t tokens y kind is =
     (if b == 45 then offset_by r (constant_at true tokens) else Ok (relative r no_offset, t ∷ tokens)) (Ok y) is)
 offset_by_kind _ r t tokens y kind is = not_added r (t ∷ tokens) y is
 
-offset_spelled : (r : Register) (from : List Piece) (y : Place × List Piece) → offset_at r from ≡ Ok y →
+offset_spelled : (r : Register) (from : List PlacedToken) (y : Place × List PlacedToken) → offset_at r from ≡ Ok y →
     IsRelative r y.0 from y.1
 unfolding offset_at
 offset_spelled r [] y is = not_added r [] y is
 offset_spelled r (t ∷ tokens) y is = offset_by_kind t.kind r t tokens y refl is
 
-place_by : (k : TokenKind) (t : Piece) (tokens : List Piece) (y : Place × List Piece) → t.kind ≡ k →
+place_by : (k : TokenKind) (t : PlacedToken) (tokens : List PlacedToken) (y : Place × List PlacedToken) → t.kind ≡ k →
     place_from k (t ∷ tokens) tokens ≡ Ok y → place y.0 (t ∷ tokens) y.1
 place_by (token.Number n) t tokens y kind is =
     carried (λ q. place q.0 (t ∷ tokens) q.1) (places.Absolute n, tokens) y is (t, refl, kind)
@@ -103,12 +103,12 @@ place_by (token.Register r) t tokens y kind is =
     subst (λ p. place p (t ∷ tokens) y.1) (sym c.1) (tokens, (t, refl, kind), c.2)
 place_by _ t tokens y kind is = refused (t ∷ tokens) y is
 
-place_spelled : (from : List Piece) (y : Place × List Piece) → place_at from ≡ Ok y → place y.0 from y.1
+place_spelled : (from : List PlacedToken) (y : Place × List PlacedToken) → place_at from ≡ Ok y → place y.0 from y.1
 unfolding place_at
 place_spelled [] y is = refused [] y is
 place_spelled (t ∷ tokens) y is = place_by t.kind t tokens y refl is
 
-place_in_brackets_spelled : (from : List Piece) (y : Place × List Piece) → place_in_brackets from ≡ Ok y →
+place_in_brackets_spelled : (from : List PlacedToken) (y : Place × List PlacedToken) → place_in_brackets from ≡ Ok y →
     (place y.0 ▸ mark 93) from y.1
 unfolding place_in_brackets
 place_in_brackets_spelled from y is =
@@ -118,7 +118,7 @@ place_in_brackets_spelled from y is =
     (p.0.1, place_spelled from p.0 p.1, mark_spelled 93 p.0.1 m.0 m.1)
 
 -- what stands behind [%x]
-index_spelled : (x : List ℕ) (before from : List Piece) (y : Address × List Piece) → in_brackets (variable x) before from →
+index_spelled : (x : List ℕ) (before from : List PlacedToken) (y : Address × List PlacedToken) → in_brackets (variable x) before from →
     index_at x from ≡ Ok y → address y.0 before y.1
 unfolding index_at
 index_spelled x before from y s is =
@@ -131,7 +131,7 @@ index_spelled x before from y s is =
     (chosen (begins_with_mark 91 from) (mark_at 91 from >>= λ rest. place_in_brackets rest >>= λ p. Ok (indexed x p.0, p.1))
     (Ok (addresses.Variable x, from)) (Ok y) is)
 
-inside_by : (o : Option (List ℕ)) (t : Piece) (before tokens : List Piece) (y : Address × List Piece) →
+inside_by : (o : Option (List ℕ)) (t : PlacedToken) (before tokens : List PlacedToken) (y : Address × List PlacedToken) →
     mark 91 before (t ∷ tokens) → variable_kind t.kind t.text ≡ o →
     address_from o (t ∷ tokens) tokens ≡ Ok y → address y.0 before y.1
 inside_by (Some x) t before tokens y s e is =
@@ -143,13 +143,13 @@ inside_by None t before tokens y s e is =
     carried (λ q. address q.0 before q.1) (addresses.Place p.0.0, p.0.1) y p.2
     (t ∷ tokens, s, place_in_brackets_spelled (t ∷ tokens) p.0 p.1)
 
-inside_spelled : (before from : List Piece) (y : Address × List Piece) → mark 91 before from →
+inside_spelled : (before from : List PlacedToken) (y : Address × List PlacedToken) → mark 91 before from →
     address_inside from ≡ Ok y → address y.0 before y.1
 unfolding address_inside
 inside_spelled before [] y s is = refused [] y is
 inside_spelled before (t ∷ tokens) y s is = inside_by (variable_kind t.kind t.text) t before tokens y s refl is
 
-pub address_spelled : (from : List Piece) (y : Address × List Piece) → address_at from ≡ Ok y → address y.0 from y.1
+pub address_spelled : (from : List PlacedToken) (y : Address × List PlacedToken) → address_at from ≡ Ok y → address y.0 from y.1
 unfolding address_at
 address_spelled from y is =
     let m = bound (mark_at 91 from) address_inside y is in inside_spelled from m.0 y (mark_spelled 91 from m.0 m.1) m.2

@@ -5,9 +5,8 @@ use Rattle.std.proofs.lemmas.Str.Parse.{digit_from_value}
 use Rattle.std.specs.Char.{is_digit, digit_value}
 use Rattle.std.specs.Int.{IsInRange}
 use Rattle.std.specs.List.{list_any}
-use Rattle.hsail_reader.specs.Bytes.{is_name_start}
-use Rattle.hsail_reader.specs.Lexemes.{lexed, is_blank, is_mark, number_at, word_at, lexeme_at}
-use Rattle.hsail_reader.specs.Spelling.{AllPass}
+use Rattle.hsail_reader.specs.Lexemes.{lexed, number_at, word_at, lexeme_at}
+use Rattle.hsail_reader.specs.Spelling.{AllPass, is_name_start, is_blank, is_mark}
 use Rattle.hsail_reader.specs.declared.token.LexemeKind.TheVariants.{Blank, Token}
 use Rattle.hsail_reader.specs.declared.token.TokenKind.TheVariants as token
 use Rattle.hsail_reader.proofs.Reaches.{true_is_not_false}

@@ -1,9 +1,9 @@
 -- What spells a kernel is read as it.
 use Rattle.std.proofs.Common.{◌≡◌, ℕ, ⊎_elim, List, [], ◌∷◌, true, false, if◌then◌else◌, Option, Some, None, Ok, refl, ap, subst, ◌∙◌}
-use Rattle.hsail_reader.specs.Grammar.{Spelled, ◌▸◌, optional, mark, comma, semicolon, in_parentheses, in_braces, global, word, IsFirstLine, each, separated, item, argument, kernel}
+use Rattle.hsail_reader.specs.Grammar.{Spelled, ◌▸◌, optional, mark, comma, semicolon, in_parentheses, in_braces, global, word, BeginsOnLine, each, separated, item, argument, kernel}
 use Rattle.hsail_reader.specs.Operands.{refuse, begins_with_mark, is_mark_kind}
 use Rattle.hsail_reader.specs.Syntax.{item_at, items_at, next_argument_at, some_arguments_at, arguments_at, skip_mark, signature_at, body_at, kernel_behind, kernel_from, prog_kernel, is_kernel, kernel_at}
-use Rattle.hsail_reader.specs.Tokens.{Piece}
+use Rattle.hsail_reader.specs.TextTokens.{PlacedToken}
 use Rattle.hsail_reader.specs.declared.fault.Flaw.TheVariants.{Syntax}
 use Rattle.hsail_reader.specs.declared.module.Argument.{Argument}
 use Rattle.hsail_reader.specs.declared.module.Item.{Item}
@@ -20,11 +20,11 @@ use Rattle.hsail_reader.proofs.OperandsRead.{mark_read, global_read}
 use Rattle.hsail_reader.proofs.Operations.{parts}
 
 -- the first token is of a kind that isn't this mark
-pub another_first : (m : ℕ) (kind : TokenKind) (t : Piece) (from rest : List Piece) → from ≡ t ∷ rest → t.kind ≡ kind →
+pub another_first : (m : ℕ) (kind : TokenKind) (t : PlacedToken) (from rest : List PlacedToken) → from ≡ t ∷ rest → t.kind ≡ kind →
     is_mark_kind m kind ≡ false → begins_with_mark m from ≡ false
 another_first m kind t from rest there is other = ap (begins_with_mark m) there ∙ ap (is_mark_kind m) is ∙ other
 
-item_goes_on : (i : Item) (from to : List Piece) → item i from to → begins_with_mark 125 from ≡ false
+item_goes_on : (i : Item) (from to : List PlacedToken) → item i from to → begins_with_mark 125 from ≡ false
 item_goes_on (an_item.Label l) from to s =
     let t = s.1.1.0 in another_first 125 token.Label t from s.1.0 s.1.1.1 s.1.1.2.0 refl
 item_goes_on (an_item.Instruction i) from to s =
@@ -47,7 +47,7 @@ reads_arguments read = record {
   takes = taken.next_arguments;
 }
 
-argument_goes_on : (m : ℕ) (a : Argument) (from to : List Piece) → argument a from to → begins_with_mark m from ≡ false
+argument_goes_on : (m : ℕ) (a : Argument) (from to : List PlacedToken) → argument a from to → begins_with_mark m from ≡ false
 argument_goes_on m a from to s = by a.align s
   where
     by : (align : Option Alignment) → argument (the_argument a.line align a.kind a.name) from to →
@@ -57,7 +57,7 @@ argument_goes_on m a from to s = by a.align s
     by (Some align) s =
         let w = s.1.1 in another_first m token.Word w.0 from s.1.0 w.1 w.2.0 refl
 
-arguments_read : WordsAreRead → (xs : List Argument) (from to end : List Piece) → separated argument xs from to →
+arguments_read : WordsAreRead → (xs : List Argument) (from to end : List PlacedToken) → separated argument xs from to →
     mark 41 to end → arguments_at from ≡ Ok (xs, to)
 unfolding arguments_at some_arguments_at
 arguments_read read [] from to end s close =
@@ -69,7 +69,7 @@ arguments_read read (x ∷ xs) from to end s close =
     (reads_arguments read) xs s.0 to s.2 tt closed in
     rw (argument_goes_on 41 x from s.0 s.1, argument_read read x from s.0 s.1, others) refl
 
-signature_read : WordsAreRead → (xs : List Argument) (from to : List Piece) → in_parentheses (separated argument xs) from to →
+signature_read : WordsAreRead → (xs : List Argument) (from to : List PlacedToken) → in_parentheses (separated argument xs) from to →
     signature_at from ≡ Ok (xs, to)
 unfolding signature_at
 signature_read read xs from to s =
@@ -80,18 +80,18 @@ signature_read read xs from to s =
     ) refl
 
 -- a semicolon that may be absent, before tokens that begin with none
-skipped : (from to : List Piece) → optional semicolon from to → begins_with_mark 59 to ≡ false → skip_mark 59 from ≡ to
+skipped : (from to : List PlacedToken) → optional semicolon from to → begins_with_mark 59 to ≡ false → skip_mark 59 from ≡ to
 skipped from to s none =
     ⊎_elim
     (λ absent. ap (skip_mark 59) absent ∙ kept to none)
     (λ there. ap (skip_mark 59) there.1 ∙ ap (λ k. if is_mark_kind 59 k then to else there.0 ∷ to) there.2)
     s
   where
-    kept : (tokens : List Piece) → begins_with_mark 59 tokens ≡ false → skip_mark 59 tokens ≡ tokens
+    kept : (tokens : List PlacedToken) → begins_with_mark 59 tokens ≡ false → skip_mark 59 tokens ≡ tokens
     kept [] none = refl
     kept (t ∷ tokens) none = ap (λ b. if b then tokens else t ∷ tokens) none
 
-body_read : WordsAreRead → (xs : List Item) (from to : List Piece) → (in_braces (each item xs) ▸ optional semicolon) from to →
+body_read : WordsAreRead → (xs : List Item) (from to : List PlacedToken) → (in_braces (each item xs) ▸ optional semicolon) from to →
     begins_with_mark 59 to ≡ false → body_at from ≡ Ok (xs, to)
 unfolding body_at items_at
 body_read read xs from to s none =
@@ -111,7 +111,7 @@ abbrev pub behind_word : Kernel → Spelled
 behind_word k =
     global k.name ▸ in_parentheses (separated argument k.arguments) ▸ in_braces (each item k.items) ▸ optional semicolon
 
-behind_word_read : WordsAreRead → (k : Kernel) (from to : List Piece) → behind_word k from to →
+behind_word_read : WordsAreRead → (k : Kernel) (from to : List PlacedToken) → behind_word k from to →
     begins_with_mark 59 to ≡ false → kernel_behind k.line from ≡ Ok (k, to)
 unfolding kernel_behind
 behind_word_read read k from to s none =
@@ -121,19 +121,19 @@ behind_word_read read k from to s none =
       body_read read k.items s.2.0 to s.2.2 none,
     ) refl
 
-pub kernel_read : WordsAreRead → (k : Kernel) (from to : List Piece) → kernel k from to →
+pub kernel_read : WordsAreRead → (k : Kernel) (from to : List PlacedToken) → kernel k from to →
     begins_with_mark 59 to ≡ false → kernel_at from ≡ Ok (k, to)
 unfolding kernel_at
 kernel_read read k from to s none =
     ⊎_elim
     (λ absent. let there : from ≡ t ∷ s.1.2.0 = absent ∙ w.1 in
-    let first : t.line ≡ k.line = subst (IsFirstLine k.line) there s.0 in
+    let first : t.line ≡ k.line = subst (BeginsOnLine k.line) there s.0 in
     ap kernel_at there
     ∙ ap (λ o. kernel_from o t.line (t ∷ s.1.2.0) s.1.2.0) (word_read read words.Kernel t w.2)
     ∙ ap (λ n. kernel_behind n s.1.2.0) first
     ∙ behind)
     (λ prog. let u = prog.0 in
-    let first : u.line ≡ k.line = subst (IsFirstLine k.line) prog.1 s.0 in
+    let first : u.line ≡ k.line = subst (BeginsOnLine k.line) prog.1 s.0 in
     ap kernel_at prog.1
     ∙ ap (λ o. kernel_from o u.line (u ∷ s.1.0) s.1.0) (word_read read words.Prog u prog.2)
     ∙ ap (prog_kernel u.line) w.1
@@ -145,7 +145,7 @@ kernel_read read k from to s none =
     w : word words.Kernel s.1.0 s.1.2.0
     w = s.1.2.1
 
-    t : Piece
+    t : PlacedToken
     t = w.0
 
     behind : kernel_behind k.line s.1.2.0 ≡ Ok (k, to)

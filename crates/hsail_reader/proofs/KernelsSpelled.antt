@@ -3,7 +3,7 @@ use Rattle.std.proofs.Common.{◌≡◌, ℕ, suc, ⊎_elim, inl, inr, List, [],
 use Rattle.hsail_reader.specs.Grammar.{◌▸◌, optional, comma, semicolon, in_parentheses, in_braces, variable, each, separated, item, argument}
 use Rattle.hsail_reader.specs.Operands.{◌>>=◌, mark_at, variable_at, begins_with_mark, is_mark_kind}
 use Rattle.hsail_reader.specs.Syntax.{word_kind, word_at, flaw_at_begin, flaw_behind_align, named_argument, aligned_from, aligned_argument, argument_from, argument_at, next_argument_at, with_first, all_at, item_at, items_at, some_arguments_at, arguments_at, skip_mark, signature_at, body_at}
-use Rattle.hsail_reader.specs.Tokens.{Piece}
+use Rattle.hsail_reader.specs.TextTokens.{PlacedToken}
 use Rattle.hsail_reader.specs.Types.{alignment_bytes}
 use Rattle.hsail_reader.specs.Words.{word_of, alignment_of}
 use Rattle.hsail_reader.specs.declared.fault.Flaw.TheVariants.{Syntax}
@@ -54,7 +54,7 @@ alignment_spelled n b is =
     is
 
 -- the name of an argument
-named_spelled : (line : ℕ) (align : Option Alignment) (kind : DataType) (from : List Piece) (y : Argument × List Piece) →
+named_spelled : (line : ℕ) (align : Option Alignment) (kind : DataType) (from : List PlacedToken) (y : Argument × List PlacedToken) →
     named_argument line align kind from ≡ Ok y →
     (name : List ℕ) × (y.0 ≡ the_argument line align kind name) × variable name from y.1
 unfolding named_argument
@@ -63,7 +63,7 @@ named_spelled line align kind from y is =
     let p = same (the_argument line align kind x.0.0, x.0.1) y x.2 in
     (x.0.0, ap (λ q. q.0) (sym p), subst (λ q. variable x.0.0 from q.1) p (variable_spelled from x.0 x.1))
 
-bare_spelled : WordsAreSpelled → (kind : DataType) (t : Piece) (rest : List Piece) (y : Argument × List Piece) →
+bare_spelled : WordsAreSpelled → (kind : DataType) (t : PlacedToken) (rest : List PlacedToken) (y : Argument × List PlacedToken) →
     word_at t ≡ Some (words.Argument kind) → named_argument t.line None kind rest ≡ Ok y → argument y.0 (t ∷ rest) y.1
 bare_spelled law kind t rest y e is =
     let w = word_token t.kind t.text (words.Argument kind) e in
@@ -71,7 +71,7 @@ bare_spelled law kind t rest y e is =
     subst (λ a. argument a (t ∷ rest) y.1) (sym n.1)
     (refl, (t ∷ rest, refl, (rest, (t, refl, (w.0, law (words.Argument kind) t.text w.1 refl)), n.2)))
 
-aligned_by : WordsAreSpelled → (o : Option Word) (n : ℕ) (a : Alignment) (t u : Piece) (rest : List Piece) (y : Argument × List Piece) →
+aligned_by : WordsAreSpelled → (o : Option Word) (n : ℕ) (a : Alignment) (t u : PlacedToken) (rest : List PlacedToken) (y : Argument × List PlacedToken) →
     word_at t ≡ Some (words.Align n) → alignment_bytes a ≡ n → word_at u ≡ o →
     aligned_from o t.line a (u ∷ rest) rest ≡ Ok y → argument y.0 (t ∷ u ∷ rest) y.1
 aligned_by law (Some (words.Argument kind)) n a t u rest y first bytes e is =
@@ -89,7 +89,7 @@ aligned_by law (Some (words.Argument kind)) n a t u rest y first bytes e is =
     )
 aligned_by law o n a t u rest y first bytes e is = no_reading (u ∷ rest) (flaw_behind_align o) y is
 
-aligned_spelled : WordsAreSpelled → (o : Option Alignment) (n : ℕ) (t : Piece) (rest : List Piece) (y : Argument × List Piece) →
+aligned_spelled : WordsAreSpelled → (o : Option Alignment) (n : ℕ) (t : PlacedToken) (rest : List PlacedToken) (y : Argument × List PlacedToken) →
     word_at t ≡ Some (words.Align n) → alignment_of n ≡ o →
     aligned_argument o t.line (t ∷ rest) rest ≡ Ok y → argument y.0 (t ∷ rest) y.1
 aligned_spelled law None n t rest y first e is = no_reading (t ∷ rest) Syntax y is
@@ -97,27 +97,27 @@ aligned_spelled law (Some a) n t [] y first e is = no_reading [] Syntax y is
 aligned_spelled law (Some a) n t (u ∷ rest) y first e is =
     aligned_by law (word_at u) n a t u rest y first (alignment_spelled n a e) refl is
 
-argument_by : WordsAreSpelled → (o : Option Word) (t : Piece) (rest : List Piece) (y : Argument × List Piece) →
+argument_by : WordsAreSpelled → (o : Option Word) (t : PlacedToken) (rest : List PlacedToken) (y : Argument × List PlacedToken) →
     word_at t ≡ o → argument_from o t.line (t ∷ rest) rest ≡ Ok y → argument y.0 (t ∷ rest) y.1
 argument_by law None t rest y e is = no_reading (t ∷ rest) Syntax y is
 argument_by law (Some (words.Argument kind)) t rest y e is = bare_spelled law kind t rest y e is
 argument_by law (Some (words.Align n)) t rest y e is = aligned_spelled law (alignment_of n) n t rest y e refl is
 argument_by law (Some w) t rest y e is = no_reading (t ∷ rest) (flaw_at_begin w) y is
 
-argument_spelled : WordsAreSpelled → (from : List Piece) (y : Argument × List Piece) → argument_at from ≡ Ok y →
+argument_spelled : WordsAreSpelled → (from : List PlacedToken) (y : Argument × List PlacedToken) → argument_at from ≡ Ok y →
     argument y.0 from y.1
 unfolding argument_at
 argument_spelled law [] y is = no_reading [] Syntax y is
 argument_spelled law (t ∷ rest) y is = argument_by law (word_at t) t rest y refl is
 
-next_argument_spelled : WordsAreSpelled → (from : List Piece) (y : Argument × List Piece) → next_argument_at from ≡ Ok y →
+next_argument_spelled : WordsAreSpelled → (from : List PlacedToken) (y : Argument × List PlacedToken) → next_argument_at from ≡ Ok y →
     (comma ▸ argument y.0) from y.1
 unfolding next_argument_at
 next_argument_spelled law from y is =
     let m = bound (mark_at 44 from) argument_at y is in
     (m.0, mark_spelled 44 from m.0 m.1, argument_spelled law m.0 y m.2)
 
-some_arguments_spelled : WordsAreSpelled → (from : List Piece) (y : List Argument × List Piece) → some_arguments_at from ≡ Ok y →
+some_arguments_spelled : WordsAreSpelled → (from : List PlacedToken) (y : List Argument × List PlacedToken) → some_arguments_at from ≡ Ok y →
     separated argument y.0 from y.1
 unfolding some_arguments_at
 some_arguments_spelled law from y is =
@@ -128,7 +128,7 @@ some_arguments_spelled law from y is =
     carried (λ q. separated argument q.0 from q.1) (x.0.0 ∷ xs.0.0, xs.0.1) y xs.2
     (x.0.1, argument_spelled law from x.0 x.1, others.0)
 
-arguments_spelled : WordsAreSpelled → (from : List Piece) (y : List Argument × List Piece) → arguments_at from ≡ Ok y →
+arguments_spelled : WordsAreSpelled → (from : List PlacedToken) (y : List Argument × List PlacedToken) → arguments_at from ≡ Ok y →
     separated argument y.0 from y.1
 unfolding arguments_at
 arguments_spelled law from y is =
@@ -137,7 +137,7 @@ arguments_spelled law from y is =
     (λ w. some_arguments_spelled law from y w.1)
     (chosen (begins_with_mark 41 from) (Ok ([], from)) (some_arguments_at from) (Ok y) is)
 
-pub signature_spelled : WordsAreSpelled → (from : List Piece) (y : List Argument × List Piece) → signature_at from ≡ Ok y →
+pub signature_spelled : WordsAreSpelled → (from : List PlacedToken) (y : List Argument × List PlacedToken) → signature_at from ≡ Ok y →
     in_parentheses (separated argument y.0) from y.1
 unfolding signature_at
 signature_spelled law from y is =
@@ -148,7 +148,7 @@ signature_spelled law from y is =
     carried (λ q. in_parentheses (separated argument q.0) from q.1) (x.0.0, e.0) y e.2
     (m.0, mark_spelled 40 from m.0 m.1, (x.0.1, arguments_spelled law m.0 x.0 x.1, mark_spelled 41 x.0.1 e.0 e.1))
 
-skipped_spelled : (from : List Piece) → optional semicolon from (skip_mark 59 from)
+skipped_spelled : (from : List PlacedToken) → optional semicolon from (skip_mark 59 from)
 skipped_spelled [] = inl refl
 skipped_spelled (t ∷ tokens) = by (is_mark_kind 59 t.kind) refl
   where
@@ -156,7 +156,7 @@ skipped_spelled (t ∷ tokens) = by (is_mark_kind 59 t.kind) refl
     by true e = inr (t, refl, mark_is 59 t.kind e)
     by false e = inl refl
 
-pub body_spelled : WordsAreSpelled → (from : List Piece) (y : List Item × List Piece) → body_at from ≡ Ok y →
+pub body_spelled : WordsAreSpelled → (from : List PlacedToken) (y : List Item × List PlacedToken) → body_at from ≡ Ok y →
     (in_braces (each item y.0) ▸ optional semicolon) from y.1
 unfolding body_at items_at
 body_spelled law from y is =

@@ -1,7 +1,7 @@
 -- What is spelled takes tokens: behind it there are no more than before.
 use Rattle.std.proofs.Common.{◌≡◌, ℕ, ◌<◌, ◌≤◌, ⊎_elim, List, [], ◌∷◌, length, Bool, true, false, Option, Some, None, ap, arith}
 use Rattle.hsail_reader.specs.Grammar.{Spelled, ◌▸◌, nothing, optional, one, mark, plus, comma, colon, semicolon, in_parentheses, in_brackets, in_braces, number, register, variable, label, global, word, each, separated, sign, source, offset_sign, offset, place, address, opcode, instruction, item, alignment, argument, kernel}
-use Rattle.hsail_reader.specs.Tokens.{Piece}
+use Rattle.hsail_reader.specs.TextTokens.{PlacedToken}
 use Rattle.hsail_reader.specs.Types.{alignment_bytes}
 use Rattle.hsail_reader.specs.WordSpelling.{SpellsWord}
 use Rattle.hsail_reader.specs.declared.module.Address.{Address}
@@ -26,17 +26,17 @@ use Rattle.hsail_reader.proofs.Operations.{code_of, operands_of, parts}
 
 -- no more tokens behind it than before
 abbrev pub TakesTokens : Spelled → Type 0
-TakesTokens A = (from to : List Piece) → A from to → length to ≤ length from
+TakesTokens A = (from to : List PlacedToken) → A from to → length to ≤ length from
 
 -- fewer tokens behind it than before
 abbrev pub TakesSome : Spelled → Type 0
-TakesSome A = (from to : List Piece) → A from to → length to < length from
+TakesSome A = (from to : List PlacedToken) → A from to → length to < length from
 
-some : (IsIt : Piece → Type 0) → TakesSome (one IsIt)
+some : (IsIt : PlacedToken → Type 0) → TakesSome (one IsIt)
 some IsIt from to s =
     let e = ap length s.1 in omega (arith, e)
 
-any : (IsIt : Piece → Type 0) → TakesTokens (one IsIt)
+any : (IsIt : PlacedToken → Type 0) → TakesTokens (one IsIt)
 any IsIt from to s =
     let e = ap length s.1 in omega (arith, e)
 

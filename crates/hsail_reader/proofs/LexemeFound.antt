@@ -6,9 +6,9 @@ use Rattle.std.specs.Char.{is_digit}
 use Rattle.std.specs.List.{prefix_len}
 use Rattle.std.specs.Option.{option_map}
 use Rattle.std.specs.Str.Parse.{digits_value}
-use Rattle.hsail_reader.specs.Bytes.{is_name_byte, is_not_line_feed, begins_digit, behind, closing_at, decimal_at, numeral_at, numeral_behind, numeral, align_at, ◌>>=◌}
+use Rattle.hsail_reader.specs.Bytes.{begins_digit, behind, closing_at, decimal_at, numeral_at, numeral_behind, numeral, align_at, ◌>>=◌}
 use Rattle.hsail_reader.specs.Lexemes.{lexed, name_at, register, register_at, word_at, lexeme_at}
-use Rattle.hsail_reader.specs.Spelling.{AllPass, IsName, IsDecimal, IsClosed, IsComment}
+use Rattle.hsail_reader.specs.Spelling.{AllPass, IsName, IsDecimal, IsClosed, IsRestOfComment, is_name_byte, is_not_line_feed}
 use Rattle.hsail_reader.specs.TextTokens.{IsLexeme, IsWithin64Bits, IsLongestFront, class_name, header_name}
 use Rattle.hsail_reader.specs.WordSpelling.{SpellsDecimal, SpellsHexadecimal}
 use Rattle.hsail_reader.specs.declared.token.Lexeme.{Lexeme}
@@ -127,7 +127,7 @@ abbrev IsFound : LexemeKind → List ℕ → Type 0
 IsFound kind bytes = (found : Lexeme) × (lexeme_at bytes ≡ Some found) × (found.kind ≡ kind)
 
 -- behind the first slash of a comment, a comment is found
-comment_found : (text more : List ℕ) → IsComment text → IsFound Comment (47 ∷ text ++ more)
+comment_found : (text more : List ℕ) → IsRestOfComment text → IsFound Comment (47 ∷ text ++ more)
 comment_found text more (inl (line, e, pass)) =
     let P : List ℕ → Type 0 = λ xs. IsFound Comment (47 ∷ xs ++ more) in
     subst P (sym e) (lexed Comment (prefix_len is_not_line_feed (line ++ more) + 2), refl, refl)

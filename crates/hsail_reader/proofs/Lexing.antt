@@ -2,16 +2,17 @@
 use Rattle.std.proofs.Common.{◌≡◌, ℕ, zero, suc, ◌+◌, ◌-◌, ◌<◌, ◌≤◌, List, [], ◌∷◌, ◌++◌, length, take, drop, Result, Ok, Err, Option, Some, refl, ap, subst, sym, ◌∙◌, append_assoc, arith}
 use Rattle.hsail_reader.specs.Faults.{with_front}
 use Rattle.hsail_reader.specs.Lexemes.{lexeme_at}
-use Rattle.hsail_reader.specs.Tokens.{Piece, kept, tokens_from, line_after, line_behind, further, before_rest}
+use Rattle.hsail_reader.specs.Tokens.{tokens_from, further, before_rest}
+use Rattle.hsail_reader.specs.TextTokens.{PlacedToken, kept, line_after, line_behind}
 use Rattle.hsail_reader.specs.declared.fault.Refusal.{Refusal}
 use Rattle.hsail_reader.specs.declared.token.Lexeme.{Lexeme}
 
-pub with_front_append : (a b : List Piece) (r : Result (List Piece) Refusal) →
+pub with_front_append : (a b : List PlacedToken) (r : Result (List PlacedToken) Refusal) →
     with_front (a ++ b) r ≡ with_front a (with_front b r)
-with_front_append a b (Ok items) = ap (λ (x : List Piece). Ok x) (simp append_assoc)
+with_front_append a b (Ok items) = ap (λ (x : List PlacedToken). Ok x) (simp append_assoc)
 with_front_append a b (Err r) = refl
 
-pub with_front_none : (r : Result (List Piece) Refusal) → with_front [] r ≡ r
+pub with_front_none : (r : Result (List PlacedToken) Refusal) → with_front [] r ≡ r
 with_front_none (Ok items) = refl
 with_front_none (Err r) = refl
 
@@ -53,7 +54,7 @@ tokens_from_step place line (b ∷ bytes) found is some fits =
     (behind_first found.length place line b bytes some fits))
 
 -- one turn of the loop over the lexemes
-pub goes_on : (front after : List Piece) (place line : ℕ) (bytes : List ℕ) (found : Lexeme) (whole : Result (List Piece) Refusal) →
+pub goes_on : (front after : List PlacedToken) (place line : ℕ) (bytes : List ℕ) (found : Lexeme) (whole : Result (List PlacedToken) Refusal) →
     lexeme_at bytes ≡ Some found → 0 < found.length → found.length ≤ length bytes →
     after ≡ front ++ kept found.kind (take found.length bytes) place line →
     with_front front (tokens_from 0 place line bytes) ≡ whole →

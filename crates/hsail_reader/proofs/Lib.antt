@@ -34,3 +34,4 @@ pub mod ItemsSpelled
 pub mod KernelsSpelled
 pub mod ModuleSpelled
 pub mod TextSpelled
+pub mod SampleSpelled

@@ -4,7 +4,7 @@ use Rattle.std.proofs.lemmas.List.{append-nil}
 use Rattle.hsail_reader.specs.Faults.{Fails}
 use Rattle.hsail_reader.specs.Operands.{Reading, ◌>>=◌, mark_at}
 use Rattle.hsail_reader.specs.Syntax.{many_at, all_at, with_first}
-use Rattle.hsail_reader.specs.Tokens.{Piece}
+use Rattle.hsail_reader.specs.TextTokens.{PlacedToken}
 use Rattle.hsail_reader.specs.declared.fault.Stop.{Stop}
 use Rattle.hsail_reader.specs.declared.fault.Stop.TheVariants as stop
 
@@ -17,7 +17,7 @@ regroup : {X : Type 0} (front : List X) (x : X) (read : Reading (List X)) →
 regroup {X} front x (Ok xs) = ap (λ (ys : List X). Ok (ys, xs.1)) (simp append_assoc)
 regroup front x (Err r) = refl
 
-pub goes_on : {X : Type 0} (stops : List Piece → Bool) (one : List Piece → Reading X) (front : List X) (n i : ℕ) (tokens rest : List Piece) (x : X) (total : Reading (List X)) →
+pub goes_on : {X : Type 0} (stops : List PlacedToken → Bool) (one : List PlacedToken → Reading X) (front : List X) (n i : ℕ) (tokens rest : List PlacedToken) (x : X) (total : Reading (List X)) →
     i < n → stops tokens ≡ false → one tokens ≡ Ok (x, rest) →
     with_front front (many_at stops one (n - i) tokens) ≡ total →
     with_front (front ++ x ∷ []) (many_at stops one (n - (i + 1)) rest) ≡ total
@@ -28,7 +28,7 @@ goes_on stops one front n i tokens rest x total lt open_ is so_far =
     rw (k, open_, is) (regroup front x (many_at stops one (n - (i + 1)) rest)) in
     sym step ∙ so_far
 
-pub ends : {X : Type 0} (stops : List Piece → Bool) (one : List Piece → Reading X) (e : Stop) (front : List X) (n i : ℕ) (tokens : List Piece) (total : Reading (List X)) →
+pub ends : {X : Type 0} (stops : List PlacedToken → Bool) (one : List PlacedToken → Reading X) (e : Stop) (front : List X) (n i : ℕ) (tokens : List PlacedToken) (total : Reading (List X)) →
     i < n → stops tokens ≡ false → Fails e (one tokens) →
     with_front front (many_at stops one (n - i) tokens) ≡ total → Fails e total
 ends stops one stop.OutOfMemory front n i tokens total lt open_ is so_far = tt
@@ -37,7 +37,7 @@ ends stops one (stop.Refused r) front n i tokens total lt open_ is so_far =
     let step : with_front front (many_at stops one (n - i) tokens) ≡ Err r = rw (k, open_, is) refl in
     sym so_far ∙ step
 
-pub is_done : {X : Type 0} (stops : List Piece → Bool) (one : List Piece → Reading X) (front : List X) (n : ℕ) (tokens : List Piece) (total : Reading (List X)) →
+pub is_done : {X : Type 0} (stops : List PlacedToken → Bool) (one : List PlacedToken → Reading X) (front : List X) (n : ℕ) (tokens : List PlacedToken) (total : Reading (List X)) →
     stops tokens ≡ true →
     with_front front (many_at stops one n tokens) ≡ total → total ≡ Ok (front, tokens)
 is_done {X} stops one front zero tokens total closed so_far =
@@ -58,7 +58,7 @@ with_front_one x (Ok xs) = refl
 with_front_one x (Err r) = refl
 
 -- before the first turn, behind a mark
-pub begins : {X : Type 0} (m : ℕ) (stops : List Piece → Bool) (one : List Piece → Reading X) (front : List X) (tokens rest : List Piece) →
+pub begins : {X : Type 0} (m : ℕ) (stops : List PlacedToken → Bool) (one : List PlacedToken → Reading X) (front : List X) (tokens rest : List PlacedToken) →
     front ≡ [] → mark_at m tokens ≡ Ok rest →
     with_front front (many_at stops one (suc (length rest) - length front) rest)
     ≡ (mark_at m tokens >>= all_at stops one)
@@ -70,7 +70,7 @@ begins {X} m stops one front tokens rest none is =
     subst P (sym none) (rw (k, is) (with_front_none (many_at stops one (suc (length rest)) rest)))
 
 -- before the first turn, behind the first one
-pub begins_behind : {X : Type 0} (first : List Piece → Reading X) (stops : List Piece → Bool) (one : List Piece → Reading X) (front : List X) (tokens rest : List Piece) (x : X) →
+pub begins_behind : {X : Type 0} (first : List PlacedToken → Reading X) (stops : List PlacedToken → Bool) (one : List PlacedToken → Reading X) (front : List X) (tokens rest : List PlacedToken) (x : X) →
     front ≡ x ∷ [] → first tokens ≡ Ok (x, rest) →
     with_front front (many_at stops one (suc (length rest) + 1 - length front) rest)
     ≡ (first tokens >>= λ x. with_first x.0 (all_at stops one x.1))
@@ -82,7 +82,7 @@ begins_behind {X} first stops one front tokens rest x only is =
     subst P (sym only) (rw (k, is) (with_front_one x (many_at stops one (suc (length rest)) rest)))
 
 -- one turn
-pub pushes : {X : Type 0} (stops : List Piece → Bool) (one : List Piece → Reading X) (front after : List X) (n : ℕ) (tokens rest : List Piece) (x : X) (total : Reading (List X)) →
+pub pushes : {X : Type 0} (stops : List PlacedToken → Bool) (one : List PlacedToken → Reading X) (front after : List X) (n : ℕ) (tokens rest : List PlacedToken) (x : X) (total : Reading (List X)) →
     after ≡ front ++ x ∷ [] → length front < n → stops tokens ≡ false → one tokens ≡ Ok (x, rest) →
     with_front front (many_at stops one (n - length front) tokens) ≡ total →
     with_front after (many_at stops one (n - length after) rest) ≡ total

@@ -6,7 +6,7 @@ use Rattle.hsail_reader.specs.Grammar.{◌▸◌, colon, semicolon, number, head
 use Rattle.hsail_reader.specs.Grammar as grammar
 use Rattle.hsail_reader.specs.Operands.{◌>>=◌, refuse, mark_at, token_at, global_at}
 use Rattle.hsail_reader.specs.Syntax.{word_at, flaw_at_begin, kernel, kernel_behind, is_kernel, prog_kernel, kernel_from, kernel_at, is_none_left, all_at, kernels_at, field_at, major_kind, minor_kind, profile_kind, large_kind, rounding_kind, fields_at, module_word, whole_module, signature_at, body_at, module_at}
-use Rattle.hsail_reader.specs.Tokens.{Piece}
+use Rattle.hsail_reader.specs.TextTokens.{PlacedToken}
 use Rattle.hsail_reader.specs.declared.fault.Flaw.TheVariants.{Syntax}
 use Rattle.hsail_reader.specs.declared.module.Kernel.{Kernel}
 use Rattle.hsail_reader.specs.declared.module.Module.{Module}
@@ -26,7 +26,7 @@ use Rattle.hsail_reader.proofs.KernelsSpelled.{contradiction, word_token, signat
 use Rattle.hsail_reader.proofs.OperandsSpelled.{carried, bound, chosen, one_spelled, mark_spelled, global_spelled}
 
 -- a kernel behind its word
-behind_spelled : WordsAreSpelled → (line : ℕ) (from : List Piece) (y : Kernel × List Piece) → kernel_behind line from ≡ Ok y →
+behind_spelled : WordsAreSpelled → (line : ℕ) (from : List PlacedToken) (y : Kernel × List PlacedToken) → kernel_behind line from ≡ Ok y →
     (line ≡ y.0.line) × behind_word y.0 from y.1
 unfolding kernel_behind
 behind_spelled law line from y is =
@@ -51,7 +51,7 @@ kernel_word None e = contradiction (sym e)
 kernel_word (Some words.Kernel) e = refl
 kernel_word (Some _) e = contradiction (sym e)
 
-behind_prog : WordsAreSpelled → (t : Piece) (rest : List Piece) (y : Kernel × List Piece) →
+behind_prog : WordsAreSpelled → (t : PlacedToken) (rest : List PlacedToken) (y : Kernel × List PlacedToken) →
     word_at t ≡ Some words.Prog → prog_kernel t.line rest ≡ Ok y → grammar.kernel y.0 (t ∷ rest) y.1
 behind_prog law t [] y e is = no_reading [] Syntax y is
 behind_prog law t (u ∷ rest) y e is =
@@ -69,7 +69,7 @@ behind_prog law t (u ∷ rest) y e is =
     (λ w. no_reading (u ∷ rest) Syntax y w.1)
     (chosen (is_kernel (word_at u)) (kernel_behind t.line rest) (refuse (u ∷ rest) Syntax) (Ok y) is)
 
-kernel_by : WordsAreSpelled → (o : Option Word) (t : Piece) (rest : List Piece) (y : Kernel × List Piece) → word_at t ≡ o →
+kernel_by : WordsAreSpelled → (o : Option Word) (t : PlacedToken) (rest : List PlacedToken) (y : Kernel × List PlacedToken) → word_at t ≡ o →
     kernel_from o t.line (t ∷ rest) rest ≡ Ok y → grammar.kernel y.0 (t ∷ rest) y.1
 kernel_by law None t rest y e is = no_reading (t ∷ rest) Syntax y is
 kernel_by law (Some words.Prog) t rest y e is = behind_prog law t rest y e is
@@ -85,15 +85,15 @@ kernel_by law (Some words.Kernel) t rest y e is =
     )
 kernel_by law (Some w) t rest y e is = no_reading (t ∷ rest) (flaw_at_begin w) y is
 
-pub kernel_spelled : WordsAreSpelled → (from : List Piece) (y : Kernel × List Piece) → kernel_at from ≡ Ok y →
+pub kernel_spelled : WordsAreSpelled → (from : List PlacedToken) (y : Kernel × List PlacedToken) → kernel_at from ≡ Ok y →
     grammar.kernel y.0 from y.1
 unfolding kernel_at
 kernel_spelled law [] y is = no_reading [] Syntax y is
 kernel_spelled law (t ∷ rest) y is = kernel_by law (word_at t) t rest y refl is
 
 -- a colon, and the token of which something was read
-field_spelled : {X : Type 0} (read : TokenKind → Option X) (from : List Piece) (y : X × List Piece) → field_at read from ≡ Ok y →
-    (between : List Piece) × mark 58 from between × ((t : Piece) × (between ≡ t ∷ y.1) × (read t.kind ≡ Some y.0))
+field_spelled : {X : Type 0} (read : TokenKind → Option X) (from : List PlacedToken) (y : X × List PlacedToken) → field_at read from ≡ Ok y →
+    (between : List PlacedToken) × mark 58 from between × ((t : PlacedToken) × (between ≡ t ∷ y.1) × (read t.kind ≡ Some y.0))
 field_spelled read from y is =
     let m = bound (mark_at 58 from) (token_at (λ t. read t.kind)) y is in
     (m.0, mark_spelled 58 from m.0 m.1, one_spelled (λ t. read t.kind) m.0 y m.2)
@@ -117,13 +117,13 @@ minor_is (token.Number m) n is =
     some_number m n e = cc
 minor_is _ n is = cc
 
-profile_spelled : (from : List Piece) (y : Profile × List Piece) → field_at profile_kind from ≡ Ok y →
+profile_spelled : (from : List PlacedToken) (y : Profile × List PlacedToken) → field_at profile_kind from ≡ Ok y →
     (colon ▸ profile y.0) from y.1
 profile_spelled from y is =
     let f = field_spelled profile_kind from y is in
     (f.0, f.1, by f.2.0.kind y.0 f.2.0 f.0 y.1 f.2.1 refl f.2.2)
   where
-    by : (k : TokenKind) (p : Profile) (t : Piece) (between to : List Piece) → between ≡ t ∷ to → t.kind ≡ k →
+    by : (k : TokenKind) (p : Profile) (t : PlacedToken) (between to : List PlacedToken) → between ≡ t ∷ to → t.kind ≡ k →
         profile_kind k ≡ Some p → profile p between to
     by (token.Header headers.Base) profiles.Base t between to e kind is = (t, e, kind)
     by (token.Header headers.Base) profiles.Full t between to e kind is = cc
@@ -132,13 +132,13 @@ profile_spelled from y is =
     by (token.Header _) p t between to e kind is = cc
     by _ p t between to e kind is = cc
 
-rounding_spelled : (from : List Piece) (y : Rounding × List Piece) → field_at rounding_kind from ≡ Ok y →
+rounding_spelled : (from : List PlacedToken) (y : Rounding × List PlacedToken) → field_at rounding_kind from ≡ Ok y →
     (colon ▸ rounding y.0) from y.1
 rounding_spelled from y is =
     let f = field_spelled rounding_kind from y is in
     (f.0, f.1, by f.2.0.kind y.0 f.2.0 f.0 y.1 f.2.1 refl f.2.2)
   where
-    by : (k : TokenKind) (r : Rounding) (t : Piece) (between to : List Piece) → between ≡ t ∷ to → t.kind ≡ k →
+    by : (k : TokenKind) (r : Rounding) (t : PlacedToken) (between to : List PlacedToken) → between ≡ t ∷ to → t.kind ≡ k →
         rounding_kind k ≡ Some r → rounding r between to
     by (token.Header headers.Default) roundings.Default t between to e kind is = (t, e, kind)
     by (token.Header headers.Zero) roundings.Zero t between to e kind is = (t, e, kind)
@@ -157,14 +157,14 @@ module_word_is (Some words.Module) one is = refl
 module_word_is (Some _) one is = cc
 
 -- : 1 : minor : profile : $large : round
-abbrev pub spelled_fields : Fields → List Piece → List Piece → Type 0
+abbrev pub spelled_fields : Fields → List PlacedToken → List PlacedToken → Type 0
 spelled_fields f = colon ▸ number 1 ▸ colon ▸ minor f.minor ▸ colon ▸ profile f.profile ▸ colon
     ▸ header headers.Large ▸ colon ▸ rounding f.rounding
 
 abbrev pub the_fields : ℕ → Profile → Rounding → Fields
 the_fields minor profile rounding = record { minor = minor; profile = profile; rounding = rounding }
 
-fields_spelled : (from : List Piece) (y : Fields × List Piece) → fields_at from ≡ Ok y → spelled_fields y.0 from y.1
+fields_spelled : (from : List PlacedToken) (y : Fields × List PlacedToken) → fields_at from ≡ Ok y → spelled_fields y.0 from y.1
 unfolding fields_at
 fields_spelled from y is =
     let a = bound (field_at major_kind from)
@@ -223,11 +223,11 @@ fields_spelled from y is =
     )
 
 -- the tokens that are left are none
-all_taken : (tokens : List Piece) → is_none_left tokens ≡ true → tokens ≡ []
+all_taken : (tokens : List PlacedToken) → is_none_left tokens ≡ true → tokens ≡ []
 all_taken [] e = refl
 all_taken (t ∷ tokens) e = contradiction (sym e)
 
-kernels_spelled : WordsAreSpelled → (from : List Piece) (y : List Kernel × List Piece) → kernels_at from ≡ Ok y →
+kernels_spelled : WordsAreSpelled → (from : List PlacedToken) (y : List Kernel × List PlacedToken) → kernels_at from ≡ Ok y →
     (semicolon ▸ each grammar.kernel y.0) from []
 unfolding kernels_at
 kernels_spelled law from y is =
@@ -236,7 +236,7 @@ kernels_spelled law from y is =
     (m.0, mark_spelled 59 from m.0 m.1, subst (λ end. each grammar.kernel y.0 m.0 end) (all_taken y.1 s.1) s.0)
 
 -- the fields of a module between its name and its kernels
-module_parts : (name : List ℕ) (f : Fields) (ks : List Kernel) (from a b c : List Piece) → word words.Module from a →
+module_parts : (name : List ℕ) (f : Fields) (ks : List Kernel) (from a b c : List PlacedToken) → word words.Module from a →
     grammar.global name a b → spelled_fields f b c → (semicolon ▸ each grammar.kernel ks) c [] →
     SpellModule from (whole_module name f ks)
 module_parts name f ks from a b c first second fields kernels =
@@ -285,7 +285,7 @@ module_parts name f ks from a b c first second fields kernels =
       ),
     )
 
-pub module_spelled : WordsAreSpelled → (tokens : List Piece) (m : Module) → module_at tokens ≡ Ok m → SpellModule tokens m
+pub module_spelled : WordsAreSpelled → (tokens : List PlacedToken) (m : Module) → module_at tokens ≡ Ok m → SpellModule tokens m
 unfolding module_at
 module_spelled law tokens m is =
     let a = bound (token_at (λ t. module_word (word_at t)) tokens)

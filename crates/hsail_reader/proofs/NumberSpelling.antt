@@ -5,8 +5,8 @@ use Rattle.std.proofs.lemmas.Bool.Decides.{eqb_tells}
 use Rattle.std.proofs.Math.Nat.{le-mul_of_pos_right}
 use Rattle.std.specs.Char.{is_digit, digit_value}
 use Rattle.std.specs.Str.Parse.{digits_value, digits_value_after}
-use Rattle.hsail_reader.specs.Bytes.{begins_digit, begins_with, behind, digits_at, decimal_at, numeral_at, numeral_behind, numeral}
-use Rattle.hsail_reader.specs.Spelling.{AllPass, IsDecimal}
+use Rattle.hsail_reader.specs.Bytes.{begins_digit, behind, digits_at, decimal_at, numeral_at, numeral_behind, numeral}
+use Rattle.hsail_reader.specs.Spelling.{AllPass, IsDecimal, begins_with}
 use Rattle.hsail_reader.specs.WordSpelling.{SpellsDecimal, SpellsHexadecimal, SpellsNumber}
 use Rattle.hsail_reader.specs.declared.token.Numeral.{Numeral}
 use Rattle.hsail_reader.proofs.Reaches.{chosen, numeral_length, true_is_not_false}

@@ -3,7 +3,7 @@ use Rattle.std.proofs.Common.{◌≡◌, ◌⊎◌, ℕ, ⊎_elim, inl, inr, Lis
 use Rattle.std.proofs.lemmas.Bool.Decides.{eqb_tells}
 use Rattle.hsail_reader.specs.Grammar.{mark, number, register, variable, label, global}
 use Rattle.hsail_reader.specs.Operands.{◌>>=◌, refuse, found_at, mark_at, token_at, register_kind, number_kind, variable_kind, label_kind, global_kind, register_at, number_at, variable_at, label_at, global_at, constant, constant_at, is_mark_kind}
-use Rattle.hsail_reader.specs.Tokens.{Piece}
+use Rattle.hsail_reader.specs.TextTokens.{PlacedToken}
 use Rattle.hsail_reader.specs.declared.fault.Flaw.TheVariants.{Syntax}
 use Rattle.hsail_reader.specs.declared.fault.Refusal.{Refusal}
 use Rattle.hsail_reader.specs.declared.token.TokenKind.{TokenKind}
@@ -22,7 +22,7 @@ contradiction : {A : Type 0} → true ≡ false → A
 contradiction e = cc
 
 -- a refusal is no reading
-pub refused : {A B : Type 0} (tokens : List Piece) (y : B) → refuse {X = B} tokens Syntax ≡ Ok y → A
+pub refused : {A B : Type 0} (tokens : List PlacedToken) (y : B) → refuse {X = B} tokens Syntax ≡ Ok y → A
 refused tokens y is = cc
 
 pub bound : {A B : Type 0} (read : Result A Refusal) (f : A → Result B Refusal) (y : B) → (read >>= f) ≡ Ok y →
@@ -36,13 +36,13 @@ chosen true x y z is = inl (refl, is)
 chosen false x y z is = inr (refl, is)
 
 -- the token of which something was read
-pub one_spelled : {X : Type 0} (read : Piece → Option X) (from : List Piece) (y : X × List Piece) →
-    token_at read from ≡ Ok y → (t : Piece) × (from ≡ t ∷ y.1) × (read t ≡ Some y.0)
+pub one_spelled : {X : Type 0} (read : PlacedToken → Option X) (from : List PlacedToken) (y : X × List PlacedToken) →
+    token_at read from ≡ Ok y → (t : PlacedToken) × (from ≡ t ∷ y.1) × (read t ≡ Some y.0)
 one_spelled read [] y is = cc
 one_spelled {X} read (t ∷ tokens) y is = found (read t) refl is
   where
     found : (o : Option X) → read t ≡ o → found_at o (t ∷ tokens) tokens ≡ Ok y →
-        (t' : Piece) × (t ∷ tokens ≡ t' ∷ y.1) × (read t' ≡ Some y.0)
+        (t' : PlacedToken) × (t ∷ tokens ≡ t' ∷ y.1) × (read t' ≡ Some y.0)
     found None e is = cc
     found (Some x) e is =
         let p : (x, tokens) ≡ y = same (x, tokens) y is in
@@ -52,7 +52,7 @@ pub mark_is : (m : ℕ) (k : TokenKind) → is_mark_kind m k ≡ true → k ≡ 
 mark_is m (token.Mark b) is = ⊎_elim (λ w. ap token.Mark w.1) (λ w. contradiction (sym is ∙ w.0)) (eqb_tells b m)
 mark_is m _ is = cc
 
-pub mark_spelled : (m : ℕ) (from to : List Piece) → mark_at m from ≡ Ok to → mark m from to
+pub mark_spelled : (m : ℕ) (from to : List PlacedToken) → mark_at m from ≡ Ok to → mark m from to
 mark_spelled m [] to is = cc
 mark_spelled m (t ∷ tokens) to is =
     ⊎_elim
@@ -80,31 +80,31 @@ global_is : (k : TokenKind) (text name : List ℕ) → global_kind k text ≡ So
 global_is token.Global text name is = (refl, cc)
 global_is _ text name is = cc
 
-pub register_spelled : (from : List Piece) (y : Register × List Piece) → register_at from ≡ Ok y → register y.0 from y.1
+pub register_spelled : (from : List PlacedToken) (y : Register × List PlacedToken) → register_at from ≡ Ok y → register y.0 from y.1
 register_spelled from y is =
     let s = one_spelled (λ t. register_kind t.kind) from y is in (s.0, s.1, register_is s.0.kind y.0 s.2)
 
-pub number_spelled : (from : List Piece) (y : ℕ × List Piece) → number_at from ≡ Ok y → number y.0 from y.1
+pub number_spelled : (from : List PlacedToken) (y : ℕ × List PlacedToken) → number_at from ≡ Ok y → number y.0 from y.1
 number_spelled from y is =
     let s = one_spelled (λ t. number_kind t.kind) from y is in (s.0, s.1, number_is s.0.kind y.0 s.2)
 
-pub variable_spelled : (from : List Piece) (y : List ℕ × List Piece) → variable_at from ≡ Ok y → variable y.0 from y.1
+pub variable_spelled : (from : List PlacedToken) (y : List ℕ × List PlacedToken) → variable_at from ≡ Ok y → variable y.0 from y.1
 variable_spelled from y is =
     let s = one_spelled (λ t. variable_kind t.kind t.text) from y is in
     (s.0, s.1, variable_is s.0.kind s.0.text y.0 s.2)
 
-pub label_spelled : (from : List Piece) (y : List ℕ × List Piece) → label_at from ≡ Ok y → label y.0 from y.1
+pub label_spelled : (from : List PlacedToken) (y : List ℕ × List PlacedToken) → label_at from ≡ Ok y → label y.0 from y.1
 label_spelled from y is =
     let s = one_spelled (λ t. label_kind t.kind t.text) from y is in
     (s.0, s.1, label_is s.0.kind s.0.text y.0 s.2)
 
-pub global_spelled : (from : List Piece) (y : List ℕ × List Piece) → global_at from ≡ Ok y → global y.0 from y.1
+pub global_spelled : (from : List PlacedToken) (y : List ℕ × List PlacedToken) → global_at from ≡ Ok y → global y.0 from y.1
 global_spelled from y is =
     let s = one_spelled (λ t. global_kind t.kind t.text) from y is in
     (s.0, s.1, global_is s.0.kind s.0.text y.0 s.2)
 
 -- a number behind its sign
-pub constant_spelled : (negative : Bool) (from : List Piece) (y : Constant × List Piece) → constant_at negative from ≡ Ok y →
+pub constant_spelled : (negative : Bool) (from : List PlacedToken) (y : Constant × List PlacedToken) → constant_at negative from ≡ Ok y →
     (n : ℕ) × (y.0 ≡ constant negative n) × number n from y.1
 constant_spelled negative from y is =
     let n = bound (number_at from) (λ n. Ok (constant negative n.0, n.1)) y is in

@@ -1,7 +1,7 @@
 -- An operation as its word and what stands behind it.
 use Rattle.std.proofs.Common.{List, refl, subst}
 use Rattle.hsail_reader.specs.Grammar.{◌▸◌, Spelled, nothing, comma, number, register, label, source, address, opcode, instruction}
-use Rattle.hsail_reader.specs.Tokens.{Piece}
+use Rattle.hsail_reader.specs.TextTokens.{PlacedToken}
 use Rattle.hsail_reader.specs.declared.module.Operation.{Operation}
 use Rattle.hsail_reader.specs.declared.module.Operation.TheVariants as operations
 use Rattle.hsail_reader.specs.declared.words.Opcode.{Opcode}
@@ -30,7 +30,7 @@ operands_of (operations.ConditionalBranch c) = source c.condition ▸ comma ▸ 
 operands_of operations.Return = nothing
 operands_of (operations.Identify i) = register i.target ▸ comma ▸ number i.dimension
 
-pub parts : (operation : Operation) (from to : List Piece) → instruction operation from to →
+pub parts : (operation : Operation) (from to : List PlacedToken) → instruction operation from to →
     (opcode (code_of operation) ▸ operands_of operation) from to
 parts (operations.Unary u) from to s = s
 parts (operations.Binary b) from to s = s
@@ -42,10 +42,10 @@ parts (operations.ConditionalBranch c) from to s = s
 parts operations.Return from to s = (to, s, refl)
 parts (operations.Identify i) from to s = s
 
-without_operands : (from to : List Piece) → (opcode opcodes.Return ▸ nothing) from to → opcode opcodes.Return from to
+without_operands : (from to : List PlacedToken) → (opcode opcodes.Return ▸ nothing) from to → opcode opcodes.Return from to
 without_operands from to s = subst (λ end. opcode opcodes.Return from end) s.2 s.1
 
-pub whole : (operation : Operation) (from to : List Piece) →
+pub whole : (operation : Operation) (from to : List PlacedToken) →
     (opcode (code_of operation) ▸ operands_of operation) from to → instruction operation from to
 whole (operations.Unary u) from to s = s
 whole (operations.Binary b) from to s = s

@@ -2,19 +2,19 @@
 use Rattle.std.proofs.Common.{◌≡◌, List, Ok, refl}
 use Rattle.hsail_reader.specs.Grammar.{◌▸◌, comma, semicolon, source}
 use Rattle.hsail_reader.specs.Instructions.{next_source_at, unary_at, binary_at, ternary_at, load_at, store_at, branch_at, conditional_branch_at, identify_at, operation_at}
-use Rattle.hsail_reader.specs.Tokens.{Piece}
+use Rattle.hsail_reader.specs.TextTokens.{PlacedToken}
 use Rattle.hsail_reader.specs.declared.module.Operation.{Operation}
 use Rattle.hsail_reader.specs.declared.module.Operation.TheVariants as operations
 use Rattle.hsail_reader.specs.declared.types.Source.{Source}
 use Rattle.hsail_reader.proofs.OperandsRead.{mark_read, register_read, number_read, label_read, source_read, address_read}
 use Rattle.hsail_reader.proofs.Operations.{code_of, operands_of}
 
-next_source_read : (s : Source) (from to : List Piece) → (comma ▸ source s) from to → next_source_at from ≡ Ok (s, to)
+next_source_read : (s : Source) (from to : List PlacedToken) → (comma ▸ source s) from to → next_source_at from ≡ Ok (s, to)
 unfolding next_source_at
 next_source_read s from to p = rw (mark_read 44 from p.0 p.1) (source_read s p.0 to p.2)
 
 -- the operands, before the semicolon of their instruction
-pub operation_read : (operation : Operation) (from to end : List Piece) → operands_of operation from to →
+pub operation_read : (operation : Operation) (from to end : List PlacedToken) → operands_of operation from to →
     semicolon to end → operation_at (code_of operation) from ≡ Ok (operation, to)
 unfolding unary_at binary_at ternary_at load_at store_at branch_at conditional_branch_at identify_at
 operation_read (operations.Unary u) from to end s last =

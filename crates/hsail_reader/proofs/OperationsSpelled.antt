@@ -3,7 +3,7 @@ use Rattle.std.proofs.Common.{◌≡◌, ℕ, List, Option, Ok, refl, subst}
 use Rattle.hsail_reader.specs.Grammar.{◌▸◌, comma, source}
 use Rattle.hsail_reader.specs.Instructions.{next_source_at, unary, unary_at, binary, binary_at, ternary, ternary_at, load, load_at, store, store_at, branch_at, conditional_branch, conditional_branch_at, identify, identify_at, operation_at}
 use Rattle.hsail_reader.specs.Operands.{◌>>=◌, mark_at, register_at, number_at, label_at, source_at, address_at}
-use Rattle.hsail_reader.specs.Tokens.{Piece}
+use Rattle.hsail_reader.specs.TextTokens.{PlacedToken}
 use Rattle.hsail_reader.specs.declared.module.Operation.{Operation}
 use Rattle.hsail_reader.specs.declared.module.Operation.TheVariants as operations
 use Rattle.hsail_reader.specs.declared.types.BinaryOperation.{BinaryOperation}
@@ -22,16 +22,16 @@ use Rattle.hsail_reader.proofs.Operations.{code_of, operands_of}
 use Rattle.hsail_reader.proofs.OperandsSpelled.{same, carried, bound, mark_spelled, register_spelled, number_spelled, label_spelled}
 
 -- an operation with this word, and its operands
-abbrev pub SpellsBehind : Opcode → List Piece → Operation × List Piece → Type 0
+abbrev pub SpellsBehind : Opcode → List PlacedToken → Operation × List PlacedToken → Type 0
 SpellsBehind code from y = (code_of y.0 ≡ code) × operands_of y.0 from y.1
 
-next_source_spelled : (from : List Piece) (y : Source × List Piece) → next_source_at from ≡ Ok y →
+next_source_spelled : (from : List PlacedToken) (y : Source × List PlacedToken) → next_source_at from ≡ Ok y →
     (comma ▸ source y.0) from y.1
 unfolding next_source_at
 next_source_spelled from y is =
     let m = bound (mark_at 44 from) source_at y is in (m.0, mark_spelled 44 from m.0 m.1, source_spelled m.0 y m.2)
 
-unary_spelled : (op : UnaryOperation) (kind : DataType) (from : List Piece) (y : Operation × List Piece) →
+unary_spelled : (op : UnaryOperation) (kind : DataType) (from : List PlacedToken) (y : Operation × List PlacedToken) →
     unary_at op kind from ≡ Ok y → SpellsBehind (opcodes.Unary op kind) from y
 unfolding unary_at
 unary_spelled op kind from y is =
@@ -40,7 +40,7 @@ unary_spelled op kind from y is =
     carried (SpellsBehind (opcodes.Unary op kind) from) (unary op kind d.0.0 a.0.0, a.0.1) y a.2
     (refl {a = opcodes.Unary op kind}, (d.0.1, register_spelled from d.0 d.1, next_source_spelled d.0.1 a.0 a.1))
 
-binary_spelled : (op : BinaryOperation) (kind : DataType) (from : List Piece) (y : Operation × List Piece) →
+binary_spelled : (op : BinaryOperation) (kind : DataType) (from : List PlacedToken) (y : Operation × List PlacedToken) →
     binary_at op kind from ≡ Ok y → SpellsBehind (opcodes.Binary op kind) from y
 unfolding binary_at
 binary_spelled op kind from y is =
@@ -59,7 +59,7 @@ binary_spelled op kind from y is =
       ),
     )
 
-ternary_spelled : (op : TernaryOperation) (kind : DataType) (from : List Piece) (y : Operation × List Piece) →
+ternary_spelled : (op : TernaryOperation) (kind : DataType) (from : List PlacedToken) (y : Operation × List PlacedToken) →
     ternary_at op kind from ≡ Ok y → SpellsBehind (opcodes.Ternary op kind) from y
 unfolding ternary_at
 ternary_spelled op kind from y is =
@@ -83,7 +83,7 @@ ternary_spelled op kind from y is =
       ),
     )
 
-load_spelled : (segment : Segment) (modifiers : Modifiers) (kind : DataType) (from : List Piece) (y : Operation × List Piece) →
+load_spelled : (segment : Segment) (modifiers : Modifiers) (kind : DataType) (from : List PlacedToken) (y : Operation × List PlacedToken) →
     load_at segment modifiers kind from ≡ Ok y → SpellsBehind (opcodes.Load segment modifiers kind) from y
 unfolding load_at
 load_spelled segment modifiers kind from y is =
@@ -96,7 +96,7 @@ load_spelled segment modifiers kind from y is =
     (load segment modifiers kind d.0.0 a.0.0, a.0.1) y a.2
     (refl {a = opcodes.Load segment modifiers kind}, (d.0.1, register_spelled from d.0 d.1, (m.0, mark_spelled 44 d.0.1 m.0 m.1, address_spelled m.0 a.0 a.1)))
 
-store_spelled : (align : Option ℕ) (kind : DataType) (from : List Piece) (y : Operation × List Piece) →
+store_spelled : (align : Option ℕ) (kind : DataType) (from : List PlacedToken) (y : Operation × List PlacedToken) →
     store_at align kind from ≡ Ok y → SpellsBehind (opcodes.Store align kind) from y
 unfolding store_at
 store_spelled align kind from y is =
@@ -108,14 +108,14 @@ store_spelled align kind from y is =
     carried (SpellsBehind (opcodes.Store align kind) from) (store align kind s.0.0 a.0.0, a.0.1) y a.2
     (refl {a = opcodes.Store align kind}, (s.0.1, source_spelled from s.0 s.1, (m.0, mark_spelled 44 s.0.1 m.0 m.1, address_spelled m.0 a.0 a.1)))
 
-branch_spelled : (from : List Piece) (y : Operation × List Piece) → branch_at from ≡ Ok y → SpellsBehind opcodes.Branch from y
+branch_spelled : (from : List PlacedToken) (y : Operation × List PlacedToken) → branch_at from ≡ Ok y → SpellsBehind opcodes.Branch from y
 unfolding branch_at
 branch_spelled from y is =
     let x = bound (label_at from) (λ x. Ok (operations.Branch x.0, x.1)) y is in
     carried (SpellsBehind opcodes.Branch from) (operations.Branch x.0.0, x.0.1) y x.2
     (refl, label_spelled from x.0 x.1)
 
-conditional_branch_spelled : (width : Option Width) (from : List Piece) (y : Operation × List Piece) →
+conditional_branch_spelled : (width : Option Width) (from : List PlacedToken) (y : Operation × List PlacedToken) →
     conditional_branch_at width from ≡ Ok y → SpellsBehind (opcodes.ConditionalBranch width) from y
 unfolding conditional_branch_at
 conditional_branch_spelled width from y is =
@@ -128,7 +128,7 @@ conditional_branch_spelled width from y is =
     (conditional_branch width a.0.0 x.0.0, x.0.1) y x.2
     (refl {a = opcodes.ConditionalBranch width}, (a.0.1, source_spelled from a.0 a.1, (m.0, mark_spelled 44 a.0.1 m.0 m.1, label_spelled m.0 x.0 x.1)))
 
-identify_spelled : (query : Query) (kind : DataType) (from : List Piece) (y : Operation × List Piece) →
+identify_spelled : (query : Query) (kind : DataType) (from : List PlacedToken) (y : Operation × List PlacedToken) →
     identify_at query kind from ≡ Ok y → SpellsBehind (opcodes.Identify query kind) from y
 unfolding identify_at
 identify_spelled query kind from y is =
@@ -140,7 +140,7 @@ identify_spelled query kind from y is =
     carried (SpellsBehind (opcodes.Identify query kind) from) (identify query kind d.0.0 k.0.0, k.0.1) y k.2
     (refl {a = opcodes.Identify query kind}, (d.0.1, register_spelled from d.0 d.1, (m.0, mark_spelled 44 d.0.1 m.0 m.1, number_spelled m.0 k.0 k.1)))
 
-pub operation_spelled : (code : Opcode) (from : List Piece) (y : Operation × List Piece) → operation_at code from ≡ Ok y →
+pub operation_spelled : (code : Opcode) (from : List PlacedToken) (y : Operation × List PlacedToken) → operation_at code from ≡ Ok y →
     SpellsBehind code from y
 operation_spelled (opcodes.Unary op kind) from y is = unary_spelled op kind from y is
 operation_spelled (opcodes.Binary op kind) from y is = binary_spelled op kind from y is

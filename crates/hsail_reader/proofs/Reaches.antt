@@ -5,9 +5,9 @@ use Rattle.std.specs.List.{prefix_len}
 use Rattle.std.specs.Option.{option_map}
 use Rattle.std.specs.Char.{is_digit, digit_value}
 use Rattle.std.specs.Int.{is_in_range}
-use Rattle.hsail_reader.specs.Bytes.{is_name_byte, is_name_start, is_not_line_feed, begins_digit, behind, closing_at, digits_at, decimal_at, numeral_at, numeral_behind, numeral, ◌>>=◌}
+use Rattle.hsail_reader.specs.Bytes.{begins_digit, behind, closing_at, digits_at, decimal_at, numeral_at, numeral_behind, numeral, ◌>>=◌}
 use Rattle.hsail_reader.specs.Lexemes.{lexed, name_at, comment_at, class_at, register, register_at, number_at}
-use Rattle.hsail_reader.specs.Spelling.{AllPass, IsName, IsDecimal, IsClosed, IsComment}
+use Rattle.hsail_reader.specs.Spelling.{AllPass, IsName, IsDecimal, IsClosed, IsRestOfComment, is_name_byte, is_name_start, is_not_line_feed}
 use Rattle.hsail_reader.specs.declared.token.Lexeme.{Lexeme}
 use Rattle.hsail_reader.specs.declared.token.LexemeKind.TheVariants.{Comment, Token}
 use Rattle.hsail_reader.specs.declared.token.Numeral.{Numeral}
@@ -107,7 +107,7 @@ block_reaches inside more found closed is =
     let e : m.0 + 2 ≡ found.length = same_length (lexed Comment (m.0 + 2)) found m.2 in
     omega (arith, e, reach)
 
-pub comments : IsLongest 1 IsComment comment_at
+pub comments : IsLongest 1 IsRestOfComment comment_at
 comments text more found (inl (line, e, pass)) is =
     let P : List ℕ → Type 0 = λ xs. comment_at (xs ++ more) ≡ Some found → 1 + length xs ≤ found.length in
     subst P (sym e) (line_reaches line more found pass) is

@@ -5,9 +5,9 @@ use Rattle.std.proofs.lemmas.Bool.Decides.{eqb_tells}
 use Rattle.std.specs.List.{prefix_len}
 use Rattle.std.specs.Option.{option_map}
 use Rattle.std.specs.Char.{is_digit, digit_value}
-use Rattle.hsail_reader.specs.Bytes.{is_name_byte, is_name_start, is_not_line_feed, begins_with, begins_digit, behind, closing_at, digits_at, decimal_at, numeral_at, numeral_behind, numeral, ◌>>=◌}
+use Rattle.hsail_reader.specs.Bytes.{begins_digit, behind, closing_at, digits_at, decimal_at, numeral_at, numeral_behind, numeral, ◌>>=◌}
 use Rattle.hsail_reader.specs.Lexemes.{lexed, name_at, comment_at, class_at, register, register_at, number_at}
-use Rattle.hsail_reader.specs.Spelling.{AllPass, IsName, IsDecimal, IsClosed, IsComment}
+use Rattle.hsail_reader.specs.Spelling.{AllPass, IsName, IsDecimal, IsClosed, IsRestOfComment, is_name_byte, is_name_start, is_not_line_feed, begins_with}
 use Rattle.hsail_reader.specs.declared.token.LexemeKind.TheVariants.{Comment, Token}
 use Rattle.hsail_reader.specs.declared.token.Numeral.{Numeral}
 use Rattle.hsail_reader.specs.declared.token.TokenKind.{TokenKind}
@@ -88,7 +88,7 @@ closing_spelled before (b ∷ bytes) n is =
     some_is : (a b : ℕ) → Some a ≡ Some b → a ≡ b
     some_is a b e = cc
 
-pub comments : IsFoundSpelled 1 IsComment comment_at
+pub comments : IsFoundSpelled 1 IsRestOfComment comment_at
 comments [] found is = nothing found is
 comments (b ∷ bytes) found is =
     ⊎_elim

@@ -3,8 +3,8 @@ use Rattle.std.proofs.Common.{◌≡◌, ℕ, zero, suc, ◌+◌, ◌<◌, ◌�
 use Rattle.std.proofs.Math.Seq.{take-append_seam, drop-append_seam}
 use Rattle.hsail_reader.specs.Faults.{refusal, with_front}
 use Rattle.hsail_reader.specs.Lexemes.{lexed, lexeme_at}
-use Rattle.hsail_reader.specs.TextTokens.{IsLexeme, IsLongestFront, AreTokens, none, lexeme, header_name}
-use Rattle.hsail_reader.specs.Tokens.{Piece, kept, tokens_from, line_after, line_behind, further, before_rest}
+use Rattle.hsail_reader.specs.TextTokens.{IsLexeme, IsLongestFront, AreTokens, none, lexeme, header_name, PlacedToken, kept, line_after, line_behind}
+use Rattle.hsail_reader.specs.Tokens.{tokens_from, further, before_rest}
 use Rattle.hsail_reader.specs.declared.fault.Flaw.TheVariants as flaw
 use Rattle.hsail_reader.specs.declared.fault.Refusal.{Refusal}
 use Rattle.hsail_reader.specs.declared.token.Header.{Header}
@@ -60,7 +60,7 @@ lexeme_is_some (Token (token.Mark b)) front (e, mark) = omega (arith, ap length 
 lexeme_is_some (Token token.Word) front spelled = omega (arith, ap length (word_first front spelled).2)
 
 -- tokens by their spelling are those that are cut
-tokens_are_cut : (place line : ℕ) (bytes : List ℕ) (tokens : List Piece) → AreTokens place line bytes tokens →
+tokens_are_cut : (place line : ℕ) (bytes : List ℕ) (tokens : List PlacedToken) → AreTokens place line bytes tokens →
     tokens_from 0 place line bytes ≡ Ok tokens
 tokens_are_cut _ _ _ _ (none place line) = refl
 tokens_are_cut _ _ _ _ (lexeme place line kind bytes front behind tokens parts is within longest rest) =
@@ -72,31 +72,31 @@ tokens_are_cut _ _ _ _ (lexeme place line kind bytes front behind tokens parts i
     (tokens_are_cut (place + length front) (line_after line front) behind tokens rest)
 
 -- the tokens of a text by their spelling are those that it is cut into
-pub cut : (text : List ℕ) (tokens : List Piece) → AreTokens 0 1 text tokens → tokens_from 0 0 1 text ≡ Ok tokens
+pub cut : (text : List ℕ) (tokens : List PlacedToken) → AreTokens 0 1 text tokens → tokens_from 0 0 1 text ≡ Ok tokens
 cut text tokens are = tokens_are_cut 0 1 text tokens are
 
 -- the tokens, as reading them gives them
-abbrev read_as : List Piece → Result (List Piece) Refusal
+abbrev read_as : List PlacedToken → Result (List PlacedToken) Refusal
 read_as tokens = Ok tokens
 
 -- tokens that are read alike are the same
-same_tokens : (a b : List Piece) → read_as a ≡ read_as b → a ≡ b
+same_tokens : (a b : List PlacedToken) → read_as a ≡ read_as b → a ≡ b
 same_tokens a b e = cc
 
 -- a text is not both refused and read
-not_both : {A : Type 0} (r : Refusal) (tokens : List Piece) → Err r ≡ Ok tokens → A
+not_both : {A : Type 0} (r : Refusal) (tokens : List PlacedToken) → Err r ≡ Ok tokens → A
 not_both r tokens e = cc
 
 -- the tokens behind some, where all are read
-behind_some : (front tokens : List Piece) (rest : Result (List Piece) Refusal) → with_front front rest ≡ Ok tokens →
-    (later : List Piece) × (rest ≡ Ok later) × (front ++ later ≡ tokens)
+behind_some : (front tokens : List PlacedToken) (rest : Result (List PlacedToken) Refusal) → with_front front rest ≡ Ok tokens →
+    (later : List PlacedToken) × (rest ≡ Ok later) × (front ++ later ≡ tokens)
 behind_some front tokens (Ok later) is = (later, refl, same_tokens (front ++ later) tokens is)
 behind_some front tokens (Err r) is = not_both r tokens is
 
 -- where the tokens behind it are spelled, so are those of the lexeme found and of what stands behind it
-found_goes_on : (place line : ℕ) (bytes : List ℕ) (tokens : List Piece) (found : Lexeme) →
+found_goes_on : (place line : ℕ) (bytes : List ℕ) (tokens : List PlacedToken) (found : Lexeme) →
     lexeme_at bytes ≡ Some found → tokens_from 0 place line bytes ≡ Ok tokens → FoundSpelled bytes found →
-    ((place line : ℕ) (behind : List ℕ) (tokens : List Piece) → length behind < length bytes →
+    ((place line : ℕ) (behind : List ℕ) (tokens : List PlacedToken) → length behind < length bytes →
     tokens_from 0 place line behind ≡ Ok tokens → AreTokens place line behind tokens) →
     AreTokens place line bytes tokens
 found_goes_on place line bytes tokens found at' is (front, behind, parts, counts, spelled, within) goes_on =
@@ -116,9 +116,9 @@ found_goes_on place line bytes tokens found at' is (front, behind, parts, counts
     (lexeme place line found.kind bytes front behind later.0 parts spelled within longest rest)
 
 -- the tokens that are cut at the front of some bytes are those by their spelling, where those behind it are
-cut_goes_on : (o : Option Lexeme) (place line b : ℕ) (bytes : List ℕ) (tokens : List Piece) →
+cut_goes_on : (o : Option Lexeme) (place line b : ℕ) (bytes : List ℕ) (tokens : List PlacedToken) →
     lexeme_at (b ∷ bytes) ≡ o → tokens_from 0 place line (b ∷ bytes) ≡ Ok tokens →
-    ((place line : ℕ) (behind : List ℕ) (tokens : List Piece) → length behind < length (b ∷ bytes) →
+    ((place line : ℕ) (behind : List ℕ) (tokens : List PlacedToken) → length behind < length (b ∷ bytes) →
     tokens_from 0 place line behind ≡ Ok tokens → AreTokens place line behind tokens) →
     AreTokens place line (b ∷ bytes) tokens
 cut_goes_on None place line b bytes tokens e is goes_on =
@@ -130,7 +130,7 @@ cut_goes_on (Some found) place line b bytes tokens e is goes_on =
     found_goes_on place line (b ∷ bytes) tokens found e is (found_is_lexeme (b ∷ bytes) found e) goes_on
 
 -- the tokens that are cut are those by their spelling, in at most `fuel` bytes
-cut_is_spelled : (fuel place line : ℕ) (bytes : List ℕ) (tokens : List Piece) → length bytes ≤ fuel →
+cut_is_spelled : (fuel place line : ℕ) (bytes : List ℕ) (tokens : List PlacedToken) → length bytes ≤ fuel →
     tokens_from 0 place line bytes ≡ Ok tokens → AreTokens place line bytes tokens
 cut_is_spelled fuel place line [] tokens fits is =
     subst (AreTokens place line []) (same_tokens [] tokens is) (none place line)
@@ -140,5 +140,5 @@ cut_is_spelled (suc fuel) place line (b ∷ bytes) tokens fits is =
     (λ place line behind tokens shorter is. cut_is_spelled fuel place line behind tokens (omega arith) is)
 
 -- the tokens that a text is cut into are its tokens by their spelling
-pub spelled : (text : List ℕ) (tokens : List Piece) → tokens_from 0 0 1 text ≡ Ok tokens → AreTokens 0 1 text tokens
+pub spelled : (text : List ℕ) (tokens : List PlacedToken) → tokens_from 0 0 1 text ≡ Ok tokens → AreTokens 0 1 text tokens
 spelled text tokens is = cut_is_spelled (length text) 0 1 text tokens (omega arith) is

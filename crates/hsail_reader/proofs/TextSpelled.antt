@@ -69,6 +69,13 @@ located_is : (text : List ℕ) (read : Result Module Refusal) (m : Module) → l
 located_is text (Ok n) m is = cc
 located_is text (Err r) m is = cc
 
+-- a text is a text of one module at most
+pub one_module : (text : List ℕ) (a b : Module) → IsTextOf text a → IsTextOf text b → a ≡ b
+one_module text a b x y = same_module (sym (text_is_read text a x) ∙ text_is_read text b y)
+  where
+    same_module : ◌≡◌ {A = Result Module ReadFault} (Ok a) (Ok b) → a ≡ b
+    same_module e = cc
+
 -- what is read as a module is a text of it
 pub text_is_spelled : (text : List ℕ) (m : Module) → reading text ≡ Ok m → IsTextOf text m
 unfolding reading

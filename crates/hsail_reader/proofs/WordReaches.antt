@@ -3,9 +3,9 @@ use Rattle.std.proofs.Common.{◌≡◌, ℕ, zero, suc, ◌+◌, ◌-◌, ◌<�
 use Rattle.std.proofs.lemmas.Bool.Decides.{eqb_tells}
 use Rattle.std.proofs.Math.Dec.{eqb-zero-suc}
 use Rattle.std.proofs.Math.Seq.{drop-append_seam}
-use Rattle.hsail_reader.specs.Bytes.{is_name_byte, is_name_start, behind, numeral_at, align_at, width_value_at, width_at, numeral, spelled_width, ◌>>=◌}
+use Rattle.hsail_reader.specs.Bytes.{behind, numeral_at, align_at, width_value_at, width_at, numeral, spelled_width, ◌>>=◌}
 use Rattle.hsail_reader.specs.Lexemes.{length_of, modifier_length, piece_length, pieces_length, word_of}
-use Rattle.hsail_reader.specs.Spelling.{AllPass}
+use Rattle.hsail_reader.specs.Spelling.{AllPass, is_name_byte, is_name_start}
 use Rattle.hsail_reader.specs.WordLexemes.{IsModifier, ArePieces, none, byte, modifier, IsWord}
 use Rattle.hsail_reader.specs.WordSpelling.{SpellsNumber}
 use Rattle.hsail_reader.specs.declared.token.Lexeme.{Lexeme}

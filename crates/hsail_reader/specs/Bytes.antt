@@ -1,23 +1,12 @@
--- What stands at the front of some bytes.
+-- What is read at the front of some bytes (PRM, Source Text Format).
 use Rattle.std.specs.Prelude.{ℕ, ◌+◌, ◌*◌, ◌^◌, List, [], ◌∷◌, Bool, false, ◌&&◌, ◌||◌, not, ◌==◌, nat_lt, if◌then◌else◌, Option, Some, None, codes, length, drop}
 use Rattle.std.specs.Char.{is_ascii_alphabetic, is_ascii_alphanumeric, is_digit, digit_value}
 use Rattle.std.specs.Option.{is_some, option_map}
+use Rattle.hsail_reader.specs.Spelling.{is_name_start, begins_with}
 use Rattle.hsail_reader.specs.declared.token.Numeral.{Numeral}
 use Rattle.hsail_reader.specs.declared.token.SpelledWidth.{SpelledWidth}
 use Rattle.hsail_reader.specs.declared.types.Width.{Width}
 use Rattle.hsail_reader.specs.declared.types.Width.TheVariants.{Number, All, WaveSize}
-
--- a letter or `_`
-abbrev pub is_name_start : ℕ → Bool
-is_name_start b = is_ascii_alphabetic b || b == 95
-
--- a letter, a digit or `_`
-abbrev pub is_name_byte : ℕ → Bool
-is_name_byte b = is_ascii_alphanumeric b || b == 95
-
--- any byte but the line feed
-abbrev pub is_not_line_feed : ℕ → Bool
-is_not_line_feed b = not (b == 10)
 
 -- the first byte begins a name
 abbrev pub begins_name : List ℕ → Bool
@@ -29,10 +18,6 @@ abbrev pub behind : List ℕ → List ℕ → Option (List ℕ)
 behind [] bytes = Some bytes
 behind (f ∷ front) [] = None
 behind (f ∷ front) (b ∷ bytes) = if b == f then behind front bytes else None
-
-abbrev pub begins_with : ℕ → List ℕ → Bool
-begins_with f [] = false
-begins_with f (b ∷ bytes) = b == f
 
 -- how many bytes there are up to the first `*/` and with it, behind `before` others
 abbrev pub closing_at : ℕ → List ℕ → Option ℕ

@@ -1,4 +1,4 @@
--- Where and why a text is not read.
+-- Where and why a text is not read (own).
 use Rattle.std.specs.Prelude.{◌≡◌, ℕ, ◌+◌, List, [], ◌∷◌, ◌++◌, ◌==◌, if◌then◌else◌, Option, Some, None, Result, Ok, Err, take}
 use Rattle.hsail_reader.specs.declared.fault.Cause.{Cause}
 use Rattle.hsail_reader.specs.declared.fault.Cause.TheVariants.{Lexeme, Syntax, NotInProfile, TooLong}

@@ -1,8 +1,9 @@
--- The grammar of kernel text: which tokens spell a module, line by line as the format has it
--- (PRM, Syntax; what may be left out is (own)).
+-- The grammar of kernel text: which tokens spell a module, line by line as the format has it (PRM, HSAIL
+-- Syntax and Semantics; what may be left out is (own)). Read it from the bottom: a module, a kernel, an
+-- argument, an item, an instruction. A ▸ B is A, and behind it B; × is "and", ⊎ is "or"; (x : T) × is
+-- "there is an x such that"; λ t. is "of a token t".
 use Rattle.std.specs.Prelude.{◌≡◌, ℕ, ◌<◌, ◌≤◌, ◌⊎◌, List, [], ◌∷◌, Bool, true, false, Option, Some, None, Result, Ok, Err, length}
-use Rattle.hsail_reader.specs.TextTokens.{AreTokens}
-use Rattle.hsail_reader.specs.Tokens.{Piece}
+use Rattle.hsail_reader.specs.TextTokens.{AreTokens, PlacedToken}
 use Rattle.hsail_reader.specs.Types.{alignment_bytes}
 use Rattle.hsail_reader.specs.WordSpelling.{SpellsWord}
 use Rattle.hsail_reader.specs.declared.fault.ReadError.{ReadError}
@@ -35,14 +36,14 @@ use Rattle.hsail_reader.specs.declared.words.Opcode.TheVariants as opcodes
 use Rattle.hsail_reader.specs.declared.words.Word.{Word}
 use Rattle.hsail_reader.specs.declared.words.Word.TheVariants as words
 
--- what is spelled by the tokens from one place in a text to another
+-- what tokens spell: A from to says that the tokens `from`, up to where the tokens `to` begin, are an A
 abbrev pub Spelled : Type 1
-Spelled = List Piece → List Piece → Type 0
+Spelled = List PlacedToken → List PlacedToken → Type 0
 
--- one behind the other
+-- A, and behind it B
 infixr 5 ◌▸◌
 abbrev pub ◌▸◌ : Spelled → Spelled → Spelled
-(A ▸ B) from to = (between : List Piece) × A from between × B between to
+(A ▸ B) from to = (between : List PlacedToken) × A from between × B between to
 
 -- nothing
 abbrev pub nothing : Spelled
@@ -52,9 +53,9 @@ nothing from to = from ≡ to
 abbrev pub optional : Spelled → Spelled
 optional A from to = nothing from to ⊎ A from to
 
--- one token
-abbrev pub one : (Piece → Type 0) → Spelled
-one IsIt from to = (t : Piece) × (from ≡ t ∷ to) × IsIt t
+-- one token, of which this holds
+abbrev pub one : (PlacedToken → Type 0) → Spelled
+one IsIt from to = (t : PlacedToken) × (from ≡ t ∷ to) × IsIt t
 
 -- a mark, by its byte
 abbrev pub mark : ℕ → Spelled
@@ -75,12 +76,15 @@ colon = mark 58
 abbrev pub semicolon : Spelled
 semicolon = mark 59
 
+-- ( A )
 abbrev pub in_parentheses : Spelled → Spelled
 in_parentheses A = mark 40 ▸ A ▸ mark 41
 
+-- [ A ]
 abbrev pub in_brackets : Spelled → Spelled
 in_brackets A = mark 91 ▸ A ▸ mark 93
 
+-- { A }
 abbrev pub in_braces : Spelled → Spelled
 in_braces A = mark 123 ▸ A ▸ mark 125
 
@@ -96,25 +100,25 @@ header h = one (λ t. t.kind ≡ token.Header h)
 abbrev pub word : Word → Spelled
 word w = one (λ t. (t.kind ≡ token.Word) × SpellsWord w t.text)
 
--- &name
+-- &name, by all its bytes
 abbrev pub global : List ℕ → Spelled
 global name = one (λ t. (t.kind ≡ token.Global) × (t.text ≡ name))
 
--- %name
+-- %name, by all its bytes
 abbrev pub variable : List ℕ → Spelled
 variable name = one (λ t. (t.kind ≡ token.Variable) × (t.text ≡ name))
 
--- @name
+-- @name, by all its bytes
 abbrev pub label : List ℕ → Spelled
 label name = one (λ t. (t.kind ≡ token.Label) × (t.text ≡ name))
 
-abbrev pub IsFirstLine : ℕ → List Piece → Type 0
-IsFirstLine line [] = ⊥
-IsFirstLine line (t ∷ tokens) = t.line ≡ line
+abbrev pub BeginsOnLine : ℕ → List PlacedToken → Type 0
+BeginsOnLine line [] = ⊥
+BeginsOnLine line (t ∷ tokens) = t.line ≡ line
 
--- with its first token on this line
+-- A, with its first token on this line
 abbrev pub on_line : ℕ → Spelled → Spelled
-on_line line A from to = IsFirstLine line from × A from to
+on_line line A from to = BeginsOnLine line from × A from to
 
 -- one after the other
 abbrev pub each : {X : Type 0} → (X → Spelled) → List X → Spelled
@@ -130,11 +134,12 @@ abbrev pub separated : {X : Type 0} → (X → Spelled) → List X → Spelled
 separated spelled [] = nothing
 separated spelled (x ∷ xs) = spelled x ▸ each_behind_comma spelled xs
 
--- a number whose sign may be absent: - n, + n or n
+-- the sign of a constant: -, or + which may be absent
 abbrev pub sign : Bool → Spelled
 sign true = minus
 sign false = optional plus
 
+-- a constant: - n, + n or n
 abbrev pub constant : Constant → Spelled
 constant c = sign c.negative ▸ number c.magnitude
 
@@ -143,7 +148,7 @@ abbrev pub source : Source → Spelled
 source (sources.Register r) = register r
 source (sources.Constant c) = constant c
 
--- what is added to a register: + n or - n; nothing stands for + 0
+-- the sign of what is added to a register
 abbrev pub offset_sign : Bool → Spelled
 offset_sign true = minus
 offset_sign false = plus
@@ -151,11 +156,12 @@ offset_sign false = plus
 abbrev pub no_offset : Constant
 no_offset = record { negative = false; magnitude = 0 }
 
+-- what is added to a register: + n, - n, or nothing, which stands for + 0
 abbrev pub offset : Constant → Spelled
 offset c from to =
     (offset_sign c.negative ▸ number c.magnitude) from to ⊎ (nothing from to × (c ≡ no_offset))
 
--- a place: n, $d, $d+n or $d-n
+-- a place: n, r, r+n or r-n, for a register r of any class (the check asks for the class)
 abbrev pub place : Place → Spelled
 place (places.Absolute n) = number n
 place (places.Relative p) = register p.register ▸ offset p.offset
@@ -170,7 +176,8 @@ address (addresses.Indexed i) = in_brackets (variable i.variable) ▸ in_bracket
 abbrev pub opcode : Opcode → Spelled
 opcode code = word (words.Instruction code)
 
--- an instruction: its word, and its operands by its row
+-- an instruction: its word, and its operands by its row (the check asks for registers' classes and
+-- numbers, for the range of constants, and that a dimension is 0, 1 or 2)
 abbrev pub instruction : Operation → Spelled
 instruction (operations.Unary u) =
     opcode (opcodes.Unary u.operation u.kind) ▸ register u.target ▸ comma ▸ source u.source
@@ -232,15 +239,16 @@ module_text m = word words.Module ▸ global m.name ▸ colon ▸ number 1 ▸ c
     ▸ each kernel m.kernels
 
 -- the tokens spell the module, to the end
-abbrev pub SpellModule : List Piece → Module → Type 0
+abbrev pub SpellModule : List PlacedToken → Module → Type 0
 SpellModule tokens m = module_text m tokens []
 
 -- The text spells the module: it has at most 65,536 bytes, and its tokens spell it.
 unfoldable pub IsTextOf : List ℕ → Module → Type 0
 IsTextOf text m =
-    (length text ≤ 65536) × ((tokens : List Piece) × AreTokens 0 1 text tokens × SpellModule tokens m)
+    (length text ≤ 65536) × ((tokens : List PlacedToken) × AreTokens 0 1 text tokens × SpellModule tokens m)
 
--- A module is answered for a text of it, and a fault for a text of no module; want of memory for any.
+-- What may be answered: a module for a text of it, a fault for a text of no module, want of memory for
+-- any text.
 abbrev pub AnswersByGrammar : List ℕ → Result Module ReadError → Type 0
 AnswersByGrammar text (Ok m) = IsTextOf text m
 AnswersByGrammar text (Err error.OutOfMemory) = Unit {0}

@@ -1,8 +1,8 @@
--- How the operands of each family of instructions are read, in their order (PRM, HSAIL Instructions).
+-- How the operands of each family of instructions are read, in their order (PRM, the chapters on instructions).
 -- What spells them stands in `Grammar`.
 use Rattle.std.specs.Prelude.{ℕ, List, Option, Ok}
 use Rattle.hsail_reader.specs.Operands.{Reading, ◌>>=◌, mark_at, register_at, number_at, label_at, source_at, address_at}
-use Rattle.hsail_reader.specs.Tokens.{Piece}
+use Rattle.hsail_reader.specs.TextTokens.{PlacedToken}
 use Rattle.hsail_reader.specs.declared.module.Address.{Address}
 use Rattle.hsail_reader.specs.declared.module.Operation.{Operation}
 use Rattle.hsail_reader.specs.declared.module.Operation.TheVariants as operation
@@ -20,7 +20,7 @@ use Rattle.hsail_reader.specs.declared.words.Opcode.{Opcode}
 use Rattle.hsail_reader.specs.declared.words.Opcode.TheVariants as opcode
 
 -- a comma and a source
-unfoldable pub next_source_at : List Piece → Reading Source
+unfoldable pub next_source_at : List PlacedToken → Reading Source
 next_source_at tokens = mark_at 44 tokens >>= source_at
 
 abbrev pub unary : UnaryOperation → DataType → Register → Source → Operation
@@ -28,7 +28,7 @@ unary op kind target source =
     operation.Unary (record { operation = op; kind = kind; target = target; source = source })
 
 -- d, a
-unfoldable pub unary_at : UnaryOperation → DataType → List Piece → Reading Operation
+unfoldable pub unary_at : UnaryOperation → DataType → List PlacedToken → Reading Operation
 unary_at op kind tokens = do
   d ← register_at tokens
   a ← next_source_at d.1
@@ -39,7 +39,7 @@ binary op kind target left right =
     operation.Binary (record { operation = op; kind = kind; target = target; left = left; right = right })
 
 -- d, a, b
-unfoldable pub binary_at : BinaryOperation → DataType → List Piece → Reading Operation
+unfoldable pub binary_at : BinaryOperation → DataType → List PlacedToken → Reading Operation
 binary_at op kind tokens = do
   d ← register_at tokens
   a ← next_source_at d.1
@@ -51,7 +51,7 @@ ternary op kind target first second third =
     operation.Ternary (record { operation = op; kind = kind; target = target; first = first; second = second; third = third })
 
 -- d, a, b, c
-unfoldable pub ternary_at : TernaryOperation → DataType → List Piece → Reading Operation
+unfoldable pub ternary_at : TernaryOperation → DataType → List PlacedToken → Reading Operation
 ternary_at op kind tokens = do
   d ← register_at tokens
   a ← next_source_at d.1
@@ -64,7 +64,7 @@ load segment modifiers kind target address =
     operation.Load (record { segment = segment; modifiers = modifiers; kind = kind; target = target; address = address })
 
 -- d, [address]
-unfoldable pub load_at : Segment → Modifiers → DataType → List Piece → Reading Operation
+unfoldable pub load_at : Segment → Modifiers → DataType → List PlacedToken → Reading Operation
 load_at segment modifiers kind tokens = do
   d ← register_at tokens
   comma ← mark_at 44 d.1
@@ -76,7 +76,7 @@ store align kind source address =
     operation.Store (record { align = align; kind = kind; source = source; address = address })
 
 -- a, [address]
-unfoldable pub store_at : Option ℕ → DataType → List Piece → Reading Operation
+unfoldable pub store_at : Option ℕ → DataType → List PlacedToken → Reading Operation
 store_at align kind tokens = do
   s ← source_at tokens
   comma ← mark_at 44 s.1
@@ -84,7 +84,7 @@ store_at align kind tokens = do
   Ok (store align kind s.0 a.0, a.1)
 
 -- @x
-unfoldable pub branch_at : List Piece → Reading Operation
+unfoldable pub branch_at : List PlacedToken → Reading Operation
 branch_at tokens = label_at tokens >>= λ x. Ok (operation.Branch x.0, x.1)
 
 abbrev pub conditional_branch : Option Width → Source → List ℕ → Operation
@@ -92,7 +92,7 @@ conditional_branch width condition label =
     operation.ConditionalBranch (record { width = width; condition = condition; label = label })
 
 -- a, @x
-unfoldable pub conditional_branch_at : Option Width → List Piece → Reading Operation
+unfoldable pub conditional_branch_at : Option Width → List PlacedToken → Reading Operation
 conditional_branch_at width tokens = do
   a ← source_at tokens
   comma ← mark_at 44 a.1
@@ -104,7 +104,7 @@ identify query kind target dimension =
     operation.Identify (record { query = query; kind = kind; target = target; dimension = dimension })
 
 -- d, k
-unfoldable pub identify_at : Query → DataType → List Piece → Reading Operation
+unfoldable pub identify_at : Query → DataType → List PlacedToken → Reading Operation
 identify_at query kind tokens = do
   d ← register_at tokens
   comma ← mark_at 44 d.1
@@ -112,7 +112,7 @@ identify_at query kind tokens = do
   Ok (identify query kind d.0 k.0, k.1)
 
 -- the operands behind a word, by its row
-abbrev pub operation_at : Opcode → List Piece → Reading Operation
+abbrev pub operation_at : Opcode → List PlacedToken → Reading Operation
 operation_at (opcode.Unary op kind) tokens = unary_at op kind tokens
 operation_at (opcode.Binary op kind) tokens = binary_at op kind tokens
 operation_at (opcode.Ternary op kind) tokens = ternary_at op kind tokens

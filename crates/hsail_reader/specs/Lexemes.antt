@@ -1,9 +1,10 @@
--- How the lexeme at the front of some bytes is found (PRM, Lexical Elements; blanks, comments and
--- modifiers are (own)). What spells each stands in `TextTokens`.
+-- How the lexeme at the front of some bytes is found (PRM, Source Text Format; that modifiers
+-- belong to a word is (own)). What spells each stands in `TextTokens`.
 use Rattle.std.specs.Prelude.{ℕ, zero, suc, ◌+◌, ◌-◌, List, [], ◌∷◌, Bool, ◌||◌, ◌==◌, if◌then◌else◌, Option, Some, None, codes, length, drop}
 use Rattle.std.specs.List.{prefix_len, list_any}
 use Rattle.std.specs.Option.{is_some, option_map}
-use Rattle.hsail_reader.specs.Bytes.{is_name_byte, is_name_start, is_not_line_feed, begins_name, behind, closing_at, decimal_at, numeral_at, align_at, width_at, ◌>>=◌}
+use Rattle.hsail_reader.specs.Bytes.{begins_name, behind, closing_at, decimal_at, numeral_at, align_at, width_at, ◌>>=◌}
+use Rattle.hsail_reader.specs.Spelling.{is_blank, is_mark, is_name_byte, is_name_start, is_not_line_feed}
 use Rattle.hsail_reader.specs.declared.token.Header.{Header}
 use Rattle.hsail_reader.specs.declared.token.Header.TheVariants.{Base, Full, Large, Default, Zero, Near}
 use Rattle.hsail_reader.specs.declared.token.HeaderName.{HeaderName}
@@ -19,14 +20,6 @@ use Rattle.hsail_reader.specs.declared.types.RegisterClass.TheVariants.{Control,
 
 abbrev pub lexed : LexemeKind → ℕ → Lexeme
 lexed kind length = record { kind = kind; length = length }
-
--- a space, a tab, a line feed or a carriage return
-abbrev pub is_blank : ℕ → Bool
-is_blank b = b == 32 || b == 9 || b == 10 || b == 13
-
--- one of ( ) { } [ ] , ; : + -
-abbrev pub is_mark : ℕ → Bool
-is_mark b = list_any (λ m. m == b) (codes "(){}[],;:+-")
 
 -- a comment, behind its first slash: another and the rest of the line, or a star and all up to `*/`
 abbrev pub comment_at : List ℕ → Option Lexeme

@@ -13,3 +13,4 @@ pub mod Words
 pub mod Operands
 pub mod Instructions
 pub mod Syntax
+pub mod Sample

@@ -1,4 +1,4 @@
--- The table of instructions (PRM, HSAIL Instructions; which rows and types there are is (own)).
+-- The table of instructions (PRM, the chapters on instructions; which rows and types there are is (own)).
 use Rattle.std.specs.Prelude.{ℕ, List, [], ◌∷◌, codes}
 use Rattle.hsail_reader.specs.declared.rows.Row.{Row}
 use Rattle.hsail_reader.specs.declared.rows.Form.{Form}
@@ -53,7 +53,7 @@ type_name type.S16 = codes "s16"
 type_name type.S32 = codes "s32"
 type_name type.S64 = codes "s64"
 
--- the table
+-- the table: ld and st take the types of Memory, cbr takes b1; modifiers stand by the form
 abbrev pub rows : List InstructionRow
 rows =
     row (codes "mov") (form.Unary unary.Move BitsAndIntegers)

@@ -1,5 +1,5 @@
 -- How items, arguments, kernels and the module are read from the tokens at the front, and the first
--- token at which no reading goes on: the next token decides each choice (PRM, Syntax; what may be left
+-- token at which no reading goes on: the next token decides each choice (PRM, HSAIL Syntax and Semantics; what may be left
 -- out is (own)). What spells them stands in `Grammar`.
 use Rattle.std.specs.Prelude.{◌≡◌, ℕ, zero, suc, List, [], ◌∷◌, Bool, true, false, ◌==◌, nat_lt, if◌then◌else◌, Option, Some, None, Result, Ok, Err, length}
 use Rattle.hsail_reader.specs.Faults.{fault_of, too_long}
@@ -7,7 +7,8 @@ use Rattle.hsail_reader.specs.declared.fault.ReadError.{ReadError}
 use Rattle.hsail_reader.specs.declared.fault.ReadError.TheVariants as error
 use Rattle.hsail_reader.specs.Instructions.{operation_at}
 use Rattle.hsail_reader.specs.Operands.{Reading, ◌>>=◌, refuse, token_at, begins_with_mark, mark_at, global_at, variable_at}
-use Rattle.hsail_reader.specs.Tokens.{Piece, tokens_of}
+use Rattle.hsail_reader.specs.Tokens.{tokens_of}
+use Rattle.hsail_reader.specs.TextTokens.{PlacedToken}
 use Rattle.hsail_reader.specs.Words.{word_of, alignment_of}
 use Rattle.hsail_reader.specs.declared.fault.Flaw.{Flaw}
 use Rattle.hsail_reader.specs.declared.fault.Flaw.TheVariants.{Syntax, NotInProfile}
@@ -37,7 +38,7 @@ abbrev pub word_kind : TokenKind → List ℕ → Option Word
 word_kind token.Word text = Some (word_of text)
 word_kind _ text = None
 
-abbrev pub word_at : Piece → Option Word
+abbrev pub word_at : PlacedToken → Option Word
 word_at t = word_kind t.kind t.text
 
 -- the flaw at a word that can't begin what is read: no row has it, or one has it elsewhere
@@ -60,13 +61,13 @@ performed line operation = item.Instruction (record { line = line; operation = o
 
 -- behind align(n) in a kernel's body stands a variable of the group segment, which the profile
 -- doesn't have
-abbrev pub aligned_item : Option Alignment → List Piece → List Piece → Reading Item
+abbrev pub aligned_item : Option Alignment → List PlacedToken → List PlacedToken → Reading Item
 aligned_item None tokens rest = refuse tokens Syntax
 aligned_item (Some n) tokens [] = refuse [] Syntax
 aligned_item (Some n) tokens (t ∷ rest) = refuse (t ∷ rest) (flaw_behind_align (word_at t))
 
 -- an item that begins with a word: an instruction and ;
-abbrev pub word_item : Word → ℕ → List Piece → List Piece → Reading Item
+abbrev pub word_item : Word → ℕ → List PlacedToken → List PlacedToken → Reading Item
 word_item (word.Instruction code) line tokens rest = do
   x ← operation_at code rest
   end ← mark_at 59 x.1
@@ -74,13 +75,13 @@ word_item (word.Instruction code) line tokens rest = do
 word_item (word.Align n) line tokens rest = aligned_item (alignment_of n) tokens rest
 word_item w line tokens rest = refuse tokens (flaw_at_begin w)
 
-abbrev pub item_from : TokenKind → Piece → List Piece → List Piece → Reading Item
+abbrev pub item_from : TokenKind → PlacedToken → List PlacedToken → List PlacedToken → Reading Item
 item_from token.Label t tokens rest = mark_at 58 rest >>= λ end. Ok (labelled t.line t.text, end)
 item_from token.Word t tokens rest = word_item (word_of t.text) t.line tokens rest
 item_from _ t tokens rest = refuse tokens Syntax
 
 -- an item of a kernel's body
-unfoldable pub item_at : List Piece → Reading Item
+unfoldable pub item_at : List PlacedToken → Reading Item
 item_at [] = refuse [] Syntax
 item_at (t ∷ rest) = item_from t.kind t (t ∷ rest) rest
 
@@ -88,69 +89,69 @@ item_at (t ∷ rest) = item_from t.kind t (t ∷ rest) rest
 abbrev pub argument : ℕ → Option Alignment → DataType → List ℕ → Argument
 argument line align kind name = record { line = line; align = align; kind = kind; name = name }
 
-unfoldable pub named_argument : ℕ → Option Alignment → DataType → List Piece → Reading Argument
+unfoldable pub named_argument : ℕ → Option Alignment → DataType → List PlacedToken → Reading Argument
 named_argument line align kind tokens =
     variable_at tokens >>= λ x. Ok (argument line align kind x.0, x.1)
 
 -- kernarg_T %name behind align(n)
-abbrev pub aligned_from : Option Word → ℕ → Alignment → List Piece → List Piece → Reading Argument
+abbrev pub aligned_from : Option Word → ℕ → Alignment → List PlacedToken → List PlacedToken → Reading Argument
 aligned_from (Some (word.Argument kind)) line align tokens rest = named_argument line (Some align) kind rest
 aligned_from w line align tokens rest = refuse tokens (flaw_behind_align w)
 
-abbrev pub aligned_argument : Option Alignment → ℕ → List Piece → List Piece → Reading Argument
+abbrev pub aligned_argument : Option Alignment → ℕ → List PlacedToken → List PlacedToken → Reading Argument
 aligned_argument None line tokens rest = refuse tokens Syntax
 aligned_argument (Some align) line tokens [] = refuse [] Syntax
 aligned_argument (Some align) line tokens (t ∷ rest) = aligned_from (word_at t) line align (t ∷ rest) rest
 
-abbrev pub argument_from : Option Word → ℕ → List Piece → List Piece → Reading Argument
+abbrev pub argument_from : Option Word → ℕ → List PlacedToken → List PlacedToken → Reading Argument
 argument_from None line tokens rest = refuse tokens Syntax
 argument_from (Some (word.Argument kind)) line tokens rest = named_argument line None kind rest
 argument_from (Some (word.Align n)) line tokens rest = aligned_argument (alignment_of n) line tokens rest
 argument_from (Some w) line tokens rest = refuse tokens (flaw_at_begin w)
 
 -- an argument of a kernel: align(n), which may be absent, and kernarg_T %name
-unfoldable pub argument_at : List Piece → Reading Argument
+unfoldable pub argument_at : List PlacedToken → Reading Argument
 argument_at [] = refuse [] Syntax
 argument_at (t ∷ rest) = argument_from (word_at t) t.line (t ∷ rest) rest
 
 -- an argument behind a comma
-unfoldable pub next_argument_at : List Piece → Reading Argument
+unfoldable pub next_argument_at : List PlacedToken → Reading Argument
 next_argument_at tokens = mark_at 44 tokens >>= argument_at
 
 abbrev pub with_first : {X : Type 0} → X → Reading (List X) → Reading (List X)
 with_first x read = read >>= λ xs. Ok (x ∷ xs.0, xs.1)
 
 -- one after the other, up to tokens that stop it, and fewer than n
-abbrev pub many_at : {X : Type 0} → (List Piece → Bool) → (List Piece → Reading X) → ℕ → List Piece → Reading (List X)
+abbrev pub many_at : {X : Type 0} → (List PlacedToken → Bool) → (List PlacedToken → Reading X) → ℕ → List PlacedToken → Reading (List X)
 many_at stops one zero tokens = if stops tokens then Ok ([], tokens) else refuse tokens Syntax
 many_at stops one (suc n) tokens =
     if stops tokens then Ok ([], tokens)
     else one tokens >>= λ x. with_first x.0 (many_at stops one n x.1)
 
 -- one after the other, up to tokens that stop it; each takes a token at least, so none is too many
-abbrev pub all_at : {X : Type 0} → (List Piece → Bool) → (List Piece → Reading X) → List Piece → Reading (List X)
+abbrev pub all_at : {X : Type 0} → (List PlacedToken → Bool) → (List PlacedToken → Reading X) → List PlacedToken → Reading (List X)
 all_at stops one tokens = many_at stops one (suc (length tokens)) tokens
 
 -- { and items up to the closing brace
-unfoldable pub items_at : List Piece → Reading (List Item)
+unfoldable pub items_at : List PlacedToken → Reading (List Item)
 items_at tokens = mark_at 123 tokens >>= all_at (begins_with_mark 125) item_at
 
 -- the first argument, and further ones behind commas, up to the closing parenthesis
-unfoldable pub some_arguments_at : List Piece → Reading (List Argument)
+unfoldable pub some_arguments_at : List PlacedToken → Reading (List Argument)
 some_arguments_at tokens =
     argument_at tokens >>= λ x. with_first x.0 (all_at (begins_with_mark 41) next_argument_at x.1)
 
 -- arguments up to the closing parenthesis
-unfoldable pub arguments_at : List Piece → Reading (List Argument)
+unfoldable pub arguments_at : List PlacedToken → Reading (List Argument)
 arguments_at tokens = if begins_with_mark 41 tokens then Ok ([], tokens) else some_arguments_at tokens
 
 -- the tokens behind a mark that may be absent
-abbrev pub skip_mark : ℕ → List Piece → List Piece
+abbrev pub skip_mark : ℕ → List PlacedToken → List PlacedToken
 skip_mark m [] = []
 skip_mark m (t ∷ tokens) = if begins_with_mark m (t ∷ tokens) then tokens else t ∷ tokens
 
 -- ( arguments )
-unfoldable pub signature_at : List Piece → Reading (List Argument)
+unfoldable pub signature_at : List PlacedToken → Reading (List Argument)
 signature_at tokens = do
   inside ← mark_at 40 tokens
   arguments ← arguments_at inside
@@ -158,7 +159,7 @@ signature_at tokens = do
   Ok (arguments.0, end)
 
 -- { items } and ; which may be absent
-unfoldable pub body_at : List Piece → Reading (List Item)
+unfoldable pub body_at : List PlacedToken → Reading (List Item)
 body_at tokens = do
   items ← items_at tokens
   end ← mark_at 125 items.1
@@ -168,7 +169,7 @@ abbrev pub kernel : ℕ → List ℕ → List Argument → List Item → Kernel
 kernel line name arguments items = record { line = line; name = name; arguments = arguments; items = items }
 
 -- a kernel behind its word: &name ( arguments ) { items } ;
-unfoldable pub kernel_behind : ℕ → List Piece → Reading Kernel
+unfoldable pub kernel_behind : ℕ → List PlacedToken → Reading Kernel
 kernel_behind line tokens = do
   name ← global_at tokens
   arguments ← signature_at name.1
@@ -180,27 +181,27 @@ is_kernel (Some word.Kernel) = true
 is_kernel _ = false
 
 -- `kernel` behind `prog`
-abbrev pub prog_kernel : ℕ → List Piece → Reading Kernel
+abbrev pub prog_kernel : ℕ → List PlacedToken → Reading Kernel
 prog_kernel line [] = refuse [] Syntax
 prog_kernel line (t ∷ rest) = if is_kernel (word_at t) then kernel_behind line rest else refuse (t ∷ rest) Syntax
 
-abbrev pub kernel_from : Option Word → ℕ → List Piece → List Piece → Reading Kernel
+abbrev pub kernel_from : Option Word → ℕ → List PlacedToken → List PlacedToken → Reading Kernel
 kernel_from None line tokens rest = refuse tokens Syntax
 kernel_from (Some word.Prog) line tokens rest = prog_kernel line rest
 kernel_from (Some word.Kernel) line tokens rest = kernel_behind line rest
 kernel_from (Some w) line tokens rest = refuse tokens (flaw_at_begin w)
 
 -- a kernel: `prog`, which may be absent, and `kernel`
-unfoldable pub kernel_at : List Piece → Reading Kernel
+unfoldable pub kernel_at : List PlacedToken → Reading Kernel
 kernel_at [] = refuse [] Syntax
 kernel_at (t ∷ rest) = kernel_from (word_at t) t.line (t ∷ rest) rest
 
-abbrev pub is_none_left : List Piece → Bool
+abbrev pub is_none_left : List PlacedToken → Bool
 is_none_left [] = true
 is_none_left (t ∷ tokens) = false
 
 -- ; and kernels up to the end of the text
-unfoldable pub kernels_at : List Piece → Reading (List Kernel)
+unfoldable pub kernels_at : List PlacedToken → Reading (List Kernel)
 kernels_at tokens = mark_at 59 tokens >>= all_at is_none_left kernel_at
 
 abbrev pub module_word : Option Word → Option (Unit {0})
@@ -231,11 +232,11 @@ rounding_kind (token.Header header.Near) = Some rounding.Near
 rounding_kind _ = None
 
 -- a colon, and one token of which something is read
-abbrev pub field_at : {X : Type 0} → (TokenKind → Option X) → List Piece → Reading X
+abbrev pub field_at : {X : Type 0} → (TokenKind → Option X) → List PlacedToken → Reading X
 field_at read tokens = mark_at 58 tokens >>= token_at (λ t. read t.kind)
 
 -- : 1 : minor : profile : $large : round
-unfoldable pub fields_at : List Piece → Reading Fields
+unfoldable pub fields_at : List PlacedToken → Reading Fields
 fields_at tokens = do
   major ← field_at major_kind tokens
   minor ← field_at minor_kind major.1
@@ -254,7 +255,7 @@ whole_module name fields kernels = record {
 }
 
 -- a module: its line, and kernels to the end of the text
-unfoldable pub module_at : List Piece → Result Module Refusal
+unfoldable pub module_at : List PlacedToken → Result Module Refusal
 module_at tokens = do
   first ← token_at (λ t. module_word (word_at t)) tokens
   name ← global_at first.1

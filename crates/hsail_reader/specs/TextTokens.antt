@@ -1,9 +1,7 @@
 -- Which tokens a text has: it is lexemes from its first byte to its last, each the longest at its place
--- (PRM, Lexical Elements; blanks and comments are (own)).
-use Rattle.std.specs.Prelude.{◌≡◌, ℕ, ◌+◌, ◌^◌, ◌<◌, ◌≤◌, ◌⊎◌, List, [], ◌∷◌, ◌++◌, true, codes, length}
-use Rattle.hsail_reader.specs.Lexemes.{is_blank, is_mark}
-use Rattle.hsail_reader.specs.Spelling.{IsComment, IsName}
-use Rattle.hsail_reader.specs.Tokens.{Piece, kept, line_after}
+-- (PRM, Source Text Format).
+use Rattle.std.specs.Prelude.{◌≡◌, ℕ, ◌+◌, ◌^◌, ◌<◌, ◌≤◌, ◌⊎◌, List, [], ◌∷◌, ◌++◌, true, ◌==◌, if◌then◌else◌, codes, length}
+use Rattle.hsail_reader.specs.Spelling.{IsRestOfComment, IsName, is_blank, is_mark}
 use Rattle.hsail_reader.specs.WordLexemes.{IsWord}
 use Rattle.hsail_reader.specs.WordSpelling.{SpellsDecimal, SpellsHexadecimal}
 use Rattle.hsail_reader.specs.declared.token.Header.{Header}
@@ -14,6 +12,31 @@ use Rattle.hsail_reader.specs.declared.token.TokenKind.{TokenKind}
 use Rattle.hsail_reader.specs.declared.token.TokenKind.TheVariants as token
 use Rattle.hsail_reader.specs.declared.types.RegisterClass.{RegisterClass}
 use Rattle.hsail_reader.specs.declared.types.RegisterClass.TheVariants.{Control, Single, Double}
+
+-- a token with its text, how many bytes stand before it, and its line
+pub record PlacedToken : Type 0 where
+  pub kind : TokenKind
+  pub text : List ℕ
+  pub place : ℕ
+  pub line : ℕ
+
+abbrev pub placed : TokenKind → List ℕ → ℕ → ℕ → PlacedToken
+placed kind text place line = record { kind = kind; text = text; place = place; line = line }
+
+-- the line behind a byte
+abbrev pub line_behind : ℕ → ℕ → ℕ
+line_behind line b = if b == 10 then line + 1 else line
+
+-- the line behind some bytes
+abbrev pub line_after : ℕ → List ℕ → ℕ
+line_after line [] = line
+line_after line (b ∷ bytes) = line_after (line_behind line b) bytes
+
+-- the tokens that a lexeme is: one, or none for a blank or a comment
+abbrev pub kept : LexemeKind → List ℕ → ℕ → ℕ → List PlacedToken
+kept Blank text place line = []
+kept Comment text place line = []
+kept (Token kind) text place line = placed kind text place line ∷ []
 
 -- behind this byte stands what is spelled so
 abbrev pub Behind : ℕ → (List ℕ → Type 0) → List ℕ → Type 0
@@ -33,7 +56,8 @@ header_name Default = codes "$default"
 header_name Zero = codes "$zero"
 header_name Near = codes "$near"
 
--- the text is a token of this kind
+-- the text is a token of this kind; a number may be of any size here, since the limit is asked of the
+-- longest alone
 abbrev pub IsToken : TokenKind → List ℕ → Type 0
 IsToken token.Global text = Behind 38 IsName text
 IsToken token.Variable text = Behind 37 IsName text
@@ -48,7 +72,7 @@ IsToken token.Word text = IsWord text
 -- the text is a lexeme of this kind
 abbrev pub IsLexeme : LexemeKind → List ℕ → Type 0
 IsLexeme Blank text = (b : ℕ) × (text ≡ b ∷ []) × (is_blank b ≡ true)
-IsLexeme Comment text = Behind 47 IsComment text
+IsLexeme Comment text = Behind 47 IsRestOfComment text
 IsLexeme (Token kind) text = IsToken kind text
 
 -- a number or a register's number has at most 64 bits
@@ -64,9 +88,9 @@ IsLongestFront front bytes =
     length text ≤ length front
 
 -- the tokens of bytes of which the first stands at this place, on this line: blanks and comments are none
-pub data AreTokens : ℕ → ℕ → List ℕ → List Piece → Type 0 where
+pub data AreTokens : ℕ → ℕ → List ℕ → List PlacedToken → Type 0 where
   none : (place line : ℕ) → AreTokens place line [] []
-  lexeme : (place line : ℕ) (kind : LexemeKind) (bytes front behind : List ℕ) (tokens : List Piece) →
+  lexeme : (place line : ℕ) (kind : LexemeKind) (bytes front behind : List ℕ) (tokens : List PlacedToken) →
       bytes ≡ front ++ behind → IsLexeme kind front → IsWithin64Bits kind → IsLongestFront front bytes →
       AreTokens (place + length front) (line_after line front) behind tokens →
       AreTokens place line bytes (kept kind front place line ++ tokens)

@@ -1,6 +1,7 @@
--- Which whole texts are words: names with modifiers inside or at their end, and align(n) (all (own)).
+-- Which whole texts are words: names with modifiers inside or at their end, and align(n)
+-- (PRM, Source Text Format; that modifiers belong to a word is (own)).
 use Rattle.std.specs.Prelude.{◌≡◌, ℕ, ◌⊎◌, List, [], ◌∷◌, ◌++◌, true, Some, codes}
-use Rattle.hsail_reader.specs.Bytes.{is_name_byte, is_name_start}
+use Rattle.hsail_reader.specs.Spelling.{is_name_byte, is_name_start}
 use Rattle.hsail_reader.specs.WordSpelling.{SpellsNumberIn, SpellsAlign, SpellsWidth}
 use Rattle.hsail_reader.specs.declared.types.Width.{Width}
 
@@ -12,7 +13,7 @@ IsAlign text = (n : ℕ) × SpellsNumberIn (codes "align(") n (codes ")") text
 abbrev pub IsModifier : List ℕ → Type 0
 IsModifier text = ((n : ℕ) × SpellsAlign (Some n) text) ⊎ ((w : Width) × SpellsWidth (Some w) text)
 
--- bytes of a name, and modifiers between them
+-- the parts of a name behind its first byte: its bytes, and modifiers between them
 pub data ArePieces : List ℕ → Type 0 where
   none : ArePieces []
   byte : (b : ℕ) (rest : List ℕ) → is_name_byte b ≡ true → ArePieces rest → ArePieces (b ∷ rest)

@@ -1,5 +1,6 @@
--- How words are spelled: the stem of a row, the modifiers that its form allows, and a type of its set
--- (PRM, HSAIL Instructions; the places of the modifiers are (own)).
+-- How words are spelled: `module`, `prog` and `kernel`, align(n), `kernarg_` and a type; and of an
+-- instruction the stem of its row, the modifiers that its form allows, and a type of its set where it has
+-- one (PRM, HSAIL Syntax and Semantics; the places of the modifiers are (own)).
 use Rattle.std.specs.Prelude.{◌≡◌, ℕ, ◌^◌, ◌<◌, ◌⊎◌, List, [], ◌++◌, Bool, true, false, Option, Some, None, codes}
 use Rattle.std.specs.List.{Contains}
 use Rattle.std.specs.Str.Parse.{digits_value}
@@ -19,9 +20,11 @@ use Rattle.hsail_reader.specs.declared.words.Opcode.TheVariants as opcode
 use Rattle.hsail_reader.specs.declared.words.Word.{Word}
 use Rattle.hsail_reader.specs.declared.words.Word.TheVariants as word
 
+-- a decimal number that is n
 abbrev pub SpellsDecimal : ℕ → List ℕ → Type 0
 SpellsDecimal n text = IsDecimal text × (n ≡ digits_value 10 text)
 
+-- 0x and a hexadecimal number that is n
 abbrev pub SpellsHexadecimal : ℕ → List ℕ → Type 0
 SpellsHexadecimal n text =
     IsHexadecimal text × ((digits : List ℕ) × (text ≡ codes "0x" ++ digits) × (n ≡ digits_value 16 digits))

@@ -1,4 +1,4 @@
--- How a text is read as a word (PRM, HSAIL Instructions; the places of the modifiers are (own)).
+-- How a text is read as a word (PRM, the chapters on instructions; the places of the modifiers are (own)).
 -- What spells each word stands in `WordSpelling`.
 use Rattle.std.specs.Prelude.{ℕ, List, [], ◌∷◌, Bool, true, false, ◌==◌, if◌then◌else◌, Option, Some, None, codes, drop, is_some, length}
 use Rattle.std.specs.Option.{option_map}

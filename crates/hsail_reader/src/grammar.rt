@@ -2,9 +2,10 @@
 
 ghost use Rattle.std.specs.Prelude.{◌≡◌, ℕ, List, true, Ok};
 ghost use Rattle.hsail_reader.specs.Grammar.{SpellModule, IsTextOf};
+ghost use Rattle.hsail_reader.specs.Sample.{sample, sample_module};
 ghost use Rattle.hsail_reader.specs.Syntax.{module_at, reading};
-ghost use Rattle.hsail_reader.specs.TextTokens.{AreTokens};
-ghost use Rattle.hsail_reader.specs.Tokens.{Piece, tokens_of};
+ghost use Rattle.hsail_reader.specs.TextTokens.{AreTokens, PlacedToken};
+ghost use Rattle.hsail_reader.specs.Tokens.{tokens_of};
 ghost use Rattle.hsail_reader.specs.WordSpelling.{SpellsWord, stands_in_modules};
 ghost use Rattle.hsail_reader.specs.Words.{word_of};
 ghost use Rattle.hsail_reader.specs.declared.module.Module.{Module};
@@ -18,18 +19,21 @@ pub fn words_are_read_as_spelled()
 
 /// A text is cut into tokens just where these are its tokens by their spelling. It does nothing.
 pub fn texts_are_cut_as_spelled()
-    ensures cut { (text : List ℕ) (tokens : List Piece) → AreTokens 0 1 text tokens → tokens_of text ≡ Ok tokens }
-    ensures spelled { (text : List ℕ) (tokens : List Piece) → tokens_of text ≡ Ok tokens → AreTokens 0 1 text tokens }
+    ensures cut { (text : List ℕ) (tokens : List PlacedToken) → AreTokens 0 1 text tokens → tokens_of text ≡ Ok tokens }
+    ensures spelled { (text : List ℕ) (tokens : List PlacedToken) → tokens_of text ≡ Ok tokens → AreTokens 0 1 text tokens }
 {}
 
 /// Tokens are read as a module just where they spell it. It does nothing.
 pub fn modules_are_read_as_spelled()
-    ensures read { (tokens : List Piece) (m : Module) → SpellModule tokens m → module_at tokens ≡ Ok m }
-    ensures spelled { (tokens : List Piece) (m : Module) → module_at tokens ≡ Ok m → SpellModule tokens m }
+    ensures read { (tokens : List PlacedToken) (m : Module) → SpellModule tokens m → module_at tokens ≡ Ok m }
+    ensures spelled { (tokens : List PlacedToken) (m : Module) → module_at tokens ≡ Ok m → SpellModule tokens m }
 {}
 
-/// A text is read as a module just where the grammar has it as a text of that module. It does nothing.
+/// A text is read as a module just where the grammar has it as a text of that module; it is a text of
+/// one module at most; and there are texts of modules. It does nothing.
 pub fn texts_are_read_as_spelled()
     ensures read { (text : List ℕ) (m : Module) → IsTextOf text m → reading text ≡ Ok m }
     ensures spelled { (text : List ℕ) (m : Module) → reading text ≡ Ok m → IsTextOf text m }
+    ensures one { (text : List ℕ) (a b : Module) → IsTextOf text a → IsTextOf text b → a ≡ b }
+    ensures some { IsTextOf sample sample_module }
 {}

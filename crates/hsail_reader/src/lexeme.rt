@@ -1,7 +1,8 @@
 //! The lexeme at the front of some bytes, the longest of its kind.
 
 ghost use Rattle.std.specs.Prelude.{◌≡◌, ◌+◌, ◌<◌, ◌≤◌, length, map, IfSome, Some};
-ghost use Rattle.hsail_reader.specs.Lexemes.{is_blank, is_mark, comment_at, name_at, class_at, register_at, header_words, header_view, header_among, dollar_at, number_at, modifier_length, piece_length, pieces_length, word_at, lexeme_at};
+ghost use Rattle.hsail_reader.specs.Lexemes.{comment_at, name_at, class_at, register_at, header_words, header_view, header_among, dollar_at, number_at, modifier_length, piece_length, pieces_length, word_at, lexeme_at};
+ghost use Rattle.hsail_reader.specs.Spelling.{is_blank, is_mark};
 
 use crate::scan::{
     align, closing, continues_name, decimal, has_name, line_run, name_run, number, starts_name,

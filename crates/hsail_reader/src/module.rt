@@ -160,7 +160,7 @@ pub struct Identify {
 pub enum Address {
     /// `[%x]`
     Variable(Sequence<u8>),
-    /// `[$d]`, `[$d+n]`, `[$d-n]` or `[n]`
+    /// `[n]`, `[r]`, `[r+n]` or `[r-n]`, for a register r of any class
     Place(Place),
     /// `[%x][..]`
     Indexed(Indexed),
@@ -178,7 +178,7 @@ pub struct Indexed {
 pub enum Place {
     /// `n`
     Absolute(u64),
-    /// `$d`, which stands for `$d+0`, `$d+n` or `$d-n`
+    /// `r`, which stands for `r+0`, `r+n` or `r-n`
     Relative(Relative),
 }
 

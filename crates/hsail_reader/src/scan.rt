@@ -3,7 +3,8 @@
 ghost use Rattle.std.specs.Prelude.{◌≡◌, ◌+◌, ◌<◌, ◌≤◌, length, IfSome};
 ghost use Rattle.std.specs.List.{prefix_len};
 ghost use Rattle.std.specs.Option.{option_copied};
-ghost use Rattle.hsail_reader.specs.Bytes.{is_name_byte, is_name_start, is_not_line_feed, begins_name, begins_digit, behind, closing_at, digits_at, decimal_at, numeral_at, align_at, width_value_at, width_at};
+ghost use Rattle.hsail_reader.specs.Bytes.{begins_name, begins_digit, behind, closing_at, digits_at, decimal_at, numeral_at, align_at, width_value_at, width_at};
+ghost use Rattle.hsail_reader.specs.Spelling.{is_name_byte, is_name_start, is_not_line_feed};
 
 use crate::token::{Numeral, SpelledWidth};
 use crate::types::Width;

@@ -2,7 +2,8 @@
 
 ghost use Rattle.std.specs.Prelude.{◌≡◌, ◌+◌, ◌≤◌, ◌++◌, length, take, OnOk};
 ghost use Rattle.hsail_reader.specs.Faults.{Gives};
-ghost use Rattle.hsail_reader.specs.Tokens.{token_views, tokens_of, line_after, kept};
+ghost use Rattle.hsail_reader.specs.Tokens.{token_views, tokens_of};
+ghost use Rattle.hsail_reader.specs.TextTokens.{line_after, kept};
 
 use crate::fault::{Flaw, Refusal, Stop};
 use crate::lexeme::lexeme;

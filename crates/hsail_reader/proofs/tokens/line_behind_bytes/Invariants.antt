@@ -1,5 +1,5 @@
 use Rattle.std.proofs.Common.{◌≡◌, ◌+◌, ◌≤◌, length}
-use Rattle.hsail_reader.specs.Tokens.{line_after}
+use Rattle.hsail_reader.specs.TextTokens.{line_after}
 use Rattle.hsail_reader.proofs.tokens.line_behind_bytes.Given as goal
 
 abbrev pub invariant-loop-rest : goal.invariant-loop-rest

@@ -1,0 +1,50 @@
+-- A text and the module that it spells (own).
+use Rattle.std.specs.Prelude.{ℕ, List, [], ◌∷◌, Some, None, codes}
+use Rattle.hsail_reader.specs.declared.module.Address.TheVariants as addresses
+use Rattle.hsail_reader.specs.declared.module.Argument.{Argument}
+use Rattle.hsail_reader.specs.declared.module.Item.{Item}
+use Rattle.hsail_reader.specs.declared.module.Item.TheVariants as items
+use Rattle.hsail_reader.specs.declared.module.Kernel.{Kernel}
+use Rattle.hsail_reader.specs.declared.module.Module.{Module}
+use Rattle.hsail_reader.specs.declared.module.Operation.TheVariants as operations
+use Rattle.hsail_reader.specs.declared.module.Profile.TheVariants as profiles
+use Rattle.hsail_reader.specs.declared.module.Rounding.TheVariants as roundings
+use Rattle.hsail_reader.specs.declared.types.DataType.TheVariants as types
+use Rattle.hsail_reader.specs.declared.types.RegisterClass.TheVariants as classes
+use Rattle.hsail_reader.specs.declared.types.Segment.TheVariants as segments
+
+unfoldable pub sample : List ℕ
+sample =
+    codes "module &m:1:0:$base:$large:$default;\nprog kernel &k(kernarg_u64 %p)\n{\n  ld_kernarg_align(8)_u64 $d0, [%p]; // the argument\n};"
+
+abbrev pub sample_argument : Argument
+sample_argument = record { line = 2; align = None; kind = types.U64; name = codes "%p" }
+
+abbrev pub sample_item : Item
+sample_item = items.Instruction (record {
+  line = 4;
+  operation = operations.Load (record {
+    segment = segments.Kernarg;
+    modifiers = record { align = Some 8; width = None };
+    kind = types.U64;
+    target = record { class = classes.Double; number = 0 };
+    address = addresses.Variable (codes "%p");
+  });
+})
+
+abbrev pub sample_kernel : Kernel
+sample_kernel = record {
+  line = 2;
+  name = codes "&k";
+  arguments = sample_argument ∷ [];
+  items = sample_item ∷ [];
+}
+
+unfoldable pub sample_module : Module
+sample_module = record {
+  name = codes "&m";
+  minor = 0;
+  profile = profiles.Base;
+  rounding = roundings.Default;
+  kernels = sample_kernel ∷ [];
+}
