@@ -1,6 +1,6 @@
 -- What is read at the front of some bytes (PRM, Source Text Format).
-use Rattle.std.specs.Prelude.{ℕ, ◌+◌, ◌*◌, ◌^◌, List, [], ◌∷◌, Bool, false, ◌&&◌, ◌||◌, not, ◌==◌, nat_lt, if◌then◌else◌, Option, Some, None, codes, length, drop}
-use Rattle.std.specs.Char.{is_ascii_alphabetic, is_ascii_alphanumeric, is_digit, digit_value}
+use Rattle.std.specs.Prelude.{ℕ, ◌+◌, ◌*◌, ◌^◌, List, [], ◌∷◌, Bool, false, ◌&&◌, ◌==◌, nat_lt, if◌then◌else◌, Option, Some, None, codes, length, drop}
+use Rattle.std.specs.Char.{is_digit, digit_value}
 use Rattle.std.specs.Option.{is_some, option_map}
 use Rattle.hsail_reader.specs.Spelling.{is_name_start, begins_with}
 use Rattle.hsail_reader.specs.declared.token.Numeral.{Numeral}

@@ -1,7 +1,7 @@
 -- How the lexeme at the front of some bytes is found (PRM, Source Text Format; that modifiers
 -- belong to a word is (own)). What spells each stands in `TextTokens`.
-use Rattle.std.specs.Prelude.{ℕ, zero, suc, ◌+◌, ◌-◌, List, [], ◌∷◌, Bool, ◌||◌, ◌==◌, if◌then◌else◌, Option, Some, None, codes, length, drop}
-use Rattle.std.specs.List.{prefix_len, list_any}
+use Rattle.std.specs.Prelude.{ℕ, zero, suc, ◌+◌, ◌-◌, List, [], ◌∷◌, ◌==◌, if◌then◌else◌, Option, Some, None, codes, length, drop}
+use Rattle.std.specs.List.{prefix_len}
 use Rattle.std.specs.Option.{is_some, option_map}
 use Rattle.hsail_reader.specs.Bytes.{begins_name, behind, closing_at, decimal_at, numeral_at, align_at, width_at, ◌>>=◌}
 use Rattle.hsail_reader.specs.Spelling.{is_blank, is_mark, is_name_byte, is_name_start, is_not_line_feed}

@@ -1,16 +1,13 @@
 -- How a text is cut into tokens: its lexemes from the first byte on, without blanks and comments.
 -- Which tokens a text has stands in `TextTokens` (PRM, Source Text Format).
-use Rattle.std.specs.Prelude.{ℕ, zero, suc, ◌+◌, ◌-◌, List, [], ◌∷◌, ◌==◌, if◌then◌else◌, Option, Some, None, Result, Ok, Err, take, map}
+use Rattle.std.specs.Prelude.{ℕ, zero, suc, ◌+◌, ◌-◌, List, [], ◌∷◌, Option, Some, None, Result, Ok, Err, take, map}
 use Rattle.hsail_reader.specs.Faults.{refusal, with_front}
 use Rattle.hsail_reader.specs.Lexemes.{lexeme_at}
 use Rattle.hsail_reader.specs.TextTokens.{PlacedToken, placed, kept, line_behind}
 use Rattle.hsail_reader.specs.declared.fault.Flaw.TheVariants as flaw
 use Rattle.hsail_reader.specs.declared.fault.Refusal.{Refusal}
 use Rattle.hsail_reader.specs.declared.token.Lexeme.{Lexeme}
-use Rattle.hsail_reader.specs.declared.token.LexemeKind.{LexemeKind}
-use Rattle.hsail_reader.specs.declared.token.LexemeKind.TheVariants as lexeme
 use Rattle.hsail_reader.specs.declared.token.Token.{Token}
-use Rattle.hsail_reader.specs.declared.token.TokenKind.{TokenKind}
 
 -- a token of the code
 abbrev pub token_view : Token → PlacedToken
