@@ -1,13 +1,13 @@
 //! What separates tokens, what ends a line, and the lines of items that stand on several.
 
-use super::{fault, with_item, with_line};
-use crate::Cause::{self, Lexeme, NotInProfile, Syntax};
-use crate::{Item, Kernel, read_module};
+use crate::texts::{Place, check_item, check_line, read, with_item};
+use hsail_reader::Cause::{Lexeme, NotInProfile, Syntax};
+use hsail_reader::{Item, Kernel, Module};
 use std::process::Abort;
 use std::test::Fail;
 
 /// An item from line 4 on, and the line, the column and the cause of its fault, if it has one.
-type Row = (&'static str, Option<(u32, u32, Cause)>);
+type Row = (&'static str, Option<Place>);
 
 /// Bytes that are neither blanks nor of a token.
 const CONTROLS: [Row; 12] = [
@@ -65,8 +65,7 @@ const PLACES: [Row; 9] = [
 
 fn check_rows(rt: &(impl Abort + AllocGlobal), rows: &[Row]) -> Result<(), Fail> {
     for (item, wanted) in rows {
-        let text = with_item(rt.alloc(), item)?;
-        assert_eq!(rt; fault(rt.alloc(), text.as_bytes()), *wanted, "{item}");
+        check_item(rt, item, item, *wanted)?;
     }
     Ok(())
 }
@@ -92,7 +91,7 @@ fn faults_are_counted_behind_blanks_and_comments(rt: HostRuntime) -> Result<(), 
 }
 
 /// The end of the text, behind comments of each kind.
-const ENDS: [(&str, (u32, u32, Cause)); 5] = [
+const ENDS: [(&str, Place); 5] = [
     ("kernel &k(){ // }\r", (2, 19, Syntax)),
     ("kernel &k(){ // }\r\n", (3, 1, Syntax)),
     ("kernel &k(){ /* }\r */", (2, 22, Syntax)),
@@ -100,13 +99,16 @@ const ENDS: [(&str, (u32, u32, Cause)); 5] = [
     ("kernel &k(){\r\r", (2, 15, Syntax)),
 ];
 
-#[test]
-fn the_end_of_the_text_is_behind_its_last_byte(rt: HostRuntime) -> Result<(), Fail> {
-    for (line, wanted) in ENDS {
-        let text = with_line(rt.alloc(), line)?;
-        assert_eq!(rt; fault(rt.alloc(), text.as_bytes()), Some(wanted), "{line}");
+fn check_ends(rt: &(impl Abort + AllocGlobal), ends: &[(&str, Place)]) -> Result<(), Fail> {
+    for (line, wanted) in ends {
+        check_line(rt, line, line, Some(*wanted))?;
     }
     Ok(())
+}
+
+#[test]
+fn the_end_of_the_text_is_behind_its_last_byte(rt: HostRuntime) -> Result<(), Fail> {
+    check_ends(&rt, &ENDS)
 }
 
 /// The line of an item's first token.
@@ -118,14 +120,23 @@ fn line(item: &Item) -> u32 {
 }
 
 /// The items of a kernel stand on these lines.
-fn check_lines(
-    rt: &(impl Abort + AllocGlobal),
-    kernel: &Kernel,
-    lines: &[u32],
-) -> Result<(), Fail> {
+fn check_lines(rt: &impl Abort, kernel: &Kernel, lines: &[u32]) {
     assert_eq!(rt; kernel.items.len(), lines.len());
     for (item, wanted) in kernel.items.as_slice().iter().zip(lines.iter()) {
         assert_eq!(rt; line(item), *wanted);
+    }
+}
+
+fn check_first(rt: &impl Abort, module: &Module, lines: &[u32]) -> Result<(), Fail> {
+    check_lines(rt, module.kernels.get(0).ok_or("a kernel")?, lines);
+    Ok(())
+}
+
+fn check_items(rt: &(impl Abort + AllocGlobal), rows: &[(&str, &[u32])]) -> Result<(), Fail> {
+    for (items, lines) in rows {
+        let text = with_item(rt.alloc(), items)?;
+        let module = read(rt.alloc(), text.as_bytes())?;
+        check_first(rt, &module, lines)?;
     }
     Ok(())
 }
@@ -143,11 +154,5 @@ const LINES: [(&str, &[u32]); 7] = [
 
 #[test]
 fn an_item_on_several_lines_has_that_of_its_first_token(rt: HostRuntime) -> Result<(), Fail> {
-    for (items, lines) in LINES {
-        let text = with_item(rt.alloc(), items)?;
-        let read = read_module(rt.alloc(), text.as_bytes())?;
-        let kernel = read.kernels.get(0).ok_or("a kernel")?;
-        check_lines(&rt, kernel, lines)?;
-    }
-    Ok(())
+    check_items(&rt, &LINES)
 }

@@ -1,7 +1,7 @@
 //! Numbers in modifiers: any up to 2^64 - 1, and none above.
 
-use super::{fault, with_item};
-use crate::Cause::{self, Lexeme, NotInProfile, Syntax};
+use crate::texts::check_item;
+use hsail_reader::Cause::{self, Lexeme, NotInProfile, Syntax};
 use std::process::Abort;
 use std::test::Fail;
 
@@ -20,13 +20,16 @@ const READ: [&str; 12] = [
     "cbr_width(WAVESIZE)_b1 $c0, @x;",
 ];
 
-#[test]
-fn each_number_of_64_bits_is_read_in_a_modifier(rt: HostRuntime) -> Result<(), Fail> {
-    for item in READ {
-        let text = with_item(rt.alloc(), item)?;
-        assert_eq!(rt; fault(rt.alloc(), text.as_bytes()), None, "{item}");
+fn check_items(rt: &(impl Abort + AllocGlobal), items: &[&str]) -> Result<(), Fail> {
+    for item in items {
+        check_item(rt, item, item, None)?;
     }
     Ok(())
+}
+
+#[test]
+fn each_number_of_64_bits_is_read_in_a_modifier(rt: HostRuntime) -> Result<(), Fail> {
+    check_items(&rt, &READ)
 }
 
 /// An item as line 4, and the column and the cause of its fault.
@@ -97,9 +100,7 @@ const ALIGNMENTS: [Row; 5] = [
 
 fn check_rows(rt: &(impl Abort + AllocGlobal), rows: &[Row]) -> Result<(), Fail> {
     for (item, column, cause) in rows {
-        let text = with_item(rt.alloc(), item)?;
-        let found = fault(rt.alloc(), text.as_bytes());
-        assert_eq!(rt; found, Some((4, *column, *cause)), "{item}");
+        check_item(rt, item, item, Some((4, *column, *cause)))?;
     }
     Ok(())
 }

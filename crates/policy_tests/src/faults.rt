@@ -1,7 +1,6 @@
 //! Faults before the arrays, and of arrays as wholes; which fault of several comes first.
 
-use super::{Row, check_rows, outcome};
-use std::process::Abort;
+use crate::outcomes::{Row, check_rows, check_text};
 use std::test::Fail;
 
 const FILES: [Row; 17] = [
@@ -75,17 +74,16 @@ fn the_earlier_of_two_faults_is_told(rt: HostRuntime) -> Result<(), Fail> {
     check_rows(&rt, &ORDERS)
 }
 
-fn check_bytes(rt: &(impl Abort + AllocGlobal), bytes: &[u8]) -> Result<(), Fail> {
-    let printed = outcome(rt.alloc(), bytes)?;
-    assert_eq!(rt; printed.as_str(), "1 NotToml", "{bytes:?}");
-    Ok(())
-}
-
 #[test]
 fn other_bytes_than_text_are_no_toml(rt: HostRuntime) -> Result<(), Fail> {
-    check_bytes(&rt, b"\xff")?;
-    check_bytes(&rt, b"version = 1 # \xc3")?;
-    check_bytes(&rt, b"[[client]]\nname = \"\xed\xa0\x80\"")
+    check_text(&rt, "a byte", b"\xff", "1 NotToml")?;
+    check_text(&rt, "a remark", b"version = 1 # \xc3", "1 NotToml")?;
+    check_text(
+        &rt,
+        "a name",
+        b"[[client]]\nname = \"\xed\xa0\x80\"",
+        "1 NotToml",
+    )
 }
 
 const ARRAYS: [Row; 16] = [

@@ -1,9 +1,9 @@
 //! Each form of address, in each of the segments: the check says which of them a segment has.
 
-use super::with_item;
-use crate::RegisterClass::{self, Control, Double, Single};
-use crate::{
-    Address, Constant, Item, Module, Operation, Place, Register, Relative, Segment, read_module,
+use crate::texts::{read, with_item};
+use hsail_reader::RegisterClass::{self, Control, Double, Single};
+use hsail_reader::{
+    Address, Constant, Item, Module, Operation, Place, Register, Relative, Segment,
 };
 use std::process::Abort;
 use std::test::Fail;
@@ -108,7 +108,7 @@ fn check_form(
     let (text, name, wanted) = form;
     let item = format!(in rt.alloc(); "{front}, {text};")?;
     let source = with_item(rt.alloc(), item.as_str())?;
-    let read = read_module(rt.alloc(), source.as_str().as_bytes())?;
+    let read = read(rt.alloc(), source.as_str().as_bytes())?;
     let (found, address) = first_address(&read).ok_or("an address")?;
     assert_eq!(rt; found, segment, "{item}");
     assert_eq!(rt; variable(address), name.map(|n| n.as_bytes()), "{item}");

@@ -1,8 +1,9 @@
 //! The sample policy: its counts, names and numbers, and what it allows.
 
-use crate::{AllowRow, Kind, Object, Policy, Right, Rights, Subject, Takes, Target, read_policy};
+use crate::outcomes::read;
 use aql_packet::{AgentHandle, ClientId, KernelObject, RegionHandle, SignalHandle};
 use bitflags::Flags;
+use policy::{AllowRow, Kind, Object, Policy, Right, Rights, Subject, Takes, Target};
 use std::alloc::Global;
 use std::process::Abort;
 use std::test::Fail;
@@ -105,7 +106,7 @@ const GO: Object = Object::Signal(SignalHandle(2));
 const SPIN: Object = Object::Kernel(KernelObject(2));
 
 fn policy(alloc: Global, text: &str) -> Result<Policy, Fail> {
-    Ok(read_policy(alloc, text.as_bytes())?)
+    Ok(read(alloc, text.as_bytes())?)
 }
 
 fn sample(alloc: Global) -> Result<Policy, Fail> {
@@ -127,10 +128,14 @@ fn check_counts(rt: &impl Abort, policy: &Policy) {
     assert_eq!(rt; counts(policy), [2, 1, 2, 2, 2, 6]);
 }
 
+// (a test that owns a policy is dear to prove, so each passes it on at once)
+fn check_counted(rt: &impl Abort, policy: Policy) {
+    check_counts(rt, &policy);
+}
+
 #[test]
 fn the_sample_is_counted(rt: HostRuntime) -> Result<(), Fail> {
-    let policy = sample(rt.alloc())?;
-    check_counts(&rt, &policy);
+    check_counted(&rt, sample(rt.alloc())?);
     Ok(())
 }
 
@@ -149,15 +154,22 @@ fn check_unknown_client(rt: &impl Abort, policy: &Policy, name: &[u8]) {
     assert_eq!(rt; policy.client_named(name), ClientId(0), "{name:?}");
 }
 
+fn check_clients(rt: &impl Abort, policy: &Policy) {
+    check_client(rt, policy, "alice", ALICE);
+    check_client(rt, policy, "bob", BOB);
+    check_no_client(rt, policy, ClientId(0));
+    check_no_client(rt, policy, ClientId(3));
+    check_unknown_client(rt, policy, b"carol");
+    check_unknown_client(rt, policy, b"\xff");
+}
+
+fn check_its_clients(rt: &impl Abort, policy: Policy) {
+    check_clients(rt, &policy);
+}
+
 #[test]
 fn clients_have_names_and_numbers(rt: HostRuntime) -> Result<(), Fail> {
-    let policy = sample(rt.alloc())?;
-    check_client(&rt, &policy, "alice", ALICE);
-    check_client(&rt, &policy, "bob", BOB);
-    check_no_client(&rt, &policy, ClientId(0));
-    check_no_client(&rt, &policy, ClientId(3));
-    check_unknown_client(&rt, &policy, b"carol");
-    check_unknown_client(&rt, &policy, b"\xff");
+    check_its_clients(&rt, sample(rt.alloc())?);
     Ok(())
 }
 
@@ -173,18 +185,28 @@ fn check_no_object(rt: &impl Abort, policy: &Policy, object: Object) {
     assert!(rt; !policy.declares(object), "{object:?}");
 }
 
+fn check_unknown_object(rt: &impl Abort, policy: &Policy, kind: Kind, name: &[u8]) {
+    assert_eq!(rt; policy.object_named(kind, name).number(), 0, "{name:?}");
+}
+
+fn check_objects(rt: &impl Abort, policy: &Policy) {
+    check_object(rt, policy, "gpu", GPU);
+    check_object(rt, policy, "buf", BUF);
+    check_object(rt, policy, "args", ARGS);
+    check_object(rt, policy, "done", DONE);
+    check_object(rt, policy, "spin", SPIN);
+    check_no_object(rt, policy, Object::of(Kind::Region, 0));
+    check_no_object(rt, policy, Object::of(Kind::Region, 3));
+    check_unknown_object(rt, policy, Kind::Signal, b"buf");
+}
+
+fn check_its_objects(rt: &impl Abort, policy: Policy) {
+    check_objects(rt, &policy);
+}
+
 #[test]
 fn objects_have_names_and_numbers(rt: HostRuntime) -> Result<(), Fail> {
-    let policy = sample(rt.alloc())?;
-    check_object(&rt, &policy, "gpu", GPU);
-    check_object(&rt, &policy, "buf", BUF);
-    check_object(&rt, &policy, "args", ARGS);
-    check_object(&rt, &policy, "done", DONE);
-    check_object(&rt, &policy, "spin", SPIN);
-    check_no_object(&rt, &policy, Object::of(Kind::Region, 0));
-    check_no_object(&rt, &policy, Object::of(Kind::Region, 3));
-    let other = policy.object_named(Kind::Signal, b"buf");
-    assert_eq!(rt; other.number(), 0);
+    check_its_objects(&rt, sample(rt.alloc())?);
     Ok(())
 }
 
@@ -222,22 +244,30 @@ fn check_source(rt: &impl Abort, policy: &Policy, kernel: u64, entry: &str) -> R
     Ok(())
 }
 
+const BOTH: Takes = Takes {
+    kernel: true,
+    agent: true,
+};
+
+fn check_declared(rt: &impl Abort, policy: &Policy) -> Result<(), Fail> {
+    check_takes(rt, policy, 1, Some(BOTH));
+    check_takes(rt, policy, 2, None);
+    check_length(rt, policy, 0, None);
+    check_length(rt, policy, 1, Some(64));
+    check_length(rt, policy, 2, Some(16));
+    check_initial(rt, policy, 2, Some(1));
+    check_initial(rt, policy, 3, None);
+    check_source(rt, policy, 1, "&inc")?;
+    check_source(rt, policy, 2, "&spin")
+}
+
+fn check_its_declarations(rt: &impl Abort, policy: Policy) -> Result<(), Fail> {
+    check_declared(rt, &policy)
+}
+
 #[test]
 fn objects_are_as_declared(rt: HostRuntime) -> Result<(), Fail> {
-    let policy = sample(rt.alloc())?;
-    let both = Takes {
-        kernel: true,
-        agent: true,
-    };
-    check_takes(&rt, &policy, 1, Some(both));
-    check_takes(&rt, &policy, 2, None);
-    check_length(&rt, &policy, 0, None);
-    check_length(&rt, &policy, 1, Some(64));
-    check_length(&rt, &policy, 2, Some(16));
-    check_initial(&rt, &policy, 2, Some(1));
-    check_initial(&rt, &policy, 3, None);
-    check_source(&rt, &policy, 1, "&inc")?;
-    check_source(&rt, &policy, 2, "&spin")
+    check_its_declarations(&rt, sample(rt.alloc())?)
 }
 
 fn check_ends(rt: &impl Abort, rows: &[AllowRow], first: AllowRow, last: AllowRow) {
@@ -257,10 +287,13 @@ const BOBS_REGION: AllowRow = AllowRow {
     rights: Rights::READ,
 };
 
+fn check_its_ends(rt: &impl Abort, policy: Policy) {
+    check_ends(rt, policy.allow_rows(), ALICES_AGENTS, BOBS_REGION);
+}
+
 #[test]
 fn allow_rows_keep_their_order(rt: HostRuntime) -> Result<(), Fail> {
-    let policy = sample(rt.alloc())?;
-    check_ends(&rt, policy.allow_rows(), ALICES_AGENTS, BOBS_REGION);
+    check_its_ends(&rt, sample(rt.alloc())?);
     Ok(())
 }
 
@@ -319,10 +352,13 @@ const LISTED: [Question; 11] = [
     ("unknown_client", ClientId(3), BUF, &[Right::Read], false),
 ];
 
+fn check_its_questions(rt: &impl Abort, policy: Policy, questions: &[Question]) {
+    check_questions(rt, &policy, questions);
+}
+
 #[test]
 fn the_sample_allows_what_its_rows_list(rt: HostRuntime) -> Result<(), Fail> {
-    let policy = sample(rt.alloc())?;
-    check_questions(&rt, &policy, &LISTED);
+    check_its_questions(&rt, sample(rt.alloc())?, &LISTED);
     Ok(())
 }
 
@@ -367,27 +403,78 @@ const WILD_ROWS: [Question; 6] = [
 
 #[test]
 fn wildcards_cover_all(rt: HostRuntime) -> Result<(), Fail> {
-    let policy = policy(rt.alloc(), WILD)?;
-    check_questions(&rt, &policy, &WILD_ROWS);
+    check_its_questions(&rt, policy(rt.alloc(), WILD)?, &WILD_ROWS);
+    Ok(())
+}
+
+/// Each right, and its name.
+const RIGHTS: [(Right, &str); 6] = [
+    (Right::Use, "USE"),
+    (Right::Read, "READ"),
+    (Right::Write, "WRITE"),
+    (Right::Wait, "WAIT"),
+    (Right::Change, "CHANGE"),
+    (Right::Launch, "LAUNCH"),
+];
+
+/// A right prints as this name, and is alone in its set.
+fn check_right(rt: &(impl Abort + AllocGlobal), right: Right, name: &str) -> Result<(), Fail> {
+    let printed = right.to_string(rt.alloc())?;
+    assert_eq!(rt; printed.as_str(), name);
+    assert!(rt; Rights::of(right).has(right), "{name}");
+    assert!(rt; !Rights::NONE.has(right), "{name}");
+    assert!(rt; Rights::of(right).includes(Rights::NONE), "{name}");
+    Ok(())
+}
+
+// The rights are all that there are, in their order.
+fn check_rights(
+    rt: &(impl Abort + AllocGlobal),
+    all: &[Right],
+    rights: &[(Right, &str)],
+) -> Result<(), Fail> {
+    for (found, (right, name)) in all.iter().zip(rights.iter()) {
+        assert_eq!(rt; *found, *right, "{name}");
+        check_right(rt, *right, name)?;
+    }
+    Ok(())
+}
+
+/// Each kind, and its name.
+const KINDS: [(Kind, &str); 4] = [
+    (Kind::Agent, "agent"),
+    (Kind::Region, "region"),
+    (Kind::Signal, "signal"),
+    (Kind::Kernel, "kernel"),
+];
+
+fn check_kind(rt: &(impl Abort + AllocGlobal), kind: Kind, name: &str) -> Result<(), Fail> {
+    let printed = kind.to_string(rt.alloc())?;
+    assert_eq!(rt; printed.as_str(), name);
+    Ok(())
+}
+
+// The kinds are all that there are, in their order.
+fn check_kinds(
+    rt: &(impl Abort + AllocGlobal),
+    all: &[Kind],
+    kinds: &[(Kind, &str)],
+) -> Result<(), Fail> {
+    for (found, (kind, name)) in all.iter().zip(kinds.iter()) {
+        assert_eq!(rt; *found, *kind, "{name}");
+        check_kind(rt, *kind, name)?;
+    }
     Ok(())
 }
 
 #[test]
 fn rights_and_kinds_print_their_names(rt: HostRuntime) -> Result<(), Fail> {
-    let rights = ["USE", "READ", "WRITE", "WAIT", "CHANGE", "LAUNCH"];
-    for (right, name) in Right::ALL.iter().zip(rights) {
-        assert_eq!(rt; right.to_string(rt.alloc())?.as_str(), name);
-        assert!(rt; Rights::of(*right).has(*right), "{name}");
-        assert!(rt; !Rights::NONE.has(*right), "{name}");
-        assert!(rt; Rights::of(*right).includes(Rights::NONE), "{name}");
-    }
-    for (kind, name) in Kind::ALL
-        .iter()
-        .zip(["agent", "region", "signal", "kernel"])
-    {
-        assert_eq!(rt; kind.to_string(rt.alloc())?.as_str(), name);
-    }
+    check_rights(&rt, &Right::ALL, &RIGHTS)?;
+    check_kinds(&rt, &Kind::ALL, &KINDS)
+}
+
+#[test]
+fn a_set_is_made_of_each_right(rt: HostRuntime) {
     let ends = Rights::from_each(true, false, false, false, false, true);
     assert_eq!(rt; ends, Rights::USE.union(Rights::LAUNCH));
-    Ok(())
 }

@@ -1,10 +1,11 @@
 //! Which of several faults is told: that of the item that begins earliest, and of its causes the least.
 
-use super::limits::{arguments, kernels, lines};
-use super::{check_item, fault, with_arguments, with_items};
-use crate::Cause::{
+use crate::limits::{arguments, kernels, lines};
+use crate::texts::{check_fault, check_item, check_items, check_with_arguments};
+use kernel_check::Cause::{
     self, BadAddress, DoubleName, TooLarge, UnknownArgument, UnknownLabel, WrongRegister, WrongType,
 };
+use std::process::Abort;
 use std::test::Fail;
 
 /// Items with several causes, in a kernel with an argument `%p` of 64 bits, and the least.
@@ -31,12 +32,16 @@ const CAUSES: [(&str, Cause); 20] = [
     ("ld_kernarg_u64 $d0, [$c64];", TooLarge),
 ];
 
-#[test]
-fn the_least_of_two_causes_is_told(rt: HostRuntime) -> Result<(), Fail> {
-    for (item, cause) in CAUSES {
-        check_item(&rt, "kernarg_u64 %p", item, Some(cause))?;
+fn check_causes(rt: &(impl Abort + AllocGlobal), rows: &[(&str, Cause)]) -> Result<(), Fail> {
+    for (item, cause) in rows {
+        check_item(rt, "kernarg_u64 %p", item, Some(*cause))?;
     }
     Ok(())
+}
+
+#[test]
+fn the_least_of_two_causes_is_told(rt: HostRuntime) -> Result<(), Fail> {
+    check_causes(&rt, &CAUSES)
 }
 
 /// An item that is the 4,097th instruction, from line 4 on, of a kernel with an argument `%p` of 64 bits.
@@ -51,19 +56,23 @@ const LAST_INSTRUCTIONS: [(&str, Cause); 8] = [
     ("mov_b32 $s64, 1;", TooLarge),
 ];
 
+fn check_last_instructions(
+    rt: &(impl Abort + AllocGlobal),
+    before: &str,
+    rows: &[(&str, Cause)],
+) -> Result<(), Fail> {
+    for (item, cause) in rows {
+        let items = format!(in rt.alloc(); "{before}{item}")?;
+        let wanted = Some((4100, *cause));
+        check_with_arguments(rt, "kernarg_u64 %p", items.as_str(), wanted)?;
+    }
+    Ok(())
+}
+
 #[test]
 fn the_least_cause_of_one_instruction_too_many_is_told(rt: HostRuntime) -> Result<(), Fail> {
     let before = lines(rt.alloc(), "ret;", 4096)?;
-    for (item, cause) in LAST_INSTRUCTIONS {
-        let items = format!(in rt.alloc(); "{before}{item}")?;
-        let text = with_arguments(rt.alloc(), "kernarg_u64 %p", items.as_str())?;
-        assert_eq!(rt;
-            fault(rt.alloc(), text.as_str())?,
-            Some((4100, cause)),
-            "{item}"
-        );
-    }
-    Ok(())
+    check_last_instructions(&rt, before.as_str(), &LAST_INSTRUCTIONS)
 }
 
 /// What stands on the line behind 4,096 instructions and two labels, and the fault.
@@ -74,15 +83,22 @@ const BEHIND_THE_LAST: [(&str, Option<(u32, Cause)>); 4] = [
     ("@c:\nret;", Some((4103, TooLarge))),
 ];
 
+fn check_behind(
+    rt: &(impl Abort + AllocGlobal),
+    before: &str,
+    rows: &[(&str, Option<(u32, Cause)>)],
+) -> Result<(), Fail> {
+    for (item, wanted) in rows {
+        let items = format!(in rt.alloc(); "@a:\n{before}@b:\n{item}")?;
+        check_items(rt, items.as_str(), *wanted)?;
+    }
+    Ok(())
+}
+
 #[test]
 fn labels_behind_the_last_instruction_have_their_own_causes(rt: HostRuntime) -> Result<(), Fail> {
     let before = lines(rt.alloc(), "ret;", 4096)?;
-    for (item, want) in BEHIND_THE_LAST {
-        let items = format!(in rt.alloc(); "@a:\n{before}@b:\n{item}")?;
-        let text = with_items(rt.alloc(), items.as_str())?;
-        assert_eq!(rt; fault(rt.alloc(), text.as_str())?, want, "{item}");
-    }
-    Ok(())
+    check_behind(&rt, before.as_str(), &BEHIND_THE_LAST)
 }
 
 /// A kernel on line 66, behind the kernels `&k0` to `&k63`, and the fault.
@@ -99,15 +115,22 @@ const LAST_KERNELS: [(&str, u32, Cause); 6] = [
     ),
 ];
 
+fn check_behind_kernels(
+    rt: &(impl Abort + AllocGlobal),
+    before: &str,
+    rows: &[(&str, u32, Cause)],
+) -> Result<(), Fail> {
+    for (kernel, line, cause) in rows {
+        let text = format!(in rt.alloc(); "{before}{kernel}")?;
+        check_fault(rt, kernel, text.as_str(), Some((*line, *cause)))?;
+    }
+    Ok(())
+}
+
 #[test]
 fn the_least_cause_of_one_kernel_too_many_is_told(rt: HostRuntime) -> Result<(), Fail> {
     let before = kernels(rt.alloc(), 64)?;
-    for (kernel, line, cause) in LAST_KERNELS {
-        let text = format!(in rt.alloc(); "{before}{kernel}")?;
-        let found = fault(rt.alloc(), text.as_str())?;
-        assert_eq!(rt; found, Some((line, cause)), "{kernel}");
-    }
-    Ok(())
+    check_behind_kernels(&rt, before.as_str(), &LAST_KERNELS)
 }
 
 /// The last argument, on line 514 behind 4,096 bytes of the arguments `%p0` to `%p511`, and the fault.
@@ -118,18 +141,21 @@ const LAST_ARGUMENTS: [(&str, u32, Cause); 4] = [
     ("kernarg_u8 %q,\nkernarg_u8 %q", 514, TooLarge),
 ];
 
-#[test]
-fn the_least_cause_of_an_argument_behind_4096_bytes_is_told(rt: HostRuntime) -> Result<(), Fail> {
-    for (last, line, cause) in LAST_ARGUMENTS {
+fn check_last_arguments(
+    rt: &(impl Abort + AllocGlobal),
+    rows: &[(&str, u32, Cause)],
+) -> Result<(), Fail> {
+    for (last, line, cause) in rows {
         let arguments = arguments(rt.alloc(), 512, last)?;
-        let text = with_arguments(rt.alloc(), arguments.as_str(), "br @x;")?;
-        assert_eq!(rt;
-            fault(rt.alloc(), text.as_str())?,
-            Some((line, cause)),
-            "{last}"
-        );
+        let wanted = Some((*line, *cause));
+        check_with_arguments(rt, arguments.as_str(), "br @x;", wanted)?;
     }
     Ok(())
+}
+
+#[test]
+fn the_least_cause_of_an_argument_behind_4096_bytes_is_told(rt: HostRuntime) -> Result<(), Fail> {
+    check_last_arguments(&rt, &LAST_ARGUMENTS)
 }
 
 /// Items from line 4 on, of which the earlier has the greater cause, and their fault.
@@ -150,14 +176,16 @@ const EARLIER: [(&str, u32, Cause); 10] = [
     ("ret;\n\n/*\n*/ br // @a;\n@x\n;", 7, UnknownLabel),
 ];
 
-#[test]
-fn the_earlier_item_is_told_whatever_its_cause(rt: HostRuntime) -> Result<(), Fail> {
-    for (items, line, cause) in EARLIER {
-        let text = with_items(rt.alloc(), items)?;
-        let found = fault(rt.alloc(), text.as_str())?;
-        assert_eq!(rt; found, Some((line, cause)), "{items}");
+fn check_rows(rt: &(impl Abort + AllocGlobal), rows: &[(&str, u32, Cause)]) -> Result<(), Fail> {
+    for (items, line, cause) in rows {
+        check_items(rt, items, Some((*line, *cause)))?;
     }
     Ok(())
+}
+
+#[test]
+fn the_earlier_item_is_told_whatever_its_cause(rt: HostRuntime) -> Result<(), Fail> {
+    check_rows(&rt, &EARLIER)
 }
 
 /// Whole kernels from line 2 on, of which the earlier item has the greater cause, and their fault.
@@ -192,10 +220,5 @@ const KERNELS: [(&str, u32, Cause); 6] = [
 
 #[test]
 fn the_earlier_kernel_or_argument_is_told(rt: HostRuntime) -> Result<(), Fail> {
-    for (kernels, line, cause) in KERNELS {
-        let text = format!(in rt.alloc(); "module &m:1:0:$base:$large:$default;\n{kernels}")?;
-        let found = fault(rt.alloc(), text.as_str())?;
-        assert_eq!(rt; found, Some((line, cause)), "{kernels}");
-    }
-    Ok(())
+    check_behind_kernels(&rt, "module &m:1:0:$base:$large:$default;\n", &KERNELS)
 }

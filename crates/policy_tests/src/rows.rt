@@ -1,6 +1,6 @@
 //! Faults of rows: unknown keys first, then each key in turn, then the names.
 
-use super::{Row, check_rows};
+use crate::outcomes::{Row, check_rows};
 use std::test::Fail;
 
 const NAMES: [Row; 12] = [

@@ -1,7 +1,7 @@
 //! Numbers at both sides of their bounds.
 
-use super::check_item;
-use crate::Cause::{self, TooLarge};
+use crate::texts::check_item;
+use kernel_check::Cause::{self, TooLarge};
 use std::process::Abort;
 use std::test::Fail;
 
@@ -54,14 +54,18 @@ fn check_range(rt: &(impl Abort + AllocGlobal), row: Row) -> Result<(), Fail> {
     Ok(())
 }
 
+fn check_ranges(rt: &(impl Abort + AllocGlobal), rows: &[Row]) -> Result<(), Fail> {
+    for row in rows {
+        check_range(rt, *row)?;
+    }
+    Ok(())
+}
+
 #[test]
 fn constants_range_from_the_least_signed_to_the_greatest_unsigned(
     rt: HostRuntime,
 ) -> Result<(), Fail> {
-    for row in RANGES {
-        check_range(&rt, row)?;
-    }
-    Ok(())
+    check_ranges(&rt, &RANGES)
 }
 
 /// An item that passes, and the same with a number that is too large.

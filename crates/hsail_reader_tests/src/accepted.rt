@@ -1,5 +1,5 @@
-use super::{INC, SPIN, fault, reads, with_item, with_line};
-use crate::Cause;
+use crate::texts::{INC, SPIN, check_fault, check_read, with_item, with_line};
+use hsail_reader::Cause;
 use std::process::Abort;
 use std::test::Fail;
 
@@ -64,8 +64,8 @@ const ROWS: [(&str, &str, &str); 39] = [
 
 #[test]
 fn sample_kernels_are_read(rt: HostRuntime) {
-    assert!(rt; reads(rt.alloc(), INC));
-    assert!(rt; reads(rt.alloc(), SPIN));
+    check_read(&rt, "inc", INC);
+    check_read(&rt, "spin", SPIN);
 }
 
 /// A row with a type behind its front is read where the row has the type, and else in no row.
@@ -78,11 +78,11 @@ fn check_word(
 ) -> Result<(), Fail> {
     let item = format!(in rt.alloc(); "{front}_{kind} {operands};")?;
     let text = with_item(rt.alloc(), item.as_str())?;
-    let found = fault(rt.alloc(), text.as_bytes());
     if kinds.split(' ').any(|k| k == kind) {
-        assert!(rt; reads(rt.alloc(), text.as_str()), "{front} {kind}");
+        check_read(rt, item.as_str(), text.as_str());
     } else {
-        assert_eq!(rt; found, Some((4, 1, Cause::NotInProfile)), "{front} {kind}");
+        let wanted = Some((4, 1, Cause::NotInProfile));
+        check_fault(rt, item.as_str(), text.as_str(), wanted);
     }
     Ok(())
 }
@@ -93,18 +93,22 @@ fn check_row(
     kinds: &str,
     operands: &str,
 ) -> Result<(), Fail> {
-    for kind in KINDS {
+    for kind in &KINDS {
         check_word(rt, front, kind, kinds, operands)?;
+    }
+    Ok(())
+}
+
+fn check_rows(rt: &(impl Abort + AllocGlobal), rows: &[(&str, &str, &str)]) -> Result<(), Fail> {
+    for (front, kinds, operands) in rows {
+        check_row(rt, front, kinds, operands)?;
     }
     Ok(())
 }
 
 #[test]
 fn each_row_takes_its_types_and_no_other(rt: HostRuntime) -> Result<(), Fail> {
-    for (front, kinds, operands) in ROWS {
-        check_row(&rt, front, kinds, operands)?;
-    }
-    Ok(())
+    check_rows(&rt, &ROWS)
 }
 
 const ITEMS: [(&str, &str); 36] = [
@@ -158,13 +162,17 @@ const ITEMS: [(&str, &str); 36] = [
     ("greatest register", "mov_u64 $d18446744073709551615, 0;"),
 ];
 
-#[test]
-fn items_are_read(rt: HostRuntime) -> Result<(), Fail> {
-    for (name, item) in ITEMS {
+fn check_items(rt: &(impl Abort + AllocGlobal), items: &[(&str, &str)]) -> Result<(), Fail> {
+    for (name, item) in items {
         let text = with_item(rt.alloc(), item)?;
-        assert!(rt; reads(rt.alloc(), text.as_str()), "{name}");
+        check_read(rt, name, text.as_str());
     }
     Ok(())
+}
+
+#[test]
+fn items_are_read(rt: HostRuntime) -> Result<(), Fail> {
+    check_items(&rt, &ITEMS)
 }
 
 const LINES: [(&str, &str); 14] = [
@@ -199,13 +207,17 @@ const LINES: [(&str, &str); 14] = [
     ),
 ];
 
-#[test]
-fn lines_are_read(rt: HostRuntime) -> Result<(), Fail> {
-    for (name, line) in LINES {
+fn check_lines(rt: &(impl Abort + AllocGlobal), lines: &[(&str, &str)]) -> Result<(), Fail> {
+    for (name, line) in lines {
         let text = with_line(rt.alloc(), line)?;
-        assert!(rt; reads(rt.alloc(), text.as_str()), "{name}");
+        check_read(rt, name, text.as_str());
     }
     Ok(())
+}
+
+#[test]
+fn lines_are_read(rt: HostRuntime) -> Result<(), Fail> {
+    check_lines(&rt, &LINES)
 }
 
 const HEADERS: [&str; 8] = [
@@ -219,9 +231,13 @@ const HEADERS: [&str; 8] = [
     "module&m:1:0:$base:$large:$default;kernel&k(){}",
 ];
 
+fn check_headers(rt: &(impl Abort + AllocGlobal), headers: &[&str]) {
+    for header in headers {
+        check_read(rt, header, header);
+    }
+}
+
 #[test]
 fn headers_are_read(rt: HostRuntime) {
-    for header in HEADERS {
-        assert!(rt; reads(rt.alloc(), header), "{header}");
-    }
+    check_headers(&rt, &HEADERS);
 }

@@ -1,6 +1,6 @@
-use super::{INC, fault, reads, with_item, with_line};
-use crate::Cause::{Lexeme, NotInProfile, Syntax, TooLong};
-use crate::{Cause, read_module};
+use crate::texts::{INC, check_fault, check_item, check_line, check_read, read};
+use hsail_reader::Cause::{self, Lexeme, NotInProfile, Syntax, TooLong};
+use std::alloc::{AllocError, Global};
 use std::process::Abort;
 use std::test::Fail;
 
@@ -330,8 +330,7 @@ const LEXEMES: [Row; 19] = [
 
 fn check_items(rt: &(impl Abort + AllocGlobal), rows: &[Row]) -> Result<(), Fail> {
     for (name, item, wanted) in rows {
-        let text = with_item(rt.alloc(), item)?;
-        assert_eq!(rt; fault(rt.alloc(), text.as_bytes()), Some(*wanted), "{name}");
+        check_item(rt, name, item, Some(*wanted))?;
     }
     Ok(())
 }
@@ -455,13 +454,16 @@ const LINES: [Row; 30] = [
     ),
 ];
 
-#[test]
-fn broken_lines_are_refused(rt: HostRuntime) -> Result<(), Fail> {
-    for (name, line, wanted) in LINES {
-        let text = with_line(rt.alloc(), line)?;
-        assert_eq!(rt; fault(rt.alloc(), text.as_bytes()), Some(wanted), "{name}");
+fn check_lines(rt: &(impl Abort + AllocGlobal), rows: &[Row]) -> Result<(), Fail> {
+    for (name, line, wanted) in rows {
+        check_line(rt, name, line, Some(*wanted))?;
     }
     Ok(())
+}
+
+#[test]
+fn broken_lines_are_refused(rt: HostRuntime) -> Result<(), Fail> {
+    check_lines(&rt, &LINES)
 }
 
 /// A name, a text, and the fault.
@@ -522,38 +524,69 @@ const TEXTS: [Row; 18] = [
     ),
 ];
 
-#[test]
-fn broken_texts_are_refused(rt: HostRuntime) {
-    for (name, text, wanted) in TEXTS {
-        assert_eq!(rt; fault(rt.alloc(), text.as_bytes()), Some(wanted), "{name}");
+fn check_texts(rt: &(impl Abort + AllocGlobal), rows: &[Row]) {
+    for (name, text, wanted) in rows {
+        check_fault(rt, name, text, Some(*wanted));
     }
 }
 
 #[test]
-fn beginnings_of_a_body_are_refused(rt: HostRuntime) -> Result<(), Fail> {
-    let (_, body) = INC.split_once("{").ok_or("a body")?;
-    let behind = body.len();
-    let (_, end) = INC.split_once("}").ok_or("an end")?;
-    let first = INC.len() - behind.min(INC.len());
-    let last = INC.len() - end.len().min(INC.len());
+fn broken_texts_are_refused(rt: HostRuntime) {
+    check_texts(&rt, &TEXTS);
+}
+
+/// Where a text's first brace stands, and its last.
+fn body_of(text: &str) -> Option<(usize, usize)> {
+    let (_, body) = text.split_once("{")?;
+    let (_, end) = text.split_once("}")?;
+    let first = text.len() - body.len().min(text.len());
+    let last = text.len() - end.len().min(text.len());
+    Some((first, last))
+}
+
+fn check_beginning(
+    rt: &(impl Abort + AllocGlobal),
+    text: &[u8],
+    length: usize,
+) -> Result<(), Fail> {
+    let front = text.get(..length).ok_or("a beginning")?;
+    assert!(rt; read(rt.alloc(), front).is_err(), "{length} bytes");
+    Ok(())
+}
+
+fn check_beginnings(rt: &(impl Abort + AllocGlobal), text: &str) -> Result<(), Fail> {
+    let (first, last) = body_of(text).ok_or("a body")?;
     for length in first..last {
-        let front = INC.as_bytes().get(..length).ok_or("a beginning")?;
-        assert!(rt; read_module(rt.alloc(), front).is_err(), "{length} bytes");
+        check_beginning(rt, text.as_bytes(), length)?;
     }
-    assert!(rt; first + 100 < last);
+    assert!(rt; last.saturating_sub(first) > 100);
+    Ok(())
+}
+
+#[test]
+fn beginnings_of_a_body_are_refused(rt: HostRuntime) -> Result<(), Fail> {
+    check_beginnings(&rt, INC)
+}
+
+/// A header, and blanks up to so many bytes.
+fn text_of(alloc: Global, header: &str, length: usize) -> Result<String, AllocError> {
+    let mut text = String::from_str(alloc, header)?;
+    for _ in header.len()..length {
+        text.push(' ')?;
+    }
+    Ok(text)
+}
+
+fn check_limit(rt: &(impl Abort + AllocGlobal), header: &str) -> Result<(), Fail> {
+    let mut text = text_of(rt.alloc(), header, 65536)?;
+    assert_eq!(rt; text.len(), 65536);
+    check_read(rt, "65536 bytes", text.as_str());
+    text.push('#')?;
+    check_fault(rt, "65537 bytes", text.as_str(), Some((1, 1, TooLong)));
     Ok(())
 }
 
 #[test]
 fn long_texts_are_refused(rt: HostRuntime) -> Result<(), Fail> {
-    let header = "module &m:1:0:$base:$large:$default;";
-    let mut text = String::from_str(rt.alloc(), header)?;
-    for _ in 0..65536 - header.len() {
-        text.push(' ')?;
-    }
-    assert_eq!(rt; text.len(), 65536);
-    assert!(rt; reads(rt.alloc(), text.as_str()));
-    text.push('#')?;
-    assert_eq!(rt; fault(rt.alloc(), text.as_bytes()), Some((1, 1, TooLong)));
-    Ok(())
+    check_limit(&rt, "module &m:1:0:$base:$large:$default;")
 }

@@ -1,6 +1,6 @@
 //! Modifiers, at each place that has them: they pass, and have no effect.
 
-use super::{fault, steps, with_arguments};
+use crate::texts::{check_fault, check_with_arguments, steps, with_arguments};
 use std::alloc::{AllocError, Global};
 use std::process::Abort;
 use std::test::Fail;
@@ -57,6 +57,15 @@ fn with_item(alloc: Global, item: &str) -> Result<String, AllocError> {
     with_arguments(alloc, "kernarg_u64 %p", items.as_str())
 }
 
+/// Both texts come to the same step.
+fn check_step(rt: &(impl Abort + AllocGlobal), plain: &str, modified: &str) -> Result<(), Fail> {
+    let wanted = steps(rt.alloc(), plain)?;
+    let found = steps(rt.alloc(), modified)?;
+    assert_eq!(rt; found.len(), 1, "{modified}");
+    assert_eq!(rt; found.as_slice(), wanted.as_slice(), "{modified}");
+    Ok(())
+}
+
 /// An item with a modifier passes, and comes to the same step as without.
 fn check_modifier(
     rt: &(impl Abort + AllocGlobal),
@@ -68,16 +77,8 @@ fn check_modifier(
     let plain = with_item(rt.alloc(), plain.as_str())?;
     let modified = format!(in rt.alloc(); "{front}{modifier}{rest}")?;
     let modified = with_item(rt.alloc(), modified.as_str())?;
-    assert_eq!(rt;
-        fault(rt.alloc(), modified.as_str())?,
-        None,
-        "{modifier} {rest}"
-    );
-    let wanted = steps(rt.alloc(), plain.as_str())?;
-    let found = steps(rt.alloc(), modified.as_str())?;
-    assert_eq!(rt; found.len(), 1, "{modifier} {rest}");
-    assert_eq!(rt; found.as_slice(), wanted.as_slice(), "{modifier} {rest}");
-    Ok(())
+    check_fault(rt, modified.as_str(), modified.as_str(), None)?;
+    check_step(rt, plain.as_str(), modified.as_str())
 }
 
 fn check_row(rt: &(impl Abort + AllocGlobal), row: Row) -> Result<(), Fail> {
@@ -88,12 +89,16 @@ fn check_row(rt: &(impl Abort + AllocGlobal), row: Row) -> Result<(), Fail> {
     Ok(())
 }
 
-#[test]
-fn modifiers_pass_at_each_place_and_have_no_effect(rt: HostRuntime) -> Result<(), Fail> {
-    for row in ROWS {
-        check_row(&rt, row)?;
+fn check_rows(rt: &(impl Abort + AllocGlobal), rows: &[Row]) -> Result<(), Fail> {
+    for row in rows {
+        check_row(rt, *row)?;
     }
     Ok(())
+}
+
+#[test]
+fn modifiers_pass_at_each_place_and_have_no_effect(rt: HostRuntime) -> Result<(), Fail> {
+    check_rows(&rt, &ROWS)
 }
 
 /// Arguments with an `align` of each number.
@@ -106,11 +111,14 @@ const ALIGNED: [&str; 6] = [
     "align(0x10) kernarg_u8 %p, align(0x8) kernarg_u8 %q",
 ];
 
-#[test]
-fn arguments_pass_with_each_alignment(rt: HostRuntime) -> Result<(), Fail> {
-    for arguments in ALIGNED {
-        let text = with_arguments(rt.alloc(), arguments, "ret;")?;
-        assert_eq!(rt; fault(rt.alloc(), text.as_str())?, None, "{arguments}");
+fn check_aligned(rt: &(impl Abort + AllocGlobal), rows: &[&str]) -> Result<(), Fail> {
+    for arguments in rows {
+        check_with_arguments(rt, arguments, "ret;", None)?;
     }
     Ok(())
+}
+
+#[test]
+fn arguments_pass_with_each_alignment(rt: HostRuntime) -> Result<(), Fail> {
+    check_aligned(&rt, &ALIGNED)
 }

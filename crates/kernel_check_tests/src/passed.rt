@@ -1,11 +1,14 @@
+//! What passes: the steps of kernels, their constants, their labels and the places of their arguments.
+
 ghost use Rattle.std.specs.Prelude.{◌<◌};
 
-use super::{INC, SPIN, checked, fault, steps, with_arguments, with_items};
-use crate::{
-    ArgumentStep, BinaryStep, BranchStep, Dimension, IdentifyStep, LinedStep, LoadStep, Operand,
-    Pointer, Relative, Slot, Step, StoreStep, TernaryStep, UnaryStep,
-};
+use crate::texts::{INC, SPIN, check_items, checked, steps, with_arguments, with_items};
 use hsail_reader::{BinaryOperation, DataType, Query, TernaryOperation, UnaryOperation};
+use kernel_check::{
+    ArgumentStep, BinaryStep, BranchStep, Checked, Dimension, IdentifyStep, LinedStep, LoadStep,
+    Operand, Pointer, Relative, Slot, Step, StoreStep, TernaryStep, UnaryStep,
+};
+use std::process::Abort;
 use std::test::Fail;
 
 fn register(number: u8) -> Operand
@@ -92,44 +95,98 @@ fn steps_of_inc() -> [Step; 9] {
     ]
 }
 
+/// The steps are these, from line 4 on.
+fn check_lined(rt: &impl Abort, found: &[LinedStep], wanted: &[Step]) {
+    let mut line = 4;
+    assert_eq!(rt; found.len(), wanted.len());
+    for (found, step) in found.iter().zip(wanted.iter()) {
+        assert_eq!(rt; *found, LinedStep { line, step: *step });
+        line = line.wrapping_add(1);
+    }
+}
+
+/// The first kernel has this name, and these steps from line 4 on.
+fn check_program(
+    rt: &(impl Abort + AllocGlobal),
+    kernels: &Checked,
+    name: &[u8],
+    wanted: &[Step],
+) -> Result<(), Fail> {
+    if kernels.count() == 0 {
+        return Err(Fail::from("a kernel"));
+    }
+    let program = kernels.kernel(0);
+    assert_eq!(rt; program.name(), name);
+    check_lined(rt, program.steps(), wanted);
+    Ok(())
+}
+
+/// The block of the first kernel's arguments has so many bytes, with these offsets of 64 bits.
+fn check_block(rt: &impl Abort, kernels: &Checked, bytes: u32, wide: &[u32]) -> Result<(), Fail> {
+    if kernels.count() == 0 {
+        return Err(Fail::from("a kernel"));
+    }
+    assert_eq!(rt; kernels.kernarg_bytes(0), bytes);
+    assert_eq!(rt; kernels.group_bytes(0), 0);
+    assert_eq!(rt; kernels.wide_arguments(0), wide);
+    Ok(())
+}
+
+fn check_found(rt: &impl Abort, kernels: &Checked) {
+    assert_eq!(rt; kernels.count(), 1);
+    assert_eq!(rt; kernels.find(b"&inc"), Some(0));
+    assert_eq!(rt; kernels.find(b"&m"), None);
+    assert_eq!(rt; kernels.find(b"&"), None);
+}
+
+fn check_inc(rt: &(impl Abort + AllocGlobal), text: &str) -> Result<(), Fail> {
+    let inc = checked(rt.alloc(), text)??;
+    check_found(rt, &inc);
+    check_block(rt, &inc, 8, &[0])?;
+    check_program(rt, &inc, b"&inc", &steps_of_inc())
+}
+
 #[test]
 fn the_sample_kernels_check(rt: HostRuntime) -> Result<(), Fail> {
-    let inc = checked(rt.alloc(), INC)??;
-    assert_eq!(rt; inc.count(), 1);
-    assert_eq!(rt; inc.find(b"&inc"), Some(0));
-    assert_eq!(rt; inc.find(b"&m"), None);
-    assert_eq!(rt; inc.find(b"&"), None);
-    if inc.count() == 1 {
-        assert_eq!(rt; inc.kernarg_bytes(0), 8);
-        assert_eq!(rt; inc.group_bytes(0), 0);
-        assert_eq!(rt; inc.wide_arguments(0), [0].as_slice());
-        let program = inc.kernel(0);
-        assert_eq!(rt; program.name(), b"&inc".as_slice());
-        let mut line = 4;
-        assert_eq!(rt; program.steps().len(), 9);
-        for (found, step) in program.steps().iter().zip(steps_of_inc().iter()) {
-            assert_eq!(rt; *found, LinedStep { line, step: *step });
-            line = line.wrapping_add(1);
-        }
-    }
+    check_inc(&rt, INC)
+}
+
+/// The text's first kernel comes to these steps.
+fn check_steps(rt: &(impl Abort + AllocGlobal), text: &str, wanted: &[Step]) -> Result<(), Fail> {
+    let found = steps(rt.alloc(), text)?;
+    assert_eq!(rt; found.as_slice(), wanted);
     Ok(())
+}
+
+/// Items from line 4 on come to these steps.
+fn check_items_steps(
+    rt: &(impl Abort + AllocGlobal),
+    items: &str,
+    wanted: &[Step],
+) -> Result<(), Fail> {
+    let text = with_items(rt.alloc(), items)?;
+    check_steps(rt, text.as_str(), wanted)
+}
+
+fn branches() -> [Step; 3] {
+    [
+        Step::ConditionalBranch(BranchStep {
+            condition: Operand::Constant(1),
+            next: 3,
+        }),
+        Step::Branch(3),
+        Step::Branch(1),
+    ]
 }
 
 #[test]
 fn labels_become_numbers_of_steps(rt: HostRuntime) -> Result<(), Fail> {
-    let spin = steps(rt.alloc(), SPIN)?;
-    assert_eq!(rt; spin.as_slice(), [Step::Branch(0)].as_slice());
-    let text = with_items(rt.alloc(), "cbr_b1 1, @c;\n@a: @b:\nbr @c;\nbr @b;\n@c:")?;
-    let found = steps(rt.alloc(), text.as_str())?;
-    let first = Step::ConditionalBranch(BranchStep {
-        condition: Operand::Constant(1),
-        next: 3,
-    });
-    assert_eq!(rt;
-        found.as_slice(),
-        [first, Step::Branch(3), Step::Branch(1)].as_slice()
-    );
-    Ok(())
+    check_steps(&rt, SPIN, &[Step::Branch(0)])?;
+    check_items_steps(
+        &rt,
+        "cbr_b1 1, @c;\n@a: @b:\nbr @c;\nbr @b;\n@c:",
+        &branches(),
+    )
 }
 
 /// An item, and the constant of 64 bits to which its source comes.
@@ -151,26 +208,44 @@ const CONSTANTS: [(&str, u64); 12] = [
     ),
 ];
 
-#[test]
-fn constants_stand_at_their_width(rt: HostRuntime) -> Result<(), Fail> {
-    for (item, want) in CONSTANTS {
-        let text = with_items(rt.alloc(), item)?;
-        let found = steps(rt.alloc(), text.as_str())?;
-        match found.as_slice() {
-            [Step::Unary(unary)] => assert_eq!(rt; unary.source, Operand::Constant(want), "{item}"),
-            _ => return Err(Fail::from("one step")),
-        }
+/// The constant that is the one step's source.
+fn source_of(steps: &[Step]) -> Option<Operand> {
+    match steps {
+        [Step::Unary(unary)] => Some(unary.source),
+        _ => None,
+    }
+}
+
+fn check_constant(rt: &(impl Abort + AllocGlobal), item: &str, wanted: u64) -> Result<(), Fail> {
+    let text = with_items(rt.alloc(), item)?;
+    let found = steps(rt.alloc(), text.as_str())?;
+    assert_eq!(rt;
+        source_of(found.as_slice()),
+        Some(Operand::Constant(wanted)),
+        "{item}"
+    );
+    Ok(())
+}
+
+fn check_constants(rt: &(impl Abort + AllocGlobal), rows: &[(&str, u64)]) -> Result<(), Fail> {
+    for (item, wanted) in rows {
+        check_constant(rt, item, *wanted)?;
     }
     Ok(())
 }
 
 #[test]
-fn operands_stand_in_their_places(rt: HostRuntime) -> Result<(), Fail> {
-    let items = "mad_s32 $s1, $s2, -3, $s63;\ncmov_b64 $d1, $c2, $d3, 4;\nshl_u64 $d1, $d2, $s3;
+fn constants_stand_at_their_width(rt: HostRuntime) -> Result<(), Fail> {
+    check_constants(&rt, &CONSTANTS)
+}
+
+const OPERANDS: &str =
+    "mad_s32 $s1, $s2, -3, $s63;\ncmov_b64 $d1, $c2, $d3, 4;\nshl_u64 $d1, $d2, $s3;
 ld_global_s8 $s5, [$d6-2];\nst_global_u16 -1, [0x10];\ngridsize_u64 $d7, 2;\nworkgroupid_u32 $s8, 1;";
-    let text = with_items(rt.alloc(), items)?;
-    let found = steps(rt.alloc(), text.as_str())?;
-    let wanted = [
+
+/// The steps of `OPERANDS`.
+fn steps_of_operands() -> [Step; 7] {
+    [
         Step::Ternary(TernaryStep {
             operation: TernaryOperation::MultiplyAdd,
             kind: DataType::S32,
@@ -216,9 +291,12 @@ ld_global_s8 $s5, [$d6-2];\nst_global_u16 -1, [0x10];\ngridsize_u64 $d7, 2;\nwor
             target: Slot::new(8),
             dimension: Dimension::Y,
         }),
-    ];
-    assert_eq!(rt; found.as_slice(), wanted.as_slice());
-    Ok(())
+    ]
+}
+
+#[test]
+fn operands_stand_in_their_places(rt: HostRuntime) -> Result<(), Fail> {
+    check_items_steps(&rt, OPERANDS, &steps_of_operands())
 }
 
 /// Arguments, the bytes of their block, and the offsets of those of 64 bits.
@@ -244,27 +322,36 @@ const LAYOUTS: [(&str, u32, &[u32]); 7] = [
     ("align(8) kernarg_u8 %p, align(2) kernarg_u8 %q", 3, &[]),
 ];
 
-#[test]
-fn arguments_lie_in_order(rt: HostRuntime) -> Result<(), Fail> {
-    for (arguments, bytes, wide) in LAYOUTS {
-        let text = with_arguments(rt.alloc(), arguments, "ret;")?;
-        let kernels = checked(rt.alloc(), text.as_str())??;
-        assert_eq!(rt; kernels.count(), 1);
-        if kernels.count() == 1 {
-            assert_eq!(rt; kernels.kernarg_bytes(0), bytes, "{arguments}");
-            assert_eq!(rt; kernels.wide_arguments(0), wide, "{arguments}");
-        }
+fn check_layout(
+    rt: &(impl Abort + AllocGlobal),
+    arguments: &str,
+    bytes: u32,
+    wide: &[u32],
+) -> Result<(), Fail> {
+    let text = with_arguments(rt.alloc(), arguments, "ret;")?;
+    let kernels = checked(rt.alloc(), text.as_str())??;
+    assert_eq!(rt; kernels.count(), 1, "{arguments}");
+    check_block(rt, &kernels, bytes, wide)
+}
+
+fn check_layouts(
+    rt: &(impl Abort + AllocGlobal),
+    rows: &[(&str, u32, &[u32])],
+) -> Result<(), Fail> {
+    for (arguments, bytes, wide) in rows {
+        check_layout(rt, arguments, *bytes, wide)?;
     }
     Ok(())
 }
 
 #[test]
-fn arguments_are_loaded_from_their_places(rt: HostRuntime) -> Result<(), Fail> {
-    let arguments = "kernarg_u8 %p, align(4) kernarg_u16 %q, kernarg_b64 %r";
-    let items = "ld_kernarg_s16 $s1, [%q];\nld_kernarg_u64 $d2, [%r];";
-    let text = with_arguments(rt.alloc(), arguments, items)?;
-    let found = steps(rt.alloc(), text.as_str())?;
-    let wanted = [
+fn arguments_lie_in_order(rt: HostRuntime) -> Result<(), Fail> {
+    check_layouts(&rt, &LAYOUTS)
+}
+
+/// A load of 16 bits from offset 4, and one of 64 bits from offset 8.
+fn loads() -> [Step; 2] {
+    [
         Step::Argument(ArgumentStep {
             kind: DataType::S16,
             target: Slot::new(1),
@@ -275,9 +362,21 @@ fn arguments_are_loaded_from_their_places(rt: HostRuntime) -> Result<(), Fail> {
             target: Slot::new(2),
             offset: 8,
         }),
-    ];
-    assert_eq!(rt; found.as_slice(), wanted.as_slice());
-    Ok(())
+    ]
+}
+
+fn check_loads(rt: &(impl Abort + AllocGlobal), arguments: &str, items: &str) -> Result<(), Fail> {
+    let text = with_arguments(rt.alloc(), arguments, items)?;
+    check_steps(rt, text.as_str(), &loads())
+}
+
+#[test]
+fn arguments_are_loaded_from_their_places(rt: HostRuntime) -> Result<(), Fail> {
+    check_loads(
+        &rt,
+        "kernarg_u8 %p, align(4) kernarg_u16 %q, kernarg_b64 %r",
+        "ld_kernarg_s16 $s1, [%q];\nld_kernarg_u64 $d2, [%r];",
+    )
 }
 
 /// Items in which nothing fails.
@@ -293,11 +392,14 @@ const ITEMS: [&str; 9] = [
     "br @b; @a: @b: br @a;",
 ];
 
-#[test]
-fn good_items_pass(rt: HostRuntime) -> Result<(), Fail> {
-    for items in ITEMS {
-        let text = with_items(rt.alloc(), items)?;
-        assert_eq!(rt; fault(rt.alloc(), text.as_str())?, None, "{items}");
+fn check_good(rt: &(impl Abort + AllocGlobal), rows: &[&str]) -> Result<(), Fail> {
+    for items in rows {
+        check_items(rt, items, None)?;
     }
     Ok(())
+}
+
+#[test]
+fn good_items_pass(rt: HostRuntime) -> Result<(), Fail> {
+    check_good(&rt, &ITEMS)
 }

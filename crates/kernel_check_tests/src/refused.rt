@@ -1,8 +1,9 @@
-use super::{fault, with_arguments, with_items};
-use crate::Cause::{
+use crate::texts::{check_fault, check_items, check_with_arguments};
+use kernel_check::Cause::{
     self, BadAddress, DoubleName, TooLarge, UnknownArgument, UnknownLabel, WrongRegister, WrongType,
 };
-use crate::{CheckError, CheckFault};
+use kernel_check::{CheckError, CheckFault};
+use std::process::Abort;
 use std::test::Fail;
 
 /// Items from line 4 on, and the line and cause of their fault.
@@ -45,14 +46,16 @@ const ITEMS: [(&str, u32, Cause); 36] = [
     ("add_u32 $d64, $s99, 99999999999;", 4, WrongRegister),
 ];
 
-#[test]
-fn items_fail_by_their_least_cause(rt: HostRuntime) -> Result<(), Fail> {
-    for (items, line, cause) in ITEMS {
-        let text = with_items(rt.alloc(), items)?;
-        let found = fault(rt.alloc(), text.as_str())?;
-        assert_eq!(rt; found, Some((line, cause)), "{items}");
+fn check_rows(rt: &(impl Abort + AllocGlobal), rows: &[(&str, u32, Cause)]) -> Result<(), Fail> {
+    for (items, line, cause) in rows {
+        check_items(rt, items, Some((*line, *cause)))?;
     }
     Ok(())
+}
+
+#[test]
+fn items_fail_by_their_least_cause(rt: HostRuntime) -> Result<(), Fail> {
+    check_rows(&rt, &ITEMS)
 }
 
 /// Arguments on line 2, an item on line 4, and the line and cause of their fault.
@@ -83,14 +86,19 @@ const ARGUMENTS: [(&str, &str, u32, Cause); 9] = [
     ),
 ];
 
-#[test]
-fn arguments_fail_where_they_are_declared_or_used(rt: HostRuntime) -> Result<(), Fail> {
-    for (arguments, item, line, cause) in ARGUMENTS {
-        let text = with_arguments(rt.alloc(), arguments, item)?;
-        let found = fault(rt.alloc(), text.as_str())?;
-        assert_eq!(rt; found, Some((line, cause)), "{arguments} {item}");
+fn check_arguments(
+    rt: &(impl Abort + AllocGlobal),
+    rows: &[(&str, &str, u32, Cause)],
+) -> Result<(), Fail> {
+    for (arguments, item, line, cause) in rows {
+        check_with_arguments(rt, arguments, item, Some((*line, *cause)))?;
     }
     Ok(())
+}
+
+#[test]
+fn arguments_fail_where_they_are_declared_or_used(rt: HostRuntime) -> Result<(), Fail> {
+    check_arguments(&rt, &ARGUMENTS)
 }
 
 const HEAD: &str = "module &m:1:0:$base:$large:$default;";
@@ -115,29 +123,38 @@ const KERNELS: [(&str, u32, Cause); 4] = [
     ),
 ];
 
-#[test]
-fn the_earliest_item_is_answered(rt: HostRuntime) -> Result<(), Fail> {
-    for (kernels, line, cause) in KERNELS {
+fn check_kernels(rt: &(impl Abort + AllocGlobal), rows: &[(&str, u32, Cause)]) -> Result<(), Fail> {
+    for (kernels, line, cause) in rows {
         let text = format!(in rt.alloc(); "{HEAD}\n{kernels}")?;
-        let found = fault(rt.alloc(), text.as_str())?;
-        assert_eq!(rt; found, Some((line, cause)), "{kernels}");
+        check_fault(rt, kernels, text.as_str(), Some((*line, *cause)))?;
     }
     Ok(())
 }
 
 #[test]
-fn faults_print_their_place(rt: HostRuntime) -> Result<(), Fail> {
-    let fault = CheckFault {
-        line: 4,
-        cause: UnknownLabel,
-    };
-    let text = format!(in rt.alloc(); "{fault}")?;
-    assert_eq!(rt; text.as_str(), "line 4: UnknownLabel");
-    let error = CheckError::Fault(fault);
+fn the_earliest_item_is_answered(rt: HostRuntime) -> Result<(), Fail> {
+    check_kernels(&rt, &KERNELS)
+}
+
+const FAULT: CheckFault = CheckFault {
+    line: 4,
+    cause: UnknownLabel,
+};
+
+fn check_printed(
+    rt: &(impl Abort + AllocGlobal),
+    error: CheckError,
+    wanted: &str,
+) -> Result<(), Fail> {
     let text = format!(in rt.alloc(); "{error}")?;
-    assert_eq!(rt; text.as_str(), "line 4: UnknownLabel");
-    let error = CheckError::OutOfMemory;
-    let text = format!(in rt.alloc(); "{error}")?;
-    assert_eq!(rt; text.as_str(), "out of memory");
+    assert_eq!(rt; text.as_str(), wanted);
     Ok(())
+}
+
+#[test]
+fn faults_print_their_place(rt: HostRuntime) -> Result<(), Fail> {
+    let text = format!(in rt.alloc(); "{FAULT}")?;
+    assert_eq!(rt; text.as_str(), "line 4: UnknownLabel");
+    check_printed(&rt, CheckError::Fault(FAULT), "line 4: UnknownLabel")?;
+    check_printed(&rt, CheckError::OutOfMemory, "out of memory")
 }

@@ -1,7 +1,7 @@
 //! Each form of address in each segment.
 
-use super::check_item;
-use crate::Cause::{self, BadAddress, TooLarge, UnknownArgument, WrongType};
+use crate::texts::check_item;
+use kernel_check::Cause::{self, BadAddress, TooLarge, UnknownArgument, WrongType};
 use std::process::Abort;
 use std::test::Fail;
 
@@ -113,10 +113,17 @@ const WIDTHS: [(&str, &str, Option<Cause>); 10] = [
     ("st_global_u8 $s0", "[$d1]", None),
 ];
 
-#[test]
-fn only_a_load_of_an_argument_asks_for_its_width(rt: HostRuntime) -> Result<(), Fail> {
-    for (front, address, cause) in WIDTHS {
-        check_at(&rt, front, address, cause)?;
+fn check_widths(
+    rt: &(impl Abort + AllocGlobal),
+    rows: &[(&str, &str, Option<Cause>)],
+) -> Result<(), Fail> {
+    for (front, address, cause) in rows {
+        check_at(rt, front, address, *cause)?;
     }
     Ok(())
+}
+
+#[test]
+fn only_a_load_of_an_argument_asks_for_its_width(rt: HostRuntime) -> Result<(), Fail> {
+    check_widths(&rt, &WIDTHS)
 }
