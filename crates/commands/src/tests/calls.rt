@@ -193,16 +193,29 @@ fn a_packet_is_handed_over_once(rt: HostRuntime) -> Result<(), Fail> {
     Ok(())
 }
 
-/// The hand-over of a packet, and two queries.
-fn three_requests(alloc: Global) -> Result<Vec<Request>, Fail> {
-    let mut requests = Vec::new(alloc);
-    requests.push(Request::Event(Event::Take {
+fn hand_over() -> Request {
+    Request::Event(Event::Take {
         queue: QUEUE,
         packet: PacketId(0),
         bytes: fill(),
-    }))?;
-    requests.push(Request::Query(Query::Errors { queue: QUEUE }))?;
-    requests.push(Request::Query(Query::Audit))?;
+    })
+}
+
+fn push(requests: &mut Vec<Request>, request: Request) -> Result<(), Fail> {
+    Ok(requests.push(request)?)
+}
+
+/// Asks for the hand-over of a packet, and two queries.
+fn push_three(requests: &mut Vec<Request>) -> Result<(), Fail> {
+    push(requests, hand_over())?;
+    push(requests, Request::Query(Query::Errors { queue: QUEUE }))?;
+    push(requests, Request::Query(Query::Audit))
+}
+
+/// The hand-over of a packet, and two queries.
+fn three_requests(alloc: Global) -> Result<Vec<Request>, Fail> {
+    let mut requests = Vec::new(alloc);
+    push_three(&mut requests)?;
     Ok(requests)
 }
 
