@@ -10,9 +10,11 @@ mod policies;
 mod queues;
 mod sample;
 
+use crate::tests::packets::*;
 use crate::tests::sample::SAMPLE;
 use crate::{check_policy, run_policy};
-use std::alloc::Global;
+use std::alloc::{AllocError, Global};
+use std::process::Abort;
 use std::test::*;
 
 /// Alice is granted what the sample policy allows her, and opens queue 1.
@@ -87,15 +89,93 @@ fn check(alloc: Global, policy: &str) -> Run {
     }
 }
 
-/// Whether the lines behind the prelude are told just this.
-fn told(alloc: Global, script: &str, replies: &str) -> Result<bool, Fail> {
-    told_with(alloc, 65536, script, replies)
+/// What stands in the scripts and the replies of tests for longer texts.
+const NAMES: [(&str, &str); 14] = [
+    ("{FILL}", FILL),
+    ("{COPY}", COPY),
+    ("{ADD64}", ADD64),
+    ("{FILL_WITH_BARRIER_BIT}", FILL_WITH_BARRIER_BIT),
+    ("{FILL_OF_RESERVED_SCOPE}", FILL_OF_RESERVED_SCOPE),
+    ("{INVALID_FILL}", INVALID_FILL),
+    ("{KERNEL}", KERNEL),
+    ("{BARRIER_AND}", BARRIER_AND),
+    ("{BARRIER_AND_OF_GO}", BARRIER_AND_OF_GO),
+    ("{BARRIER_AND_OF_NULLS}", BARRIER_AND_OF_NULLS),
+    ("{BARRIER_OR_OF_NULLS}", BARRIER_OR_OF_NULLS),
+    ("{ZEROS}", ZEROS),
+    ("{ONES}", ONES),
+    ("{PRELUDE_ENTRIES}", PRELUDE_ENTRIES),
+];
+
+/// A text with a meaning in place of a name.
+fn replaced(alloc: Global, text: &str, name: &str, meaning: &str) -> Result<String, AllocError> {
+    text.replace(alloc, name, meaning)
 }
 
-/// As `told`, with this many places in the audit.
-fn told_with(alloc: Global, places: usize, script: &str, replies: &str) -> Result<bool, Fail> {
-    let whole = format!(in alloc; "{PRELUDE}{script}")?;
-    let wanted = format!(in alloc; "{PRELUDE_TOLD}{replies}")?;
-    let run = run_over(alloc, SAMPLE, places, whole.as_str());
-    Ok(run.is(0, wanted.as_str(), ""))
+/// A text with its meaning in place of each name.
+fn spelled(alloc: Global, text: &str, names: &[(&str, &str)]) -> Result<String, AllocError> {
+    let mut whole = String::from_str(alloc, text)?;
+    for (name, meaning) in names {
+        whole = replaced(alloc, whole.as_str(), name, meaning)?;
+    }
+    Ok(whole)
+}
+
+/// A script or replies with their names spelled out, behind what the prelude has of them.
+fn behind(alloc: Global, front: &str, text: &str) -> Result<String, AllocError> {
+    let text = spelled(alloc, text, &NAMES)?;
+    format!(in alloc; "{front}{text}")
+}
+
+/// Runs a script over the sample policy.
+fn run_sample(alloc: Global, places: usize, script: &str) -> Run {
+    run_over(alloc, SAMPLE, places, script)
+}
+
+/// A script over the sample policy, with this many places in the audit, is replied to so.
+fn check_replies(rt: &(impl Abort + AllocGlobal), places: usize, script: &str, replies: &str) {
+    let run = run_sample(rt.alloc(), places, script);
+    assert!(rt; run.is(0, replies, ""), "{script}");
+}
+
+/// As `check_told`, with this many places in the audit.
+fn check_told_with(
+    rt: &(impl Abort + AllocGlobal),
+    places: usize,
+    script: &str,
+    replies: &str,
+) -> Result<(), Fail> {
+    let script = behind(rt.alloc(), PRELUDE, script)?;
+    let replies = behind(rt.alloc(), PRELUDE_TOLD, replies)?;
+    check_replies(rt, places, script.as_str(), replies.as_str());
+    Ok(())
+}
+
+/// The lines behind the prelude are told just this. Names in braces stand for their texts.
+fn check_told(rt: &(impl Abort + AllocGlobal), script: &str, replies: &str) -> Result<(), Fail> {
+    check_told_with(rt, 65536, script, replies)
+}
+
+/// A name, a script, and what it is told.
+type Row = (&'static str, &'static str, &'static str);
+
+/// Each script behind the prelude is told just this.
+fn check_rows(rt: &(impl Abort + AllocGlobal), rows: &[Row]) -> Result<(), Fail> {
+    for (_, script, replies) in rows {
+        check_told(rt, script, replies)?;
+    }
+    Ok(())
+}
+
+/// A script over the sample policy with ten places in the audit ends so.
+fn check_end(
+    rt: &(impl Abort + AllocGlobal),
+    name: &str,
+    script: &str,
+    status: u8,
+    out: &str,
+    err: &str,
+) {
+    let run = run_sample(rt.alloc(), 10, script);
+    assert!(rt; run.is(status, out, err), "{name}");
 }

@@ -28,6 +28,3 @@ pub use step::{
     ArgumentStep, BinaryStep, BranchStep, Dimension, IdentifyStep, LinedStep, LoadStep, Operand,
     Pointer, Relative, Slot, Step, StoreStep, TernaryStep, UnaryStep,
 };
-
-#[cfg(test)]
-mod tests;

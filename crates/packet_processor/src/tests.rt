@@ -152,175 +152,197 @@ fn judged(alloc: Global, granted: &RightsTable, words: [u64; 8]) -> Result<Verdi
     Ok(verdict(&laid(words), &facts))
 }
 
-#[test]
-fn a_packet_that_breaks_a_rule_is_denied_by_it(rt: HostRuntime) -> Result<(), Fail> {
-    let rows = [
-        ("zeros", [0; 8], Rule::L1),
-        ("ones", [u64::MAX; 8], Rule::L1),
-        (
-            "vendor",
-            with_word(FILL, 0, 0x0014_0080_0000_0000),
-            Rule::L1,
-        ),
-        ("scope", with_word(FILL, 0, 0x0406_0080_0000_0000), Rule::L2),
-        (
-            "bit_13",
-            with_word(FILL, 0, 0x0434_0080_0000_0000),
-            Rule::L2,
-        ),
-        (
-            "byte_4",
-            with_word(FILL, 0, 0x0414_0080_0100_0000),
-            Rule::L3,
-        ),
-        (
-            "byte_48",
-            with_word(FILL, 6, 0x0100_0000_0000_0000),
-            Rule::L3,
-        ),
-        ("kernel", KERNEL, Rule::L4),
-        (
-            "function",
-            with_word(FILL, 0, 0x0414_0380_0000_0000),
-            Rule::L5,
-        ),
-        (
-            "no_region",
-            with_word(FILL, 2, 0x0000_0000_0300_0000),
-            Rule::L8,
-        ),
-        (
-            "past_end",
-            with_word(FILL, 2, 0x3d00_0000_0100_0000),
-            Rule::L8,
-        ),
-        ("endless", with_word(FILL, 3, u64::MAX), Rule::L8),
-        (
-            "return_past_end",
-            with_word(FILL, 1, 0x3900_0000_0100_0000),
-            Rule::L8,
-        ),
-        (
-            "target_past_end",
-            with_word(COPY, 3, 0x3900_0000_0100_0000),
-            Rule::L8,
-        ),
-        (
-            "source_past_end",
-            with_word(COPY, 2, 0x3900_0000_0100_0000),
-            Rule::L8,
-        ),
-        (
-            "number_past_end",
-            with_word(ADD, 2, 0x3900_0000_0100_0000),
-            Rule::L8,
-        ),
-        (
-            "dependency",
-            with_word(BARRIER, 5, 0x0300_0000_0000_0000),
-            Rule::L9,
-        ),
-        (
-            "completion",
-            with_word(FILL, 7, 0x0300_0000_0000_0000),
-            Rule::L10,
-        ),
-        (
-            "barrier_completion",
-            with_word(BARRIER, 7, 0x0300_0000_0000_0000),
-            Rule::L10,
-        ),
-    ];
+// A packet's words with another one at a place, or unchanged where the place is none of theirs.
+type Changed = ([u64; 8], usize, u64);
+
+const NOWHERE: usize = 8;
+
+// The words of a fill with the number of no function.
+const UNKNOWN: [u64; 8] = [
+    0x0414_0380_0000_0000,
+    0,
+    0x0000_0000_0100_0000,
+    0x0400_0000_0000_0000,
+    0x5a00_0000_0000_0000,
+    0,
+    0,
+    0x0100_0000_0000_0000,
+];
+
+// The words of a fill of more bytes than there are addresses.
+const ENDLESS: [u64; 8] = [
+    0x0414_0080_0000_0000,
+    0,
+    0x0000_0000_0100_0000,
+    u64::MAX,
+    0x5a00_0000_0000_0000,
+    0,
+    0,
+    0x0100_0000_0000_0000,
+];
+
+// The words of a barrier-AND on a signal that isn't declared, and another.
+const STRANGE: [u64; 8] = [
+    0x0300_0000_0000_0000,
+    0x0300_0000_0000_0000,
+    0x0200_0000_0000_0000,
+    0,
+    0,
+    0,
+    0,
+    0,
+];
+
+// A name, a packet, and the rule by which it is denied.
+type Row = (&'static str, Changed, Rule);
+
+// The packet is denied by the rule.
+fn check_denied(
+    rt: &(impl Abort + AllocGlobal),
+    granted: &RightsTable,
+    row: Row,
+) -> Result<(), AllocError> {
+    let (name, (words, place, word), rule) = row;
+    let verdict = judged(rt.alloc(), granted, with_word(words, place, word))?;
+    assert!(rt; verdict == Verdict::Deny(rule), "{name}");
+    Ok(())
+}
+
+fn check_all_denied(rt: &(impl Abort + AllocGlobal), rows: &[Row]) -> Result<(), AllocError> {
     let granted = all_rights_but(rt.alloc(), NOTHING)?;
-    for (name, words, rule) in rows {
-        assert!(rt;
-            judged(rt.alloc(), &granted, words)? == Verdict::Deny(rule),
-            "{name}"
-        );
+    for row in rows {
+        check_denied(rt, &granted, *row)?;
     }
     Ok(())
 }
+
+const BROKEN: [Row; 19] = [
+    ("zeros", ([0; 8], NOWHERE, 0), Rule::L1),
+    ("ones", ([u64::MAX; 8], NOWHERE, 0), Rule::L1),
+    ("vendor", (FILL, 0, 0x0014_0080_0000_0000), Rule::L1),
+    ("scope", (FILL, 0, 0x0406_0080_0000_0000), Rule::L2),
+    ("bit_13", (FILL, 0, 0x0434_0080_0000_0000), Rule::L2),
+    ("byte_4", (FILL, 0, 0x0414_0080_0100_0000), Rule::L3),
+    ("byte_48", (FILL, 6, 0x0100_0000_0000_0000), Rule::L3),
+    ("kernel", (KERNEL, NOWHERE, 0), Rule::L4),
+    ("function", (FILL, 0, 0x0414_0380_0000_0000), Rule::L5),
+    ("no_region", (FILL, 2, 0x0000_0000_0300_0000), Rule::L8),
+    ("past_end", (FILL, 2, 0x3d00_0000_0100_0000), Rule::L8),
+    ("endless", (FILL, 3, u64::MAX), Rule::L8),
+    (
+        "return_past_end",
+        (FILL, 1, 0x3900_0000_0100_0000),
+        Rule::L8,
+    ),
+    (
+        "target_past_end",
+        (COPY, 3, 0x3900_0000_0100_0000),
+        Rule::L8,
+    ),
+    (
+        "source_past_end",
+        (COPY, 2, 0x3900_0000_0100_0000),
+        Rule::L8,
+    ),
+    ("number_past_end", (ADD, 2, 0x3900_0000_0100_0000), Rule::L8),
+    ("dependency", (BARRIER, 5, 0x0300_0000_0000_0000), Rule::L9),
+    ("completion", (FILL, 7, 0x0300_0000_0000_0000), Rule::L10),
+    (
+        "barrier_completion",
+        (BARRIER, 7, 0x0300_0000_0000_0000),
+        Rule::L10,
+    ),
+];
+
+#[test]
+fn a_packet_that_breaks_a_rule_is_denied_by_it(rt: HostRuntime) -> Result<(), Fail> {
+    Ok(check_all_denied(&rt, &BROKEN)?)
+}
+
+const BROKEN_TWICE: [Row; 7] = [
+    ("type_and_scope", (FILL, 0, 0x0106_0080_0000_0000), Rule::L1),
+    (
+        "scope_and_byte_4",
+        (FILL, 0, 0x0406_0080_0100_0000),
+        Rule::L2,
+    ),
+    ("byte_48_and_function", (UNKNOWN, 6, 1), Rule::L3),
+    ("kernel_and_completion", (KERNEL, 7, 3 << 56), Rule::L4),
+    ("function_and_completion", (UNKNOWN, 7, 3 << 56), Rule::L5),
+    ("range_and_completion", (ENDLESS, 7, 3 << 56), Rule::L8),
+    ("dependency_and_completion", (STRANGE, 7, 3 << 56), Rule::L9),
+];
 
 #[test]
 fn a_packet_that_breaks_two_rules_is_denied_by_the_first(rt: HostRuntime) -> Result<(), Fail> {
-    let rows = [
-        (
-            "type_and_scope",
-            with_word(FILL, 0, 0x0106_0080_0000_0000),
-            Rule::L1,
-        ),
-        (
-            "scope_and_byte_4",
-            with_word(FILL, 0, 0x0406_0080_0100_0000),
-            Rule::L2,
-        ),
-        (
-            "byte_48_and_function",
-            with_word(with_word(FILL, 0, 0x0414_0380_0000_0000), 6, 1),
-            Rule::L3,
-        ),
-        (
-            "kernel_and_completion",
-            with_word(KERNEL, 7, 3 << 56),
-            Rule::L4,
-        ),
-        (
-            "function_and_completion",
-            with_word(with_word(FILL, 0, 0x0414_0380_0000_0000), 7, 3 << 56),
-            Rule::L5,
-        ),
-        (
-            "range_and_completion",
-            with_word(with_word(FILL, 3, u64::MAX), 7, 3 << 56),
-            Rule::L8,
-        ),
-        (
-            "dependency_and_completion",
-            with_word(with_word(BARRIER, 1, 3 << 56), 7, 3 << 56),
-            Rule::L9,
-        ),
-    ];
-    let granted = all_rights_but(rt.alloc(), NOTHING)?;
-    for (name, words, rule) in rows {
-        assert!(rt;
-            judged(rt.alloc(), &granted, words)? == Verdict::Deny(rule),
-            "{name}"
-        );
+    Ok(check_all_denied(&rt, &BROKEN_TWICE)?)
+}
+
+// A name, an object without rights on it, a packet, and the rule by which it is denied, if by one.
+type Needs = (&'static str, Object, Changed, Option<Rule>);
+
+// The rule by which a packet is denied.
+fn denial(verdict: Verdict) -> Option<Rule> {
+    match verdict {
+        Verdict::Launch(_) => None,
+        Verdict::Deny(rule) => Some(rule),
+    }
+}
+
+fn check_need(rt: &(impl Abort + AllocGlobal), row: Needs) -> Result<(), AllocError> {
+    let (name, missing, (words, place, word), rule) = row;
+    let granted = all_rights_but(rt.alloc(), missing)?;
+    let verdict = judged(rt.alloc(), &granted, with_word(words, place, word))?;
+    assert!(rt; denial(verdict) == rule, "{name}");
+    Ok(())
+}
+
+fn check_needs(rt: &(impl Abort + AllocGlobal), rows: &[Needs]) -> Result<(), AllocError> {
+    for row in rows {
+        check_need(rt, *row)?;
     }
     Ok(())
 }
 
+const NEEDS: [Needs; 13] = [
+    ("all", NOTHING, (FILL, NOWHERE, 0), None),
+    ("no_agent", GPU, (FILL, NOWHERE, 0), Some(Rule::L4)),
+    (
+        "no_agent_barrier",
+        GPU,
+        (BARRIER, NOWHERE, 0),
+        Some(Rule::L4),
+    ),
+    ("no_region", BUF, (FILL, NOWHERE, 0), Some(Rule::L8)),
+    ("empty_range", BUF, (FILL, 3, 0), None),
+    (
+        "no_region_of_result",
+        ARGS,
+        (FILL, 1, 0x0000_0000_0200_0000),
+        Some(Rule::L8),
+    ),
+    ("no_result", ARGS, (FILL, NOWHERE, 0), None),
+    (
+        "no_first_dependency",
+        DONE,
+        (BARRIER, NOWHERE, 0),
+        Some(Rule::L9),
+    ),
+    (
+        "no_second_dependency",
+        GO,
+        (BARRIER, NOWHERE, 0),
+        Some(Rule::L9),
+    ),
+    ("null_dependencies", GO, (BARRIER, 2, 0), None),
+    ("no_completion", DONE, (FILL, NOWHERE, 0), Some(Rule::L10)),
+    ("null_completion", DONE, (ADD, NOWHERE, 0), None),
+    ("no_kernel", INC, (COPY, NOWHERE, 0), None),
+];
+
 #[test]
 fn a_packet_needs_each_of_its_rights(rt: HostRuntime) -> Result<(), Fail> {
-    let nothing_filled = with_word(FILL, 3, 0);
-    let rows = [
-        ("all", NOTHING, FILL, None),
-        ("no_agent", GPU, FILL, Some(Rule::L4)),
-        ("no_agent_barrier", GPU, BARRIER, Some(Rule::L4)),
-        ("no_region", BUF, FILL, Some(Rule::L8)),
-        ("empty_range", BUF, nothing_filled, None),
-        (
-            "no_region_of_result",
-            ARGS,
-            with_word(FILL, 1, 0x0000_0000_0200_0000),
-            Some(Rule::L8),
-        ),
-        ("no_result", ARGS, FILL, None),
-        ("no_first_dependency", DONE, BARRIER, Some(Rule::L9)),
-        ("no_second_dependency", GO, BARRIER, Some(Rule::L9)),
-        ("null_dependencies", GO, with_word(BARRIER, 2, 0), None),
-        ("no_completion", DONE, FILL, Some(Rule::L10)),
-        ("null_completion", DONE, ADD, None),
-        ("no_kernel", INC, COPY, None),
-    ];
-    for (name, missing, words, rule) in rows {
-        let granted = all_rights_but(rt.alloc(), missing)?;
-        match judged(rt.alloc(), &granted, words)? {
-            Verdict::Launch(_) => assert!(rt; rule.is_none(), "{name}"),
-            Verdict::Deny(broken) => assert!(rt; rule == Some(broken), "{name}"),
-        }
-    }
-    Ok(())
+    Ok(check_needs(&rt, &NEEDS)?)
 }
 
 const HEADER: Header = Header {
@@ -352,10 +374,15 @@ fn waits_on(first: u64, second: u64) -> Barrier {
     }
 }
 
-#[test]
-fn bytes_are_launched_as_the_packet_that_they_lay_out(rt: HostRuntime) -> Result<(), Fail> {
+fn check_launched(rt: &(impl Abort + AllocGlobal)) -> Result<(), AllocError> {
     let granted = all_rights_but(rt.alloc(), NOTHING)?;
     assert!(rt; judged(rt.alloc(), &granted, FILL)? == Verdict::Launch(FILLED));
+    Ok(())
+}
+
+#[test]
+fn bytes_are_launched_as_the_packet_that_they_lay_out(rt: HostRuntime) -> Result<(), Fail> {
+    check_launched(&rt)?;
     assert!(rt; completion(&FILLED) == SignalHandle(1));
     Ok(())
 }
@@ -470,75 +497,76 @@ fn a_queue_is_stopped_or_in_error_or_runs(rt: HostRuntime) {
     check_state(&rt, &all, true, State::Stopped);
 }
 
+const NO_SIGNAL: Seen = Seen([false; 5]);
+
+const FIRST: Seen = Seen([true, false, false, false, false]);
+
+const BOTH: Seen = Seen([true, true, false, false, false]);
+
+fn check_ready(rt: &impl Abort, name: &str, packet: Packet, seen: Seen, wanted: bool) {
+    assert!(rt; is_ready(&packet, &seen) == wanted, "{name}");
+}
+
 #[test]
 fn a_barrier_packet_is_ready_by_what_was_seen(rt: HostRuntime) {
     let and = Packet::BarrierAnd(waits_on(1, 2));
     let or = Packet::BarrierOr(waits_on(1, 2));
-    let nulls = waits_on(0, 0);
-    let (none, first) = (Seen([false; 5]), Seen([true, false, false, false, false]));
-    let both = Seen([true, true, false, false, false]);
-    let rows = [
-        ("and_none", and, none, false),
-        ("and_first", and, first, false),
-        ("and_both", and, both, true),
-        ("or_none", or, none, false),
-        ("or_first", or, first, true),
-        ("and_of_nulls", Packet::BarrierAnd(nulls), none, true),
-        ("or_of_nulls", Packet::BarrierOr(nulls), both, false),
-        ("dispatch", FILLED, both, false),
-    ];
-    for (name, packet, seen, wanted) in rows {
-        assert!(rt; is_ready(&packet, &seen) == wanted, "{name}");
-    }
+    let and_of_nulls = Packet::BarrierAnd(waits_on(0, 0));
+    let or_of_nulls = Packet::BarrierOr(waits_on(0, 0));
+    check_ready(&rt, "and_none", and, NO_SIGNAL, false);
+    check_ready(&rt, "and_first", and, FIRST, false);
+    check_ready(&rt, "and_both", and, BOTH, true);
+    check_ready(&rt, "or_none", or, NO_SIGNAL, false);
+    check_ready(&rt, "or_first", or, FIRST, true);
+    check_ready(&rt, "and_of_nulls", and_of_nulls, NO_SIGNAL, true);
+    check_ready(&rt, "or_of_nulls", or_of_nulls, BOTH, false);
+    check_ready(&rt, "dispatch", FILLED, BOTH, false);
 }
 
-#[test]
-fn a_packet_holds_what_it_needs(rt: HostRuntime) {
-    let barrier = Packet::BarrierAnd(waits_on(1, 0));
-    let both = Rights::READ.union(Rights::WRITE);
-    let rows = [
-        ("agent", FILLED, GPU, Rights::USE, true),
-        (
-            "other_agent",
-            FILLED,
-            Object::Agent(AgentHandle(2)),
-            Rights::USE,
-            false,
-        ),
-        ("completion", FILLED, DONE, Rights::CHANGE, true),
-        ("completion_to_wait", FILLED, DONE, Rights::WAIT, false),
-        ("target", FILLED, BUF, Rights::WRITE, true),
-        ("target_to_read", FILLED, BUF, Rights::READ, false),
-        ("target_for_both", FILLED, BUF, both, true),
-        ("target_for_none", FILLED, BUF, Rights::NONE, false),
-        ("other_region", FILLED, ARGS, both, false),
-        ("dependency", barrier, DONE, Rights::WAIT, true),
-        ("dependency_to_change", barrier, DONE, Rights::CHANGE, false),
-        (
-            "null",
-            barrier,
-            Object::Signal(SignalHandle(0)),
-            Rights::WAIT,
-            false,
-        ),
-    ];
-    for (name, packet, object, rights, wanted) in rows {
+// A name, an object, rights on it, and whether a packet holds one of them.
+type Held = (&'static str, Object, Rights, bool);
+
+fn check_held(rt: &impl Abort, packet: &Packet, rows: &[Held]) {
+    for (name, object, rights, wanted) in rows {
         assert!(rt;
-            holds(&packet, AgentHandle(1), object, rights) == wanted,
+            holds(packet, AgentHandle(1), *object, *rights) == *wanted,
             "{name}"
         );
     }
-    let held = holds(
-        &FILLED,
-        AgentHandle(1),
-        Object::Region(RegionHandle(0)),
-        both,
-    );
-    assert!(rt; !held);
 }
 
+fn held_by_fill() -> [Held; 10] {
+    let both = Rights::READ.union(Rights::WRITE);
+    let other_agent = Object::Agent(AgentHandle(2));
+    let no_region = Object::Region(RegionHandle(0));
+    [
+        ("agent", GPU, Rights::USE, true),
+        ("other_agent", other_agent, Rights::USE, false),
+        ("completion", DONE, Rights::CHANGE, true),
+        ("completion_to_wait", DONE, Rights::WAIT, false),
+        ("target", BUF, Rights::WRITE, true),
+        ("target_to_read", BUF, Rights::READ, false),
+        ("target_for_both", BUF, both, true),
+        ("target_for_none", BUF, Rights::NONE, false),
+        ("other_region", ARGS, both, false),
+        ("no_region", no_region, both, false),
+    ]
+}
+
+const HELD_BY_BARRIER: [Held; 3] = [
+    ("dependency", DONE, Rights::WAIT, true),
+    ("dependency_to_change", DONE, Rights::CHANGE, false),
+    ("null", Object::Signal(SignalHandle(0)), Rights::WAIT, false),
+];
+
 #[test]
-fn rights_of_another_client_are_of_no_use(rt: HostRuntime) -> Result<(), Fail> {
+fn a_packet_holds_what_it_needs(rt: HostRuntime) {
+    check_held(&rt, &FILLED, &held_by_fill());
+    let barrier = Packet::BarrierAnd(waits_on(1, 0));
+    check_held(&rt, &barrier, &HELD_BY_BARRIER);
+}
+
+fn check_other_client(rt: &(impl Abort + AllocGlobal)) -> Result<(), AllocError> {
     let granted = all_rights_but(rt.alloc(), NOTHING)?;
     let regions = memory(rt.alloc())?;
     let facts = Facts {
@@ -550,4 +578,9 @@ fn rights_of_another_client_are_of_no_use(rt: HostRuntime) -> Result<(), Fail> {
     };
     assert!(rt; verdict(&laid(FILL), &facts) == Verdict::Deny(Rule::L4));
     Ok(())
+}
+
+#[test]
+fn rights_of_another_client_are_of_no_use(rt: HostRuntime) -> Result<(), Fail> {
+    Ok(check_other_client(&rt)?)
 }

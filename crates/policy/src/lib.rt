@@ -12,8 +12,6 @@ mod read;
 mod rights;
 mod row;
 mod table;
-#[cfg(test)]
-mod tests;
 
 pub use coverage::rows_allow;
 pub use fault::{Cause, PolicyFault, ReadPolicyError, Section};

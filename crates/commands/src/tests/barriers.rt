@@ -1,11 +1,11 @@
 //! Signals, barrier packets, and what packets in flight hold.
 
-use crate::tests::packets::*;
 use crate::tests::*;
 
 #[test]
 fn rights_are_held_until_their_packets_are_done(rt: HostRuntime) -> Result<(), Fail> {
-    let script = format!(in rt.alloc();
+    check_told(
+        &rt,
         "submit 1 1 {FILL}
 serve 1
 submit 1 1 {FILL}
@@ -18,9 +18,8 @@ revoke alice region buf WRITE
 run 1 1
 finish 1 1
 revoke alice region buf WRITE
-"
-    )?;
-    let replies = "published 0
+",
+        "published 0
 launched 0
 published 1
 launched 1
@@ -32,14 +31,14 @@ refused 4 Busy queue 1 packet 1
 ran 0 left 0
 ok
 ok
-";
-    assert!(rt; told(rt.alloc(), script.as_str(), replies)?);
-    Ok(())
+",
+    )
 }
 
 #[test]
 fn the_least_queue_is_the_holder_that_is_told(rt: HostRuntime) -> Result<(), Fail> {
-    let script = format!(in rt.alloc();
+    check_told(
+        &rt,
         "queue alice gpu 2 1
 submit 2 1 {FILL}
 serve 2
@@ -49,9 +48,8 @@ revoke alice region buf WRITE
 run 1 0
 finish 1 0
 revoke alice region buf WRITE
-"
-    )?;
-    let replies = "queue 2
+",
+        "queue 2
 published 0
 launched 0
 published 0
@@ -60,14 +58,14 @@ refused 4 Busy queue 1 packet 0
 ran 0 left 0
 ok
 refused 4 Busy queue 2 packet 0
-";
-    assert!(rt; told(rt.alloc(), script.as_str(), replies)?);
-    Ok(())
+",
+    )
 }
 
 #[test]
 fn a_barrier_and_sees_each_signal_at_some_poll(rt: HostRuntime) -> Result<(), Fail> {
-    let script = format!(in rt.alloc();
+    check_told(
+        &rt,
         "submit 1 1 {BARRIER_AND}
 serve 1
 poll 1 0
@@ -78,9 +76,8 @@ signal alice go store 0
 poll 1 0
 finish 1 0
 audit
-"
-    )?;
-    let replies = "published 0
+",
+        "published 0
 launched 0
 pending
 ok
@@ -104,25 +101,23 @@ audit 14
 12 signal alice store; signal 2 1 0
 13 poll 1 0 seen 2
 14 finish 1 0; release 1 0
-";
-    assert!(rt; told(rt.alloc(), script.as_str(), replies)?);
-    Ok(())
+",
+    )
 }
 
 #[test]
 fn a_negative_signal_fails_its_barrier(rt: HostRuntime) -> Result<(), Fail> {
-    let script = format!(in rt.alloc();
-        "submit 1 1 {BARRIER_AND_OF_GO}\nserve 1\nsignal alice go store -1\npoll 1 0\nfinish 1 0\nerrors 1\n"
-    )?;
-    let replies =
-        "published 0\nlaunched 0\nok\nfailed queue 1 packet 0 rule B1\nrefused 8 NotInFlight\nerrors 1\nqueue 1 packet 0 rule B1\n";
-    assert!(rt; told(rt.alloc(), script.as_str(), replies)?);
-    Ok(())
+    check_told(
+        &rt,
+        "submit 1 1 {BARRIER_AND_OF_GO}\nserve 1\nsignal alice go store -1\npoll 1 0\nfinish 1 0\nerrors 1\n",
+        "published 0\nlaunched 0\nok\nfailed queue 1 packet 0 rule B1\nrefused 8 NotInFlight\nerrors 1\nqueue 1 packet 0 rule B1\n",
+    )
 }
 
 #[test]
 fn a_barrier_or_of_nulls_is_released_by_a_stop(rt: HostRuntime) -> Result<(), Fail> {
-    let script = format!(in rt.alloc();
+    check_told(
+        &rt,
         "submit 1 1 {BARRIER_OR_OF_NULLS}
 serve 1
 poll 1 0
@@ -130,23 +125,23 @@ revoke alice signal done CHANGE
 stop 1
 revoke alice signal done CHANGE
 load alice done
-"
-    )?;
-    let replies = "published 0
+",
+        "published 0
 launched 0
 pending
 refused 4 Busy queue 1 packet 0
 ok
 ok
 value 1
-";
-    assert!(rt; told(rt.alloc(), script.as_str(), replies)?);
-    Ok(())
+",
+    )
 }
 
 #[test]
 fn signals_wrap_and_are_compared(rt: HostRuntime) -> Result<(), Fail> {
-    let script = "signal alice done add 9223372036854775807
+    check_told(
+        &rt,
+        "signal alice done add 9223372036854775807
 signal alice done cas -9223372036854775808 7
 signal alice go exchange -1
 test alice done GTE 7
@@ -154,8 +149,7 @@ test alice done LT 7
 load alice done
 load bob done
 audit
-";
-    let replies = format!(in rt.alloc();
+",
         "ok
 old -9223372036854775808
 old 1
@@ -167,8 +161,6 @@ audit 10
 {PRELUDE_ENTRIES}8 signal alice add; signal 1 1 -9223372036854775808
 9 signal alice cas; signal 1 -9223372036854775808 7
 10 signal alice exchange; signal 2 1 -1
-"
-    )?;
-    assert!(rt; told(rt.alloc(), script, replies.as_str())?);
-    Ok(())
+",
+    )
 }

@@ -1,16 +1,18 @@
-//! Packets handed to the core itself.
+//! Packets handed to the core itself. The calls of the core stand in functions of their own without contracts, so
+//! that the proofs of the tests don't carry what each call is owed.
 
 use crate::tests::sample::SAMPLE;
-use access_core::AccessCore;
+use access_core::{AccessCore, OpenFault};
 use aql_packet::{
     Address, AgentDispatch, AgentHandle, ClientId, Header, Packet, PacketId, QueueId, RegionHandle,
     Scope, SignalHandle, encode,
 };
 use bitflags::Flags;
 use core_model::{Answer, Event, Outcome, Query, Refusal, Reply, Request, Taken, Worked};
-use policy::{Object, Right, Rights, read_policy};
+use policy::{Object, Policy, ReadPolicyError, Rights, read_policy};
 use queue_error::{QueueError, Rule};
-use std::alloc::Global;
+use sequences::Reserved;
+use std::alloc::{AllocError, Global};
 use std::test::*;
 
 const ALICE: ClientId = ClientId(1);
@@ -38,18 +40,37 @@ fn fill() -> [u8; 64] {
     }))
 }
 
+fn policy(alloc: Global, text: &str) -> Result<Policy, ReadPolicyError> {
+    read_policy(alloc, text.as_bytes())
+}
+
+fn open(alloc: Global, policy: Policy) -> Result<AccessCore, OpenFault> {
+    AccessCore::open(alloc, policy, 100)
+}
+
+/// A core over a policy.
+fn core_over(alloc: Global, text: &str) -> Result<AccessCore, Fail> {
+    match policy(alloc, text) {
+        Ok(policy) => match open(alloc, policy) {
+            Ok(core) => Ok(core),
+            Err(_) => Err("no core is opened".into()),
+        },
+        Err(_) => Err("the policy is refused".into()),
+    }
+}
+
 /// A core over the sample policy.
 fn fresh(alloc: Global) -> Result<AccessCore, Fail> {
-    let policy = read_policy(alloc, SAMPLE.as_bytes()).map_err(|_| "the policy is refused")?;
-    match AccessCore::open(alloc, policy, 100) {
-        Ok(core) => Ok(core),
-        Err(_) => Err("no core is opened".into()),
-    }
+    core_over(alloc, SAMPLE)
+}
+
+fn granted(core: &mut AccessCore, object: Object, rights: Rights) -> Result<(), Refusal> {
+    core.grant(ALICE, object, rights)
 }
 
 /// Whether Alice is granted rights.
 fn grants(core: &mut AccessCore, object: Object, rights: Rights) -> bool {
-    core.grant(ALICE, object, rights).is_ok()
+    granted(core, object, rights).is_ok()
 }
 
 /// Whether Alice is granted what her packets need.
@@ -59,9 +80,22 @@ fn grants_all(core: &mut AccessCore) -> bool {
         && grants(core, Object::Signal(DONE), Rights::CHANGE)
 }
 
+fn opened_queue(alloc: Global, core: &mut AccessCore) -> Result<QueueId, Refusal> {
+    core.open_queue(alloc, ALICE, GPU, 2)
+}
+
 /// Whether Alice gets a queue.
 fn opens_queue(alloc: Global, core: &mut AccessCore) -> bool {
-    core.open_queue(alloc, ALICE, GPU, 2).is_ok()
+    opened_queue(alloc, core).is_ok()
+}
+
+fn taken(
+    alloc: Global,
+    core: &mut AccessCore,
+    id: u64,
+    bytes: &[u8; 64],
+) -> Result<Taken, Refusal> {
+    core.take(alloc, QUEUE, PacketId(id), bytes)
 }
 
 /// Whether a packet that is handed over to the queue becomes this.
@@ -72,17 +106,25 @@ fn becomes(
     bytes: &[u8; 64],
     wanted: Result<Taken, Refusal>,
 ) -> bool {
-    core.take(alloc, QUEUE, PacketId(id), bytes) == wanted
+    taken(alloc, core, id, bytes) == wanted
+}
+
+fn worked(alloc: Global, core: &mut AccessCore) -> Result<Worked, Refusal> {
+    core.run_next(alloc, QUEUE, PacketId(0))
 }
 
 /// Whether the next group of the queue's first packet comes to this.
 fn runs(alloc: Global, core: &mut AccessCore, wanted: Result<Worked, Refusal>) -> bool {
-    core.run_next(alloc, QUEUE, PacketId(0)) == wanted
+    worked(alloc, core) == wanted
+}
+
+fn finished(core: &mut AccessCore) -> Result<(), Refusal> {
+    core.finish(QUEUE, PacketId(0))
 }
 
 /// Whether the queue's first packet is completed so.
 fn finishes(core: &mut AccessCore, wanted: Result<(), Refusal>) -> bool {
-    core.finish(QUEUE, PacketId(0)) == wanted
+    finished(core) == wanted
 }
 
 /// The denial of the queue's first packet by rule L1.
@@ -100,17 +142,20 @@ fn breaks_the_first_rule(alloc: Global, core: &mut AccessCore, bytes: &[u8; 64])
     grants_all(core) && opens_queue(alloc, core) && becomes(alloc, core, 0, bytes, Ok(denied()))
 }
 
+// (a test that owns a core is dear to prove, so each hands it on at once)
+fn is_no_packet(alloc: Global, mut core: AccessCore, bytes: &[u8; 64]) -> bool {
+    breaks_the_first_rule(alloc, &mut core, bytes)
+}
+
 #[test]
 fn zeros_are_no_packet(rt: HostRuntime) -> Result<(), Fail> {
-    let mut core = fresh(rt.alloc())?;
-    assert!(rt; breaks_the_first_rule(rt.alloc(), &mut core, &[0; 64]));
+    assert!(rt; is_no_packet(rt.alloc(), fresh(rt.alloc())?, &[0; 64]));
     Ok(())
 }
 
 #[test]
 fn ones_are_no_packet(rt: HostRuntime) -> Result<(), Fail> {
-    let mut core = fresh(rt.alloc())?;
-    assert!(rt; breaks_the_first_rule(rt.alloc(), &mut core, &[0xff; 64]));
+    assert!(rt; is_no_packet(rt.alloc(), fresh(rt.alloc())?, &[0xff; 64]));
     Ok(())
 }
 
@@ -138,23 +183,39 @@ fn goes_its_way(alloc: Global, core: &mut AccessCore) -> bool {
         && ends_once(alloc, core)
 }
 
+fn is_handed_over_once(alloc: Global, mut core: AccessCore) -> bool {
+    goes_its_way(alloc, &mut core)
+}
+
 #[test]
 fn a_packet_is_handed_over_once(rt: HostRuntime) -> Result<(), Fail> {
-    let mut core = fresh(rt.alloc())?;
-    assert!(rt; goes_its_way(rt.alloc(), &mut core));
+    assert!(rt; is_handed_over_once(rt.alloc(), fresh(rt.alloc())?));
     Ok(())
+}
+
+fn hand_over() -> Request {
+    Request::Event(Event::Take {
+        queue: QUEUE,
+        packet: PacketId(0),
+        bytes: fill(),
+    })
+}
+
+fn push(requests: &mut Vec<Request>, request: Request) -> Result<(), Fail> {
+    Ok(requests.push(request)?)
+}
+
+/// Asks for the hand-over of a packet, and two queries.
+fn push_three(requests: &mut Vec<Request>) -> Result<(), Fail> {
+    push(requests, hand_over())?;
+    push(requests, Request::Query(Query::Errors { queue: QUEUE }))?;
+    push(requests, Request::Query(Query::Audit))
 }
 
 /// The hand-over of a packet, and two queries.
 fn three_requests(alloc: Global) -> Result<Vec<Request>, Fail> {
     let mut requests = Vec::new(alloc);
-    requests.push(Request::Event(Event::Take {
-        queue: QUEUE,
-        packet: PacketId(0),
-        bytes: fill(),
-    }))?;
-    requests.push(Request::Query(Query::Errors { queue: QUEUE }))?;
-    requests.push(Request::Query(Query::Audit))?;
+    push_three(&mut requests)?;
     Ok(requests)
 }
 
@@ -171,17 +232,32 @@ fn tell(replies: &[Reply], entries: usize) -> bool {
     *first == Outcome::Taken(Taken::Launched) && errors.is_empty() && audit.len() == entries
 }
 
-/// Whether three requests on a queue of Alice's are replied to.
-fn serves_three(alloc: Global, core: &mut AccessCore) -> Result<bool, Fail> {
-    let ready = grants_all(core) && opens_queue(alloc, core);
+fn served(
+    alloc: Global,
+    core: &mut AccessCore,
+    requests: Vec<Request>,
+) -> Result<Reserved<Reply>, AllocError> {
+    core.serve_all(alloc, requests)
+}
+
+/// Whether three requests are replied to.
+fn tells_three(alloc: Global, core: &mut AccessCore) -> Result<bool, Fail> {
     let requests = three_requests(alloc)?;
-    let replies = core.serve_all(alloc, requests)?;
-    Ok(ready && tell(replies.as_slice(), 5))
+    let replies = served(alloc, core, requests)?;
+    Ok(tell(replies.as_slice(), 5))
+}
+
+/// Whether three requests on a queue of Alice's are replied to.
+fn serves_three(alloc: Global, mut core: AccessCore) -> Result<bool, Fail> {
+    if grants_all(&mut core) && opens_queue(alloc, &mut core) {
+        tells_three(alloc, &mut core)
+    } else {
+        Ok(false)
+    }
 }
 
 #[test]
 fn requests_are_served_in_turn(rt: HostRuntime) -> Result<(), Fail> {
-    let mut core = fresh(rt.alloc())?;
-    assert!(rt; serves_three(rt.alloc(), &mut core)?);
+    assert!(rt; serves_three(rt.alloc(), fresh(rt.alloc())?)?);
     Ok(())
 }

@@ -43,3 +43,11 @@ pub const BARRIER_AND_OF_NULLS: &str =
 /// A barrier-OR on null signals alone; its completion signal is `done`.
 pub const BARRIER_OR_OF_NULLS: &str =
     "05000000000000000000000000000000000000000000000000000000000000000000000000000000000000000000000000000000000000000100000000000000";
+
+/// Bytes 00 alone.
+pub const ZEROS: &str =
+    "00000000000000000000000000000000000000000000000000000000000000000000000000000000000000000000000000000000000000000000000000000000";
+
+/// Bytes ff alone.
+pub const ONES: &str =
+    "ffffffffffffffffffffffffffffffffffffffffffffffffffffffffffffffffffffffffffffffffffffffffffffffffffffffffffffffffffffffffffffffff";
