@@ -133,27 +133,34 @@ fn run_sample(alloc: Global, places: usize, script: &str) -> Run {
 }
 
 /// A script over the sample policy, with this many places in the audit, is replied to so.
-fn check_replies(rt: &(impl Abort + AllocGlobal), places: usize, script: &str, replies: &str) {
+fn check_replies(
+    rt: &(impl Abort + AllocGlobal),
+    name: &str,
+    places: usize,
+    script: &str,
+    replies: &str,
+) {
     let run = run_sample(rt.alloc(), places, script);
-    assert!(rt; run.is(0, replies, ""), "{script}");
+    assert!(rt; run.is(0, replies, ""), "{name}: {script}");
 }
 
-/// As `check_told`, with this many places in the audit.
+/// As `check_told`, under a name, with this many places in the audit.
 fn check_told_with(
     rt: &(impl Abort + AllocGlobal),
+    name: &str,
     places: usize,
     script: &str,
     replies: &str,
 ) -> Result<(), Fail> {
     let script = behind(rt.alloc(), PRELUDE, script)?;
     let replies = behind(rt.alloc(), PRELUDE_TOLD, replies)?;
-    check_replies(rt, places, script.as_str(), replies.as_str());
+    check_replies(rt, name, places, script.as_str(), replies.as_str());
     Ok(())
 }
 
 /// The lines behind the prelude are told just this. Names in braces stand for their texts.
 fn check_told(rt: &(impl Abort + AllocGlobal), script: &str, replies: &str) -> Result<(), Fail> {
-    check_told_with(rt, 65536, script, replies)
+    check_told_with(rt, "a script", 65536, script, replies)
 }
 
 /// A name, a script, and what it is told.
@@ -161,8 +168,8 @@ type Row = (&'static str, &'static str, &'static str);
 
 /// Each script behind the prelude is told just this.
 fn check_rows(rt: &(impl Abort + AllocGlobal), rows: &[Row]) -> Result<(), Fail> {
-    for (_, script, replies) in rows {
-        check_told(rt, script, replies)?;
+    for (name, script, replies) in rows {
+        check_told_with(rt, name, 65536, script, replies)?;
     }
     Ok(())
 }

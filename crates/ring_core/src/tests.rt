@@ -62,21 +62,39 @@ fn body_word(id: u64, place: u64) -> u64 {
         .wrapping_add(0x100_0000)
 }
 
+/// Makes a step. It has no contract, so that the proofs of the tests don't carry what is known of each step.
+fn step(ring: &mut RingState, step: Step) -> Result<Seen, StepFault> {
+    ring.step(step)
+}
+
 /// Makes the steps of a packet's life from one index to another.
 fn live(ring: &mut RingState, seat: u64, id: u64, from: usize, to: usize) -> Result<(), StepFault> {
     for index in from..to {
-        ring.step(life(index, seat, id))?;
+        step(ring, life(index, seat, id))?;
     }
     Ok(())
 }
 
-/// What the processor reads in word 0 of the slot at the read index.
-fn look(ring: &mut RingState) -> Result<Seen, StepFault> {
-    ring.step(Step {
+/// A step comes to this.
+fn check_step(rt: &impl Abort, ring: &mut RingState, made: Step, wanted: Result<Seen, StepFault>) {
+    assert_eq!(rt; step(ring, made), wanted, "{made:?}");
+}
+
+/// What the processor reads in word 0 of the slot at the read index comes to this.
+fn check_look(rt: &impl Abort, ring: &mut RingState, wanted: Result<Seen, StepFault>) {
+    let look = Step {
         seat: 0,
         access: Access::LoadHeader,
-    })
+    };
+    check_step(rt, ring, look, wanted);
 }
+
+/// So many packets are retired.
+fn check_read_index(rt: &impl Abort, ring: &RingState, wanted: u64) {
+    assert_eq!(rt; ring.read_index(), wanted);
+}
+
+const REFUSED: Result<Seen, StepFault> = Err(StepFault::NotAStep);
 
 /// The first steps of the life of packet 0, published by the first producer.
 fn beginning(alloc: Global, count: usize) -> Result<Vec<Step>, Fail> {
@@ -92,24 +110,40 @@ fn shown(alloc: Global, ring: &RingState) -> Result<String, Fail> {
     Ok(format!(in alloc; "{ring:?}")?)
 }
 
-#[test]
-fn a_ring_opens_free(rt: HostRuntime) -> Result<(), Fail> {
-    let ring = RingState::new(rt.alloc(), 2, 3)?;
+fn check_allowance(rt: &impl Abort, part: &Part) {
+    if let Part::Producer(producer) = part {
+        assert_eq!(rt; producer.allowance, ALLOWANCE);
+    }
+}
+
+fn check_parts(rt: &impl Abort, parts: &[Part]) {
+    assert_eq!(rt; parts.len(), 4);
+    for part in parts {
+        check_allowance(rt, part);
+    }
+}
+
+/// The ring is as a ring of two slots and three producers opens.
+fn check_free(rt: &impl Abort, ring: &RingState) {
     assert_eq!(rt; ring.size(), 2);
     assert_eq!(rt;
         ring.words(),
         [0, 0, 1, 0, 0, 0, 0, 0, 0, 0, 1, 0, 0, 0, 0, 0, 0, 0].as_slice()
     );
-    assert_eq!(rt; ring.parts().len(), 4);
     assert_eq!(rt; ring.write_index(), 0);
-    assert_eq!(rt; ring.read_index(), 0);
-    assert_eq!(rt; ring.processor().collected_packet(), None);
-    for part in ring.parts() {
-        if let Part::Producer(producer) = part {
-            assert_eq!(rt; producer.allowance, ALLOWANCE);
-        }
-    }
+    check_read_index(rt, ring, 0);
+    check_collected(rt, ring, None);
+    check_parts(rt, ring.parts());
     ring.keeps_rule();
+}
+
+fn check_free_of(rt: &impl Abort, ring: RingState) {
+    check_free(rt, &ring);
+}
+
+#[test]
+fn a_ring_opens_free(rt: HostRuntime) -> Result<(), Fail> {
+    check_free_of(&rt, RingState::new(rt.alloc(), 2, 3)?);
     Ok(())
 }
 
@@ -140,17 +174,9 @@ fn a_slot_is_the_id_modulo_the_size(rt: HostRuntime) {
     assert_eq!(rt; word_place(4, 1 << 40, 1), 3);
 }
 
-#[test]
-fn a_packet_lives_from_its_reservation_to_its_retirement(rt: HostRuntime) -> Result<(), Fail> {
-    let mut ring = RingState::new(rt.alloc(), 2, 1)?;
-    assert_eq!(rt; ring.step(life(0, 1, 0))?, Seen::Read(0));
-    assert_eq!(rt; ring.step(life(1, 1, 0))?, Seen::Read(0));
-    assert_eq!(rt; ring.step(life(2, 1, 0))?, Seen::Stored);
-    live(&mut ring, 1, 0, 3, PUBLISHED)?;
-    assert_eq!(rt; ring.step(life(10, 1, 0))?, Seen::Read(HEADER));
-    assert_eq!(rt; ring.step(life(11, 1, 0))?, Seen::Read(body_word(0, 1)));
-    live(&mut ring, 1, 0, 12, 18)?;
-    let packet = [
+/// The words of packet 0.
+fn first_packet() -> [u64; 8] {
+    [
         HEADER,
         body_word(0, 1),
         body_word(0, 2),
@@ -159,85 +185,162 @@ fn a_packet_lives_from_its_reservation_to_its_retirement(rt: HostRuntime) -> Res
         body_word(0, 5),
         body_word(0, 6),
         body_word(0, 7),
-    ];
-    assert_eq!(rt; ring.processor().collected_packet(), Some(packet));
-    assert_eq!(rt; ring.step(life(18, 1, 0))?, Seen::Stored);
-    assert_eq!(rt; ring.step(life(19, 1, 0))?, Seen::Read(0));
-    assert_eq!(rt; ring.processor().retired.as_slice(), [packet].as_slice());
-    assert_eq!(rt; ring.processor().collected_packet(), None);
-    assert_eq!(rt; ring.read_index(), 1);
+    ]
+}
+
+fn check_collected(rt: &impl Abort, ring: &RingState, wanted: Option<[u64; 8]>) {
+    assert_eq!(rt; ring.processor().collected_packet(), wanted);
+}
+
+fn check_retired(rt: &impl Abort, ring: &RingState, wanted: &[[u64; 8]]) {
+    assert_eq!(rt; ring.processor().retired.as_slice(), wanted);
+}
+
+/// A packet lives.
+fn check_life(rt: &impl Abort, ring: &mut RingState) -> Result<(), Fail> {
+    check_step(rt, ring, life(0, 1, 0), Ok(Seen::Read(0)));
+    check_step(rt, ring, life(1, 1, 0), Ok(Seen::Read(0)));
+    check_step(rt, ring, life(2, 1, 0), Ok(Seen::Stored));
+    live(ring, 1, 0, 3, PUBLISHED)?;
+    check_step(rt, ring, life(10, 1, 0), Ok(Seen::Read(HEADER)));
+    check_step(rt, ring, life(11, 1, 0), Ok(Seen::Read(body_word(0, 1))));
+    live(ring, 1, 0, 12, 18)?;
+    check_collected(rt, ring, Some(first_packet()));
+    check_step(rt, ring, life(18, 1, 0), Ok(Seen::Stored));
+    check_step(rt, ring, life(19, 1, 0), Ok(Seen::Read(0)));
+    check_retired(rt, ring, &[first_packet()]);
+    check_collected(rt, ring, None);
+    check_read_index(rt, ring, 1);
     Ok(())
+}
+
+// (a test that owns a ring is dear to prove, so it hands it on at once)
+fn check_life_of(rt: &impl Abort, mut ring: RingState) -> Result<(), Fail> {
+    check_life(rt, &mut ring)
+}
+
+#[test]
+fn a_packet_lives_from_its_reservation_to_its_retirement(rt: HostRuntime) -> Result<(), Fail> {
+    check_life_of(&rt, RingState::new(rt.alloc(), 2, 1)?)
+}
+
+/// A step is refused, and leaves all as it was.
+fn check_unchanged(
+    rt: &(impl Abort + Alloc<A = Global>),
+    ring: &mut RingState,
+    made: Step,
+    name: &str,
+) -> Result<(), Fail> {
+    let before = shown(rt.alloc(), ring)?;
+    check_step(rt, ring, made, REFUSED);
+    let after = shown(rt.alloc(), ring)?;
+    assert_eq!(rt; after.as_str(), before.as_str(), "{name}");
+    Ok(())
+}
+
+/// A third ticket waits.
+fn check_third(rt: &(impl Abort + Alloc<A = Global>), ring: &mut RingState) -> Result<(), Fail> {
+    live(ring, 1, 0, 0, PUBLISHED)?;
+    live(ring, 2, 1, 0, PUBLISHED)?;
+    check_step(rt, ring, life(0, 1, 2), Ok(Seen::Read(2)));
+    check_step(rt, ring, life(1, 1, 2), Ok(Seen::Read(0)));
+    check_unchanged(rt, ring, life(2, 1, 2), "a third ticket")?;
+    live(ring, 1, 0, PUBLISHED, LIFE)?;
+    check_step(rt, ring, life(2, 1, 2), REFUSED);
+    check_step(rt, ring, life(1, 1, 2), Ok(Seen::Read(1)));
+    live(ring, 1, 2, 2, PUBLISHED)?;
+    live(ring, 2, 1, PUBLISHED, LIFE)?;
+    live(ring, 1, 2, PUBLISHED, LIFE)?;
+    check_read_index(rt, ring, 3);
+    Ok(())
+}
+
+// (a test that owns a ring is dear to prove, so it hands it on at once)
+fn check_third_of(rt: &(impl Abort + Alloc<A = Global>), mut ring: RingState) -> Result<(), Fail> {
+    check_third(rt, &mut ring)
 }
 
 #[test]
 fn a_third_ticket_is_busy_until_the_first_packet_is_retired(rt: HostRuntime) -> Result<(), Fail> {
-    let mut ring = RingState::new(rt.alloc(), 2, 2)?;
-    live(&mut ring, 1, 0, 0, PUBLISHED)?;
-    live(&mut ring, 2, 1, 0, PUBLISHED)?;
-    assert_eq!(rt; ring.step(life(0, 1, 2))?, Seen::Read(2));
-    assert_eq!(rt; ring.step(life(1, 1, 2))?, Seen::Read(0));
-    let before = shown(rt.alloc(), &ring)?;
-    assert_eq!(rt; ring.step(life(2, 1, 2)), Err(StepFault::NotAStep));
-    assert_eq!(rt; shown(rt.alloc(), &ring)?.as_str(), before.as_str());
-    live(&mut ring, 1, 0, PUBLISHED, LIFE)?;
-    assert_eq!(rt; ring.step(life(2, 1, 2)), Err(StepFault::NotAStep));
-    assert_eq!(rt; ring.step(life(1, 1, 2))?, Seen::Read(1));
-    live(&mut ring, 1, 2, 2, PUBLISHED)?;
-    live(&mut ring, 2, 1, PUBLISHED, LIFE)?;
-    live(&mut ring, 1, 2, PUBLISHED, LIFE)?;
-    assert_eq!(rt; ring.read_index(), 3);
+    check_third_of(&rt, RingState::new(rt.alloc(), 2, 2)?)
+}
+
+/// A later packet waits for an earlier one.
+fn check_gap(rt: &impl Abort, ring: &mut RingState) -> Result<(), Fail> {
+    step(ring, life(0, 1, 0))?;
+    live(ring, 2, 1, 0, PUBLISHED)?;
+    check_look(rt, ring, Ok(Seen::Read(1)));
+    check_step(rt, ring, life(11, 0, 0), REFUSED);
+    live(ring, 1, 0, 1, PUBLISHED)?;
+    live(ring, 1, 0, PUBLISHED, LIFE)?;
+    check_look(rt, ring, Ok(Seen::Read(HEADER)));
     Ok(())
+}
+
+// (a test that owns a ring is dear to prove, so it hands it on at once)
+fn check_gap_of(rt: &impl Abort, mut ring: RingState) -> Result<(), Fail> {
+    check_gap(rt, &mut ring)
 }
 
 #[test]
 fn nothing_is_seen_behind_a_gap(rt: HostRuntime) -> Result<(), Fail> {
-    let mut ring = RingState::new(rt.alloc(), 4, 2)?;
-    ring.step(life(0, 1, 0))?;
-    live(&mut ring, 2, 1, 0, PUBLISHED)?;
-    assert_eq!(rt; look(&mut ring)?, Seen::Read(1));
-    assert_eq!(rt; ring.step(life(11, 0, 0)), Err(StepFault::NotAStep));
-    live(&mut ring, 1, 0, 1, PUBLISHED)?;
-    live(&mut ring, 1, 0, PUBLISHED, LIFE)?;
-    assert_eq!(rt; look(&mut ring)?, Seen::Read(HEADER));
+    check_gap_of(&rt, RingState::new(rt.alloc(), 4, 2)?)
+}
+
+/// The first producer stops after so many steps, and goes on later.
+fn check_stop(rt: &impl Abort, ring: &mut RingState, stop: usize) -> Result<(), Fail> {
+    live(ring, 1, 0, 0, stop)?;
+    live(ring, 2, 1, 0, PUBLISHED)?;
+    live(ring, 2, 2, 0, PUBLISHED)?;
+    check_look(rt, ring, Ok(Seen::Read(1)));
+    check_read_index(rt, ring, 0);
+    live(ring, 1, 0, stop, PUBLISHED)?;
+    live(ring, 1, 0, PUBLISHED, LIFE)?;
+    live(ring, 2, 1, PUBLISHED, LIFE)?;
+    live(ring, 2, 2, PUBLISHED, LIFE)?;
+    check_read_index(rt, ring, 3);
     Ok(())
+}
+
+fn check_stop_of(rt: &impl Abort, mut ring: RingState, stop: usize) -> Result<(), Fail> {
+    check_stop(rt, &mut ring, stop)
 }
 
 #[test]
 fn a_producer_that_stops_anywhere_delays_only_the_processor(rt: HostRuntime) -> Result<(), Fail> {
     for stop in 1..PUBLISHED {
-        let mut ring = RingState::new(rt.alloc(), 4, 2)?;
-        live(&mut ring, 1, 0, 0, stop)?;
-        live(&mut ring, 2, 1, 0, PUBLISHED)?;
-        live(&mut ring, 2, 2, 0, PUBLISHED)?;
-        assert_eq!(rt; look(&mut ring)?, Seen::Read(1));
-        assert_eq!(rt; ring.read_index(), 0);
-        live(&mut ring, 1, 0, stop, PUBLISHED)?;
-        live(&mut ring, 1, 0, PUBLISHED, LIFE)?;
-        live(&mut ring, 2, 1, PUBLISHED, LIFE)?;
-        live(&mut ring, 2, 2, PUBLISHED, LIFE)?;
-        assert_eq!(rt; ring.read_index(), 3);
+        check_stop_of(&rt, RingState::new(rt.alloc(), 4, 2)?, stop)?;
     }
     Ok(())
+}
+
+/// A slot is kept until the read index is raised.
+fn check_kept_slot(rt: &impl Abort, ring: &mut RingState) -> Result<(), Fail> {
+    live(ring, 1, 0, 0, PUBLISHED)?;
+    live(ring, 1, 1, 0, PUBLISHED)?;
+    live(ring, 1, 0, PUBLISHED, 19)?;
+    check_look(rt, ring, REFUSED);
+    check_step(rt, ring, life(13, 1, 0), Ok(Seen::Read(body_word(0, 3))));
+    check_step(rt, ring, life(18, 1, 0), REFUSED);
+    check_step(rt, ring, life(0, 1, 2), Ok(Seen::Read(2)));
+    check_step(rt, ring, life(1, 1, 2), Ok(Seen::Read(0)));
+    check_step(rt, ring, life(2, 1, 2), REFUSED);
+    check_step(rt, ring, life(19, 1, 0), Ok(Seen::Read(0)));
+    live(ring, 1, 2, 1, PUBLISHED)?;
+    check_read_index(rt, ring, 1);
+    Ok(())
+}
+
+// (a test that owns a ring is dear to prove, so it hands it on at once)
+fn check_kept_slot_of(rt: &impl Abort, mut ring: RingState) -> Result<(), Fail> {
+    check_kept_slot(rt, &mut ring)
 }
 
 #[test]
 fn a_processor_that_stops_between_clearing_and_raising_keeps_the_slot(
     rt: HostRuntime,
 ) -> Result<(), Fail> {
-    let mut ring = RingState::new(rt.alloc(), 2, 1)?;
-    live(&mut ring, 1, 0, 0, PUBLISHED)?;
-    live(&mut ring, 1, 1, 0, PUBLISHED)?;
-    live(&mut ring, 1, 0, PUBLISHED, 19)?;
-    assert_eq!(rt; look(&mut ring), Err(StepFault::NotAStep));
-    assert_eq!(rt; ring.step(life(13, 1, 0))?, Seen::Read(body_word(0, 3)));
-    assert_eq!(rt; ring.step(life(18, 1, 0)), Err(StepFault::NotAStep));
-    assert_eq!(rt; ring.step(life(0, 1, 2))?, Seen::Read(2));
-    assert_eq!(rt; ring.step(life(1, 1, 2))?, Seen::Read(0));
-    assert_eq!(rt; ring.step(life(2, 1, 2)), Err(StepFault::NotAStep));
-    assert_eq!(rt; ring.step(life(19, 1, 0))?, Seen::Read(0));
-    live(&mut ring, 1, 2, 1, PUBLISHED)?;
-    assert_eq!(rt; ring.read_index(), 1);
-    Ok(())
+    check_kept_slot_of(&rt, RingState::new(rt.alloc(), 2, 1)?)
 }
 
 /// A step that is refused after the first so many steps of the life of packet 0.
@@ -287,23 +390,19 @@ const READ_1: Access = Access::LoadBody { place: 1 };
 
 const READ_8: Access = Access::LoadBody { place: 8 };
 
+fn check_not_allowed(rt: &impl Abort, ring: &RingState, step: Step, name: &str) {
+    assert!(rt; !ring.allows(step), "{name}");
+}
+
 fn refuse(rt: &(impl Abort + Alloc<A = Global>), row: &Refused) -> Result<(), Fail> {
     let steps = beginning(rt.alloc(), row.after)?;
     let mut ring = replay(rt.alloc(), 2, 2, &steps)?;
-    let before = shown(rt.alloc(), &ring)?;
     let step = Step {
         seat: row.seat,
         access: row.access,
     };
-    assert!(rt; !ring.allows(step), "{}", row.name);
-    assert_eq!(rt; ring.step(step), Err(StepFault::NotAStep), "{}", row.name);
-    assert_eq!(rt;
-        shown(rt.alloc(), &ring)?.as_str(),
-        before.as_str(),
-        "{}",
-        row.name
-    );
-    Ok(())
+    check_not_allowed(rt, &ring, step, row.name);
+    check_unchanged(rt, &mut ring, step, row.name)
 }
 
 /// The steps that are for producers.

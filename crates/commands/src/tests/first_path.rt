@@ -77,7 +77,8 @@ audit 8
 fn check_denied(rt: &(impl Abort + AllocGlobal), script: &str, replies: &str) -> Result<(), Fail> {
     let script = behind(rt.alloc(), "", script)?;
     let replies = behind(rt.alloc(), "", replies)?;
-    check_replies(rt, 65536, script.as_str(), replies.as_str());
+    let name = "without the grant";
+    check_replies(rt, name, 65536, script.as_str(), replies.as_str());
     Ok(())
 }
 

@@ -209,6 +209,7 @@ fn a_queue_is_stopped_once(rt: HostRuntime) -> Result<(), Fail> {
 fn a_full_audit_leaves_room_for_packets_in_flight(rt: HostRuntime) -> Result<(), Fail> {
     check_told_with(
         &rt,
+        "ten places",
         10,
         "queue alice gpu 2 1\nsubmit 1 1 {BARRIER_AND_OF_NULLS}\nserve 1\nsubmit 2 1 {FILL}\nserve 2\npoll 1 0\nfinish 1 0\n",
         "queue 2\npublished 0\nlaunched 0\npublished 0\nrefused 10 AuditFull\nready\nok\n",
