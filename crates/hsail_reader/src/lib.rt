@@ -31,6 +31,3 @@ pub use types::{
     Alignment, BinaryOperation, Comparison, Constant, DataType, Modifiers, Query, Register,
     RegisterClass, Segment, Source, TernaryOperation, UnaryOperation, Width,
 };
-
-#[cfg(test)]
-mod tests;
