@@ -8,8 +8,6 @@ mod laws;
 mod numbers;
 mod packet;
 mod reading;
-#[cfg(test)]
-mod tests;
 mod writing;
 
 pub use ids::{

@@ -7,8 +7,6 @@ mod check;
 mod kernels;
 mod run;
 mod status;
-#[cfg(test)]
-mod tests;
 
 pub use check::check_policy;
 pub use kernels::{KernelCause, KernelError, KernelFault, check_kernels};

@@ -10,8 +10,6 @@ mod holding;
 mod judging;
 mod packets;
 mod queue_state;
-#[cfg(test)]
-mod tests;
 
 pub use facts::{Facts, TAKES_NOTHING, Verdict};
 pub use functions::{ADD64, COPY, FILL};

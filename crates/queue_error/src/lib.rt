@@ -5,8 +5,6 @@
 
 mod error;
 mod rule;
-#[cfg(test)]
-mod tests;
 
 pub use error::{Place, QueueError};
 pub use rule::Rule;

@@ -4,8 +4,6 @@
 mod fault;
 mod region;
 mod regions;
-#[cfg(test)]
-mod tests;
 
 pub use fault::RegionFault;
 pub use regions::Regions;

@@ -7,12 +7,8 @@ mod laws;
 mod part;
 mod state;
 mod steps;
-#[cfg(test)]
-mod tests;
 mod ticket;
 mod tickets;
-#[cfg(test)]
-mod walk;
 
 pub use access::{Access, Made, READ_PLACE, Seen, Step, WRITE_PLACE, word_place};
 pub use laws::{each_step_keeps_the_rule, every_run_meets_the_rule};

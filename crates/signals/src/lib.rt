@@ -5,8 +5,6 @@
 
 mod operation;
 mod signals;
-#[cfg(test)]
-mod tests;
 
 pub use operation::{Condition, SignalOp};
 pub use signals::{Signals, UnknownSignal};

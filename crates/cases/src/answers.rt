@@ -1,0 +1,146 @@
+//! What comes of a text: the replies to a script, a kernel's steps, a policy's counts, or a fault.
+
+use anyhow::{Error, anyhow};
+use commands::{Status, check_policy, run_policy};
+use std::alloc::{AllocError, Global};
+
+use crate::file::Kind;
+use crate::kernels::kernel_answer;
+use crate::names::Names;
+
+/// How many entries an audit has place for, where a case doesn't say.
+const PLACES: usize = 65536;
+
+/// What all cases of a file stand on.
+#[derive(Drop)]
+pub struct Setting<'a> {
+    pub kind: Kind,
+    /// The policy of scripts, or the frame of kernels' and policies' texts; empty where there is none.
+    pub over: &'a str,
+    /// What stands before each script.
+    pub before: &'a str,
+    pub names: &'a Names,
+}
+
+// A text in UTF-8, as all that the engine writes is.
+fn text_of(bytes: Vec<u8>) -> Result<String, Error> {
+    match String::from_utf8(bytes) {
+        Ok(text) => Ok(text),
+        Err(_) => Err(anyhow!("an answer that is no UTF-8")),
+    }
+}
+
+// Adds each line of what was written to standard error, and the status, if it is another than 0.
+fn add_ending(
+    alloc: Global,
+    answer: &mut String,
+    fault: &str,
+    status: Status,
+) -> Result<(), AllocError> {
+    for line in fault.lines() {
+        answer.push_str(format!(in alloc; "error: {line}\n")?.as_str())?;
+    }
+    match status.number() {
+        0 => Ok(()),
+        number => answer.push_str(format!(in alloc; "status: {number}\n")?.as_str()),
+    }
+}
+
+// What was written to standard output, and below it how the run ended.
+fn written(alloc: Global, out: Vec<u8>, err: Vec<u8>, status: Status) -> Result<String, Error> {
+    let mut answer = text_of(out)?;
+    let fault = text_of(err)?;
+    add_ending(alloc, &mut answer, fault.as_str(), status)?;
+    Ok(answer)
+}
+
+// The replies to a script over a policy, with so many places in the audit.
+fn script_answer(
+    alloc: Global,
+    policy: &str,
+    places: usize,
+    script: &[u8],
+) -> Result<String, Error> {
+    let mut out = Vec::new(alloc);
+    let mut err = Vec::new(alloc);
+    let mut reader = script;
+    let policy = policy.as_bytes();
+    let status = run_policy(alloc, policy, places, &mut reader, &mut out, &mut err);
+    written(alloc, out, err, status)
+}
+
+// The counts of a policy, or its fault.
+fn policy_answer(alloc: Global, policy: &[u8]) -> Result<String, Error> {
+    let mut out = Vec::new(alloc);
+    let mut err = Vec::new(alloc);
+    let status = check_policy(alloc, policy, &mut out, &mut err);
+    written(alloc, out, err, status)
+}
+
+/// What a case's settings change: the policy, and how many entries the audit has place for.
+#[derive(Drop)]
+pub struct Settings {
+    pub policy: String,
+    pub places: usize,
+}
+
+// The policy with one text in place of another, which stands there once.
+fn changed(alloc: Global, policy: &str, old: &str, new: &str) -> Result<String, Error> {
+    if policy.split(old).count() == 2 {
+        Ok(policy.replace(alloc, old, new)?)
+    } else {
+        Err(anyhow!("`{old}` doesn't stand once in the policy"))
+    }
+}
+
+// Reads a setting, and changes what it speaks of.
+fn read_setting(
+    alloc: Global,
+    setting: &Setting<'_>,
+    settings: &mut Settings,
+    line: &str,
+) -> Result<(), Error> {
+    if let Some((old, new)) = line.split_once(" => ") {
+        let old = setting.names.spelled(alloc, old)?;
+        let new = setting.names.spelled(alloc, new)?;
+        settings.policy = changed(alloc, settings.policy.as_str(), old.as_str(), new.as_str())?;
+        return Ok(());
+    }
+    match line.strip_prefix("audit ").map(|number| number.parse::<usize>()) {
+        Some(Ok(places)) => {
+            settings.places = places;
+            Ok(())
+        }
+        _ => Err(anyhow!("`with {line}` is no setting")),
+    }
+}
+
+/// Reads the settings of a case: `audit 10`, or `OLD => NEW`, by which a text of the policy is replaced.
+pub fn read_settings(
+    alloc: Global,
+    setting: &Setting<'_>,
+    lines: &[&str],
+) -> Result<Settings, Error> {
+    let mut settings = Settings {
+        policy: String::from_str(alloc, setting.over)?,
+        places: PLACES,
+    };
+    for line in lines {
+        read_setting(alloc, setting, &mut settings, line)?;
+    }
+    Ok(settings)
+}
+
+/// What comes of a text.
+pub fn answer(
+    alloc: Global,
+    kind: Kind,
+    settings: &Settings,
+    asked: &[u8],
+) -> Result<String, Error> {
+    match kind {
+        Kind::Scripts => script_answer(alloc, settings.policy.as_str(), settings.places, asked),
+        Kind::Kernels => kernel_answer(alloc, asked),
+        Kind::Policies => policy_answer(alloc, asked),
+    }
+}

@@ -1,0 +1,98 @@
+//! What queue errors print.
+
+use aql_packet::{CodecRule, PacketId, QueueId};
+use queue_error::{Place, QueueError, Rule};
+use std::test::*;
+
+const RULES: [(Rule, &str); 18] = [
+    (Rule::L1, "L1"),
+    (Rule::L2, "L2"),
+    (Rule::L3, "L3"),
+    (Rule::L4, "L4"),
+    (Rule::L5, "L5"),
+    (Rule::L6, "L6"),
+    (Rule::L7, "L7"),
+    (Rule::L8, "L8"),
+    (Rule::L9, "L9"),
+    (Rule::L10, "L10"),
+    (Rule::A1, "A1"),
+    (Rule::A2, "A2"),
+    (Rule::A3, "A3"),
+    (Rule::A4, "A4"),
+    (Rule::A5, "A5"),
+    (Rule::A6, "A6"),
+    (Rule::A7, "A7"),
+    (Rule::B1, "B1"),
+];
+
+#[test]
+fn each_rule_prints_its_name(rt: HostRuntime) -> Result<(), Fail> {
+    for (rule, name) in RULES {
+        assert_eq!(rt; rule.to_string(rt.alloc())?.as_str(), name);
+    }
+    Ok(())
+}
+
+#[test]
+fn an_error_prints_with_and_without_a_place(rt: HostRuntime) -> Result<(), Fail> {
+    let inside = Place {
+        group: 1,
+        item: 1,
+        line: 9,
+    };
+    let last = Place {
+        group: 4_294_967_294,
+        item: 1_023,
+        line: 65_536,
+    };
+    let rows = [
+        ("queue 1 packet 0 rule L8", 1, 0, Rule::L8, None),
+        (
+            "queue 1 packet 0 rule A3 group 1 item 1 line 9",
+            1,
+            0,
+            Rule::A3,
+            Some(inside),
+        ),
+        (
+            "queue 64 packet 1099511627775 rule L10",
+            64,
+            1_099_511_627_775,
+            Rule::L10,
+            None,
+        ),
+        (
+            "queue 2 packet 10 rule A5 group 4294967294 item 1023 line 65536",
+            2,
+            10,
+            Rule::A5,
+            Some(last),
+        ),
+    ];
+    for (text, queue, packet, rule, place) in rows {
+        let error = QueueError {
+            queue: QueueId(queue),
+            packet: PacketId(packet),
+            rule,
+            place,
+        };
+        assert_eq!(rt; error.to_string(rt.alloc())?.as_str(), text);
+    }
+    assert_eq!(rt;
+        inside.to_string(rt.alloc())?.as_str(),
+        "group 1 item 1 line 9"
+    );
+    Ok(())
+}
+
+#[test]
+fn a_rule_of_the_layout_is_the_rule_of_that_name(rt: HostRuntime) {
+    let rows = [
+        (CodecRule::L1, Rule::L1),
+        (CodecRule::L2, Rule::L2),
+        (CodecRule::L3, Rule::L3),
+    ];
+    for (layout, rule) in rows {
+        assert_eq!(rt; Rule::from(layout), rule);
+    }
+}

@@ -1,0 +1,76 @@
+//! How runs end early.
+
+use crate::sample::SAMPLE;
+use commands::{Status, check_policy, run_policy};
+use std::alloc::AllocError;
+use std::io;
+use std::test::*;
+
+/// A writer that takes nothing, as a full disk does.
+#[derive(Drop)]
+struct Full;
+
+impl io::Write for Full {
+    fn write(&mut self, _: &[u8]) -> io::Result<usize> {
+        Err(io::Error::from(AllocError))
+    }
+
+    fn flush(&mut self) -> io::Result<()> {
+        Ok(())
+    }
+}
+
+/// A reader of some bytes that fails behind them, as a broken pipe does.
+#[derive(Drop)]
+struct Broken<'a> {
+    bytes: &'a [u8],
+}
+
+impl<'a> io::Read for Broken<'a> {
+    fn read(&mut self, buffer: &mut [u8]) -> io::Result<usize> {
+        if self.bytes.is_empty() {
+            return Err(io::Error::from(AllocError));
+        }
+        self.bytes.read(buffer)
+    }
+}
+
+#[test]
+fn a_writer_that_fails_is_told(rt: HostRuntime) {
+    let mut err = Vec::new(rt.alloc());
+    let status = check_policy(rt.alloc(), SAMPLE.as_bytes(), &mut Full, &mut err);
+    assert_eq!(rt; status, Status::Failed);
+    assert!(rt; err.as_slice() == b"write fault\n".as_slice());
+    let mut err = Vec::new(rt.alloc());
+    let mut script = "audit\n".as_bytes();
+    let status = run_policy(
+        rt.alloc(),
+        SAMPLE.as_bytes(),
+        10,
+        &mut script,
+        &mut Full,
+        &mut err,
+    );
+    assert_eq!(rt; status, Status::Failed);
+    assert!(rt; err.as_slice() == b"write fault\n".as_slice());
+}
+
+#[test]
+fn a_reader_that_fails_is_told_behind_the_replies(rt: HostRuntime) {
+    let mut out = Vec::new(rt.alloc());
+    let mut err = Vec::new(rt.alloc());
+    let mut script = Broken {
+        bytes: "audit\naud".as_bytes(),
+    };
+    let status = run_policy(
+        rt.alloc(),
+        SAMPLE.as_bytes(),
+        10,
+        &mut script,
+        &mut out,
+        &mut err,
+    );
+    assert_eq!(rt; status, Status::Failed);
+    assert!(rt; out.as_slice() == b"audit 0\n".as_slice());
+    assert!(rt; err.as_slice() == b"read fault\n".as_slice());
+}

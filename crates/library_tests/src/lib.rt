@@ -1,0 +1,30 @@
+//! Tests of the libraries, of what no clause and no case says: each public call once where no case makes it, values
+//! with types, and readers, writers and memory that fail. They stand in a crate of their own, so that the libraries
+//! are proved once.
+//! The next line lets the check look for proofs by its tactics.
+#![tactic(auto)]
+
+#[cfg(test)]
+mod access;
+#[cfg(test)]
+mod errors;
+#[cfg(test)]
+mod files;
+#[cfg(test)]
+mod kernels;
+#[cfg(test)]
+mod memory;
+#[cfg(test)]
+mod modules;
+#[cfg(test)]
+mod packets;
+#[cfg(test)]
+mod policies;
+#[cfg(test)]
+mod rings;
+#[cfg(test)]
+mod sample;
+#[cfg(test)]
+mod values;
+#[cfg(test)]
+mod walk;
