@@ -2,8 +2,7 @@
 use Rattle.std.proofs.Common.{◌≡◌, ℕ, zero, suc, ◌+◌, ◌-◌, ◌<◌, List, [], ◌∷◌, ◌++◌, length, Bool, true, false, Ok, Err, refl, sym, ap, ◌∙◌, append_assoc, subst, length-append, arith}
 use Rattle.std.proofs.lemmas.List.{append-nil}
 use Rattle.hsail_reader.specs.Faults.{Fails}
-use Rattle.hsail_reader.specs.Operands.{Reading, ◌>>=◌, mark_at}
-use Rattle.hsail_reader.specs.Syntax.{many_at, all_at, with_first}
+use Rattle.hsail_reader.specs.Grammars.{Reading, ◌>>=◌, many_at, all_at, with_first}
 use Rattle.hsail_reader.specs.TextTokens.{PlacedToken}
 use Rattle.hsail_reader.specs.declared.fault.Stop.{Stop}
 use Rattle.hsail_reader.specs.declared.fault.Stop.TheVariants as stop
@@ -58,14 +57,14 @@ with_front_one x (Ok xs) = refl
 with_front_one x (Err r) = refl
 
 -- before the first turn, behind a mark
-pub begins : {X : Type 0} (m : ℕ) (stops : List PlacedToken → Bool) (one : List PlacedToken → Reading X) (front : List X) (tokens rest : List PlacedToken) →
-    front ≡ [] → mark_at m tokens ≡ Ok rest →
+pub begins : {A X : Type 0} (first : List PlacedToken → Reading A) (stops : List PlacedToken → Bool) (one : List PlacedToken → Reading X) (front : List X) (tokens rest : List PlacedToken) (a : A) →
+    front ≡ [] → first tokens ≡ Ok (a, rest) →
     with_front front (many_at stops one (suc (length rest) - length front) rest)
-    ≡ (mark_at m tokens >>= all_at stops one)
-begins {X} m stops one front tokens rest none is =
+    ≡ (first tokens >>= λ a. all_at stops one a.1)
+begins {A} {X} first stops one front tokens rest a none is =
     let P : List X → Type 0 = λ f.
     with_front f (many_at stops one (suc (length rest) - length f) rest)
-    ≡ (mark_at m tokens >>= all_at stops one) in
+    ≡ (first tokens >>= λ a. all_at stops one a.1) in
     let k : suc (length rest) - 0 ≡ suc (length rest) = omega arith in
     subst P (sym none) (rw (k, is) (with_front_none (many_at stops one (suc (length rest)) rest)))
 

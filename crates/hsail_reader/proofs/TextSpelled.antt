@@ -1,19 +1,50 @@
 -- A text is read as a module just where the grammar has it as a text of that module.
-use Rattle.std.proofs.Common.{◌≡◌, ℕ, ◌<◌, ◌≤◌, ⊎_elim, List, length, true, false, nat_lt, if◌then◌else◌, Result, Ok, Err, sym, ap, ◌∙◌, arith}
+use Rattle.std.proofs.Common.{◌≡◌, ℕ, ◌<◌, ◌≤◌, ⊎_elim, List, [], ◌∷◌, length, true, false, nat_lt, if◌then◌else◌, Result, Ok, Err, sym, ap, subst, ◌∙◌, arith}
 use Rattle.std.proofs.lemmas.Bool.{cases_Bool, cases_lt, ltb-true, lt-ltb}
 use Rattle.hsail_reader.specs.Faults.{too_long}
-use Rattle.hsail_reader.specs.Grammar.{IsTextOf}
-use Rattle.hsail_reader.specs.Operands.{◌>>=◌}
+use Rattle.hsail_reader.specs.Grammar.{is_none_left, kernels, module_text, SpellModule, IsTextOf}
+use Rattle.hsail_reader.specs.Grammars.{spells, read, ◌>>=◌}
+use Rattle.hsail_reader.specs.TextTokens.{PlacedToken}
 use Rattle.hsail_reader.specs.Syntax.{module_at, read_at, located, reading}
 use Rattle.hsail_reader.specs.Tokens.{tokens_of}
 use Rattle.hsail_reader.specs.declared.fault.ReadFault.{ReadFault}
 use Rattle.hsail_reader.specs.declared.fault.Refusal.{Refusal}
 use Rattle.hsail_reader.specs.declared.module.Module.{Module}
-use Rattle.hsail_reader.proofs.ModuleRead.{module_read}
-use Rattle.hsail_reader.proofs.ModuleSpelled.{module_spelled}
-use Rattle.hsail_reader.proofs.OperandsSpelled.{bound}
+use Rattle.hsail_reader.proofs.Decided.{module_decides}
+use Rattle.hsail_reader.proofs.Grammars.{Front, complete, sound, bound}
 use Rattle.hsail_reader.proofs.TextCut.{cut, spelled}
-use Rattle.hsail_reader.proofs.WordSpellings.{word_is_read, word_is_spelled}
+
+abbrev anything : Front
+anything to = Unit {0}
+
+-- what spells a module is read as it
+pub module_read : (tokens : List PlacedToken) (m : Module) → SpellModule tokens m → module_at tokens ≡ Ok m
+unfolding module_at
+module_read tokens m s =
+    ap (λ r. r >>= λ m. Ok m.0) (complete module_text anything (module_decides anything) m tokens [] s tt)
+
+-- behind what spells a module no token is left
+none_left : (m : Module) (from to : List PlacedToken) → spells module_text m from to → to ≡ []
+unfolding module_text kernels
+none_left m from to s =
+    let end = s.3.3.3 in none to (subst (λ ts. is_none_left ts ≡ true) end.3.0 end.2.3.1)
+  where
+    none : (ts : List PlacedToken) → is_none_left ts ≡ true → ts ≡ []
+    none [] e = cc
+    none (t ∷ ts) e = cc
+
+-- what is read as a module spells it
+pub module_spelled : (tokens : List PlacedToken) (m : Module) → module_at tokens ≡ Ok m → SpellModule tokens m
+unfolding module_at
+module_spelled tokens m is =
+    let y = bound (read module_text tokens) (λ m. Ok m.0) m is in
+    let s = sound module_text anything (module_decides anything) tokens y.0 y.1 in
+    let same : y.0.0 ≡ m = one y.0.0 y.2 in
+    let end = none_left y.0.0 tokens y.0.1 s in
+    subst (λ m. SpellModule tokens m) same (subst (λ to. spells module_text y.0.0 tokens to) end s)
+  where
+    one : (n : Module) → ◌≡◌ {A = Result Module Refusal} (Ok n) (Ok m) → n ≡ m
+    one n e = cc
 
 short : (n : ℕ) → n ≤ 65536 → nat_lt 65536 n ≡ false
 short n within =
@@ -38,14 +69,14 @@ long_is_no_text text over m s = omega (arith, over, s.0)
 text_at : (text : List ℕ) (m : Module) → IsTextOf text m → read_at text ≡ Ok m
 unfolding IsTextOf
 text_at text m s =
-    ap (λ tokens. tokens >>= module_at) (cut text s.1.0 s.1.1) ∙ module_read word_is_read m s.1.0 s.1.2
+    ap (λ tokens. tokens >>= module_at) (cut text s.1.0 s.1.1) ∙ module_read s.1.0 m s.1.2
 
 -- what is read within the limit is a text of the module
 pub short_is_text : (text : List ℕ) (m : Module) → length text ≤ 65536 → read_at text ≡ Ok m → IsTextOf text m
 unfolding IsTextOf
 short_is_text text m fits is =
     let tokens = bound (tokens_of text) module_at m is in
-    (fits, (tokens.0, spelled text tokens.0 tokens.1, module_spelled word_is_spelled tokens.0 m tokens.2))
+    (fits, (tokens.0, spelled text tokens.0 tokens.1, module_spelled tokens.0 m tokens.2))
 
 -- what is refused is a text of no module
 pub refused_is_no_text : (text : List ℕ) (r : Refusal) → read_at text ≡ Err r → (m : Module) → IsTextOf text m → ⊥

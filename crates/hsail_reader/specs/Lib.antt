@@ -8,9 +8,9 @@ pub mod WordLexemes
 pub mod Lexemes
 pub mod Tokens
 pub mod TextTokens
+pub mod Grammars
+pub mod Terminals
 pub mod Grammar
 pub mod Words
-pub mod Operands
-pub mod Instructions
 pub mod Syntax
 pub mod Sample

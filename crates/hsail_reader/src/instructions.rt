@@ -3,7 +3,8 @@
 ghost use Rattle.std.specs.Prelude.{◌≡◌, ◌<◌, ◌≤◌, length, IfOk, Ok};
 ghost use Rattle.hsail_reader.specs.Faults.{Gives};
 ghost use Rattle.hsail_reader.specs.Tokens.{token_views};
-ghost use Rattle.hsail_reader.specs.Instructions.{next_source_at, unary_at, binary_at, ternary_at, load_at, store_at, branch_at, conditional_branch_at, identify_at, operation_at};
+ghost use Rattle.hsail_reader.specs.Grammar as grammar;
+ghost use Rattle.hsail_reader.specs.Grammars.{read};
 
 use crate::fault::Stop;
 use crate::module::{Binary, ConditionalBranch, Identify, Load, Operation, Store, Ternary, Unary};
@@ -17,9 +18,9 @@ use crate::words::Opcode;
 use std::alloc::Global;
 
 /// A comma and a source.
-#[tactic(auto, unfolding(crate::specs::Instructions::next_source_at))]
+#[tactic(auto, unfolding(crate::specs::Grammar::next_source))]
 fn next_source<'a, 't>(tokens: &'a [Token<'t>]) -> Result<(Source, &'a [Token<'t>]), Stop>
-    ensures value { Gives (λ x. (x.0, token_views x.1.now)) result (next_source_at (token_views tokens.now)) }
+    ensures value { Gives (λ x. (x.0, token_views x.1.now)) result (read grammar.next_source (token_views tokens.now)) }
     ensures shorter { IfOk result (λ x. length x.1.now < length tokens.now) }
 {
     let rest = mark(b',', tokens)?;
@@ -27,13 +28,13 @@ fn next_source<'a, 't>(tokens: &'a [Token<'t>]) -> Result<(Source, &'a [Token<'t
 }
 
 /// `d, a`
-#[tactic(auto, unfolding(crate::specs::Instructions::unary_at))]
+#[tactic(auto, unfolding(crate::specs::Grammar::unary))]
 fn read_unary<'a, 't>(
     operation: UnaryOperation,
     kind: DataType,
     tokens: &'a [Token<'t>],
 ) -> Result<(Operation, &'a [Token<'t>]), Stop>
-    ensures value { Gives (λ x. (x.0, token_views x.1.now)) result (unary_at operation kind (token_views tokens.now)) }
+    ensures value { Gives (λ x. (x.0, token_views x.1.now)) result (read (grammar.unary operation kind) (token_views tokens.now)) }
     ensures shorter { IfOk result (λ x. length x.1.now < length tokens.now) }
 {
     let (target, rest) = register(tokens)?;
@@ -48,13 +49,13 @@ fn read_unary<'a, 't>(
 }
 
 /// `d, a, b`
-#[tactic(auto, unfolding(crate::specs::Instructions::binary_at))]
+#[tactic(auto, unfolding(crate::specs::Grammar::binary))]
 fn read_binary<'a, 't>(
     operation: BinaryOperation,
     kind: DataType,
     tokens: &'a [Token<'t>],
 ) -> Result<(Operation, &'a [Token<'t>]), Stop>
-    ensures value { Gives (λ x. (x.0, token_views x.1.now)) result (binary_at operation kind (token_views tokens.now)) }
+    ensures value { Gives (λ x. (x.0, token_views x.1.now)) result (read (grammar.binary operation kind) (token_views tokens.now)) }
     ensures shorter { IfOk result (λ x. length x.1.now < length tokens.now) }
 {
     let (target, rest) = register(tokens)?;
@@ -71,13 +72,13 @@ fn read_binary<'a, 't>(
 }
 
 /// `d, a, b, c`
-#[tactic(auto, unfolding(crate::specs::Instructions::ternary_at))]
+#[tactic(auto, unfolding(crate::specs::Grammar::ternary))]
 fn read_ternary<'a, 't>(
     operation: TernaryOperation,
     kind: DataType,
     tokens: &'a [Token<'t>],
 ) -> Result<(Operation, &'a [Token<'t>]), Stop>
-    ensures value { Gives (λ x. (x.0, token_views x.1.now)) result (ternary_at operation kind (token_views tokens.now)) }
+    ensures value { Gives (λ x. (x.0, token_views x.1.now)) result (read (grammar.ternary operation kind) (token_views tokens.now)) }
     ensures shorter { IfOk result (λ x. length x.1.now < length tokens.now) }
 {
     let (target, rest) = register(tokens)?;
@@ -96,7 +97,7 @@ fn read_ternary<'a, 't>(
 }
 
 /// `d, [address]`
-#[tactic(auto, unfolding(crate::specs::Instructions::load_at))]
+#[tactic(auto, unfolding(crate::specs::Grammar::load))]
 fn read_load<'a, 't>(
     alloc: Global,
     segment: Segment,
@@ -104,7 +105,7 @@ fn read_load<'a, 't>(
     kind: DataType,
     tokens: &'a [Token<'t>],
 ) -> Result<(Operation, &'a [Token<'t>]), Stop>
-    ensures value { Gives (λ x. (x.0, token_views x.1.now)) result (load_at segment modifiers kind (token_views tokens.now)) }
+    ensures value { Gives (λ x. (x.0, token_views x.1.now)) result (read (grammar.load segment modifiers kind) (token_views tokens.now)) }
     ensures shorter { IfOk result (λ x. length x.1.now < length tokens.now) }
 {
     let (target, rest) = register(tokens)?;
@@ -121,14 +122,14 @@ fn read_load<'a, 't>(
 }
 
 /// `a, [address]`
-#[tactic(auto, unfolding(crate::specs::Instructions::store_at))]
+#[tactic(auto, unfolding(crate::specs::Grammar::store))]
 fn read_store<'a, 't>(
     alloc: Global,
     align: Option<u64>,
     kind: DataType,
     tokens: &'a [Token<'t>],
 ) -> Result<(Operation, &'a [Token<'t>]), Stop>
-    ensures value { Gives (λ x. (x.0, token_views x.1.now)) result (store_at align kind (token_views tokens.now)) }
+    ensures value { Gives (λ x. (x.0, token_views x.1.now)) result (read (grammar.store align kind) (token_views tokens.now)) }
     ensures shorter { IfOk result (λ x. length x.1.now < length tokens.now) }
 {
     let (source, rest) = source(tokens)?;
@@ -144,12 +145,12 @@ fn read_store<'a, 't>(
 }
 
 /// `@x`
-#[tactic(auto, unfolding(crate::specs::Instructions::branch_at))]
+#[tactic(auto, unfolding(crate::specs::Grammar::branch))]
 fn read_branch<'a, 't>(
     alloc: Global,
     tokens: &'a [Token<'t>],
 ) -> Result<(Operation, &'a [Token<'t>]), Stop>
-    ensures value { Gives (λ x. (x.0, token_views x.1.now)) result (branch_at (token_views tokens.now)) }
+    ensures value { Gives (λ x. (x.0, token_views x.1.now)) result (read grammar.branch (token_views tokens.now)) }
     ensures shorter { IfOk result (λ x. length x.1.now < length tokens.now) }
 {
     let (name, rest) = label(alloc, tokens)?;
@@ -157,13 +158,13 @@ fn read_branch<'a, 't>(
 }
 
 /// `a, @x`
-#[tactic(auto, unfolding(crate::specs::Instructions::conditional_branch_at))]
+#[tactic(auto, unfolding(crate::specs::Grammar::conditional_branch))]
 fn read_conditional_branch<'a, 't>(
     alloc: Global,
     width: Option<Width>,
     tokens: &'a [Token<'t>],
 ) -> Result<(Operation, &'a [Token<'t>]), Stop>
-    ensures value { Gives (λ x. (x.0, token_views x.1.now)) result (conditional_branch_at width (token_views tokens.now)) }
+    ensures value { Gives (λ x. (x.0, token_views x.1.now)) result (read (grammar.conditional_branch width) (token_views tokens.now)) }
     ensures shorter { IfOk result (λ x. length x.1.now < length tokens.now) }
 {
     let (condition, rest) = source(tokens)?;
@@ -178,13 +179,13 @@ fn read_conditional_branch<'a, 't>(
 }
 
 /// `d, k`
-#[tactic(auto, unfolding(crate::specs::Instructions::identify_at))]
+#[tactic(auto, unfolding(crate::specs::Grammar::identify))]
 fn read_identify<'a, 't>(
     query: Query,
     kind: DataType,
     tokens: &'a [Token<'t>],
 ) -> Result<(Operation, &'a [Token<'t>]), Stop>
-    ensures value { Gives (λ x. (x.0, token_views x.1.now)) result (identify_at query kind (token_views tokens.now)) }
+    ensures value { Gives (λ x. (x.0, token_views x.1.now)) result (read (grammar.identify query kind) (token_views tokens.now)) }
     ensures shorter { IfOk result (λ x. length x.1.now < length tokens.now) }
 {
     let (target, rest) = register(tokens)?;
@@ -205,7 +206,7 @@ pub fn operands<'a, 't>(
     opcode: Opcode,
     tokens: &'a [Token<'t>],
 ) -> Result<(Operation, &'a [Token<'t>]), Stop>
-    ensures value { Gives (λ x. (x.0, token_views x.1.now)) result (operation_at opcode (token_views tokens.now)) }
+    ensures value { Gives (λ x. (x.0, token_views x.1.now)) result (read (grammar.operands opcode) (token_views tokens.now)) }
     ensures shorter { IfOk result (λ x. length x.1.now ≤ length tokens.now) }
 {
     match opcode {

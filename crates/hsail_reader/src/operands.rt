@@ -4,7 +4,10 @@ ghost use Rattle.std.specs.Prelude.{◌≡◌, ◌<◌, ◌≤◌, length, IfOk,
 ghost use Rattle.hsail_reader.specs.declared.fault.Stop.TheVariants as stop;
 ghost use Rattle.hsail_reader.specs.Faults.{Gives, refusal};
 ghost use Rattle.hsail_reader.specs.Tokens.{token_views};
-ghost use Rattle.hsail_reader.specs.Operands.{place_of, begins_with_mark, mark_at, register_at, number_at, global_at, variable_at, label_at, constant_at, source_at, offset_at, place_at, place_in_brackets, index_at, address_inside, address_at};
+ghost use Rattle.hsail_reader.specs.Grammar as grammar;
+ghost use Rattle.hsail_reader.specs.Grammars as grammars;
+ghost use Rattle.hsail_reader.specs.Grammars.{begins, place_of, read};
+ghost use Rattle.hsail_reader.specs.Terminals as terminals;
 
 use crate::fault::{Flaw, Refusal, Stop};
 use crate::module::{Address, Indexed, Place, Relative};
@@ -24,9 +27,19 @@ pub fn refused(tokens: &[Token<'_>], flaw: Flaw) -> Stop
     Stop::Refused(Refusal { place, flaw })
 }
 
+/// The line of the first token, or 0 at the end of the text.
+pub fn line_of(tokens: &[Token<'_>]) -> u32
+    ensures { result ≡ grammars.line_of (token_views tokens.now) }
+{
+    match tokens {
+        [] => 0,
+        [first, ..] => first.line,
+    }
+}
+
 /// Whether the first token is this mark.
 pub fn has_mark(mark: u8, tokens: &[Token<'_>]) -> bool
-    ensures { result ≡ begins_with_mark mark (token_views tokens.now) }
+    ensures { result ≡ begins (terminals.mark mark) (token_views tokens.now) }
 {
     match tokens {
         [first, ..] => match first.kind {
@@ -39,7 +52,7 @@ pub fn has_mark(mark: u8, tokens: &[Token<'_>]) -> bool
 
 /// The tokens behind this mark.
 pub fn mark<'a, 't>(mark: u8, tokens: &'a [Token<'t>]) -> Result<&'a [Token<'t>], Stop>
-    ensures value { Gives (λ x. token_views x.now) result (mark_at mark (token_views tokens.now)) }
+    ensures value { Gives (λ x. (tt, token_views x.now)) result (read (terminals.mark mark) (token_views tokens.now)) }
     ensures shorter { IfOk result (λ x. length x.now < length tokens.now) }
 {
     if let [first, rest @ ..] = tokens {
@@ -54,7 +67,7 @@ pub fn mark<'a, 't>(mark: u8, tokens: &'a [Token<'t>]) -> Result<&'a [Token<'t>]
 
 /// A register.
 pub fn register<'a, 't>(tokens: &'a [Token<'t>]) -> Result<(Register, &'a [Token<'t>]), Stop>
-    ensures value { Gives (λ x. (x.0, token_views x.1.now)) result (register_at (token_views tokens.now)) }
+    ensures value { Gives (λ x. (x.0, token_views x.1.now)) result (read terminals.register (token_views tokens.now)) }
     ensures shorter { IfOk result (λ x. length x.1.now < length tokens.now) }
 {
     if let [first, rest @ ..] = tokens {
@@ -67,7 +80,7 @@ pub fn register<'a, 't>(tokens: &'a [Token<'t>]) -> Result<(Register, &'a [Token
 
 /// A number without a sign.
 pub fn number<'a, 't>(tokens: &'a [Token<'t>]) -> Result<(u64, &'a [Token<'t>]), Stop>
-    ensures value { Gives (λ x. (x.0, token_views x.1.now)) result (number_at (token_views tokens.now)) }
+    ensures value { Gives (λ x. (x.0, token_views x.1.now)) result (read terminals.number (token_views tokens.now)) }
     ensures shorter { IfOk result (λ x. length x.1.now < length tokens.now) }
 {
     if let [first, rest @ ..] = tokens {
@@ -90,7 +103,7 @@ pub fn global<'a, 't>(
     alloc: Global,
     tokens: &'a [Token<'t>],
 ) -> Result<(Sequence<u8>, &'a [Token<'t>]), Stop>
-    ensures value { Gives (λ x. (x.0, token_views x.1.now)) result (global_at (token_views tokens.now)) }
+    ensures value { Gives (λ x. (x.0, token_views x.1.now)) result (read terminals.global (token_views tokens.now)) }
     ensures shorter { IfOk result (λ x. length x.1.now < length tokens.now) }
 {
     if let [first, rest @ ..] = tokens {
@@ -106,7 +119,7 @@ pub fn variable<'a, 't>(
     alloc: Global,
     tokens: &'a [Token<'t>],
 ) -> Result<(Sequence<u8>, &'a [Token<'t>]), Stop>
-    ensures value { Gives (λ x. (x.0, token_views x.1.now)) result (variable_at (token_views tokens.now)) }
+    ensures value { Gives (λ x. (x.0, token_views x.1.now)) result (read terminals.variable (token_views tokens.now)) }
     ensures shorter { IfOk result (λ x. length x.1.now < length tokens.now) }
 {
     if let [first, rest @ ..] = tokens {
@@ -122,7 +135,7 @@ pub fn label<'a, 't>(
     alloc: Global,
     tokens: &'a [Token<'t>],
 ) -> Result<(Sequence<u8>, &'a [Token<'t>]), Stop>
-    ensures value { Gives (λ x. (x.0, token_views x.1.now)) result (label_at (token_views tokens.now)) }
+    ensures value { Gives (λ x. (x.0, token_views x.1.now)) result (read terminals.label (token_views tokens.now)) }
     ensures shorter { IfOk result (λ x. length x.1.now < length tokens.now) }
 {
     if let [first, rest @ ..] = tokens {
@@ -133,103 +146,94 @@ pub fn label<'a, 't>(
     Err(refused(tokens, Flaw::Syntax))
 }
 
-/// A number behind its sign.
-fn constant<'a, 't>(
+/// A number, with the sign that stood before it.
+#[tactic(auto, unfolding(crate::specs::Grammar::signed))]
+fn signed<'a, 't>(
     negative: bool,
     tokens: &'a [Token<'t>],
 ) -> Result<(Constant, &'a [Token<'t>]), Stop>
-    ensures value { Gives (λ x. (x.0, token_views x.1.now)) result (constant_at negative (token_views tokens.now)) }
+    ensures value { Gives (λ x. (x.0, token_views x.1.now)) result (read (grammar.signed negative) (token_views tokens.now)) }
     ensures shorter { IfOk result (λ x. length x.1.now < length tokens.now) }
 {
     let (magnitude, rest) = number(tokens)?;
-    Ok((
-        Constant {
-            negative,
-            magnitude,
-        },
-        rest,
-    ))
+    let constant = Constant {
+        negative,
+        magnitude,
+    };
+    Ok((constant, rest))
+}
+
+/// A number with an optional sign.
+#[tactic(auto, unfolding(crate::specs::Grammar::constant))]
+fn constant<'a, 't>(tokens: &'a [Token<'t>]) -> Result<(Constant, &'a [Token<'t>]), Stop>
+    ensures value { Gives (λ x. (x.0, token_views x.1.now)) result (read grammar.constant (token_views tokens.now)) }
+    ensures shorter { IfOk result (λ x. length x.1.now < length tokens.now) }
+{
+    if let [first, rest @ ..] = tokens {
+        match first.kind {
+            TokenKind::Mark(b'-') => return signed(true, rest),
+            TokenKind::Mark(b'+') => return signed(false, rest),
+            _ => {}
+        }
+    }
+    signed(false, tokens)
 }
 
 /// A register, or a number with an optional sign.
-#[tactic(auto, unfolding(crate::specs::Operands::source_at))]
+#[tactic(auto, unfolding(crate::specs::Grammar::source))]
 pub fn source<'a, 't>(tokens: &'a [Token<'t>]) -> Result<(Source, &'a [Token<'t>]), Stop>
-    ensures value { Gives (λ x. (x.0, token_views x.1.now)) result (source_at (token_views tokens.now)) }
+    ensures value { Gives (λ x. (x.0, token_views x.1.now)) result (read grammar.source (token_views tokens.now)) }
     ensures shorter { IfOk result (λ x. length x.1.now < length tokens.now) }
 {
-    let [first, rest @ ..] = tokens else {
-        return Err(refused(tokens, Flaw::Syntax));
-    };
-    match first.kind {
-        TokenKind::Register(register) => Ok((Source::Register(register), rest)),
-        TokenKind::Number(magnitude) => {
-            let constant = Constant {
-                negative: false,
-                magnitude,
-            };
-            Ok((Source::Constant(constant), rest))
+    if let [first, rest @ ..] = tokens {
+        if let TokenKind::Register(register) = first.kind {
+            return Ok((Source::Register(register), rest));
         }
-        TokenKind::Mark(b'+') => {
-            let (constant, rest) = constant(false, rest)?;
-            Ok((Source::Constant(constant), rest))
-        }
-        TokenKind::Mark(b'-') => {
-            let (constant, rest) = constant(true, rest)?;
-            Ok((Source::Constant(constant), rest))
-        }
-        _ => Err(refused(tokens, Flaw::Syntax)),
     }
+    let (constant, rest) = constant(tokens)?;
+    Ok((Source::Constant(constant), rest))
 }
 
-/// What is added to a register: `+ n`, `- n` or nothing.
-#[tactic(auto, unfolding(crate::specs::Operands::offset_at))]
-fn offset<'a, 't>(
-    register: Register,
-    tokens: &'a [Token<'t>],
-) -> Result<(Place, &'a [Token<'t>]), Stop>
-    ensures value { Gives (λ x. (x.0, token_views x.1.now)) result (offset_at register (token_views tokens.now)) }
+/// What is added to a register: `- n`, `+ n` or nothing.
+#[tactic(auto, unfolding(crate::specs::Grammar::offset))]
+fn offset<'a, 't>(tokens: &'a [Token<'t>]) -> Result<(Constant, &'a [Token<'t>]), Stop>
+    ensures value { Gives (λ x. (x.0, token_views x.1.now)) result (read grammar.offset (token_views tokens.now)) }
     ensures shorter { IfOk result (λ x. length x.1.now ≤ length tokens.now) }
 {
     if let [first, rest @ ..] = tokens {
         match first.kind {
-            TokenKind::Mark(b'+') => {
-                let (offset, rest) = constant(false, rest)?;
-                return Ok((Place::Relative(Relative { register, offset }), rest));
-            }
-            TokenKind::Mark(b'-') => {
-                let (offset, rest) = constant(true, rest)?;
-                return Ok((Place::Relative(Relative { register, offset }), rest));
-            }
+            TokenKind::Mark(b'-') => return signed(true, rest),
+            TokenKind::Mark(b'+') => return signed(false, rest),
             _ => {}
         }
     }
-    let offset = Constant {
+    let none = Constant {
         negative: false,
         magnitude: 0,
     };
-    Ok((Place::Relative(Relative { register, offset }), tokens))
+    Ok((none, tokens))
 }
 
 /// A number; or a register and what is added to it.
-#[tactic(auto, unfolding(crate::specs::Operands::place_at))]
+#[tactic(auto, unfolding(crate::specs::Grammar::place))]
 fn place<'a, 't>(tokens: &'a [Token<'t>]) -> Result<(Place, &'a [Token<'t>]), Stop>
-    ensures value { Gives (λ x. (x.0, token_views x.1.now)) result (place_at (token_views tokens.now)) }
+    ensures value { Gives (λ x. (x.0, token_views x.1.now)) result (read grammar.place (token_views tokens.now)) }
     ensures shorter { IfOk result (λ x. length x.1.now < length tokens.now) }
 {
-    let [first, rest @ ..] = tokens else {
-        return Err(refused(tokens, Flaw::Syntax));
-    };
-    match first.kind {
-        TokenKind::Number(number) => Ok((Place::Absolute(number), rest)),
-        TokenKind::Register(register) => offset(register, rest),
-        _ => Err(refused(tokens, Flaw::Syntax)),
+    if let [first, rest @ ..] = tokens {
+        if let TokenKind::Number(number) = first.kind {
+            return Ok((Place::Absolute(number), rest));
+        }
     }
+    let (register, rest) = register(tokens)?;
+    let (offset, rest) = offset(rest)?;
+    Ok((Place::Relative(Relative { register, offset }), rest))
 }
 
 /// A place and the bracket behind it.
-#[tactic(auto, unfolding(crate::specs::Operands::place_in_brackets))]
+#[tactic(auto, unfolding(crate::specs::Grammar::place_inside))]
 fn place_inside<'a, 't>(tokens: &'a [Token<'t>]) -> Result<(Place, &'a [Token<'t>]), Stop>
-    ensures value { Gives (λ x. (x.0, token_views x.1.now)) result (place_in_brackets (token_views tokens.now)) }
+    ensures value { Gives (λ x. (x.0, token_views x.1.now)) result (read grammar.place_inside (token_views tokens.now)) }
     ensures shorter { IfOk result (λ x. length x.1.now < length tokens.now) }
 {
     let (place, rest) = place(tokens)?;
@@ -238,12 +242,12 @@ fn place_inside<'a, 't>(tokens: &'a [Token<'t>]) -> Result<(Place, &'a [Token<'t
 }
 
 /// What stands behind `[%x]`: an index in brackets, or nothing.
-#[tactic(auto, unfolding(crate::specs::Operands::index_at))]
+#[tactic(auto, unfolding(crate::specs::Grammar::index))]
 fn index<'a, 't>(
     variable: Sequence<u8>,
     tokens: &'a [Token<'t>],
 ) -> Result<(Address, &'a [Token<'t>]), Stop>
-    ensures value { Gives (λ x. (x.0, token_views x.1.now)) result (index_at variable (token_views tokens.now)) }
+    ensures value { Gives (λ x. (x.0, token_views x.1.now)) result (read (grammar.index variable) (token_views tokens.now)) }
     ensures shorter { IfOk result (λ x. length x.1.now ≤ length tokens.now) }
 {
     if !has_mark(b'[', tokens) {
@@ -255,33 +259,32 @@ fn index<'a, 't>(
 }
 
 /// What stands behind the first bracket of an address.
-#[tactic(auto, unfolding(crate::specs::Operands::address_inside))]
+#[tactic(auto, unfolding(crate::specs::Grammar::address_inside))]
 fn inside<'a, 't>(
     alloc: Global,
     tokens: &'a [Token<'t>],
 ) -> Result<(Address, &'a [Token<'t>]), Stop>
-    ensures value { Gives (λ x. (x.0, token_views x.1.now)) result (address_inside (token_views tokens.now)) }
+    ensures value { Gives (λ x. (x.0, token_views x.1.now)) result (read grammar.address_inside (token_views tokens.now)) }
     ensures shorter { IfOk result (λ x. length x.1.now < length tokens.now) }
 {
-    let [first, behind @ ..] = tokens else {
-        return Err(refused(tokens, Flaw::Syntax));
-    };
-    if let TokenKind::Variable = first.kind {
-        let variable = copied(alloc, first.text)?;
-        let rest = mark(b']', behind)?;
-        return index(variable, rest);
+    if let [first, rest @ ..] = tokens {
+        if let TokenKind::Variable = first.kind {
+            let variable = copied(alloc, first.text)?;
+            let rest = mark(b']', rest)?;
+            return index(variable, rest);
+        }
     }
     let (place, rest) = place_inside(tokens)?;
     Ok((Address::Place(place), rest))
 }
 
 /// An address in brackets.
-#[tactic(auto, unfolding(crate::specs::Operands::address_at))]
+#[tactic(auto, unfolding(crate::specs::Grammar::address))]
 pub fn address<'a, 't>(
     alloc: Global,
     tokens: &'a [Token<'t>],
 ) -> Result<(Address, &'a [Token<'t>]), Stop>
-    ensures value { Gives (λ x. (x.0, token_views x.1.now)) result (address_at (token_views tokens.now)) }
+    ensures value { Gives (λ x. (x.0, token_views x.1.now)) result (read grammar.address (token_views tokens.now)) }
     ensures shorter { IfOk result (λ x. length x.1.now < length tokens.now) }
 {
     let rest = mark(b'[', tokens)?;

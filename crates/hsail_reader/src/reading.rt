@@ -2,10 +2,11 @@
 
 ghost use Rattle.std.specs.Prelude.{◌≡◌, ◌<◌, ◌≤◌, ◌↔◌, length, Err};
 ghost use Rattle.hsail_reader.specs.Faults.{Gives, too_long};
-ghost use Rattle.hsail_reader.specs.Operands.{mark_at};
 ghost use Rattle.hsail_reader.specs.Tokens.{token_views};
-ghost use Rattle.hsail_reader.specs.Grammar.{AnswersByGrammar};
-ghost use Rattle.hsail_reader.specs.Syntax.{field_at, major_kind, minor_kind, profile_kind, large_kind, rounding_kind, fields_at, module_at, read_at, reading, Answers};
+ghost use Rattle.hsail_reader.specs.Grammar.{AnswersByGrammar, field, fields};
+ghost use Rattle.hsail_reader.specs.Grammars.{read};
+ghost use Rattle.hsail_reader.specs.Syntax.{module_at, read_at, reading, Answers};
+ghost use Rattle.hsail_reader.specs.Terminals as terminals;
 
 use crate::fault::{Cause, Flaw, ReadError, ReadFault, Stop, located};
 use crate::kernels::{kernels, word_of_token};
@@ -29,7 +30,7 @@ pub struct Fields {
 
 /// `: 1`, the major version.
 fn major<'a, 't>(tokens: &'a [Token<'t>]) -> Result<&'a [Token<'t>], Stop>
-    ensures { Gives (λ x. (tt, token_views x.now)) result (field_at major_kind (token_views tokens.now)) }
+    ensures { Gives (λ x. (tt, token_views x.now)) result (read (field terminals.major) (token_views tokens.now)) }
 {
     let rest = mark(b':', tokens)?;
     if let [first, behind @ ..] = rest {
@@ -42,7 +43,7 @@ fn major<'a, 't>(tokens: &'a [Token<'t>]) -> Result<&'a [Token<'t>], Stop>
 
 /// `: minor`, the minor version.
 fn minor<'a, 't>(tokens: &'a [Token<'t>]) -> Result<(u8, &'a [Token<'t>]), Stop>
-    ensures { Gives (λ x. (x.0, token_views x.1.now)) result (field_at minor_kind (token_views tokens.now)) }
+    ensures { Gives (λ x. (x.0, token_views x.1.now)) result (read (field terminals.minor) (token_views tokens.now)) }
 {
     let rest = mark(b':', tokens)?;
     if let [first, behind @ ..] = rest {
@@ -57,7 +58,7 @@ fn minor<'a, 't>(tokens: &'a [Token<'t>]) -> Result<(u8, &'a [Token<'t>]), Stop>
 
 /// `: $base` or `: $full`
 fn profile<'a, 't>(tokens: &'a [Token<'t>]) -> Result<(Profile, &'a [Token<'t>]), Stop>
-    ensures { Gives (λ x. (x.0, token_views x.1.now)) result (field_at profile_kind (token_views tokens.now)) }
+    ensures { Gives (λ x. (x.0, token_views x.1.now)) result (read (field terminals.profile) (token_views tokens.now)) }
 {
     let rest = mark(b':', tokens)?;
     let [first, behind @ ..] = rest else {
@@ -72,7 +73,7 @@ fn profile<'a, 't>(tokens: &'a [Token<'t>]) -> Result<(Profile, &'a [Token<'t>])
 
 /// `: $large`, the machine model.
 fn large<'a, 't>(tokens: &'a [Token<'t>]) -> Result<&'a [Token<'t>], Stop>
-    ensures { Gives (λ x. (tt, token_views x.now)) result (field_at large_kind (token_views tokens.now)) }
+    ensures { Gives (λ x. (tt, token_views x.now)) result (read (field terminals.large) (token_views tokens.now)) }
 {
     let rest = mark(b':', tokens)?;
     if let [first, behind @ ..] = rest {
@@ -85,7 +86,7 @@ fn large<'a, 't>(tokens: &'a [Token<'t>]) -> Result<&'a [Token<'t>], Stop>
 
 /// `: $default`, `: $zero` or `: $near`
 fn rounding<'a, 't>(tokens: &'a [Token<'t>]) -> Result<(Rounding, &'a [Token<'t>]), Stop>
-    ensures { Gives (λ x. (x.0, token_views x.1.now)) result (field_at rounding_kind (token_views tokens.now)) }
+    ensures { Gives (λ x. (x.0, token_views x.1.now)) result (read (field terminals.rounding) (token_views tokens.now)) }
 {
     let rest = mark(b':', tokens)?;
     let [first, behind @ ..] = rest else {
@@ -100,9 +101,9 @@ fn rounding<'a, 't>(tokens: &'a [Token<'t>]) -> Result<(Rounding, &'a [Token<'t>
 }
 
 /// `: 1 : minor : profile : $large : rounding`
-#[tactic(auto, unfolding(crate::specs::Syntax::fields_at))]
+#[tactic(auto, unfolding(crate::specs::Grammar::fields))]
 fn header_fields<'a, 't>(tokens: &'a [Token<'t>]) -> Result<(Fields, &'a [Token<'t>]), Stop>
-    ensures { Gives (λ x. (x.0, token_views x.1.now)) result (fields_at (token_views tokens.now)) }
+    ensures { Gives (λ x. (x.0, token_views x.1.now)) result (read fields (token_views tokens.now)) }
 {
     let rest = major(tokens)?;
     let (minor, rest) = minor(rest)?;
@@ -118,7 +119,7 @@ fn header_fields<'a, 't>(tokens: &'a [Token<'t>]) -> Result<(Fields, &'a [Token<
 }
 
 /// The module that the tokens are, to the end of the text.
-#[tactic(auto, unfolding(crate::specs::Syntax::module_at))]
+#[tactic(auto, unfolding(crate::specs::Syntax::module_at, crate::specs::Grammar::module_text))]
 fn whole(alloc: Global, tokens: &[Token<'_>]) -> Result<Module, Stop>
     ensures { Gives (λ m. m) result (module_at (token_views tokens.now)) }
 {

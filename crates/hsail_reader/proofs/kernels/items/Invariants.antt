@@ -1,6 +1,7 @@
 use Rattle.std.proofs.Common.{◌≡◌, suc, ◌+◌, ◌-◌, ◌≤◌, length}
-use Rattle.hsail_reader.specs.Operands.{begins_with_mark}
-use Rattle.hsail_reader.specs.Syntax.{many_at, item_at, items_at}
+use Rattle.hsail_reader.specs.Grammar.{item, items}
+use Rattle.hsail_reader.specs.Grammars.{read, many_at, begins}
+use Rattle.hsail_reader.specs.Terminals.{close_brace}
 use Rattle.hsail_reader.specs.Tokens.{token_views}
 use Rattle.hsail_reader.proofs.Loop.{with_front}
 use Rattle.hsail_reader.proofs.kernels.items.Given as goal
@@ -8,9 +9,9 @@ use Rattle.hsail_reader.proofs.kernels.items.Given as goal
 abbrev pub invariant-items : goal.invariant-items
 invariant-items l = record {
   reads : with_front l.items.items
-      (many_at (begins_with_mark 125) item_at (suc (length (token_views l.initial.rest)) - length l.items.items)
+      (many_at (begins close_brace) (read item) (suc (length (token_views l.initial.rest)) - length l.items.items)
       (token_views l.rest))
-      ≡ items_at (token_views l.tokens);
+      ≡ read items (token_views l.tokens);
   fits : length l.rest + length l.items.items ≤ length l.initial.rest + length l.initial.items.items;
 }
 

@@ -1,0 +1,361 @@
+-- Each line of the grammar decides its choices by the next token.
+use Rattle.std.proofs.Common.{◌≡◌, ℕ, ⊎_elim, inl, inr, List, [], ◌∷◌, Bool, true, false, Option, None, refl, sym, ap, subst, ◌∙◌}
+use Rattle.std.specs.Option.{option_map}
+use Rattle.hsail_reader.specs.Grammar.{signed, constant, source, next_source, offset, place, place_inside, index, address_inside, address, unary, binary, ternary, load, store, branch, conditional_branch, identify, operands, labelled, performed, unlabelled, item, items, body, alignment, kernarg_flaw, argument, next_argument, some_arguments, signature, kernel_begin, kernel, is_none_left, kernels, fields, module_text}
+use Rattle.hsail_reader.specs.Grammars.{spells, begun_by, begins}
+use Rattle.hsail_reader.specs.Terminals.{mark_of, number_of, register_of, variable_of, label_of, word_at, picked, is_prog, align_of, align, semicolon, close_parenthesis, close_brace, syntax, at_begin, behind_align}
+use Rattle.hsail_reader.specs.TextTokens.{PlacedToken}
+use Rattle.hsail_reader.specs.declared.module.Argument.{Argument}
+use Rattle.hsail_reader.specs.declared.module.Item.{Item}
+use Rattle.hsail_reader.specs.declared.module.Kernel.{Kernel}
+use Rattle.hsail_reader.specs.declared.module.Place.{Place}
+use Rattle.hsail_reader.specs.declared.token.TokenKind.{TokenKind}
+use Rattle.hsail_reader.specs.declared.token.TokenKind.TheVariants as kinds
+use Rattle.hsail_reader.specs.declared.types.Constant.{Constant}
+use Rattle.hsail_reader.specs.declared.words.Opcode.{Opcode}
+use Rattle.hsail_reader.specs.declared.words.Opcode.TheVariants as opcode
+use Rattle.hsail_reader.specs.declared.words.Word.TheVariants as words
+use Rattle.hsail_reader.proofs.Grammars.{Front, Next, Takes, Decides}
+use Rattle.hsail_reader.proofs.Terminals.{unbegun, marks, registers, numbers, majors, minors, profiles_found, large_found, roundings_found, globals, variables, labels, word_there, module_words, progs, kernel_words, aligns, kernargs, opcodes, outsides}
+
+-- the first token is of this kind
+abbrev pub FirstIs : TokenKind → Front
+FirstIs k from = (t : PlacedToken) × (rest : List PlacedToken) × (from ≡ t ∷ rest) × (t.kind ≡ k)
+
+-- a token of another kind begins nothing
+other_kind : {X : Type 0} (pick : TokenKind → Option X) (k : TokenKind) (from : List PlacedToken) → FirstIs k from → pick k ≡ None →
+    begun_by (λ t. pick t.kind) from ≡ false
+other_kind pick k from f none = unbegun (λ t. pick t.kind) f.0 from f.1 f.2 (ap pick f.3 ∙ none)
+
+-- nor does it begin a name
+no_name : (pick : TokenKind → Option (Unit {0})) (k : TokenKind) (from : List PlacedToken) → FirstIs k from → pick k ≡ None →
+    begun_by (λ t. option_map (λ one. t.text) (pick t.kind)) from ≡ false
+no_name pick k from f none =
+    unbegun (λ t. option_map (λ one. t.text) (pick t.kind)) f.0 from f.1 f.2 (ap (λ k. option_map (λ one. f.0.text) (pick k)) f.3 ∙ ap (option_map (λ one. f.0.text)) none)
+
+signeds : (negative : Bool) (F : Front) → Decides (signed negative) F
+unfolding signed
+signeds negative F = (numbers, λ n. tt)
+
+signed_first : (negative : Bool) (c : Constant) (from to : List PlacedToken) → spells (signed negative) c from to →
+    (n : ℕ) × FirstIs (kinds.Number n) from
+unfolding signed
+signed_first negative c from to s = (s.0, (s.2.0, s.1, s.2.1, s.2.2))
+
+constants : (F : Front) → Decides constant F
+unfolding constant
+constants F = (
+  (marks 45, λ one. signeds true F),
+  (
+    (marks 43, λ one. signeds false F),
+    signeds false F,
+    λ c from to s may. let n = signed_first false c from to s in other_kind (mark_of 43) (kinds.Number n.0) from n.1 refl,
+  ),
+  λ c from to s may. ⊎_elim
+      (λ p. other_kind (mark_of 45) (kinds.Mark 43) from (p.2.0, p.1, p.2.1, p.2.2) refl)
+      (λ q. let n = signed_first false c from to q in other_kind (mark_of 45) (kinds.Number n.0) from n.1 refl)
+      s,
+)
+
+-- a constant begins with no register
+constant_first : (c : Constant) (from to : List PlacedToken) → spells constant c from to → begun_by (λ t. register_of t.kind) from ≡ false
+unfolding constant
+constant_first c from to s =
+    ⊎_elim
+    (λ p. other_kind register_of (kinds.Mark 45) from (p.2.0, p.1, p.2.1, p.2.2) refl)
+    (λ q. ⊎_elim
+    (λ p. other_kind register_of (kinds.Mark 43) from (p.2.0, p.1, p.2.1, p.2.2) refl)
+    (λ p. let n = signed_first false c from to p in other_kind register_of (kinds.Number n.0) from n.1 refl)
+    q)
+    s
+
+sources : (F : Front) → Decides source F
+unfolding source
+sources F = (
+  (registers, λ r. tt),
+  (constants _, λ c. tt),
+  λ x from to s may. constant_first s.0 from s.1 s.2,
+)
+
+next_sources : (F : Front) → Decides next_source F
+unfolding next_source
+next_sources F = (marks 44, λ one. sources F)
+
+offsets : (F : Front) → ((to : List PlacedToken) → F to → FirstIs (kinds.Mark 93) to) → Decides offset F
+unfolding offset
+offsets F law = (
+  (marks 45, λ one. signeds true F),
+  (
+    (marks 43, λ one. signeds false F),
+    tt,
+    λ c from to s may. other_kind (mark_of 43) (kinds.Mark 93) from (law from (subst F (sym s.0) may)) refl,
+  ),
+  λ c from to s may. ⊎_elim
+      (λ p. other_kind (mark_of 45) (kinds.Mark 43) from (p.2.0, p.1, p.2.1, p.2.2) refl)
+      (λ q. other_kind (mark_of 45) (kinds.Mark 93) from (law from (subst F (sym q.0) may)) refl)
+      s,
+)
+
+places : (F : Front) → ((to : List PlacedToken) → F to → FirstIs (kinds.Mark 93) to) → Decides place F
+unfolding place
+places F law = (
+  (numbers, λ n. tt),
+  (registers, λ r. (offsets _ (λ to b. subst (FirstIs (kinds.Mark 93)) (sym b.3.0) (law b.2 b.4)), λ o. tt)),
+  λ p from to s may. other_kind number_of (kinds.Register s.0) from (s.2.0, s.1, s.2.1, s.2.2) refl,
+)
+
+-- a place begins with no variable
+place_first : (p : Place) (from to : List PlacedToken) → spells place p from to →
+    begun_by (λ t. option_map (λ one. t.text) (variable_of t.kind)) from ≡ false
+unfolding place
+place_first p from to s =
+    ⊎_elim
+    (λ n. no_name variable_of (kinds.Number n.0) from (n.2.0, n.1, n.2.1, n.2.2) refl)
+    (λ r. no_name variable_of (kinds.Register r.0) from (r.2.0, r.1, r.2.1, r.2.2) refl)
+    s
+
+places_inside : (F : Front) → Decides place_inside F
+unfolding place_inside
+places_inside F = (places _ (λ to b. (b.3.2.0, b.3.1, b.3.2.1, b.3.2.2)), λ p. (marks 93, λ one. tt))
+
+place_inside_first : (p : Place) (from to : List PlacedToken) → spells place_inside p from to →
+    begun_by (λ t. option_map (λ one. t.text) (variable_of t.kind)) from ≡ false
+unfolding place_inside
+place_inside_first p from to s = place_first s.0 from s.1 s.2
+
+-- what is followed by a semicolon
+abbrev BeforeSemicolon : Front → Type 0
+BeforeSemicolon F = (to : List PlacedToken) → F to → FirstIs (kinds.Mark 59) to
+
+indices : (x : List ℕ) (F : Front) → BeforeSemicolon F → Decides (index x) F
+unfolding index
+indices x F law = (
+  (marks 91, λ one. (places_inside _, λ p. tt)),
+  tt,
+  λ a from to s may. other_kind (mark_of 91) (kinds.Mark 59) from (law from (subst F (sym s.0) may)) refl,
+)
+
+addresses_inside : (F : Front) → BeforeSemicolon F → Decides address_inside F
+unfolding address_inside
+addresses_inside F law = (
+  (variables, λ x. (marks 93, λ one. indices x F law)),
+  (places_inside _, λ p. tt),
+  λ a from to s may. place_inside_first s.0 from s.1 s.2,
+)
+
+addresses : (F : Front) → BeforeSemicolon F → Decides address F
+unfolding address
+addresses F law = (marks 91, λ one. addresses_inside F law)
+
+-- the operands, before the semicolon of their instruction
+operations : (code : Opcode) (F : Front) → BeforeSemicolon F → Decides (operands code) F
+unfolding unary binary ternary load store branch conditional_branch identify
+operations (opcode.Unary op kind) F law = (registers, λ d. (next_sources _, λ a. tt))
+operations (opcode.Binary op kind) F law = (registers, λ d. (next_sources _, λ a. (next_sources _, λ b. tt)))
+operations (opcode.Ternary op kind) F law =
+    (registers, λ d. (next_sources _, λ a. (next_sources _, λ b. (next_sources _, λ c. tt))))
+operations (opcode.Load segment modifiers kind) F law = (
+  registers,
+  λ d. (marks 44, λ one. (addresses _ (λ to b. subst (FirstIs (kinds.Mark 59)) (sym b.3.0) (law b.2 b.4)), λ a. tt)),
+)
+operations (opcode.Store bytes kind) F law = (
+  sources _,
+  λ s. (marks 44, λ one. (addresses _ (λ to b. subst (FirstIs (kinds.Mark 59)) (sym b.3.0) (law b.2 b.4)), λ a. tt)),
+)
+operations opcode.Branch F law = (labels, λ x. tt)
+operations (opcode.ConditionalBranch width) F law = (sources _, λ a. (marks 44, λ one. (labels, λ x. tt)))
+operations opcode.Return F law = tt
+operations (opcode.Identify query kind) F law = (registers, λ d. (marks 44, λ one. (numbers, λ k. tt)))
+
+labelleds : (F : Front) → Decides labelled F
+unfolding labelled
+labelleds F line = (labels, λ x. (marks 58, λ one. tt))
+
+performeds : (F : Front) → Decides performed F
+unfolding performed
+performeds F line =
+    (opcodes, λ code. (operations code _ (λ to b. (b.3.2.0, b.3.1, b.3.2.1, b.3.2.2)), λ x. (marks 59, λ one. tt)))
+
+-- an instruction begins with its word
+performed_first : (i : Item) (from to : List PlacedToken) → spells performed i from to →
+    FirstIs kinds.Word from × (begins align from ≡ false)
+unfolding performed
+performed_first i from to s =
+    let t = s.2.0 in
+    let none = word_there align_of (words.Instruction s.0) t s.2.2 in
+    ((t, s.1, s.2.1, s.2.2.0), unbegun (λ t. picked align_of (word_at t)) t from s.1 s.2.1 none)
+
+unlabelleds : (F : Front) → Decides unlabelled F
+unfolding unlabelled
+unlabelleds F = (
+  (aligns, λ a. outsides behind_align),
+  performeds F,
+  λ i from to s may. (performed_first i from to s).1,
+)
+
+unlabelled_first : (i : Item) (from to : List PlacedToken) → spells unlabelled i from to → FirstIs kinds.Word from
+unfolding unlabelled
+unlabelled_first i from to s = ⊎_elim (λ p. absurd p.3.2) (λ q. (performed_first i from to q).0) s
+
+item_decides : (F : Front) → Decides item F
+unfolding item labelled
+item_decides F = (
+  labelleds F,
+  unlabelleds F,
+  λ i from to s may. no_name label_of kinds.Word from (unlabelled_first i from to s) refl,
+)
+
+item_takes : Takes item
+unfolding item labelled unlabelled performed
+item_takes = (λ line. inl tt, (inl tt, λ line. inl tt))
+
+item_goes_on : (i : Item) (from to : List PlacedToken) → spells item i from to → begins close_brace from ≡ false
+unfolding item labelled
+item_goes_on i from to s =
+    ⊎_elim
+    (λ p. other_kind (mark_of 125) kinds.Label from (p.2.0, p.1, p.2.1, p.2.2.0) refl)
+    (λ q. other_kind (mark_of 125) kinds.Word from (unlabelled_first i from to q) refl)
+    s
+
+items_decide : (F : Front) → Decides items F
+unfolding items
+items_decide F = (marks 123, λ one. (item_decides _, item_takes, item_goes_on))
+
+-- what isn't followed by another semicolon
+abbrev BeforeNoSemicolon : Front → Type 0
+BeforeNoSemicolon F = (to : List PlacedToken) → F to → begins semicolon to ≡ false
+
+bodies : (F : Front) → BeforeNoSemicolon F → Decides body F
+unfolding body
+bodies F law = (
+  items_decide _,
+  λ xs. (
+    marks 125,
+    λ one. (
+      (marks 59, tt, λ x from to s may. subst (λ ts. begins semicolon ts ≡ false) (sym (s.0 ∙ may.3.0)) (law may.2 may.4)),
+      λ one. tt,
+    ),
+  ),
+)
+
+alignments : (F : Front) → ((to : List PlacedToken) → F to → begins align to ≡ false) → Decides alignment F
+unfolding alignment
+alignments F law = (
+  (aligns, λ a. tt),
+  tt,
+  λ x from to s may. subst (λ ts. begins align ts ≡ false) (sym s.0) (law to may),
+)
+
+arguments : (F : Front) → Decides argument F
+unfolding argument
+arguments F line = (
+  alignments _
+      (λ to b. let s = b.3 in
+      unbegun (λ t. picked align_of (word_at t)) s.2.0 to s.1 s.2.1 (word_there align_of (words.Argument s.0) s.2.0 s.2.2)),
+  λ a. (kernargs (kernarg_flaw a), λ kind. (variables, λ x. tt)),
+)
+
+-- an argument begins with a word
+argument_first : (a : Argument) (from to : List PlacedToken) → spells argument a from to → FirstIs kinds.Word from
+unfolding argument alignment
+argument_first a from to s =
+    ⊎_elim
+    (λ p. (p.2.0, p.1, p.2.1, p.2.2.0))
+    (λ q. let w = s.3 in (w.2.0, w.1, q.0 ∙ w.2.1, w.2.2.0))
+    s.2
+
+next_arguments : (F : Front) → Decides next_argument F
+unfolding next_argument
+next_arguments F = (marks 44, λ one. arguments F)
+
+next_takes : Takes next_argument
+unfolding next_argument
+next_takes = inl tt
+
+next_goes_on : (a : Argument) (from to : List PlacedToken) → spells next_argument a from to → begins close_parenthesis from ≡ false
+unfolding next_argument
+next_goes_on a from to s = other_kind (mark_of 41) (kinds.Mark 44) from (s.2.0, s.1, s.2.1, s.2.2) refl
+
+several_arguments : (F : Front) → Decides some_arguments F
+unfolding some_arguments
+several_arguments F = (arguments _, λ x. ((next_arguments _, next_takes, next_goes_on), λ xs. tt))
+
+several_first : (xs : List Argument) (from to : List PlacedToken) → spells some_arguments xs from to → FirstIs kinds.Word from
+unfolding some_arguments
+several_first xs from to s = argument_first s.0 from s.1 s.2
+
+signatures : (F : Front) → Decides signature F
+unfolding signature
+signatures F = (
+  marks 40,
+  λ one. (
+    (marks 41, λ one. tt),
+    (several_arguments _, λ xs. (marks 41, λ one. tt)),
+    λ xs from to s may. other_kind (mark_of 41) kinds.Word from (several_first s.0 from s.1 s.2) refl,
+  ),
+)
+
+kernel_begins : (F : Front) → Decides kernel_begin F
+unfolding kernel_begin
+kernel_begins F = (
+  (progs, λ one. kernel_words syntax),
+  kernel_words at_begin,
+  λ x from to s may. unbegun (λ t. picked is_prog (word_at t)) s.0 from to s.1 (word_there is_prog words.Kernel s.0 s.2),
+)
+
+kernel_decides : (F : Front) → BeforeNoSemicolon F → Decides kernel F
+unfolding kernel
+kernel_decides F law line = (
+  kernel_begins _,
+  λ one. (
+    globals,
+    λ x. (
+      signatures _,
+      λ xs. (bodies _ (λ to b. subst (λ ts. begins semicolon ts ≡ false) (sym b.3.0) (law b.2 b.4)), λ ys. tt),
+    ),
+  ),
+)
+
+kernel_takes : Takes kernel
+unfolding kernel kernel_begin
+kernel_takes line = inl (inl tt, tt)
+
+-- a kernel begins with a word
+kernel_first : (k : Kernel) (from to : List PlacedToken) → spells kernel k from to → FirstIs kinds.Word from
+unfolding kernel kernel_begin
+kernel_first k from to s =
+    ⊎_elim
+    (λ p. (p.2.0, p.1, p.2.1, p.2.2.0))
+    (λ q. (q.0, s.1, q.1, q.2.0))
+    s.2
+
+kernel_goes_on : (k : Kernel) (from to : List PlacedToken) → spells kernel k from to → is_none_left from ≡ false
+kernel_goes_on k from to s =
+    let f = kernel_first k from to s in ap is_none_left f.2
+
+-- behind a kernel stands another, or nothing
+behind_kernel : BeforeNoSemicolon (Next is_none_left kernel)
+behind_kernel [] next = refl
+behind_kernel (t ∷ tokens) (inl none) = cc
+behind_kernel (t ∷ tokens) (inr s) = other_kind (mark_of 59) kinds.Word (t ∷ tokens) (kernel_first s.0 (t ∷ tokens) s.1 s.2) refl
+
+kernels_decide : (F : Front) → Decides kernels F
+unfolding kernels
+kernels_decide F = (marks 59, λ one. (kernel_decides _ behind_kernel, kernel_takes, kernel_goes_on))
+
+fields_decide : (F : Front) → Decides fields F
+unfolding fields
+fields_decide F = (
+  (marks 58, λ one. majors),
+  λ one. (
+    (marks 58, λ one. minors),
+    λ n. (
+      (marks 58, λ one. profiles_found),
+      λ p. ((marks 58, λ one. large_found), λ one. ((marks 58, λ one. roundings_found), λ r. tt)),
+    ),
+  ),
+)
+
+pub module_decides : (F : Front) → Decides module_text F
+unfolding module_text
+module_decides F = (module_words, λ one. (globals, λ x. (fields_decide _, λ f. (kernels_decide _, λ ks. tt))))

@@ -1,0 +1,251 @@
+-- The test of each single token finds just what its relation says.
+use Rattle.std.proofs.Common.{◌≡◌, ℕ, ◌<◌, ⊎_elim, List, ◌∷◌, Bool, true, false, ◌==◌, nat_lt, if◌then◌else◌, Option, Some, None, is_some, refl, sym, ap, subst, ◌∙◌}
+use Rattle.std.proofs.lemmas.Bool.{lt-ltb, ltb-true}
+use Rattle.std.proofs.lemmas.Bool.Decides.{eqb_tells}
+use Rattle.std.specs.Option.{option_map}
+use Rattle.hsail_reader.specs.Grammars.{Grammar, begun_by}
+use Rattle.hsail_reader.specs.Terminals.{of_kind, found, mark_of, mark, register_of, register, number_of, number, major_of, major, minor_of, minor, profile_header, profile_of, profile, large_of, large, rounding_header, rounding_of, rounding, name_of, global_of, global, variable_of, variable, label_of, label, word_kind, word_at, picked, word, is_module, module_word, is_prog, prog, is_kernel, kernel_word, align_of, align, kernarg_of, kernarg, opcode_of, opcode, outside, syntax, at_begin}
+use Rattle.hsail_reader.specs.TextTokens.{PlacedToken}
+use Rattle.hsail_reader.specs.Types.{alignment_bytes}
+use Rattle.hsail_reader.specs.WordSpelling.{SpellsWord, stands_in_modules}
+use Rattle.hsail_reader.specs.Words.{word_of, alignment_of}
+use Rattle.hsail_reader.specs.declared.fault.Flaw.{Flaw}
+use Rattle.hsail_reader.specs.declared.module.Profile.{Profile}
+use Rattle.hsail_reader.specs.declared.module.Profile.TheVariants as profiles
+use Rattle.hsail_reader.specs.declared.module.Rounding.{Rounding}
+use Rattle.hsail_reader.specs.declared.module.Rounding.TheVariants as roundings
+use Rattle.hsail_reader.specs.declared.token.Header.TheVariants as headers
+use Rattle.hsail_reader.specs.declared.token.TokenKind.{TokenKind}
+use Rattle.hsail_reader.specs.declared.token.TokenKind.TheVariants as kinds
+use Rattle.hsail_reader.specs.declared.types.Alignment.{Alignment}
+use Rattle.hsail_reader.specs.declared.types.Alignment.TheVariants.{One, Two, Four, Eight, Sixteen}
+use Rattle.hsail_reader.specs.declared.types.DataType.{DataType}
+use Rattle.hsail_reader.specs.declared.types.Register.{Register}
+use Rattle.hsail_reader.specs.declared.words.Opcode.{Opcode}
+use Rattle.hsail_reader.specs.declared.words.Word.{Word}
+use Rattle.hsail_reader.specs.declared.words.Word.TheVariants as words
+use Rattle.hsail_reader.proofs.Grammars.{Decides}
+use Rattle.hsail_reader.proofs.WordSpellings.{word_is_read, word_is_spelled}
+
+-- a single token decides, whatever stands behind
+abbrev pub Finds : {X : Type 0} → Grammar X → Type 0
+Finds g = Decides g (λ from. Unit {0})
+
+-- a token that the test doesn't find begins nothing
+pub unbegun : {X : Type 0} (test : PlacedToken → Option X) (t : PlacedToken) (from rest : List PlacedToken) → from ≡ t ∷ rest →
+    test t ≡ None → begun_by test from ≡ false
+unbegun test t from rest e none = ap (begun_by test) e ∙ ap is_some none
+
+kind_finds : {X : Type 0} (kind : X → TokenKind) (pick : TokenKind → Option X) → ((x : X) → pick (kind x) ≡ Some x) →
+    ((k : TokenKind) (x : X) → pick k ≡ Some x → k ≡ kind x) → Finds (of_kind kind pick)
+kind_finds kind pick there back x t = (λ is. ap pick is ∙ there x, back t.kind x)
+
+found_one : (n m : ℕ) (one : Unit {0}) → found (n == m) ≡ Some one → n ≡ m
+found_one n m one is = ⊎_elim (λ e. e.1) (λ e. none (n == m) e.0 is) (eqb_tells n m)
+  where
+    none : (b : Bool) → b ≡ false → found b ≡ Some one → n ≡ m
+    none true other is = cc
+    none false other is = cc
+
+found_same : (n : ℕ) (one : Unit {0}) → found (n == n) ≡ Some one
+found_same n one = ⊎_elim (λ e. ap found e.0) (λ e. absurd (e.1 refl)) (eqb_tells n n)
+
+pub marks : (m : ℕ) → Finds (mark m)
+marks m = kind_finds (λ one. kinds.Mark m) (mark_of m) (found_same m) back
+  where
+    back : (k : TokenKind) (one : Unit {0}) → mark_of m k ≡ Some one → k ≡ kinds.Mark m
+    back (kinds.Mark b) one is = ap kinds.Mark (found_one b m one is)
+    back _ one is = cc
+
+pub registers : Finds register
+registers = kind_finds kinds.Register register_of (λ r. refl) back
+  where
+    back : (k : TokenKind) (r : Register) → register_of k ≡ Some r → k ≡ kinds.Register r
+    back (kinds.Register q) r is = cc
+    back _ r is = cc
+
+pub numbers : Finds number
+numbers = kind_finds kinds.Number number_of (λ n. refl) back
+  where
+    back : (k : TokenKind) (n : ℕ) → number_of k ≡ Some n → k ≡ kinds.Number n
+    back (kinds.Number m) n is = cc
+    back _ n is = cc
+
+pub majors : Finds major
+majors = kind_finds (λ one. kinds.Number 1) major_of (λ one. refl) back
+  where
+    back : (k : TokenKind) (one : Unit {0}) → major_of k ≡ Some one → k ≡ kinds.Number 1
+    back (kinds.Number n) one is = ap kinds.Number (found_one n 1 one is)
+    back _ one is = cc
+
+minor_there : (n : ℕ) → n < 3 → minor_of (kinds.Number n) ≡ Some n
+minor_there n small =
+    let e : nat_lt n 3 ≡ true = lt-ltb n 3 small in rw e refl
+
+pub minors : Finds minor
+minors n t = (λ is. ap minor_of is.0 ∙ minor_there n is.1, back t.kind)
+  where
+    below : (b : Bool) (m : ℕ) → nat_lt m 3 ≡ b → (if b then Some m else None) ≡ Some n → (kinds.Number m ≡ kinds.Number n) × (n < 3)
+    below true m small is =
+        let e : m ≡ n = cc in (ap kinds.Number e, subst (λ n. n < 3) e (ltb-true m 3 small))
+    below false m small is = cc
+
+    back : (k : TokenKind) → minor_of k ≡ Some n → (k ≡ kinds.Number n) × (n < 3)
+    back (kinds.Number m) is = below (nat_lt m 3) m refl is
+    back _ is = cc
+
+pub profiles_found : Finds profile
+profiles_found = kind_finds (λ p. kinds.Header (profile_header p)) profile_of there back
+  where
+    there : (p : Profile) → profile_of (kinds.Header (profile_header p)) ≡ Some p
+    there profiles.Base = refl
+    there profiles.Full = refl
+
+    back : (k : TokenKind) (p : Profile) → profile_of k ≡ Some p → k ≡ kinds.Header (profile_header p)
+    back (kinds.Header headers.Base) profiles.Base is = refl
+    back (kinds.Header headers.Base) profiles.Full is = cc
+    back (kinds.Header headers.Full) profiles.Base is = cc
+    back (kinds.Header headers.Full) profiles.Full is = refl
+    back (kinds.Header _) p is = cc
+    back _ p is = cc
+
+pub large_found : Finds large
+large_found = kind_finds (λ one. kinds.Header headers.Large) large_of (λ one. refl) back
+  where
+    back : (k : TokenKind) (one : Unit {0}) → large_of k ≡ Some one → k ≡ kinds.Header headers.Large
+    back (kinds.Header headers.Large) one is = refl
+    back (kinds.Header _) one is = cc
+    back _ one is = cc
+
+pub roundings_found : Finds rounding
+roundings_found = kind_finds (λ r. kinds.Header (rounding_header r)) rounding_of there back
+  where
+    there : (r : Rounding) → rounding_of (kinds.Header (rounding_header r)) ≡ Some r
+    there roundings.Default = refl
+    there roundings.Zero = refl
+    there roundings.Near = refl
+
+    back : (k : TokenKind) (r : Rounding) → rounding_of k ≡ Some r → k ≡ kinds.Header (rounding_header r)
+    back (kinds.Header headers.Default) roundings.Default is = refl
+    back (kinds.Header headers.Zero) roundings.Zero is = refl
+    back (kinds.Header headers.Near) roundings.Near is = refl
+    back (kinds.Header _) r is = cc
+    back _ r is = cc
+
+name_finds : (kind : TokenKind) (pick : TokenKind → Option (Unit {0})) → pick kind ≡ Some tt →
+    ((k : TokenKind) (one : Unit {0}) → pick k ≡ Some one → k ≡ kind) → Finds (name_of kind pick)
+name_finds kind pick there back name t =
+    (λ is. ap (λ k. option_map (λ one. t.text) (pick k)) is.0 ∙ ap (option_map (λ one. t.text)) there ∙ ap Some is.1, by (pick t.kind) refl)
+  where
+    by : (o : Option (Unit {0})) → pick t.kind ≡ o → option_map (λ one. t.text) o ≡ Some name → (t.kind ≡ kind) × (t.text ≡ name)
+    by (Some one) e is = (back t.kind one e, cc)
+    by None e is = cc
+
+pub globals : Finds global
+globals = name_finds kinds.Global global_of refl back
+  where
+    back : (k : TokenKind) (one : Unit {0}) → global_of k ≡ Some one → k ≡ kinds.Global
+    back kinds.Global one is = refl
+    back _ one is = cc
+
+pub variables : Finds variable
+variables = name_finds kinds.Variable variable_of refl back
+  where
+    back : (k : TokenKind) (one : Unit {0}) → variable_of k ≡ Some one → k ≡ kinds.Variable
+    back kinds.Variable one is = refl
+    back _ one is = cc
+
+pub labels : Finds label
+labels = name_finds kinds.Label label_of refl back
+  where
+    back : (k : TokenKind) (one : Unit {0}) → label_of k ≡ Some one → k ≡ kinds.Label
+    back kinds.Label one is = refl
+    back _ one is = cc
+
+-- what is picked of a token that spells a word
+pub word_there : {X : Type 0} (pick : Word → Option X) (w : Word) (t : PlacedToken) → (t.kind ≡ kinds.Word) × SpellsWord w t.text →
+    picked pick (word_at t) ≡ pick w
+word_there pick w t s = ap (λ k. picked pick (word_kind k t.text)) s.0 ∙ ap pick (word_is_read w t.text s.1)
+
+word_finds : {X : Type 0} (spelled : X → Word) (pick : Word → Option X) (flaw : PlacedToken → Flaw) →
+    ((x : X) → pick (spelled x) ≡ Some x) → ((w : Word) (x : X) → pick w ≡ Some x → w ≡ spelled x) →
+    ((x : X) → stands_in_modules (spelled x) ≡ true) → Finds (word spelled pick flaw)
+word_finds {X} spelled pick flaw there back stands x t =
+    (λ is. word_there pick (spelled x) t is ∙ there x, by t.kind t.text)
+  where
+    by : (k : TokenKind) (text : List ℕ) → picked pick (word_kind k text) ≡ Some x → (k ≡ kinds.Word) × SpellsWord (spelled x) text
+    by kinds.Word text is = (refl, word_is_spelled (spelled x) text (back (word_of text) x is) (stands x))
+    by _ text is = cc
+
+pub module_words : Finds module_word
+module_words = word_finds (λ one. words.Module) is_module syntax (λ one. refl) back (λ one. refl)
+  where
+    back : (w : Word) (one : Unit {0}) → is_module w ≡ Some one → w ≡ words.Module
+    back words.Module one is = refl
+    back _ one is = cc
+
+pub progs : Finds prog
+progs = word_finds (λ one. words.Prog) is_prog syntax (λ one. refl) back (λ one. refl)
+  where
+    back : (w : Word) (one : Unit {0}) → is_prog w ≡ Some one → w ≡ words.Prog
+    back words.Prog one is = refl
+    back _ one is = cc
+
+pub kernel_words : (flaw : PlacedToken → Flaw) → Finds (kernel_word flaw)
+kernel_words flaw = word_finds (λ one. words.Kernel) is_kernel flaw (λ one. refl) back (λ one. refl)
+  where
+    back : (w : Word) (one : Unit {0}) → is_kernel w ≡ Some one → w ≡ words.Kernel
+    back words.Kernel one is = refl
+    back _ one is = cc
+
+-- the first n of several that is an alignment
+first_bytes : (n m : ℕ) (a : Alignment) (other : Option Alignment) (b : Alignment) → alignment_bytes a ≡ m →
+    (other ≡ Some b → n ≡ alignment_bytes b) → (if n == m then Some a else other) ≡ Some b → n ≡ alignment_bytes b
+first_bytes n m a other b bytes later is =
+    ⊎_elim
+    (λ e. let same : Some a ≡ Some b = rw e.0 at is in
+    let one : a ≡ b = cc in
+    e.1 ∙ sym bytes ∙ ap alignment_bytes one)
+    (λ e. later (rw e.0 at is))
+    (eqb_tells n m)
+
+align_back : (w : Word) (b : Alignment) → align_of w ≡ Some b → w ≡ words.Align (alignment_bytes b)
+align_back (words.Align n) b is =
+    ap words.Align
+    (first_bytes n 1 One _ b refl
+    (first_bytes n 2 Two _ b refl
+    (first_bytes n 4 Four _ b refl
+    (first_bytes n 8 Eight _ b refl
+    (first_bytes n 16 Sixteen None b refl (λ none. cc)))))
+    is)
+align_back _ b is = cc
+
+pub aligns : Finds align
+aligns = word_finds (λ a. words.Align (alignment_bytes a)) align_of syntax there align_back (λ a. refl)
+  where
+    there : (a : Alignment) → alignment_of (alignment_bytes a) ≡ Some a
+    there One = refl
+    there Two = refl
+    there Four = refl
+    there Eight = refl
+    there Sixteen = refl
+
+pub kernargs : (flaw : PlacedToken → Flaw) → Finds (kernarg flaw)
+kernargs flaw = word_finds words.Argument kernarg_of flaw (λ kind. refl) back (λ kind. refl)
+  where
+    back : (w : Word) (kind : DataType) → kernarg_of w ≡ Some kind → w ≡ words.Argument kind
+    back (words.Argument k) kind is = cc
+    back _ kind is = cc
+
+pub opcodes : Finds opcode
+opcodes = word_finds words.Instruction opcode_of at_begin (λ code. refl) back (λ code. refl)
+  where
+    back : (w : Word) (code : Opcode) → opcode_of w ≡ Some code → w ≡ words.Instruction code
+    back (words.Instruction c) code is = cc
+    back _ code is = cc
+
+pub outsides : {X : Type 0} (flaw : PlacedToken → Flaw) → Finds {X = X} (outside flaw)
+outsides {X} flaw x t = (λ none. absurd none, λ is. nothing is)
+  where
+    nothing : ◌≡◌ {A = Option X} None (Some x) → ⊥
+    nothing e = cc
