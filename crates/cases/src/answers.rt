@@ -1,12 +1,11 @@
 //! What comes of a text: the replies to a script, a kernel's steps, a policy's counts, or a fault.
 
-use anyhow::{Error, anyhow};
-use commands::{Status, check_policy, run_policy};
-use std::alloc::{AllocError, Global};
-
 use crate::file::Kind;
 use crate::kernels::kernel_answer;
 use crate::names::Names;
+use anyhow::{Error, anyhow};
+use commands::{Status, check_policy, run_policy};
+use std::alloc::{AllocError, Global};
 
 /// How many entries an audit has place for, where a case doesn't say.
 const PLACES: usize = 65536;
@@ -106,7 +105,10 @@ fn read_setting(
         settings.policy = changed(alloc, settings.policy.as_str(), old.as_str(), new.as_str())?;
         return Ok(());
     }
-    match line.strip_prefix("audit ").map(|number| number.parse::<usize>()) {
+    match line
+        .strip_prefix("audit ")
+        .map(|number| number.parse::<usize>())
+    {
         Some(Ok(places)) => {
             settings.places = places;
             Ok(())

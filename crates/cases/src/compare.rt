@@ -1,12 +1,11 @@
 //! Tries cases, and tells which differ.
 
-use anyhow::{Context, Error, anyhow};
-use std::alloc::Global;
-use std::fmt;
-
 use crate::answers::{Setting, Settings, answer, read_settings};
 use crate::file::{Case, Kind, Wanted, read_front};
 use crate::spelling::{bytes_of, choices, chosen};
+use anyhow::{Context, Error, anyhow};
+use std::alloc::Global;
+use std::fmt;
 
 /// How many texts came to what was wanted, and how many didn't.
 #[derive(Clone, Copy)]
@@ -74,12 +73,7 @@ fn choices_of(case: &Case<'_>) -> usize {
 
 // A frame, but for its last line feed, with a row's texts in place of `{1}`, `{2}` and so on, each by its part of the
 // choice.
-fn framed(
-    alloc: Global,
-    frame: &str,
-    asked: &[&str],
-    choice: usize,
-) -> Result<String, Error> {
+fn framed(alloc: Global, frame: &str, asked: &[&str], choice: usize) -> Result<String, Error> {
     let frame = frame.strip_suffix("\n").unwrap_or(frame);
     let mut whole = String::from_str(alloc, frame)?;
     let mut left = choice;
@@ -112,7 +106,11 @@ fn asked_of(
     choice: usize,
 ) -> Result<String, Error> {
     if !case.is_row {
-        return chosen(alloc, joined(alloc, case.asked.as_slice())?.as_str(), choice);
+        return chosen(
+            alloc,
+            joined(alloc, case.asked.as_slice())?.as_str(),
+            choice,
+        );
     }
     let frame = match setting.kind {
         Kind::Kernels | Kind::Policies if !setting.over.is_empty() => setting.over,
@@ -156,7 +154,7 @@ fn push_all_wanted(
 }
 
 // The first line of an answer that differs from what is wanted by a case that ends at a line.
-fn difference<'a>(wanted: &'a [Line], came: &'a str, end: usize) -> Option<Difference<'a>> {
+fn first_difference<'a>(wanted: &'a [Line], came: &'a str, end: usize) -> Option<Difference<'a>> {
     let mut lines = came.lines();
     for line in wanted {
         let came = lines.next();
@@ -233,7 +231,10 @@ fn try_choice(
     let mut asked = joined(alloc, front.asked.as_slice())?;
     let behind = asked_of(alloc, setting, case, choice)?;
     asked.push_str(behind.as_str())?;
-    let bytes = bytes_of(alloc, setting.names.spelled(alloc, asked.as_str())?.as_str())?;
+    let bytes = bytes_of(
+        alloc,
+        setting.names.spelled(alloc, asked.as_str())?.as_str(),
+    )?;
     let answer = answer(alloc, setting.kind, settings, bytes.as_slice())?;
     if is_accepted(case, answer.as_str()) {
         return Ok(true);
@@ -242,7 +243,7 @@ fn try_choice(
     push_all_wanted(alloc, &mut wanted, setting, front)?;
     push_all_wanted(alloc, &mut wanted, setting, case)?;
     let came = compared(case, answer.as_str());
-    match difference(wanted.as_slice(), came, case.last_line()) {
+    match first_difference(wanted.as_slice(), came, case.last_line()) {
         None => Ok(true),
         Some(difference) => {
             report(rt, case, behind.as_str(), &difference)?;

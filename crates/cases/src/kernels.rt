@@ -1,11 +1,10 @@
 //! What comes of a kernel's text: its fault, or the layout and the steps of its kernels.
 
+use crate::steps::push_step;
 use anyhow::{Error, anyhow};
 use hsail_reader::{Module, ReadError, read_module};
 use kernel_check::{CheckError, Checked, Program, check};
 use std::alloc::{AllocError, Global};
-
-use crate::steps::push_step;
 
 // A kernel's layout in a line, as `kernel &inc kernarg 8 group 0 wide 0`: the bytes of its arguments and of its
 // group variables, and the offsets of its arguments of 64 bits.

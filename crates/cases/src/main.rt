@@ -12,14 +12,13 @@ mod names;
 mod spelling;
 mod steps;
 
-use anyhow::{Context, Error};
-use std::process::ExitCode;
-use std::{env, fs};
-
 use crate::answers::Setting;
 use crate::compare::Tally;
 use crate::file::{CaseFile, read_cases};
 use crate::names::Names;
+use anyhow::{Context, Error};
+use std::process::ExitCode;
+use std::{env, fs};
 
 // The path of a file that lies beside another.
 fn beside(rt: &HostRuntime, path: &str, name: &str) -> Result<String, Error> {
@@ -32,8 +31,7 @@ fn beside(rt: &HostRuntime, path: &str, name: &str) -> Result<String, Error> {
 // The text of a file that lies beside another.
 fn read_beside(rt: &HostRuntime, path: &str, name: &str) -> Result<String, Error> {
     let path = beside(rt, path, name)?;
-    let text = fs::read_to_string(rt, path.as_str())
-        .context(format_args!("reading {path}"))?;
+    let text = fs::read_to_string(rt, path.as_str()).context(format_args!("reading {path}"))?;
     Ok(text)
 }
 

@@ -38,6 +38,10 @@ fn push_range(
     whole: &mut String,
     (first, last, text): (u32, u32, &str),
 ) -> Result<(), AllocError> {
+    if !text.contains("{n}") {
+        let count = last.saturating_sub(first).saturating_add(1) as usize;
+        return whole.push_str(text.repeat(alloc, count)?.as_str());
+    }
     for number in first..=last {
         let number = format!(in alloc; "{number}")?;
         whole.push_str(text.replace(alloc, "{n}", number.as_str())?.as_str())?;

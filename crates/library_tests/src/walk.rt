@@ -4,7 +4,9 @@
 ghost use Rattle.std.specs.Prelude.{◌<◌};
 
 use aql_packet::PacketId;
-use ring_core::{ALLOWANCE, Access, Made, Part, Reserved, RingState, Seen, Step, StepFault, Ticket};
+use ring_core::{
+    ALLOWANCE, Access, Made, Part, Reserved, RingState, Seen, Step, StepFault, Ticket,
+};
 use std::alloc::{AllocError, Global};
 use std::process::Abort;
 use std::test::Fail;
