@@ -23,6 +23,34 @@ fn ended<E: io::Write>(run: Result<(), ScriptFault>, err: &mut E) -> Status {
     }
 }
 
+// The three calls below have no contract, so that the proofs of their callers don't carry what is promised of
+// scripts and worlds.
+
+// Opens the core under a policy.
+fn opened(alloc: Global, policy: Policy, places: usize) -> Result<World, OpenFault> {
+    World::open(alloc, policy, places)
+}
+
+// Runs a script.
+fn script_run<R: io::Read, O: io::Write>(
+    alloc: Global,
+    world: &mut World,
+    script: &mut R,
+    out: &mut O,
+) -> Result<(), ScriptFault> {
+    run_script(alloc, script, out, world)
+}
+
+// Runs a script over a world, and lets the world go.
+fn run_through<R: io::Read, O: io::Write>(
+    alloc: Global,
+    mut world: World,
+    script: &mut R,
+    out: &mut O,
+) -> Result<(), ScriptFault> {
+    script_run(alloc, &mut world, script, out)
+}
+
 // Runs a script over a policy that was read.
 fn run_over<R: io::Read, O: io::Write, E: io::Write>(
     alloc: Global,
@@ -32,11 +60,8 @@ fn run_over<R: io::Read, O: io::Write, E: io::Write>(
     out: &mut O,
     err: &mut E,
 ) -> Status {
-    match World::open(alloc, policy, places) {
-        Ok(mut world) => {
-            let run = run_script(alloc, script, out, &mut world);
-            ended(run, err)
-        }
+    match opened(alloc, policy, places) {
+        Ok(world) => ended(run_through(alloc, world, script, out), err),
         Err(OpenFault::OutOfMemory) => told(writeln!(err, "no memory"), Status::Failed),
         Err(OpenFault::BadCapacity) => {
             told(
