@@ -8,9 +8,7 @@ use Rattle.hsail_reader.specs.Bytes.{behind, numeral_at, align_at, width_value_a
 use Rattle.hsail_reader.specs.Lexemes.{length_of, modifier_length}
 use Rattle.hsail_reader.specs.WordLexemes.{IsModifier}
 use Rattle.hsail_reader.specs.WordSpelling.{SpellsNumber, SpellsWidth}
-use Rattle.hsail_reader.specs.declared.token.Numeral.{Numeral}
-use Rattle.hsail_reader.specs.declared.token.SpelledWidth.{SpelledWidth}
-use Rattle.hsail_reader.specs.declared.types.Width.{Width}
+use Rattle.hsail_reader.specs.Nouns.{Numeral, SpelledWidth, Width}
 use Rattle.hsail_reader.specs.declared.types.Width.TheVariants.{Number, All, WaveSize}
 use Rattle.hsail_reader.proofs.NumberSpelling.{number_before_bracket_is_read, number_is_spelled}
 use Rattle.hsail_reader.proofs.Reaches.{bound, chosen, mapped, true_is_not_false}

@@ -5,13 +5,10 @@ use Rattle.std.specs.Option.{option_map}
 use Rattle.hsail_reader.specs.Rows.{types_of, type_name}
 use Rattle.hsail_reader.specs.Words.{type_at, align_part, width_part, modifiers_at, at_end, opcode_at}
 use Rattle.hsail_reader.specs.WordSpelling.{SpellsTypeBehind, SpellsBehindStem}
-use Rattle.hsail_reader.specs.declared.rows.Form.{Form}
+use Rattle.hsail_reader.specs.Nouns.{DataType, Form, Opcode, TypeSet}
 use Rattle.hsail_reader.specs.declared.rows.Form.TheVariants as form
-use Rattle.hsail_reader.specs.declared.rows.TypeSet.{TypeSet}
 use Rattle.hsail_reader.specs.declared.rows.TypeSet.TheVariants.{Bit, Memory}
-use Rattle.hsail_reader.specs.declared.types.DataType.{DataType}
 use Rattle.hsail_reader.specs.declared.types.DataType.TheVariants.{B1, B8, B16, B32, B64, U8, U16, U32, U64, S8, S16, S32, S64}
-use Rattle.hsail_reader.specs.declared.words.Opcode.{Opcode}
 use Rattle.hsail_reader.specs.declared.words.Opcode.TheVariants as opcode
 use Rattle.hsail_reader.proofs.Reaches.{mapped}
 use Rattle.hsail_reader.proofs.Spelled.{nothing}

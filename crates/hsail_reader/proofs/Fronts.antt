@@ -3,7 +3,7 @@ use Rattle.std.proofs.Common.{◌≡◌, ℕ, ◌+◌, ◌≤◌, ◌⊎◌, Lis
 use Rattle.hsail_reader.specs.Bytes.{begins_name}
 use Rattle.hsail_reader.specs.Lexemes.{word_at}
 use Rattle.hsail_reader.specs.Spelling.{IsDecimal, IsHexadecimal}
-use Rattle.hsail_reader.specs.declared.token.Lexeme.{Lexeme}
+use Rattle.hsail_reader.specs.Nouns.{Lexeme}
 
 -- a number, decimal or hexadecimal
 abbrev pub IsNumber : List ℕ → Type 0

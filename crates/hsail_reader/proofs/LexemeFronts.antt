@@ -5,13 +5,10 @@ use Rattle.hsail_reader.specs.Lexemes.{lexed, register_at, header_among, header_
 use Rattle.hsail_reader.specs.Spelling.{IsDecimal, is_name_start}
 use Rattle.hsail_reader.specs.WordLexemes.{IsWord}
 use Rattle.hsail_reader.specs.TextTokens.{IsLexeme, class_name, header_name}
-use Rattle.hsail_reader.specs.declared.token.Header.{Header}
+use Rattle.hsail_reader.specs.Nouns.{Header, Lexeme, LexemeKind, RegisterClass}
 use Rattle.hsail_reader.specs.declared.token.Header.TheVariants.{Base, Full, Large, Default, Zero, Near}
-use Rattle.hsail_reader.specs.declared.token.Lexeme.{Lexeme}
-use Rattle.hsail_reader.specs.declared.token.LexemeKind.{LexemeKind}
 use Rattle.hsail_reader.specs.declared.token.LexemeKind.TheVariants.{Blank, Comment, Token}
 use Rattle.hsail_reader.specs.declared.token.TokenKind.TheVariants as token
-use Rattle.hsail_reader.specs.declared.types.RegisterClass.{RegisterClass}
 use Rattle.hsail_reader.specs.declared.types.RegisterClass.TheVariants.{Control, Single, Double}
 use Rattle.hsail_reader.proofs.FirstBytes.{at_blank, at_mark, at_name_start, at_digit, differs}
 use Rattle.hsail_reader.proofs.Reaches as reaches

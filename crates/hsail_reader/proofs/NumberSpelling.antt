@@ -8,7 +8,7 @@ use Rattle.std.specs.Str.Parse.{digits_value, digits_value_after}
 use Rattle.hsail_reader.specs.Bytes.{begins_digit, behind, digits_at, decimal_at, numeral_at, numeral_behind, numeral}
 use Rattle.hsail_reader.specs.Spelling.{AllPass, IsDecimal, begins_with}
 use Rattle.hsail_reader.specs.WordSpelling.{SpellsDecimal, SpellsHexadecimal, SpellsNumber}
-use Rattle.hsail_reader.specs.declared.token.Numeral.{Numeral}
+use Rattle.hsail_reader.specs.Nouns.{Numeral}
 use Rattle.hsail_reader.proofs.Reaches.{chosen, numeral_length, true_is_not_false}
 use Rattle.hsail_reader.proofs.Spelled.{behind_parts, nothing}
 

@@ -6,11 +6,8 @@ use Rattle.hsail_reader.specs.Lexemes.{lexed, lexeme_at}
 use Rattle.hsail_reader.specs.TextTokens.{IsLexeme, IsLongestFront, AreTokens, none, lexeme, header_name, PlacedToken, kept, line_after, line_behind}
 use Rattle.hsail_reader.specs.Tokens.{tokens_from, further, before_rest}
 use Rattle.hsail_reader.specs.declared.fault.Flaw.TheVariants as flaw
-use Rattle.hsail_reader.specs.declared.fault.Refusal.{Refusal}
-use Rattle.hsail_reader.specs.declared.token.Header.{Header}
+use Rattle.hsail_reader.specs.Nouns.{Header, Lexeme, LexemeKind, Refusal}
 use Rattle.hsail_reader.specs.declared.token.Header.TheVariants.{Base, Full, Large, Default, Zero, Near}
-use Rattle.hsail_reader.specs.declared.token.Lexeme.{Lexeme}
-use Rattle.hsail_reader.specs.declared.token.LexemeKind.{LexemeKind}
 use Rattle.hsail_reader.specs.declared.token.LexemeKind.TheVariants.{Blank, Comment, Token}
 use Rattle.hsail_reader.specs.declared.token.TokenKind.TheVariants as token
 use Rattle.hsail_reader.proofs.LexemeFound.{longest_is_found}

@@ -8,9 +8,7 @@ use Rattle.hsail_reader.specs.Lexemes.{length_of, modifier_length, piece_length,
 use Rattle.hsail_reader.specs.Spelling.{AllPass, is_name_byte, is_name_start}
 use Rattle.hsail_reader.specs.WordLexemes.{IsModifier, ArePieces, none, byte, modifier, IsWord}
 use Rattle.hsail_reader.specs.WordSpelling.{SpellsNumber}
-use Rattle.hsail_reader.specs.declared.token.Lexeme.{Lexeme}
-use Rattle.hsail_reader.specs.declared.token.Numeral.{Numeral}
-use Rattle.hsail_reader.specs.declared.token.SpelledWidth.{SpelledWidth}
+use Rattle.hsail_reader.specs.Nouns.{Lexeme, Numeral, SpelledWidth}
 use Rattle.hsail_reader.proofs.BracketSpelling.{align_is_read, modifier_is_read, modifier_is_some}
 use Rattle.hsail_reader.proofs.Reaches.{bound, numeral_length, same_length, name_start_continues, true_is_not_false}
 use Rattle.hsail_reader.proofs.Pieces.{pieces_length_step}

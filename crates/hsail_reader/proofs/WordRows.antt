@@ -6,10 +6,8 @@ use Rattle.std.specs.List.{Contains}
 use Rattle.hsail_reader.specs.Bytes.{behind, ◌>>=◌}
 use Rattle.hsail_reader.specs.Rows.{InstructionRow, types_of, type_name}
 use Rattle.hsail_reader.specs.Words.{is_end, is_spelled, type_among, type_at, opcode_at, or_else, opcode_among}
-use Rattle.hsail_reader.specs.declared.rows.TypeSet.{TypeSet}
+use Rattle.hsail_reader.specs.Nouns.{DataType, Opcode, TypeSet}
 use Rattle.hsail_reader.specs.declared.rows.TypeSet.TheVariants.{Bit, Bits, Integers, BitsAndIntegers, Convertible, Memory, Unsigned32, Unsigned32And64}
-use Rattle.hsail_reader.specs.declared.types.DataType.{DataType}
-use Rattle.hsail_reader.specs.declared.words.Opcode.{Opcode}
 use Rattle.hsail_reader.proofs.Reaches.{bound, chosen, true_is_not_false}
 use Rattle.hsail_reader.proofs.Spelled.{behind_parts, nothing}
 

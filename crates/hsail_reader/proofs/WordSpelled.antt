@@ -7,9 +7,7 @@ use Rattle.hsail_reader.specs.Bytes.{align_at, width_at}
 use Rattle.hsail_reader.specs.Spelling.{is_name_byte, is_name_start}
 use Rattle.hsail_reader.specs.Lexemes.{length_of, modifier_length, piece_length, pieces_length, word_of}
 use Rattle.hsail_reader.specs.WordLexemes.{IsModifier, ArePieces, none, byte, modifier, IsWord}
-use Rattle.hsail_reader.specs.declared.token.Lexeme.{Lexeme}
-use Rattle.hsail_reader.specs.declared.token.Numeral.{Numeral}
-use Rattle.hsail_reader.specs.declared.token.SpelledWidth.{SpelledWidth}
+use Rattle.hsail_reader.specs.Nouns.{Lexeme, Numeral, SpelledWidth}
 use Rattle.hsail_reader.proofs.BracketSpelling.{align_is_spelled, width_is_spelled, width_of, modifier_is_some}
 use Rattle.hsail_reader.proofs.Pieces.{pieces_length_step}
 use Rattle.hsail_reader.proofs.Reaches.{bound, same_length}

@@ -3,9 +3,7 @@ use Rattle.std.specs.Prelude.{ℕ, ◌+◌, ◌*◌, ◌^◌, List, [], ◌∷�
 use Rattle.std.specs.Char.{is_digit, digit_value}
 use Rattle.std.specs.Option.{is_some, option_map}
 use Rattle.hsail_reader.specs.Spelling.{is_name_start, begins_with}
-use Rattle.hsail_reader.specs.declared.token.Numeral.{Numeral}
-use Rattle.hsail_reader.specs.declared.token.SpelledWidth.{SpelledWidth}
-use Rattle.hsail_reader.specs.declared.types.Width.{Width}
+use Rattle.hsail_reader.specs.Nouns.{Numeral, SpelledWidth, Width}
 use Rattle.hsail_reader.specs.declared.types.Width.TheVariants.{Number, All, WaveSize}
 
 -- the first byte begins a name

@@ -1,10 +1,8 @@
 -- Data types, registers and alignments (PRM, Data Types; Registers).
 use Rattle.std.specs.Prelude.{ℕ}
-use Rattle.hsail_reader.specs.declared.types.DataType.{DataType}
+use Rattle.hsail_reader.specs.Nouns.{Alignment, DataType, RegisterClass}
 use Rattle.hsail_reader.specs.declared.types.DataType.TheVariants.{B1, B8, B16, B32, B64, U8, U16, U32, U64, S8, S16, S32, S64}
-use Rattle.hsail_reader.specs.declared.types.RegisterClass.{RegisterClass}
 use Rattle.hsail_reader.specs.declared.types.RegisterClass.TheVariants.{Control, Single, Double}
-use Rattle.hsail_reader.specs.declared.types.Alignment.{Alignment}
 use Rattle.hsail_reader.specs.declared.types.Alignment.TheVariants.{One, Two, Four, Eight, Sixteen}
 
 -- the bits of a value of a type (PRM, Data Types)
