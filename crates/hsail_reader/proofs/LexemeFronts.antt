@@ -1,7 +1,8 @@
 -- No front of some bytes that is longer than the lexeme found there is a lexeme of any kind.
 use Rattle.std.proofs.Common.{◌≡◌, ℕ, ◌+◌, ◌≤◌, ◌⊎◌, inl, inr, List, [], ◌∷◌, ◌++◌, length, true, Option, Some, None, refl, sym, ap, subst, ◌∙◌, codes, arith}
 use Rattle.std.specs.Char.{is_digit}
-use Rattle.hsail_reader.specs.Lexemes.{lexed, register_at, header_among, header_words, dollar_at, or_else, number_at, word_at, lexeme_at}
+use Rattle.hsail_reader.specs.Bytes.{or_else}
+use Rattle.hsail_reader.specs.Lexemes.{lexed, register_at, header_among, header_words, dollar_at, number_at, word_at, lexeme_at}
 use Rattle.hsail_reader.specs.Spelling.{IsDecimal, is_name_start}
 use Rattle.hsail_reader.specs.WordLexemes.{IsWord}
 use Rattle.hsail_reader.specs.TextTokens.{IsLexeme, class_name, header_name}

@@ -4,9 +4,9 @@ use Rattle.std.proofs.lemmas.Bool.{cases_Bool}
 use Rattle.std.proofs.lemmas.Bool.Decides.{eqb_tells}
 use Rattle.std.specs.List.{prefix_len}
 use Rattle.std.specs.Option.{is_some, option_map}
-use Rattle.hsail_reader.specs.Bytes.{begins_name, behind, closing_at, decimal_at, numeral_at, align_at, ◌>>=◌}
+use Rattle.hsail_reader.specs.Bytes.{begins_name, behind, closing_at, decimal_at, numeral_at, align_at, ◌>>=◌, or_else}
 use Rattle.hsail_reader.specs.Spelling.{is_name_byte, is_name_start, is_not_line_feed, is_blank, is_mark}
-use Rattle.hsail_reader.specs.Lexemes.{HeaderWord, lexed, comment_at, name_at, class_at, register, register_at, header_words, header_among, or_else, dollar_at, number_at, word_of, word_at, lexeme_at}
+use Rattle.hsail_reader.specs.Lexemes.{HeaderWord, lexed, comment_at, name_at, class_at, register, register_at, header_words, header_among, dollar_at, number_at, word_of, word_at, lexeme_at}
 use Rattle.hsail_reader.specs.TextTokens.{IsLexeme, IsWithin64Bits, class_name, header_name}
 use Rattle.hsail_reader.specs.Nouns.{Lexeme, LexemeKind, Numeral, RegisterClass, TokenKind}
 use Rattle.hsail_reader.specs.declared.token.LexemeKind.TheVariants.{Blank, Comment, Token}

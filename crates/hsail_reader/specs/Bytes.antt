@@ -63,6 +63,15 @@ abbrev pub ◌>>=◌ : {A B : Type 0} → Option A → (A → Option B) → Opti
 None >>= f = None
 (Some x) >>= f = f x
 
+abbrev pub or_else : {A : Type 0} → Option A → Option A → Option A
+or_else None other = other
+or_else (Some found) other = Some found
+
+-- what the first of some reads
+abbrev pub first_of : {A B : Type 0} → (A → List ℕ → Option B) → List A → List ℕ → Option B
+first_of read [] text = None
+first_of read (x ∷ others) text = or_else (read x text) (first_of read others text)
+
 -- align(n)
 abbrev pub align_at : List ℕ → Option Numeral
 align_at bytes = do

@@ -3,7 +3,7 @@
 use Rattle.std.specs.Prelude.{ℕ, zero, suc, ◌+◌, ◌-◌, List, [], ◌∷◌, ◌==◌, if◌then◌else◌, Option, Some, None, codes, length, drop}
 use Rattle.std.specs.List.{prefix_len}
 use Rattle.std.specs.Option.{is_some, option_map}
-use Rattle.hsail_reader.specs.Bytes.{begins_name, behind, closing_at, decimal_at, numeral_at, align_at, width_at, ◌>>=◌}
+use Rattle.hsail_reader.specs.Bytes.{begins_name, behind, closing_at, decimal_at, numeral_at, align_at, width_at, or_else, ◌>>=◌}
 use Rattle.hsail_reader.specs.Spelling.{is_blank, is_mark, is_name_byte, is_name_start, is_not_line_feed}
 use Rattle.hsail_reader.specs.Nouns.{Header, HeaderName, Lexeme, LexemeKind, Numeral, RegisterClass, SpelledWidth, TokenKind}
 use Rattle.hsail_reader.specs.declared.token.Header.TheVariants.{Base, Full, Large, Default, Zero, Near}
@@ -69,10 +69,6 @@ header_among (h ∷ words) bytes =
     if is_some (behind h.name bytes)
     then Some (lexed (Token (token.Header h.header)) (length h.name + 1))
     else header_among words bytes
-
-abbrev pub or_else : Option Lexeme → Option Lexeme → Option Lexeme
-or_else None other = other
-or_else (Some found) other = Some found
 
 -- behind a dollar: a register, or a word of the header
 abbrev pub dollar_at : List ℕ → Option Lexeme
