@@ -19,7 +19,7 @@ use Rattle.hsail_reader.proofs.FirstBytes.{at_blank, at_mark}
 use Rattle.hsail_reader.proofs.LexemeFronts.{letter, at_register, at_header, at_number, at_word, lexeme_reaches}
 use Rattle.hsail_reader.proofs.LexemeSpellings.{word_kind, found_is_lexeme}
 use Rattle.hsail_reader.proofs.NumberSpelling.{decimal_is_read, hexadecimal_number_is_read}
-use Rattle.hsail_reader.proofs.Reaches.{decimal_short}
+use Rattle.hsail_reader.proofs.Reaches.{closing_is_read, decimal_short}
 use Rattle.hsail_reader.proofs.Spelled.{behind_parts}
 use Rattle.hsail_reader.proofs.Fronts.{IsNumber}
 
@@ -108,16 +108,6 @@ hexadecimal_number_found n text more spelled fits longest =
         (λ no'. no')
         (cases_Bool (is_digit c 16))
 
--- a comment's end is found
-closing_found : (before : ℕ) (inside more : List ℕ) → IsClosed inside →
-    (n : ℕ) × (closing_at before (inside ++ more) ≡ Some n)
-closing_found before [] more closed = absurd closed
-closing_found before (b ∷ inside) more (inl e) =
-    let P : List ℕ → Type 0 = λ xs. (n : ℕ) × (closing_at before (xs ++ more) ≡ Some n) in
-    subst P (sym e) (before + 2, refl)
-closing_found before (b ∷ []) more (inr w) = absurd w.1
-closing_found before (b ∷ c ∷ inside) more (inr w) = rw w.0 (closing_found (before + 1) (c ∷ inside) more w.1)
-
 -- a lexeme of this kind is found at the front of these bytes
 abbrev IsFound : LexemeKind → List ℕ → Type 0
 IsFound kind bytes = (found : Lexeme) × (lexeme_at bytes ≡ Some found) × (found.kind ≡ kind)
@@ -129,8 +119,8 @@ comment_found text more (inl (line, e, pass)) =
     subst P (sym e) (lexed Comment (prefix_len is_not_line_feed (line ++ more) + 2), refl, refl)
 comment_found text more (inr (inside, e, closed)) =
     let P : List ℕ → Type 0 = λ xs. IsFound Comment (47 ∷ xs ++ more) in
-    let c = closing_found 0 inside more closed in
-    subst P (sym e) (lexed Comment (c.0 + 2), ap (option_map (λ n. lexed Comment (n + 2))) c.1, refl)
+    subst P (sym e)
+    (lexed Comment (0 + length inside + 2), ap (option_map (λ n. lexed Comment (n + 2))) (closing_is_read 0 inside more closed), refl)
 
 -- a name is found behind its first byte
 name_found : (kind : TokenKind) (text more : List ℕ) → IsName text →

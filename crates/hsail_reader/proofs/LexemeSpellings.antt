@@ -5,7 +5,7 @@ use Rattle.std.proofs.lemmas.Bool.Decides.{eqb_tells}
 use Rattle.std.specs.List.{prefix_len}
 use Rattle.std.specs.Option.{is_some, option_map}
 use Rattle.hsail_reader.specs.Bytes.{begins_name, behind, closing_at, decimal_at, numeral_at, align_at, ◌>>=◌, or_else}
-use Rattle.hsail_reader.specs.Spelling.{is_name_byte, is_name_start, is_not_line_feed, is_blank, is_mark}
+use Rattle.hsail_reader.specs.Spelling.{IsName, is_name_byte, is_name_start, is_not_line_feed, is_blank, is_mark}
 use Rattle.hsail_reader.specs.Lexemes.{HeaderWord, lexed, comment_at, name_at, class_at, register, register_at, header_words, header_among, dollar_at, number_at, word_of, word_at, lexeme_at}
 use Rattle.hsail_reader.specs.TextTokens.{IsLexeme, IsWithin64Bits, class_name, header_name}
 use Rattle.hsail_reader.specs.Nouns.{Lexeme, LexemeKind, Numeral, RegisterClass, TokenKind}
@@ -71,29 +71,13 @@ name_kind kind bytes found is =
     ⊎_elim (λ w. same_kind l found w.1) (λ w. nothing found w.1)
     (chosen (begins_name bytes) (Some l) None (Some found) is)
 
--- a name behind `&`
-global_spelled : (bytes : List ℕ) (found : Lexeme) → name_at token.Global bytes ≡ Some found →
-    FoundSpelled (38 ∷ bytes) found
-global_spelled bytes found is =
-    let r = spelled.names token.Global bytes found is in
-    of_kind (Token token.Global) (38 ∷ bytes) (38 ∷ r.0) r.1 found (name_kind token.Global bytes found is)
-    (ap (λ xs. 38 ∷ xs) r.2) (omega (arith, r.4)) (r.0, refl, r.3) tt
-
--- a name behind `%`
-variable_spelled : (bytes : List ℕ) (found : Lexeme) → name_at token.Variable bytes ≡ Some found →
-    FoundSpelled (37 ∷ bytes) found
-variable_spelled bytes found is =
-    let r = spelled.names token.Variable bytes found is in
-    of_kind (Token token.Variable) (37 ∷ bytes) (37 ∷ r.0) r.1 found (name_kind token.Variable bytes found is)
-    (ap (λ xs. 37 ∷ xs) r.2) (omega (arith, r.4)) (r.0, refl, r.3) tt
-
--- a name behind `@`
-label_spelled : (bytes : List ℕ) (found : Lexeme) → name_at token.Label bytes ≡ Some found →
-    FoundSpelled (64 ∷ bytes) found
-label_spelled bytes found is =
-    let r = spelled.names token.Label bytes found is in
-    of_kind (Token token.Label) (64 ∷ bytes) (64 ∷ r.0) r.1 found (name_kind token.Label bytes found is)
-    (ap (λ xs. 64 ∷ xs) r.2) (omega (arith, r.4)) (r.0, refl, r.3) tt
+-- a name behind the first byte of its kind
+name_spelled : (b : ℕ) (kind : TokenKind) (bytes : List ℕ) (found : Lexeme) → name_at kind bytes ≡ Some found →
+    ((rest : List ℕ) → IsName rest → IsLexeme (Token kind) (b ∷ rest)) → IsWithin64Bits (Token kind) → FoundSpelled (b ∷ bytes) found
+name_spelled b kind bytes found is is_kind within =
+    let r = spelled.names kind bytes found is in
+    of_kind (Token kind) (b ∷ bytes) (b ∷ r.0) r.1 found (name_kind kind bytes found is) (ap (λ xs. b ∷ xs) r.2)
+    (omega (arith, r.4)) (is_kind r.0 r.3) within
 
 -- two classes that are one
 same_class : (a b : RegisterClass) → Some a ≡ Some b → a ≡ b
@@ -240,11 +224,11 @@ sign_spelled : (b : ℕ) (bytes : List ℕ) (found : Lexeme) →
     else number_at (b ∷ bytes)) ≡ Some found → FoundSpelled (b ∷ bytes) found
 sign_spelled b bytes found is =
     ⊎_elim
-    (λ u. behind_byte b 38 bytes found u.1 (global_spelled bytes found (rw u.0 at is)))
+    (λ u. behind_byte b 38 bytes found u.1 (name_spelled 38 token.Global bytes found (rw u.0 at is) (λ rest s. (rest, refl, s)) tt))
     (λ u. ⊎_elim
-    (λ v. behind_byte b 37 bytes found v.1 (variable_spelled bytes found (rw (u.0, v.0) at is)))
+    (λ v. behind_byte b 37 bytes found v.1 (name_spelled 37 token.Variable bytes found (rw (u.0, v.0) at is) (λ rest s. (rest, refl, s)) tt))
     (λ v. ⊎_elim
-    (λ w. behind_byte b 64 bytes found w.1 (label_spelled bytes found (rw (u.0, v.0, w.0) at is)))
+    (λ w. behind_byte b 64 bytes found w.1 (name_spelled 64 token.Label bytes found (rw (u.0, v.0, w.0) at is) (λ rest s. (rest, refl, s)) tt))
     (λ w. ⊎_elim
     (λ x. behind_byte b 36 bytes found x.1 (dollar_spelled bytes found (rw (u.0, v.0, w.0, x.0) at is)))
     (λ x. plain_spelled b bytes found (rw (u.0, v.0, w.0, x.0) at is))

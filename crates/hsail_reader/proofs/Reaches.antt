@@ -70,24 +70,16 @@ names kind [] more found spelled is = absurd spelled
 names kind (b ∷ text) more found spelled is =
     names_go kind b text more found spelled.0 (name_start_continues b spelled.0) spelled.1 is
 
-some_is : (a b : ℕ) → Some a ≡ Some b → a ≡ b
-some_is a b e = cc
-
-one_is_not_two : (b : ℕ) → (b ∷ []) ≡ 42 ∷ 47 ∷ [] → ⊥
-one_is_not_two b e = cc
-
-closing_reaches : (before : ℕ) (text more : List ℕ) (n : ℕ) → IsClosed text →
-    closing_at before (text ++ more) ≡ Some n → before + length text ≤ n
-closing_reaches before [] more n closed is = absurd closed
-closing_reaches before (b ∷ []) more n (inl e) is = absurd (one_is_not_two b e)
-closing_reaches before (b ∷ []) more n (inr w) is = absurd w.1
-closing_reaches before (b ∷ c ∷ text) more n (inl e) is =
-    let P : List ℕ → Type 0 = λ xs. closing_at before (xs ++ more) ≡ Some n → before + length xs ≤ n in
-    subst P (sym e) (λ (h : Some (before + 2) ≡ Some n). omega (arith, some_is (before + 2) n h)) is
-closing_reaches before (b ∷ c ∷ text) more n (inr w) is =
-    let later : closing_at (before + 1) (c ∷ text ++ more) ≡ Some n = rw w.0 at is in
-    let reach = closing_reaches (before + 1) (c ∷ text) more n w.1 later in
-    omega (arith, reach)
+-- a comment's end is found
+pub closing_is_read : (before : ℕ) (inside more : List ℕ) → IsClosed inside →
+    closing_at before (inside ++ more) ≡ Some (before + length inside)
+closing_is_read before [] more closed = absurd closed
+closing_is_read before (b ∷ inside) more (inl e) =
+    subst (λ xs. closing_at before (xs ++ more) ≡ Some (before + length xs)) (sym e) refl
+closing_is_read before (b ∷ []) more (inr w) = absurd w.1
+closing_is_read before (b ∷ c ∷ inside) more (inr w) =
+    let count : before + 1 + length (c ∷ inside) ≡ before + length (b ∷ c ∷ inside) = omega arith in
+    rw w.0 (closing_is_read (before + 1) (c ∷ inside) more w.1 ∙ ap (λ n. Some n) count)
 
 line_reaches : (line more : List ℕ) (found : Lexeme) → AllPass is_not_line_feed line →
     comment_at (47 ∷ line ++ more) ≡ Some found → 1 + length (47 ∷ line) ≤ found.length
@@ -100,10 +92,10 @@ line_reaches line more found pass is =
 block_reaches : (inside more : List ℕ) (found : Lexeme) → IsClosed inside →
     comment_at (42 ∷ inside ++ more) ≡ Some found → 1 + length (42 ∷ inside) ≤ found.length
 block_reaches inside more found closed is =
-    let m = mapped (λ (n : ℕ). lexed Comment (n + 2)) (closing_at 0 (inside ++ more)) found is in
-    let reach = closing_reaches 0 inside more m.0 closed m.1 in
-    let e : m.0 + 2 ≡ found.length = same_length (lexed Comment (m.0 + 2)) found m.2 in
-    omega (arith, e, reach)
+    let l = lexed Comment (length inside + 2) in
+    let e : Some l ≡ Some found =
+    sym (ap (option_map (λ (n : ℕ). lexed Comment (n + 2))) (closing_is_read 0 inside more closed ∙ ap (λ n. Some n) (omega arith))) ∙ is in
+    omega (arith, same_length l found e)
 
 pub comments : IsLongest 1 IsRestOfComment comment_at
 comments text more found (inl (line, e, pass)) is =
