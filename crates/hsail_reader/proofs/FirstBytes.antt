@@ -7,9 +7,9 @@ use Rattle.std.specs.Int.{IsInRange}
 use Rattle.std.specs.List.{list_any}
 use Rattle.hsail_reader.specs.Lexemes.{lexed, number_at, word_at, lexeme_at}
 use Rattle.hsail_reader.specs.Spelling.{AllPass, is_name_start, is_blank, is_mark}
-use Rattle.hsail_reader.specs.declared.token.LexemeKind.TheVariants.{Blank, Token}
 use Rattle.hsail_reader.specs.declared.token.TokenKind.TheVariants as token
 use Rattle.hsail_reader.proofs.Reaches.{true_is_not_false}
+use Rattle.hsail_reader.specs.Nouns.{Blank, Token}
 
 -- a byte that passes a test is none that doesn't
 pub differs : (test : ℕ → Bool) (b c : ℕ) → test b ≡ true → test c ≡ false → (b == c) ≡ false

@@ -11,10 +11,8 @@ use Rattle.hsail_reader.specs.Lexemes.{lexed, name_at, register, register_at, wo
 use Rattle.hsail_reader.specs.Spelling.{AllPass, IsName, IsDecimal, IsClosed, IsRestOfComment, is_name_byte, is_not_line_feed}
 use Rattle.hsail_reader.specs.TextTokens.{IsLexeme, IsWithin64Bits, IsLongestFront, class_name, header_name}
 use Rattle.hsail_reader.specs.WordSpelling.{SpellsDecimal, SpellsHexadecimal}
-use Rattle.hsail_reader.specs.Nouns.{Lexeme, LexemeKind, Numeral, RegisterClass, TokenKind}
-use Rattle.hsail_reader.specs.declared.token.LexemeKind.TheVariants.{Blank, Comment, Token}
+use Rattle.hsail_reader.specs.Nouns.{Lexeme, LexemeKind, Numeral, RegisterClass, TokenKind, Blank, Comment, Control, Double, Single, Token}
 use Rattle.hsail_reader.specs.declared.token.TokenKind.TheVariants as token
-use Rattle.hsail_reader.specs.declared.types.RegisterClass.TheVariants.{Control, Single, Double}
 use Rattle.hsail_reader.proofs.FirstBytes.{at_blank, at_mark}
 use Rattle.hsail_reader.proofs.LexemeFronts.{letter, at_register, at_header, at_number, at_word, lexeme_reaches}
 use Rattle.hsail_reader.proofs.LexemeSpellings.{word_kind, found_is_lexeme}

@@ -6,11 +6,8 @@ use Rattle.hsail_reader.specs.Lexemes.{lexed, register_at, header_among, header_
 use Rattle.hsail_reader.specs.Spelling.{IsDecimal, is_name_start}
 use Rattle.hsail_reader.specs.WordLexemes.{IsWord}
 use Rattle.hsail_reader.specs.TextTokens.{IsLexeme, class_name, header_name}
-use Rattle.hsail_reader.specs.Nouns.{Header, Lexeme, LexemeKind, RegisterClass}
-use Rattle.hsail_reader.specs.declared.token.Header.TheVariants.{Base, Full, Large, Default, Zero, Near}
-use Rattle.hsail_reader.specs.declared.token.LexemeKind.TheVariants.{Blank, Comment, Token}
+use Rattle.hsail_reader.specs.Nouns.{Header, Lexeme, LexemeKind, RegisterClass, Base, Blank, Comment, Control, Default, Double, Full, Large, Near, Single, Token, Zero}
 use Rattle.hsail_reader.specs.declared.token.TokenKind.TheVariants as token
-use Rattle.hsail_reader.specs.declared.types.RegisterClass.TheVariants.{Control, Single, Double}
 use Rattle.hsail_reader.proofs.FirstBytes.{at_blank, at_mark, at_name_start, at_digit, differs}
 use Rattle.hsail_reader.proofs.Reaches as reaches
 use Rattle.hsail_reader.proofs.Reaches.{same_length}

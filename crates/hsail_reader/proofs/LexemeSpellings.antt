@@ -8,13 +8,11 @@ use Rattle.hsail_reader.specs.Bytes.{begins_name, behind, closing_at, decimal_at
 use Rattle.hsail_reader.specs.Spelling.{IsName, is_name_byte, is_name_start, is_not_line_feed, is_blank, is_mark}
 use Rattle.hsail_reader.specs.Lexemes.{HeaderWord, lexed, comment_at, name_at, class_at, register, register_at, header_words, header_among, dollar_at, number_at, word_of, word_at, lexeme_at}
 use Rattle.hsail_reader.specs.TextTokens.{IsLexeme, IsWithin64Bits, class_name, header_name}
-use Rattle.hsail_reader.specs.Nouns.{Lexeme, LexemeKind, Numeral, RegisterClass, TokenKind}
-use Rattle.hsail_reader.specs.declared.token.LexemeKind.TheVariants.{Blank, Comment, Token}
+use Rattle.hsail_reader.specs.Nouns.{Lexeme, LexemeKind, Numeral, RegisterClass, TokenKind, Blank, Comment, Control, Double, Single, Token}
 use Rattle.hsail_reader.specs.declared.token.TokenKind.TheVariants as token
-use Rattle.hsail_reader.specs.declared.types.RegisterClass.TheVariants.{Control, Single, Double}
 use Rattle.hsail_reader.proofs.BracketSpelling.{some_rest}
 use Rattle.hsail_reader.proofs.NumberSpelling.{number_is_spelled, decimal_is_spelled}
-use Rattle.hsail_reader.proofs.Reaches.{bound, chosen, mapped, same_lexeme}
+use Rattle.hsail_reader.proofs.Reaches.{bound, chosen, mapped, same_some}
 use Rattle.hsail_reader.proofs.Spelled as spelled
 use Rattle.hsail_reader.proofs.Spelled.{behind_parts, nothing}
 use Rattle.hsail_reader.proofs.WordSpelled.{words}
@@ -27,11 +25,11 @@ FoundSpelled bytes found =
 
 -- two lexemes that are one are of one kind
 same_kind : (a b : Lexeme) → Some a ≡ Some b → a.kind ≡ b.kind
-same_kind a b e = ap (λ (l : Lexeme). l.kind) (same_lexeme a b e)
+same_kind a b e = ap (λ (l : Lexeme). l.kind) (same_some a b e)
 
 -- one lexeme is found
 the_found : (bytes : List ℕ) (a found : Lexeme) → Some a ≡ Some found → FoundSpelled bytes a → FoundSpelled bytes found
-the_found bytes a found e = subst (FoundSpelled bytes) (same_lexeme a found e)
+the_found bytes a found e = subst (FoundSpelled bytes) (same_some a found e)
 
 -- the kinds without a value of 64 bits at most
 of_kind : (kind : LexemeKind) (bytes front behind : List ℕ) (found : Lexeme) → kind ≡ found.kind →
@@ -79,21 +77,17 @@ name_spelled b kind bytes found is is_kind within =
     of_kind (Token kind) (b ∷ bytes) (b ∷ r.0) r.1 found (name_kind kind bytes found is) (ap (λ xs. b ∷ xs) r.2)
     (omega (arith, r.4)) (is_kind r.0 r.3) within
 
--- two classes that are one
-same_class : (a b : RegisterClass) → Some a ≡ Some b → a ≡ b
-same_class a b e = cc
-
 -- the letter of a register's class, behind its dollar
 class_named : (c : ℕ) (bytes text : List ℕ) (class : RegisterClass) → class_at (c ∷ bytes) ≡ Some class →
     36 ∷ c ∷ text ≡ class_name class ++ text
 class_named c bytes text class is =
     let P : RegisterClass → Type 0 = λ k. 36 ∷ c ∷ text ≡ class_name k ++ text in
     ⊎_elim
-    (λ u. subst P (same_class Control class (rw u.0 at is)) (ap (λ x. 36 ∷ x ∷ text) u.1))
+    (λ u. subst P (same_some Control class (rw u.0 at is)) (ap (λ x. 36 ∷ x ∷ text) u.1))
     (λ u. ⊎_elim
-    (λ v. subst P (same_class Single class (rw (u.0, v.0) at is)) (ap (λ x. 36 ∷ x ∷ text) v.1))
+    (λ v. subst P (same_some Single class (rw (u.0, v.0) at is)) (ap (λ x. 36 ∷ x ∷ text) v.1))
     (λ v. ⊎_elim
-    (λ w. subst P (same_class Double class (rw (u.0, v.0, w.0) at is)) (ap (λ x. 36 ∷ x ∷ text) w.1))
+    (λ w. subst P (same_some Double class (rw (u.0, v.0, w.0) at is)) (ap (λ x. 36 ∷ x ∷ text) w.1))
     (λ w. nothing class (rw (u.0, v.0, w.0) at is))
     (eqb_tells c 100))
     (eqb_tells c 115))

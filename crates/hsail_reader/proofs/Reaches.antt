@@ -8,8 +8,7 @@ use Rattle.std.specs.Int.{is_in_range}
 use Rattle.hsail_reader.specs.Bytes.{begins_digit, behind, closing_at, digits_at, decimal_at, numeral_at, numeral_behind, numeral, ◌>>=◌}
 use Rattle.hsail_reader.specs.Lexemes.{lexed, name_at, comment_at, class_at, register, register_at, number_at}
 use Rattle.hsail_reader.specs.Spelling.{AllPass, IsName, IsDecimal, IsClosed, IsRestOfComment, is_name_byte, is_name_start, is_not_line_feed}
-use Rattle.hsail_reader.specs.Nouns.{Lexeme, Numeral, TokenKind}
-use Rattle.hsail_reader.specs.declared.token.LexemeKind.TheVariants.{Comment, Token}
+use Rattle.hsail_reader.specs.Nouns.{Lexeme, Numeral, TokenKind, Comment, Token}
 use Rattle.hsail_reader.specs.declared.token.TokenKind.TheVariants as token
 use Rattle.hsail_reader.proofs.Fronts.{IsNumber, IsRegister, IsLongest}
 
@@ -21,17 +20,14 @@ run_reaches test (b ∷ text) more pass =
     let rest = run_reaches test text more pass.1 in
     rw pass.0 (omega (arith, rest))
 
-pub same_lexeme : (a b : Lexeme) → Some a ≡ Some b → a ≡ b
-same_lexeme a b e = cc
+pub same_some : {A : Type 0} (x y : A) → Some x ≡ Some y → x ≡ y
+same_some x y e = cc
 
 pub same_length : (a b : Lexeme) → Some a ≡ Some b → a.length ≡ b.length
-same_length a b e = ap (λ (l : Lexeme). l.length) (same_lexeme a b e)
-
-same_numeral : (a b : Numeral) → Some a ≡ Some b → a ≡ b
-same_numeral a b e = cc
+same_length a b e = ap (λ (l : Lexeme). l.length) (same_some a b e)
 
 pub numeral_length : (a b : Numeral) → Some a ≡ Some b → a.length ≡ b.length
-numeral_length a b e = ap (λ (n : Numeral). n.length) (same_numeral a b e)
+numeral_length a b e = ap (λ (n : Numeral). n.length) (same_some a b e)
 
 pub mapped : {A B : Type 0} (f : A → B) (o : Option A) (y : B) → option_map f o ≡ Some y →
     (x : A) × (o ≡ Some x) × (Some (f x) ≡ Some y)

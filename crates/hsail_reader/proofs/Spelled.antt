@@ -7,9 +7,8 @@ use Rattle.std.specs.Option.{option_map}
 use Rattle.hsail_reader.specs.Bytes.{behind, closing_at}
 use Rattle.hsail_reader.specs.Lexemes.{lexed, name_at, comment_at}
 use Rattle.hsail_reader.specs.Spelling.{AllPass, IsName, IsClosed, IsRestOfComment, is_name_byte, is_name_start, is_not_line_feed, begins_with}
-use Rattle.hsail_reader.specs.declared.token.LexemeKind.TheVariants.{Comment, Token}
-use Rattle.hsail_reader.specs.Nouns.{TokenKind}
-use Rattle.hsail_reader.proofs.Reaches.{mapped, name_start_continues, same_length}
+use Rattle.hsail_reader.specs.Nouns.{TokenKind, Comment, Token}
+use Rattle.hsail_reader.proofs.Reaches.{mapped, name_start_continues, same_length, same_some}
 use Rattle.hsail_reader.proofs.Fronts.{IsFoundSpelled}
 
 -- the run of bytes that pass is a front, and each of its bytes passes
@@ -73,16 +72,13 @@ closing_spelled before (b ∷ bytes) n is =
     ⊎_elim
     (λ yes'. let e : Some (before + 2) ≡ Some n = rw yes' at is in
     let c = closes b bytes yes' in
-    (42 ∷ 47 ∷ [], c.0, c.1, inl refl, some_is (before + 2) n e))
+    (42 ∷ 47 ∷ [], c.0, c.1, inl refl, same_some (before + 2) n e))
     (λ no'. let e : closing_at (before + 1) bytes ≡ Some n = rw no' at is in
     let r = closing_spelled (before + 1) bytes n e in
     let begins : begins_with 47 bytes ≡ begins_with 47 r.0 = ap (begins_with 47) r.2 ∙ closed_begins r.0 r.1 r.3 in
     let open' : (b == 42 && begins_with 47 r.0) ≡ false = sym (ap (λ x. b == 42 && x) begins) ∙ no' in
     (b ∷ r.0, r.1, ap (λ xs. b ∷ xs) r.2, inr (open', r.3), omega (arith, r.4)))
     (cases_Bool (b == 42 && begins_with 47 bytes))
-  where
-    some_is : (a b : ℕ) → Some a ≡ Some b → a ≡ b
-    some_is a b e = cc
 
 pub comments : IsFoundSpelled 1 IsRestOfComment comment_at
 comments [] found is = nothing found is

@@ -9,12 +9,11 @@ use Rattle.hsail_reader.specs.TextTokens.{PlacedToken}
 use Rattle.hsail_reader.specs.Types.{alignment_bytes}
 use Rattle.hsail_reader.specs.WordSpelling.{SpellsWord, stands_in_modules}
 use Rattle.hsail_reader.specs.Words.{word_of, alignment_of}
-use Rattle.hsail_reader.specs.Nouns.{Alignment, DataType, Flaw, Opcode, Profile, Register, Rounding, TokenKind, Word}
+use Rattle.hsail_reader.specs.Nouns.{Alignment, DataType, Flaw, Opcode, Profile, Register, Rounding, TokenKind, Word, Eight, Four, One, Sixteen, Two}
 use Rattle.hsail_reader.specs.declared.module.Profile.TheVariants as profiles
 use Rattle.hsail_reader.specs.declared.module.Rounding.TheVariants as roundings
 use Rattle.hsail_reader.specs.declared.token.Header.TheVariants as headers
 use Rattle.hsail_reader.specs.declared.token.TokenKind.TheVariants as kinds
-use Rattle.hsail_reader.specs.declared.types.Alignment.TheVariants.{One, Two, Four, Eight, Sixteen}
 use Rattle.hsail_reader.specs.declared.words.Word.TheVariants as words
 use Rattle.hsail_reader.proofs.Grammars.{Decides}
 use Rattle.hsail_reader.proofs.WordSpellings.{word_is_read, word_is_spelled}

@@ -6,9 +6,8 @@ use Rattle.std.specs.List.{Contains}
 use Rattle.hsail_reader.specs.Bytes.{behind, or_else, first_of, ◌>>=◌}
 use Rattle.hsail_reader.specs.Rows.{types_of, type_name}
 use Rattle.hsail_reader.specs.Words.{is_end, is_spelled, type_among, type_at}
-use Rattle.hsail_reader.specs.Nouns.{DataType, TypeSet}
-use Rattle.hsail_reader.specs.declared.rows.TypeSet.TheVariants.{Bit, Bits, Integers, BitsAndIntegers, Convertible, Memory, Unsigned32, Unsigned32And64}
-use Rattle.hsail_reader.proofs.Reaches.{bound, chosen, true_is_not_false}
+use Rattle.hsail_reader.specs.Nouns.{DataType, TypeSet, Bit, Bits, BitsAndIntegers, Convertible, Integers, Memory, Unsigned32, Unsigned32And64}
+use Rattle.hsail_reader.proofs.Reaches.{bound, chosen, true_is_not_false, same_some}
 use Rattle.hsail_reader.proofs.Spelled.{behind_parts, nothing}
 
 -- the texts differ at a place that both have
@@ -144,13 +143,10 @@ pub type_is_found : (types : List DataType) (text : List ℕ) (t : DataType) →
 type_is_found types text t is =
     let f = first_is_found type_spelled types text t is in
     ⊎_elim
-    (λ w. let same : f.0 ≡ t = some_is f.0 t w.1 in
+    (λ w. let same : f.0 ≡ t = same_some f.0 t w.1 in
     (spelled_is (type_name f.0) text w.0 ∙ ap type_name same, subst (Contains types) same f.1))
     (λ w. nothing t w.1)
     (chosen (is_spelled (type_name f.0) text) (Some f.0) None (Some t) f.2)
-  where
-    some_is : (a b : DataType) → Some a ≡ Some b → a ≡ b
-    some_is a b e = cc
 
 -- `_` and the name of a type, to the end
 pub type_behind_bar : (set : TypeSet) (bytes : List ℕ) (t : DataType) → type_at set bytes ≡ Some t →

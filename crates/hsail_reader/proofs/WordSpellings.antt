@@ -8,8 +8,7 @@ use Rattle.hsail_reader.specs.Bytes.{behind, align_at, ◌>>=◌}
 use Rattle.hsail_reader.specs.Rows.{InstructionRow, rows, types_of}
 use Rattle.hsail_reader.specs.Words.{is_spelled, is_end, type_among, opcode_at, opcode_among, instruction_at, argument_word, instruction_word, other_word, named_word, word_of}
 use Rattle.hsail_reader.specs.WordSpelling.{SpellsNumber, SpellsBehindStem, SpellsWord, stands_in_modules}
-use Rattle.hsail_reader.specs.declared.rows.TypeSet.TheVariants.{Memory}
-use Rattle.hsail_reader.specs.Nouns.{DataType, Numeral, Opcode, Word}
+use Rattle.hsail_reader.specs.Nouns.{DataType, Numeral, Opcode, Word, Memory}
 use Rattle.hsail_reader.specs.declared.words.Word.TheVariants as word
 use Rattle.hsail_reader.proofs.FormSpelling.{form_is_read, form_is_spelled}
 use Rattle.hsail_reader.proofs.BracketSpelling.{align_is_read}

@@ -3,8 +3,7 @@ use Rattle.std.specs.Prelude.{ℕ, ◌+◌, ◌*◌, ◌^◌, List, [], ◌∷�
 use Rattle.std.specs.Char.{is_digit, digit_value}
 use Rattle.std.specs.Option.{is_some, option_map}
 use Rattle.hsail_reader.specs.Spelling.{is_name_start, begins_with}
-use Rattle.hsail_reader.specs.Nouns.{Numeral, SpelledWidth, Width}
-use Rattle.hsail_reader.specs.declared.types.Width.TheVariants.{Number, All, WaveSize}
+use Rattle.hsail_reader.specs.Nouns.{Numeral, SpelledWidth, Width, All, Number, WaveSize}
 
 -- the first byte begins a name
 abbrev pub begins_name : List ℕ → Bool

@@ -5,11 +5,8 @@ use Rattle.std.specs.List.{prefix_len}
 use Rattle.std.specs.Option.{is_some, option_map}
 use Rattle.hsail_reader.specs.Bytes.{begins_name, behind, closing_at, decimal_at, numeral_at, align_at, width_at, or_else, ◌>>=◌}
 use Rattle.hsail_reader.specs.Spelling.{is_blank, is_mark, is_name_byte, is_name_start, is_not_line_feed}
-use Rattle.hsail_reader.specs.Nouns.{Header, HeaderName, Lexeme, LexemeKind, Numeral, RegisterClass, SpelledWidth, TokenKind}
-use Rattle.hsail_reader.specs.declared.token.Header.TheVariants.{Base, Full, Large, Default, Zero, Near}
-use Rattle.hsail_reader.specs.declared.token.LexemeKind.TheVariants.{Blank, Comment, Token}
+use Rattle.hsail_reader.specs.Nouns.{Header, HeaderName, Lexeme, LexemeKind, Numeral, RegisterClass, SpelledWidth, TokenKind, Base, Blank, Comment, Control, Default, Double, Full, Large, Near, Single, Token, Zero}
 use Rattle.hsail_reader.specs.declared.token.TokenKind.TheVariants as token
-use Rattle.hsail_reader.specs.declared.types.RegisterClass.TheVariants.{Control, Single, Double}
 
 abbrev pub lexed : LexemeKind → ℕ → Lexeme
 lexed kind length = record { kind = kind; length = length }

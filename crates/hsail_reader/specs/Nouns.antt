@@ -24,7 +24,6 @@ pub use Rattle.hsail_reader.specs.declared.token.Lexeme.{Lexeme}
 pub use Rattle.hsail_reader.specs.declared.token.LexemeKind.{LexemeKind}
 pub use Rattle.hsail_reader.specs.declared.token.Numeral.{Numeral}
 pub use Rattle.hsail_reader.specs.declared.token.SpelledWidth.{SpelledWidth}
-pub use Rattle.hsail_reader.specs.declared.token.Token.{Token}
 pub use Rattle.hsail_reader.specs.declared.token.TokenKind.{TokenKind}
 pub use Rattle.hsail_reader.specs.declared.types.Alignment.{Alignment}
 pub use Rattle.hsail_reader.specs.declared.types.BinaryOperation.{BinaryOperation}
@@ -41,3 +40,10 @@ pub use Rattle.hsail_reader.specs.declared.types.UnaryOperation.{UnaryOperation}
 pub use Rattle.hsail_reader.specs.declared.types.Width.{Width}
 pub use Rattle.hsail_reader.specs.declared.words.Opcode.{Opcode}
 pub use Rattle.hsail_reader.specs.declared.words.Word.{Word}
+pub use Rattle.hsail_reader.specs.declared.types.RegisterClass.TheVariants.{Control, Double, Single}
+pub use Rattle.hsail_reader.specs.declared.types.DataType.TheVariants.{B1, B16, B32, B64, B8, S16, S32, S64, S8, U16, U32, U64, U8}
+pub use Rattle.hsail_reader.specs.declared.rows.TypeSet.TheVariants.{Bit, Bits, BitsAndIntegers, Convertible, Integers, Memory, Unsigned32, Unsigned32And64}
+pub use Rattle.hsail_reader.specs.declared.types.Alignment.TheVariants.{Eight, Four, One, Sixteen, Two}
+pub use Rattle.hsail_reader.specs.declared.types.Width.TheVariants.{All, Number, WaveSize}
+pub use Rattle.hsail_reader.specs.declared.token.Header.TheVariants.{Base, Default, Full, Large, Near, Zero}
+pub use Rattle.hsail_reader.specs.declared.token.LexemeKind.TheVariants.{Blank, Comment, Token}

@@ -4,10 +4,8 @@ use Rattle.std.specs.Prelude.{ℕ, List, [], ◌∷◌, Bool, true, false, ◌==
 use Rattle.std.specs.Option.{option_map}
 use Rattle.hsail_reader.specs.Bytes.{behind, first_of, align_at, width_at, ◌>>=◌}
 use Rattle.hsail_reader.specs.Rows.{InstructionRow, rows, types_of, type_name}
-use Rattle.hsail_reader.specs.Nouns.{Alignment, DataType, Form, Modifiers, Numeral, Opcode, SpelledWidth, TypeSet, Width, Word}
+use Rattle.hsail_reader.specs.Nouns.{Alignment, DataType, Form, Modifiers, Numeral, Opcode, SpelledWidth, TypeSet, Width, Word, Bit, Eight, Four, Memory, One, Sixteen, Two}
 use Rattle.hsail_reader.specs.declared.rows.Form.TheVariants as form
-use Rattle.hsail_reader.specs.declared.rows.TypeSet.TheVariants.{Bit, Memory}
-use Rattle.hsail_reader.specs.declared.types.Alignment.TheVariants.{One, Two, Four, Eight, Sixteen}
 use Rattle.hsail_reader.specs.declared.words.Opcode.TheVariants as opcode
 use Rattle.hsail_reader.specs.declared.words.Word.TheVariants as word
 
