@@ -14,10 +14,10 @@ use Rattle.hsail_reader.specs.WordSpelling.{SpellsDecimal, SpellsHexadecimal}
 use Rattle.hsail_reader.specs.Nouns.{Lexeme, LexemeKind, Numeral, RegisterClass, TokenKind, Blank, Comment, Control, Double, Single, Token}
 use Rattle.hsail_reader.specs.declared.token.TokenKind.TheVariants as token
 use Rattle.hsail_reader.proofs.FirstBytes.{at_blank, at_mark}
-use Rattle.hsail_reader.proofs.LexemeFronts.{letter, at_register, at_header, at_number, at_word, lexeme_reaches}
-use Rattle.hsail_reader.proofs.LexemeSpellings.{word_kind, found_is_lexeme}
+use Rattle.hsail_reader.proofs.LexemeFronts.{letter, at_register, at_number, IsFound, plain_found, lexeme_reaches}
+use Rattle.hsail_reader.proofs.LexemeSpellings.{found_is_lexeme}
 use Rattle.hsail_reader.proofs.NumberSpelling.{decimal_is_read, hexadecimal_number_is_read}
-use Rattle.hsail_reader.proofs.Reaches.{closing_is_read, decimal_short}
+use Rattle.hsail_reader.proofs.Reaches.{decimal_short}
 use Rattle.hsail_reader.proofs.Spelled.{behind_parts}
 use Rattle.hsail_reader.proofs.Fronts.{IsNumber}
 
@@ -106,27 +106,6 @@ hexadecimal_number_found n text more spelled fits longest =
         (λ no'. no')
         (cases_Bool (is_digit c 16))
 
--- a lexeme of this kind is found at the front of these bytes
-abbrev IsFound : LexemeKind → List ℕ → Type 0
-IsFound kind bytes = (found : Lexeme) × (lexeme_at bytes ≡ Some found) × (found.kind ≡ kind)
-
--- behind the first slash of a comment, a comment is found
-comment_found : (text more : List ℕ) → IsRestOfComment text → IsFound Comment (47 ∷ text ++ more)
-comment_found text more (inl (line, e, pass)) =
-    let P : List ℕ → Type 0 = λ xs. IsFound Comment (47 ∷ xs ++ more) in
-    subst P (sym e) (lexed Comment (prefix_len is_not_line_feed (line ++ more) + 2), refl, refl)
-comment_found text more (inr (inside, e, closed)) =
-    let P : List ℕ → Type 0 = λ xs. IsFound Comment (47 ∷ xs ++ more) in
-    subst P (sym e)
-    (lexed Comment (0 + length inside + 2), ap (option_map (λ n. lexed Comment (n + 2))) (closing_is_read 0 inside more closed), refl)
-
--- a name is found behind its first byte
-name_found : (kind : TokenKind) (text more : List ℕ) → IsName text →
-    (found : Lexeme) × (name_at kind (text ++ more) ≡ Some found) × (found.kind ≡ Token kind)
-name_found kind [] more spelled = absurd spelled
-name_found kind (b ∷ text) more spelled =
-    (lexed (Token kind) (prefix_len is_name_byte (b ∷ text ++ more) + 1), rw spelled.0 refl, refl)
-
 -- a register is read where its number is
 register_read : (class : RegisterClass) (digits more : List ℕ) (n : Numeral) → decimal_at (digits ++ more) ≡ Some n →
     register_at ((letter class ∷ digits) ++ more) ≡ Some (register class n)
@@ -137,11 +116,11 @@ register_read Double digits more n is = ap (λ o. o >>= λ (m : Numeral). Some (
 -- a register that is no front of a longer one is found
 register_found : (class : RegisterClass) (digits more : List ℕ) (n : ℕ) → SpellsDecimal n digits → n < 2 ^ 64 →
     IsLongestFront (class_name class ++ digits) ((class_name class ++ digits) ++ more) →
-    IsFound (Token (token.Register (record { class = class; number = n }))) ((class_name class ++ digits) ++ more)
+    IsFound (Token (token.Register (record { class = class; number = n }))) ((class_name class ++ digits) ++ more) 0
 register_found class [] more n spelled fits longest = absurd spelled.0
 register_found class (b ∷ digits) more n spelled fits longest =
     let found = at_register class b digits more spelled.0.0 ∙ register_read class (b ∷ digits) more read decimal in
-    (register class read, found, refl)
+    (register class read, found, refl, omega arith)
   where
     text : List ℕ
     text = class_name class ++ b ∷ digits
@@ -158,42 +137,27 @@ register_found class (b ∷ digits) more n spelled fits longest =
 
 -- a number that is read is found
 number_found : (n : ℕ) (text more : List ℕ) → IsNumber text →
-    numeral_at (text ++ more) ≡ Some (numeral n (length text)) → IsFound (Token (token.Number n)) (text ++ more)
+    numeral_at (text ++ more) ≡ Some (numeral n (length text)) → IsFound (Token (token.Number n)) (text ++ more) 0
 number_found n text more spelled read = (
   lexed (Token (token.Number n)) (length text),
   at_number text more spelled ∙ ap (option_map (λ (n : Numeral). lexed (Token (token.Number n.value)) n.length)) read,
   refl,
+  omega arith,
 )
 
 -- where the longest front that is a lexeme is of this kind, a lexeme of this kind is found
 kind_is_found : (kind : LexemeKind) (front more : List ℕ) → IsLexeme kind front → IsWithin64Bits kind →
-    IsLongestFront front (front ++ more) → IsFound kind (front ++ more)
-kind_is_found Blank front more (b, e, blank) within longest =
-    subst (λ xs. IsFound Blank (xs ++ more)) (sym e) (lexed Blank 1, at_blank b more blank, refl)
-kind_is_found Comment front more (rest, e, spelled) within longest =
-    subst (λ xs. IsFound Comment (xs ++ more)) (sym e) (comment_found rest more spelled)
-kind_is_found (Token token.Global) front more (rest, e, spelled) within longest =
-    subst (λ xs. IsFound (Token token.Global) (xs ++ more)) (sym e) (name_found token.Global rest more spelled)
-kind_is_found (Token token.Variable) front more (rest, e, spelled) within longest =
-    subst (λ xs. IsFound (Token token.Variable) (xs ++ more)) (sym e) (name_found token.Variable rest more spelled)
-kind_is_found (Token token.Label) front more (rest, e, spelled) within longest =
-    subst (λ xs. IsFound (Token token.Label) (xs ++ more)) (sym e) (name_found token.Label rest more spelled)
+    IsLongestFront front (front ++ more) → IsFound kind (front ++ more) 0
 kind_is_found (Token (token.Register r)) front more (digits, e, spelled) within longest =
     let Long : List ℕ → Type 0 = λ xs. IsLongestFront xs (xs ++ more) in
-    subst (λ xs. IsFound (Token (token.Register r)) (xs ++ more)) (sym e)
+    subst (λ xs. IsFound (Token (token.Register r)) (xs ++ more) 0) (sym e)
     (register_found r.class digits more r.number spelled within (subst Long e longest))
-kind_is_found (Token (token.Header h)) front more e within longest =
-    subst (λ xs. IsFound (Token (token.Header h)) (xs ++ more)) (sym e)
-    (lexed (Token (token.Header h)) (length (header_name h)), at_header h more, refl)
 kind_is_found (Token (token.Number n)) front more (inl spelled) within longest =
     number_found n front more (inl spelled.0) (decimal_number_found n front more spelled within longest)
 kind_is_found (Token (token.Number n)) front more (inr spelled) within longest =
     number_found n front more (inr spelled.0) (hexadecimal_number_found n front more spelled within longest)
-kind_is_found (Token (token.Mark b)) front more (e, mark) within longest =
-    subst (λ xs. IsFound (Token (token.Mark b)) (xs ++ more)) (sym e)
-    (lexed (Token (token.Mark b)) 1, at_mark b more mark, refl)
-kind_is_found (Token token.Word) front more spelled within longest =
-    (word_at (front ++ more), at_word front more spelled, sym (word_kind (align_at (front ++ more)) (front ++ more)))
+kind_is_found kind front more is within longest =
+    let p = plain_found kind front more tt is in (p.0, p.1, p.2, omega arith)
 
 -- the longest front that is a lexeme is found, as long as it is and of its kind
 pub longest_is_found : (kind : LexemeKind) (front more : List ℕ) → IsLexeme kind front → IsWithin64Bits kind →

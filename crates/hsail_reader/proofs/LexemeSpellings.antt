@@ -23,10 +23,6 @@ FoundSpelled bytes found =
     (front : List ℕ) × (behind : List ℕ) × (bytes ≡ front ++ behind) × (length front ≡ found.length)
     × IsLexeme found.kind front × IsWithin64Bits found.kind
 
--- two lexemes that are one are of one kind
-same_kind : (a b : Lexeme) → Some a ≡ Some b → a.kind ≡ b.kind
-same_kind a b e = ap (λ (l : Lexeme). l.kind) (same_some a b e)
-
 -- one lexeme is found
 the_found : (bytes : List ℕ) (a found : Lexeme) → Some a ≡ Some found → FoundSpelled bytes a → FoundSpelled bytes found
 the_found bytes a found e = subst (FoundSpelled bytes) (same_some a found e)
@@ -38,43 +34,19 @@ of_kind : (kind : LexemeKind) (bytes front behind : List ℕ) (found : Lexeme) �
 of_kind kind bytes front behind found e parts counts is within =
     (front, behind, parts, counts, subst (λ k. IsLexeme k front) e is, subst IsWithin64Bits e within)
 
--- what is found as a comment is of that kind
-comment_kind : (bytes : List ℕ) (found : Lexeme) → comment_at bytes ≡ Some found → Comment ≡ found.kind
-comment_kind [] found is = nothing found is
-comment_kind (b ∷ bytes) found is =
-    ⊎_elim
-    (λ w. let e : Some (lexed Comment (prefix_len is_not_line_feed bytes + 2)) ≡ Some found = rw w.0 at is in
-    same_kind (lexed Comment (prefix_len is_not_line_feed bytes + 2)) found e)
-    (λ w. ⊎_elim
-    (λ v. let e : option_map (λ length. lexed Comment (length + 2)) (closing_at 0 bytes) ≡ Some found =
-    rw (w.0, v.0) at is in
-    let m = mapped (λ (n : ℕ). lexed Comment (n + 2)) (closing_at 0 bytes) found e in
-    same_kind (lexed Comment (m.0 + 2)) found m.2)
-    (λ v. nothing found (rw (w.0, v.0) at is))
-    (eqb_tells b 42))
-    (eqb_tells b 47)
-
 -- a comment that is found is one, with its first slash
 comment_spelled : (bytes : List ℕ) (found : Lexeme) → comment_at bytes ≡ Some found → FoundSpelled (47 ∷ bytes) found
 comment_spelled bytes found is =
     let r = spelled.comments bytes found is in
-    of_kind Comment (47 ∷ bytes) (47 ∷ r.0) r.1 found (comment_kind bytes found is)
+    of_kind Comment (47 ∷ bytes) (47 ∷ r.0) r.1 found r.5
     (ap (λ xs. 47 ∷ xs) r.2) (omega (arith, r.4)) (r.0, refl, r.3) tt
-
--- what is found as a name is of the kind that its first byte says
-name_kind : (kind : TokenKind) (bytes : List ℕ) (found : Lexeme) → name_at kind bytes ≡ Some found →
-    Token kind ≡ found.kind
-name_kind kind bytes found is =
-    let l = lexed (Token kind) (prefix_len is_name_byte bytes + 1) in
-    ⊎_elim (λ w. same_kind l found w.1) (λ w. nothing found w.1)
-    (chosen (begins_name bytes) (Some l) None (Some found) is)
 
 -- a name behind the first byte of its kind
 name_spelled : (b : ℕ) (kind : TokenKind) (bytes : List ℕ) (found : Lexeme) → name_at kind bytes ≡ Some found →
     ((rest : List ℕ) → IsName rest → IsLexeme (Token kind) (b ∷ rest)) → IsWithin64Bits (Token kind) → FoundSpelled (b ∷ bytes) found
 name_spelled b kind bytes found is is_kind within =
     let r = spelled.names kind bytes found is in
-    of_kind (Token kind) (b ∷ bytes) (b ∷ r.0) r.1 found (name_kind kind bytes found is) (ap (λ xs. b ∷ xs) r.2)
+    of_kind (Token kind) (b ∷ bytes) (b ∷ r.0) r.1 found r.5 (ap (λ xs. b ∷ xs) r.2)
     (omega (arith, r.4)) (is_kind r.0 r.3) within
 
 -- the letter of a register's class, behind its dollar
@@ -168,19 +140,12 @@ number_spelled bytes found is =
     the_found bytes (lexed (Token (token.Number m.0.value)) m.0.length) found m.2
     (r.0, r.1, r.2, r.3, r.4.1, r.4.0)
 
--- what is found as a word is of that kind
-pub word_kind : (a : Option Numeral) (bytes : List ℕ) → Token token.Word ≡ (word_of a bytes).kind
-word_kind None bytes = refl
-word_kind (Some n) bytes = refl
-
 -- a word that is found is one
 word_spelled : (b : ℕ) (bytes : List ℕ) (found : Lexeme) → is_name_start b ≡ true →
     Some (word_at (b ∷ bytes)) ≡ Some found → FoundSpelled (b ∷ bytes) found
 word_spelled b bytes found starts is =
     let r = words (b ∷ bytes) found (rw starts is) in
-    of_kind (Token token.Word) (b ∷ bytes) r.0 r.1 found
-    (word_kind (align_at (b ∷ bytes)) (b ∷ bytes) ∙ same_kind (word_at (b ∷ bytes)) found is)
-    r.2 (omega (arith, r.4)) r.3 tt
+    of_kind (Token token.Word) (b ∷ bytes) r.0 r.1 found r.5 r.2 (omega (arith, r.4)) r.3 tt
 
 -- a lexeme of one byte that is found is one
 one_byte_spelled : (b : ℕ) (bytes : List ℕ) (kind : LexemeKind) (found : Lexeme) → IsLexeme kind (b ∷ []) →

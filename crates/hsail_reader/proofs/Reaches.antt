@@ -13,7 +13,7 @@ use Rattle.hsail_reader.specs.declared.token.TokenKind.TheVariants as token
 use Rattle.hsail_reader.proofs.Fronts.{IsNumber, IsRegister, IsLongest}
 
 -- a run of bytes that pass is at least as long as any front of them
-run_reaches : (test : ℕ → Bool) (text more : List ℕ) → AllPass test text →
+pub run_reaches : (test : ℕ → Bool) (text more : List ℕ) → AllPass test text →
     length text ≤ prefix_len test (text ++ more)
 run_reaches test [] more pass = omega arith
 run_reaches test (b ∷ text) more pass =
@@ -25,6 +25,9 @@ same_some x y e = cc
 
 pub same_length : (a b : Lexeme) → Some a ≡ Some b → a.length ≡ b.length
 same_length a b e = ap (λ (l : Lexeme). l.length) (same_some a b e)
+
+pub same_kind : (a b : Lexeme) → Some a ≡ Some b → a.kind ≡ b.kind
+same_kind a b e = ap (λ (l : Lexeme). l.kind) (same_some a b e)
 
 pub numeral_length : (a b : Numeral) → Some a ≡ Some b → a.length ≡ b.length
 numeral_length a b e = ap (λ (n : Numeral). n.length) (same_some a b e)
@@ -52,20 +55,6 @@ pub name_start_continues : (b : ℕ) → is_name_start b ≡ true → is_name_by
 name_start_continues b e =
     or_true (is_in_range 48 57 b) (is_in_range 65 90 b) (is_in_range 97 122 b) (b == 95) e
 
-names_go : (kind : TokenKind) (b : ℕ) (text more : List ℕ) (found : Lexeme) → is_name_start b ≡ true → is_name_byte b ≡ true →
-    AllPass is_name_byte text → name_at kind (b ∷ text ++ more) ≡ Some found → 1 + length (b ∷ text) ≤ found.length
-names_go kind b text more found starts goes pass is =
-    let e : Some (lexed (Token kind) (prefix_len is_name_byte (b ∷ text ++ more) + 1)) ≡ Some found =
-    rw starts at is in
-    let reach : length (b ∷ text) ≤ prefix_len is_name_byte (b ∷ text ++ more) =
-    run_reaches is_name_byte (b ∷ text) more (goes, pass) in
-    omega (arith, same_length (lexed (Token kind) (prefix_len is_name_byte (b ∷ text ++ more) + 1)) found e, reach)
-
-pub names : (kind : TokenKind) → IsLongest 1 IsName (name_at kind)
-names kind [] more found spelled is = absurd spelled
-names kind (b ∷ text) more found spelled is =
-    names_go kind b text more found spelled.0 (name_start_continues b spelled.0) spelled.1 is
-
 -- a comment's end is found
 pub closing_is_read : (before : ℕ) (inside more : List ℕ) → IsClosed inside →
     closing_at before (inside ++ more) ≡ Some (before + length inside)
@@ -76,30 +65,6 @@ closing_is_read before (b ∷ []) more (inr w) = absurd w.1
 closing_is_read before (b ∷ c ∷ inside) more (inr w) =
     let count : before + 1 + length (c ∷ inside) ≡ before + length (b ∷ c ∷ inside) = omega arith in
     rw w.0 (closing_is_read (before + 1) (c ∷ inside) more w.1 ∙ ap (λ n. Some n) count)
-
-line_reaches : (line more : List ℕ) (found : Lexeme) → AllPass is_not_line_feed line →
-    comment_at (47 ∷ line ++ more) ≡ Some found → 1 + length (47 ∷ line) ≤ found.length
-line_reaches line more found pass is =
-    let reach = run_reaches is_not_line_feed line more pass in
-    let e : prefix_len is_not_line_feed (line ++ more) + 2 ≡ found.length =
-    same_length (lexed Comment (prefix_len is_not_line_feed (line ++ more) + 2)) found is in
-    omega (arith, e, reach)
-
-block_reaches : (inside more : List ℕ) (found : Lexeme) → IsClosed inside →
-    comment_at (42 ∷ inside ++ more) ≡ Some found → 1 + length (42 ∷ inside) ≤ found.length
-block_reaches inside more found closed is =
-    let l = lexed Comment (length inside + 2) in
-    let e : Some l ≡ Some found =
-    sym (ap (option_map (λ (n : ℕ). lexed Comment (n + 2))) (closing_is_read 0 inside more closed ∙ ap (λ n. Some n) (omega arith))) ∙ is in
-    omega (arith, same_length l found e)
-
-pub comments : IsLongest 1 IsRestOfComment comment_at
-comments text more found (inl (line, e, pass)) is =
-    let P : List ℕ → Type 0 = λ xs. comment_at (xs ++ more) ≡ Some found → 1 + length xs ≤ found.length in
-    subst P (sym e) (line_reaches line more found pass) is
-comments text more found (inr (inside, e, closed)) is =
-    let P : List ℕ → Type 0 = λ xs. comment_at (xs ++ more) ≡ Some found → 1 + length xs ≤ found.length in
-    subst P (sym e) (block_reaches inside more found closed) is
 
 digits_step : (p q : Bool) (x : Option Numeral) (v k : ℕ) (f : Numeral) →
     (if p then (if q then x else None) else Some (numeral v k)) ≡ Some f →

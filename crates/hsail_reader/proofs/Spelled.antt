@@ -8,7 +8,7 @@ use Rattle.hsail_reader.specs.Bytes.{behind, closing_at}
 use Rattle.hsail_reader.specs.Lexemes.{lexed, name_at, comment_at}
 use Rattle.hsail_reader.specs.Spelling.{AllPass, IsName, IsClosed, IsRestOfComment, is_name_byte, is_name_start, is_not_line_feed, begins_with}
 use Rattle.hsail_reader.specs.Nouns.{TokenKind, Comment, Token}
-use Rattle.hsail_reader.proofs.Reaches.{mapped, name_start_continues, same_length, same_some}
+use Rattle.hsail_reader.proofs.Reaches.{mapped, name_start_continues, same_kind, same_length, same_some}
 use Rattle.hsail_reader.proofs.Fronts.{IsFoundSpelled}
 
 -- the run of bytes that pass is a front, and each of its bytes passes
@@ -26,7 +26,7 @@ run_passes test (b ∷ bytes) =
 pub nothing : {A B : Type 0} (x : B) → None ≡ Some x → A
 nothing x e = cc
 
-pub names : (kind : TokenKind) → IsFoundSpelled 1 IsName (name_at kind)
+pub names : (kind : TokenKind) → IsFoundSpelled 1 (Token kind) IsName (name_at kind)
 names kind [] found is = nothing found is
 names kind (b ∷ bytes) found is =
     ⊎_elim
@@ -39,6 +39,7 @@ names kind (b ∷ bytes) found is =
       ap (λ xs. b ∷ xs) r.2,
       (starts, r.3),
       omega (arith, longer, same_length (lexed (Token kind) (prefix_len is_name_byte (b ∷ bytes) + 1)) found e),
+      same_kind (lexed (Token kind) (prefix_len is_name_byte (b ∷ bytes) + 1)) found e,
     ))
     (λ other. nothing found (rw other at is))
     (cases_Bool (is_name_start b))
@@ -80,7 +81,7 @@ closing_spelled before (b ∷ bytes) n is =
     (b ∷ r.0, r.1, ap (λ xs. b ∷ xs) r.2, inr (open', r.3), omega (arith, r.4)))
     (cases_Bool (b == 42 && begins_with 47 bytes))
 
-pub comments : IsFoundSpelled 1 IsRestOfComment comment_at
+pub comments : IsFoundSpelled 1 Comment IsRestOfComment comment_at
 comments [] found is = nothing found is
 comments (b ∷ bytes) found is =
     ⊎_elim
@@ -91,6 +92,7 @@ comments (b ∷ bytes) found is =
       ap (λ xs. b ∷ xs) r.2,
       inl (r.0, ap (λ x. x ∷ r.0) w.1, r.3),
       omega (arith, r.4, same_length (lexed Comment (prefix_len is_not_line_feed bytes + 2)) found e),
+      same_kind (lexed Comment (prefix_len is_not_line_feed bytes + 2)) found e,
     ))
     (λ w. ⊎_elim
     (λ v. let e : option_map (λ length. lexed Comment (length + 2)) (closing_at 0 bytes) ≡ Some found = rw (w.0, v.0) at is in
@@ -101,6 +103,7 @@ comments (b ∷ bytes) found is =
       ap (λ xs. b ∷ xs) r.2,
       inr (r.0, ap (λ x. x ∷ r.0) v.1, r.3),
       omega (arith, r.4, same_length (lexed Comment (m.0 + 2)) found m.2),
+      same_kind (lexed Comment (m.0 + 2)) found m.2,
     ))
     (λ v. nothing found (rw (w.0, v.0) at is))
     (eqb_tells b 42))
