@@ -17,18 +17,7 @@ use Rattle.hsail_reader.proofs.WordRows.{contains_cases, contains_none, type_is_
 -- no modifier stands where a type does
 type_not_modifier : (t : DataType) → NoModifier (codes "_" ++ type_name t)
 type_not_modifier B1 = (refl, refl)
-type_not_modifier B8 = (refl, refl)
-type_not_modifier B16 = (refl, refl)
-type_not_modifier B32 = (refl, refl)
-type_not_modifier B64 = (refl, refl)
-type_not_modifier U8 = (refl, refl)
-type_not_modifier U16 = (refl, refl)
-type_not_modifier U32 = (refl, refl)
-type_not_modifier U64 = (refl, refl)
-type_not_modifier S8 = (refl, refl)
-type_not_modifier S16 = (refl, refl)
-type_not_modifier S32 = (refl, refl)
-type_not_modifier S64 = (refl, refl)
+type_not_modifier _ = (refl, refl)
 
 -- a type is read behind `_`
 type_at_is_read : (set : TypeSet) (t : DataType) (text : List ℕ) → SpellsTypeBehind [] set t text →

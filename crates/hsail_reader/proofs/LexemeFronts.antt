@@ -91,8 +91,7 @@ is_letter Double = inr (inr refl)
 register_length : (class : RegisterClass) (b : ℕ) (digits : List ℕ) →
     length (class_name class ++ b ∷ digits) ≡ 1 + length (letter class ∷ b ∷ digits)
 register_length Control b digits = omega arith
-register_length Single b digits = omega arith
-register_length Double b digits = omega arith
+register_length _ b digits = omega arith
 
 -- a register is no longer than what is found there
 dollar_reaches : (class : RegisterClass) (digits more : List ℕ) (found : Lexeme) → IsDecimal digits →
@@ -108,11 +107,7 @@ dollar_reaches class (b ∷ digits) more found spelled is =
 pub at_header : (h : Header) (more : List ℕ) →
     lexeme_at (header_name h ++ more) ≡ Some (lexed (Token (token.Header h)) (length (header_name h)))
 at_header Base more = refl
-at_header Full more = refl
-at_header Large more = refl
-at_header Default more = refl
-at_header Zero more = refl
-at_header Near more = refl
+at_header _ more = refl
 
 -- at the front of these bytes a lexeme of this kind is found, of n bytes at least
 abbrev pub IsFound : LexemeKind → List ℕ → ℕ → Type 0

@@ -68,8 +68,7 @@ class_named c bytes text class is =
 -- the dollar and the letter of a class are two bytes
 pub class_length : (class : RegisterClass) (digits : List ℕ) → length (class_name class ++ digits) ≡ length digits + 2
 class_length Control digits = omega arith
-class_length Single digits = omega arith
-class_length Double digits = omega arith
+class_length _ digits = omega arith
 
 -- what is read behind a register's letter
 register_parts : (class : RegisterClass) (c : ℕ) (bytes text more : List ℕ) → bytes ≡ text ++ more →

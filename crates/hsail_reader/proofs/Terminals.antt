@@ -113,8 +113,7 @@ roundings_found = kind_finds (λ r. kinds.Header (rounding_header r)) rounding_o
   where
     there : (r : Rounding) → rounding_of (kinds.Header (rounding_header r)) ≡ Some r
     there roundings.Default = refl
-    there roundings.Zero = refl
-    there roundings.Near = refl
+    there _ = refl
 
     back : (k : TokenKind) (r : Rounding) → rounding_of k ≡ Some r → k ≡ kinds.Header (rounding_header r)
     back (kinds.Header headers.Default) roundings.Default is = refl
@@ -216,10 +215,7 @@ aligns = word_finds (λ a. words.Align (alignment_bytes a)) align_of syntax ther
   where
     there : (a : Alignment) → alignment_of (alignment_bytes a) ≡ Some a
     there One = refl
-    there Two = refl
-    there Four = refl
-    there Eight = refl
-    there Sixteen = refl
+    there _ = refl
 
 pub kernargs : (flaw : PlacedToken → Flaw) → Finds (kernarg flaw)
 kernargs flaw = word_finds words.Argument kernarg_of flaw (λ kind. refl) back (λ kind. refl)

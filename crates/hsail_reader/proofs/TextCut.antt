@@ -31,11 +31,7 @@ step place line kind front behind some is =
 -- a word of the header has a byte at least
 header_is_some : (h : Header) → 0 < length (header_name h)
 header_is_some Base = omega arith
-header_is_some Full = omega arith
-header_is_some Large = omega arith
-header_is_some Default = omega arith
-header_is_some Zero = omega arith
-header_is_some Near = omega arith
+header_is_some _ = omega arith
 
 -- a lexeme has a byte at least
 lexeme_is_some : (kind : LexemeKind) (front : List ℕ) → IsLexeme kind front → 0 < length front

@@ -117,13 +117,7 @@ spelled_is spelling text e = go (behind spelling text) refl e
 -- the names of the types of a set differ
 types_differ : (set : TypeSet) → all_differ type_name (types_of set) ≡ true
 types_differ Bit = refl
-types_differ Bits = refl
-types_differ Integers = refl
-types_differ BitsAndIntegers = refl
-types_differ Convertible = refl
-types_differ Memory = refl
-types_differ Unsigned32 = refl
-types_differ Unsigned32And64 = refl
+types_differ _ = refl
 
 -- a type that is spelled so
 abbrev type_spelled : DataType → List ℕ → Option DataType
