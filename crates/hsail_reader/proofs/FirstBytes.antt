@@ -1,5 +1,5 @@
 -- Which kind of lexeme is looked for behind which first byte.
-use Rattle.std.proofs.Common.{◌≡◌, ℕ, ⊎_elim, List, [], ◌∷◌, Bool, true, false, not, ◌==◌, ◌<◌, Some, refl, sym, ap, ◌∙◌, codes, arith}
+use Rattle.std.proofs.Common.{◌≡◌, ℕ, ⊎_elim, List, [], ◌∷◌, Bool, true, false, not, ◌==◌, ◌<◌, Some, refl, ap, ◌∙◌, codes, arith}
 use Rattle.std.proofs.lemmas.Bool.Decides.{eqb_tells, nat_tests}
 use Rattle.std.proofs.lemmas.Str.Parse.{digit_from_value}
 use Rattle.std.specs.Char.{is_digit, digit_value}

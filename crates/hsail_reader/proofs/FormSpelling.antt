@@ -5,7 +5,7 @@ use Rattle.std.specs.Option.{option_map}
 use Rattle.hsail_reader.specs.Rows.{types_of, type_name}
 use Rattle.hsail_reader.specs.Words.{type_at, align_part, width_part, modifiers_at, at_end, opcode_at}
 use Rattle.hsail_reader.specs.WordSpelling.{SpellsTypeBehind, SpellsBehindStem}
-use Rattle.hsail_reader.specs.Nouns.{DataType, Form, Opcode, TypeSet, B1, B16, B32, B64, B8, Bit, Memory, S16, S32, S64, S8, U16, U32, U64, U8}
+use Rattle.hsail_reader.specs.Nouns.{DataType, Form, Opcode, TypeSet, B1, Bit, Memory}
 use Rattle.hsail_reader.specs.declared.rows.Form.TheVariants as form
 use Rattle.hsail_reader.specs.declared.words.Opcode.TheVariants as opcode
 use Rattle.hsail_reader.proofs.Reaches.{mapped, same_some}

@@ -3,17 +3,15 @@ use Rattle.std.proofs.Common.{◌≡◌, ℕ, ◌+◌, ◌^◌, ◌<◌, inl, in
 use Rattle.std.proofs.lemmas.Bool.{cases_Bool}
 use Rattle.std.proofs.lemmas.Bool.Decides.{eqb_tells}
 use Rattle.std.specs.Char.{is_digit}
-use Rattle.std.specs.List.{prefix_len}
 use Rattle.std.specs.Option.{option_map}
 use Rattle.std.specs.Str.Parse.{digits_value}
-use Rattle.hsail_reader.specs.Bytes.{begins_digit, behind, closing_at, decimal_at, numeral_at, numeral_behind, numeral, align_at, ◌>>=◌}
-use Rattle.hsail_reader.specs.Lexemes.{lexed, name_at, register, register_at, word_at, lexeme_at}
-use Rattle.hsail_reader.specs.Spelling.{AllPass, IsName, IsDecimal, IsClosed, IsRestOfComment, is_name_byte, is_not_line_feed}
-use Rattle.hsail_reader.specs.TextTokens.{IsLexeme, IsWithin64Bits, IsLongestFront, class_name, header_name}
+use Rattle.hsail_reader.specs.Bytes.{begins_digit, behind, decimal_at, numeral_at, numeral_behind, numeral, ◌>>=◌}
+use Rattle.hsail_reader.specs.Lexemes.{lexed, register, register_at, lexeme_at}
+use Rattle.hsail_reader.specs.Spelling.{AllPass, IsDecimal}
+use Rattle.hsail_reader.specs.TextTokens.{IsLexeme, IsWithin64Bits, IsLongestFront, class_name}
 use Rattle.hsail_reader.specs.WordSpelling.{SpellsDecimal, SpellsHexadecimal}
-use Rattle.hsail_reader.specs.Nouns.{Lexeme, LexemeKind, Numeral, RegisterClass, TokenKind, Blank, Comment, Control, Double, Single, Token}
+use Rattle.hsail_reader.specs.Nouns.{LexemeKind, Numeral, RegisterClass, Control, Double, Single, Token}
 use Rattle.hsail_reader.specs.declared.token.TokenKind.TheVariants as token
-use Rattle.hsail_reader.proofs.FirstBytes.{at_blank, at_mark}
 use Rattle.hsail_reader.proofs.LexemeFronts.{letter, at_register, at_number, IsFound, plain_found, lexeme_reaches}
 use Rattle.hsail_reader.proofs.LexemeSpellings.{found_is_lexeme}
 use Rattle.hsail_reader.proofs.NumberSpelling.{decimal_is_read, hexadecimal_number_is_read}

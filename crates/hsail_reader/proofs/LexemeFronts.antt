@@ -3,12 +3,12 @@ use Rattle.std.proofs.Common.{◌≡◌, ℕ, ◌+◌, ◌≤◌, ◌⊎◌, inl
 use Rattle.std.specs.Char.{is_digit}
 use Rattle.std.specs.List.{prefix_len}
 use Rattle.std.specs.Option.{option_map}
-use Rattle.hsail_reader.specs.Bytes.{closing_at, align_at, or_else}
+use Rattle.hsail_reader.specs.Bytes.{align_at, or_else}
 use Rattle.hsail_reader.specs.Lexemes.{lexed, name_at, register_at, header_among, header_words, dollar_at, number_at, word_of, word_at, lexeme_at}
 use Rattle.hsail_reader.specs.Spelling.{IsDecimal, IsName, IsRestOfComment, is_name_byte, is_name_start, is_not_line_feed}
 use Rattle.hsail_reader.specs.WordLexemes.{IsWord}
 use Rattle.hsail_reader.specs.TextTokens.{IsLexeme, class_name, header_name}
-use Rattle.hsail_reader.specs.Nouns.{Header, Lexeme, LexemeKind, Numeral, RegisterClass, TokenKind, Base, Blank, Comment, Control, Default, Double, Full, Large, Near, Single, Token, Zero}
+use Rattle.hsail_reader.specs.Nouns.{Header, Lexeme, LexemeKind, Numeral, RegisterClass, TokenKind, Base, Blank, Comment, Control, Double, Single, Token}
 use Rattle.hsail_reader.specs.declared.token.TokenKind.TheVariants as token
 use Rattle.hsail_reader.proofs.FirstBytes.{at_blank, at_mark, at_name_start, at_digit, differs}
 use Rattle.hsail_reader.proofs.Reaches as reaches

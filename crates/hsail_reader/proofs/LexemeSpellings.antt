@@ -2,17 +2,16 @@
 use Rattle.std.proofs.Common.{◌≡◌, ℕ, ◌+◌, ◌⊎◌, inl, inr, ⊎_elim, List, [], ◌∷◌, ◌++◌, length, true, false, ◌==◌, if◌then◌else◌, Option, Some, None, refl, sym, ap, subst, ◌∙◌, arith}
 use Rattle.std.proofs.lemmas.Bool.{cases_Bool}
 use Rattle.std.proofs.lemmas.Bool.Decides.{eqb_tells}
-use Rattle.std.specs.List.{prefix_len}
-use Rattle.std.specs.Option.{is_some, option_map}
-use Rattle.hsail_reader.specs.Bytes.{begins_name, behind, closing_at, decimal_at, numeral_at, align_at, ◌>>=◌, or_else}
-use Rattle.hsail_reader.specs.Spelling.{IsName, is_name_byte, is_name_start, is_not_line_feed, is_blank, is_mark}
-use Rattle.hsail_reader.specs.Lexemes.{HeaderWord, lexed, comment_at, name_at, class_at, register, register_at, header_words, header_among, dollar_at, number_at, word_of, word_at, lexeme_at}
+use Rattle.std.specs.Option.{is_some}
+use Rattle.hsail_reader.specs.Bytes.{behind, decimal_at, numeral_at, ◌>>=◌, or_else}
+use Rattle.hsail_reader.specs.Spelling.{IsName, is_name_start, is_blank, is_mark}
+use Rattle.hsail_reader.specs.Lexemes.{HeaderWord, lexed, comment_at, name_at, class_at, register, register_at, header_words, header_among, dollar_at, number_at, word_at, lexeme_at}
 use Rattle.hsail_reader.specs.TextTokens.{IsLexeme, IsWithin64Bits, class_name, header_name}
 use Rattle.hsail_reader.specs.Nouns.{Lexeme, LexemeKind, Numeral, RegisterClass, TokenKind, Blank, Comment, Control, Double, Single, Token}
 use Rattle.hsail_reader.specs.declared.token.TokenKind.TheVariants as token
 use Rattle.hsail_reader.proofs.BracketSpelling.{some_rest}
 use Rattle.hsail_reader.proofs.NumberSpelling.{number_is_spelled, decimal_is_spelled}
-use Rattle.hsail_reader.proofs.Reaches.{bound, chosen, mapped, same_some}
+use Rattle.hsail_reader.proofs.Reaches.{bound, mapped, same_some}
 use Rattle.hsail_reader.proofs.Spelled as spelled
 use Rattle.hsail_reader.proofs.Spelled.{behind_parts, nothing}
 use Rattle.hsail_reader.proofs.WordSpelled.{words}

@@ -6,9 +6,9 @@ use Rattle.std.specs.Option.{option_map}
 use Rattle.std.specs.Char.{is_digit, digit_value}
 use Rattle.std.specs.Int.{is_in_range}
 use Rattle.hsail_reader.specs.Bytes.{begins_digit, behind, closing_at, digits_at, decimal_at, numeral_at, numeral_behind, numeral, ◌>>=◌}
-use Rattle.hsail_reader.specs.Lexemes.{lexed, name_at, comment_at, class_at, register, register_at, number_at}
-use Rattle.hsail_reader.specs.Spelling.{AllPass, IsName, IsDecimal, IsClosed, IsRestOfComment, is_name_byte, is_name_start, is_not_line_feed}
-use Rattle.hsail_reader.specs.Nouns.{Lexeme, Numeral, TokenKind, Comment, Token}
+use Rattle.hsail_reader.specs.Lexemes.{lexed, class_at, register, register_at, number_at}
+use Rattle.hsail_reader.specs.Spelling.{AllPass, IsDecimal, IsClosed, is_name_byte, is_name_start}
+use Rattle.hsail_reader.specs.Nouns.{Lexeme, Numeral, Token}
 use Rattle.hsail_reader.specs.declared.token.TokenKind.TheVariants as token
 use Rattle.hsail_reader.proofs.Fronts.{IsNumber, IsRegister, IsLongest}
 

@@ -6,7 +6,7 @@ use Rattle.hsail_reader.specs.Lexemes.{lexed, lexeme_at}
 use Rattle.hsail_reader.specs.TextTokens.{IsLexeme, IsLongestFront, AreTokens, none, lexeme, header_name, PlacedToken, kept, line_after, line_behind}
 use Rattle.hsail_reader.specs.Tokens.{tokens_from, further, before_rest}
 use Rattle.hsail_reader.specs.declared.fault.Flaw.TheVariants as flaw
-use Rattle.hsail_reader.specs.Nouns.{Header, Lexeme, LexemeKind, Refusal, Base, Blank, Comment, Default, Full, Large, Near, Token, Zero}
+use Rattle.hsail_reader.specs.Nouns.{Header, Lexeme, LexemeKind, Refusal, Base, Blank, Comment, Token}
 use Rattle.hsail_reader.specs.declared.token.TokenKind.TheVariants as token
 use Rattle.hsail_reader.proofs.LexemeFound.{longest_is_found}
 use Rattle.hsail_reader.proofs.LexemeFronts.{number_first, word_first, lexeme_reaches}

@@ -3,14 +3,14 @@ use Rattle.std.proofs.Common.{◌≡◌, ℕ, zero, suc, ◌+◌, ◌-◌, ◌<�
 use Rattle.std.proofs.lemmas.Bool.Decides.{eqb_tells}
 use Rattle.std.proofs.Math.Dec.{eqb-zero-suc}
 use Rattle.std.proofs.Math.Seq.{drop-append_seam}
-use Rattle.hsail_reader.specs.Bytes.{behind, numeral_at, align_at, width_value_at, width_at, numeral, spelled_width, ◌>>=◌}
+use Rattle.hsail_reader.specs.Bytes.{behind, align_at, width_at, numeral}
 use Rattle.hsail_reader.specs.Lexemes.{length_of, modifier_length, piece_length, pieces_length, word_of}
 use Rattle.hsail_reader.specs.Spelling.{AllPass, is_name_byte, is_name_start}
 use Rattle.hsail_reader.specs.WordLexemes.{IsModifier, ArePieces, none, byte, modifier, IsWord}
 use Rattle.hsail_reader.specs.WordSpelling.{SpellsNumber}
 use Rattle.hsail_reader.specs.Nouns.{Lexeme, Numeral, SpelledWidth}
 use Rattle.hsail_reader.proofs.BracketSpelling.{align_is_spelled, width_is_spelled, align_is_read, modifier_is_read, modifier_is_some}
-use Rattle.hsail_reader.proofs.Reaches.{bound, numeral_length, same_length, name_start_continues, true_is_not_false}
+use Rattle.hsail_reader.proofs.Reaches.{same_length, name_start_continues, true_is_not_false}
 use Rattle.hsail_reader.proofs.Pieces.{pieces_length_step}
 use Rattle.hsail_reader.proofs.Fronts.{IsLongest, word_found}
 

@@ -3,10 +3,10 @@
 use Rattle.std.proofs.Common.{◌≡◌, ℕ, zero, suc, ◌⊎◌, inl, inr, ⊎_elim, List, [], ◌∷◌, ◌++◌, Bool, true, false, ◌&&◌, ◌||◌, not, ◌==◌, if◌then◌else◌, Option, Some, None, refl, sym, ap, subst, ◌∙◌, codes, append-nil, arith}
 use Rattle.std.proofs.lemmas.Bool.Decides.{eqb_tells}
 use Rattle.std.specs.List.{Contains}
-use Rattle.hsail_reader.specs.Bytes.{behind, or_else, first_of, ◌>>=◌}
+use Rattle.hsail_reader.specs.Bytes.{behind, or_else, first_of}
 use Rattle.hsail_reader.specs.Rows.{types_of, type_name}
 use Rattle.hsail_reader.specs.Words.{is_end, is_spelled, type_among, type_at}
-use Rattle.hsail_reader.specs.Nouns.{DataType, TypeSet, Bit, Bits, BitsAndIntegers, Convertible, Integers, Memory, Unsigned32, Unsigned32And64}
+use Rattle.hsail_reader.specs.Nouns.{DataType, TypeSet, Bit}
 use Rattle.hsail_reader.proofs.Reaches.{bound, chosen, true_is_not_false, same_some}
 use Rattle.hsail_reader.proofs.Spelled.{behind_parts, nothing}
 
