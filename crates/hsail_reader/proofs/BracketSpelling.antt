@@ -8,12 +8,9 @@ use Rattle.hsail_reader.specs.Bytes.{behind, numeral_at, align_at, width_value_a
 use Rattle.hsail_reader.specs.Lexemes.{length_of, modifier_length}
 use Rattle.hsail_reader.specs.WordLexemes.{IsModifier}
 use Rattle.hsail_reader.specs.WordSpelling.{SpellsNumber, SpellsWidth}
-use Rattle.hsail_reader.specs.declared.token.Numeral.{Numeral}
-use Rattle.hsail_reader.specs.declared.token.SpelledWidth.{SpelledWidth}
-use Rattle.hsail_reader.specs.declared.types.Width.{Width}
-use Rattle.hsail_reader.specs.declared.types.Width.TheVariants.{Number, All, WaveSize}
+use Rattle.hsail_reader.specs.Nouns.{Numeral, SpelledWidth, Width, All, Number, WaveSize}
 use Rattle.hsail_reader.proofs.NumberSpelling.{number_before_bracket_is_read, number_is_spelled}
-use Rattle.hsail_reader.proofs.Reaches.{bound, chosen, mapped, true_is_not_false}
+use Rattle.hsail_reader.proofs.Reaches.{bound, chosen, mapped, true_is_not_false, same_some}
 use Rattle.hsail_reader.proofs.Spelled.{behind_parts}
 use Rattle.hsail_reader.proofs.Fronts.{IsNumber}
 
@@ -148,14 +145,6 @@ width_of (Number n) value spelled = (value, refl, spelled)
 width_of All value spelled = ap (λ xs. codes "_width(" ++ (xs ++ codes ")")) spelled
 width_of WaveSize value spelled = ap (λ xs. codes "_width(" ++ (xs ++ codes ")")) spelled
 
--- two numbers that are one
-same_numeral : (a b : Numeral) → Some a ≡ Some b → a ≡ b
-same_numeral a b e = cc
-
--- two widths that are one
-same_width : (a b : SpelledWidth) → Some a ≡ Some b → a ≡ b
-same_width a b e = cc
-
 -- align(n) as it is read is spelled at the front
 pub align_is_spelled : (bytes : List ℕ) (m : Numeral) → align_at bytes ≡ Some m →
     (number : List ℕ) × (rest : List ℕ) × (bytes ≡ codes "align(" ++ ((number ++ codes ")") ++ rest))
@@ -168,7 +157,7 @@ align_is_spelled bytes m is =
     (λ rest. Some (numeral q.0.value (q.0.length + 7))) m q.2 in
     let v = number_is_spelled p.0 q.0 q.1 in
     let close = bracket_parts p.0 v.0 v.1 r.0 q.0.length v.2 v.3 r.1 in
-    let same : numeral q.0.value (q.0.length + 7) ≡ m = same_numeral (numeral q.0.value (q.0.length + 7)) m r.2 in
+    let same : numeral q.0.value (q.0.length + 7) ≡ m = same_some (numeral q.0.value (q.0.length + 7)) m r.2 in
     let long : q.0.length + 7 ≡ m.length = ap (λ (n : Numeral). n.length) same in (
       v.0,
       r.0,
@@ -186,7 +175,7 @@ ValueSpelled bytes v =
 value_found : (w : Width) (k : ℕ) (value more bytes : List ℕ) (v : SpelledWidth) → bytes ≡ value ++ more →
     length value ≡ k → SpellsValue w value → Some (spelled_width w k) ≡ Some v → ValueSpelled bytes v
 value_found w k value more bytes v parts counts spelled is =
-    let same = same_width (spelled_width w k) v is in (
+    let same = same_some (spelled_width w k) v is in (
       value,
       more,
       parts,
@@ -226,7 +215,7 @@ width_is_spelled bytes m is =
     (λ rest. Some (spelled_width q.0.width (q.0.length + 7))) m q.2 in
     let v = value_is_spelled p.0 q.0 q.1 in
     let close = bracket_parts p.0 v.0 v.1 r.0 q.0.length v.2 v.3 r.1 in
-    let same = same_width (spelled_width q.0.width (q.0.length + 7)) m r.2 in
+    let same = same_some (spelled_width q.0.width (q.0.length + 7)) m r.2 in
     let long : q.0.length + 7 ≡ m.length = ap (λ (w : SpelledWidth). w.length) same in (
       v.0,
       r.0,

@@ -2,20 +2,15 @@
 use Rattle.std.proofs.Common.{◌≡◌, ℕ, ⊎_elim, inl, inr, List, [], ◌∷◌, Bool, true, false, Option, None, refl, sym, ap, subst, ◌∙◌}
 use Rattle.std.specs.Option.{option_map}
 use Rattle.hsail_reader.specs.Grammar.{signed, constant, source, next_source, offset, place, place_inside, index, address_inside, address, unary, binary, ternary, load, store, branch, conditional_branch, identify, operands, labelled, performed, unlabelled, item, items, body, alignment, kernarg_flaw, argument, next_argument, some_arguments, signature, kernel_begin, kernel, is_none_left, kernels, fields, module_text}
-use Rattle.hsail_reader.specs.Grammars.{spells, begun_by, begins}
+use Rattle.hsail_reader.specs.Grammars.{spells, begun_by, begins, read}
 use Rattle.hsail_reader.specs.Terminals.{mark_of, number_of, register_of, variable_of, label_of, word_at, picked, is_prog, align_of, align, semicolon, close_parenthesis, close_brace, syntax, at_begin, behind_align}
 use Rattle.hsail_reader.specs.TextTokens.{PlacedToken}
-use Rattle.hsail_reader.specs.declared.module.Argument.{Argument}
-use Rattle.hsail_reader.specs.declared.module.Item.{Item}
-use Rattle.hsail_reader.specs.declared.module.Kernel.{Kernel}
-use Rattle.hsail_reader.specs.declared.module.Place.{Place}
-use Rattle.hsail_reader.specs.declared.token.TokenKind.{TokenKind}
+use Rattle.hsail_reader.specs.Nouns.{Argument, Constant, Item, Kernel, Opcode, Place, TokenKind}
 use Rattle.hsail_reader.specs.declared.token.TokenKind.TheVariants as kinds
-use Rattle.hsail_reader.specs.declared.types.Constant.{Constant}
-use Rattle.hsail_reader.specs.declared.words.Opcode.{Opcode}
 use Rattle.hsail_reader.specs.declared.words.Opcode.TheVariants as opcode
 use Rattle.hsail_reader.specs.declared.words.Word.TheVariants as words
-use Rattle.hsail_reader.proofs.Grammars.{Front, Next, Takes, Decides}
+use Rattle.hsail_reader.proofs.Grammars.{Front, Next, Takes, Decides, shortens}
+use Rattle.hsail_reader.proofs.Loop.{Shortens}
 use Rattle.hsail_reader.proofs.Terminals.{unbegun, marks, registers, numbers, majors, minors, profiles_found, large_found, roundings_found, globals, variables, labels, word_there, module_words, progs, kernel_words, aligns, kernargs, opcodes, outsides}
 
 -- the first token is of this kind
@@ -359,3 +354,14 @@ fields_decide F = (
 pub module_decides : (F : Front) → Decides module_text F
 unfolding module_text
 module_decides F = (module_words, λ one. (globals, λ x. (fields_decide _, λ f. (kernels_decide _, λ ks. tt))))
+
+-- each of several takes a token at least
+pub item_shortens : Shortens (read item)
+item_shortens from y is = shortens item (λ to. Unit {0}) (item_decides _) item_takes from y is
+
+pub next_argument_shortens : Shortens (read next_argument)
+next_argument_shortens from y is = shortens next_argument (λ to. Unit {0}) (next_arguments _) next_takes from y is
+
+pub kernel_shortens : Shortens (read kernel)
+kernel_shortens from y is =
+    shortens kernel (Next is_none_left kernel) (kernel_decides _ behind_kernel) kernel_takes from y is

@@ -1,5 +1,5 @@
 -- Which kind of lexeme is looked for behind which first byte.
-use Rattle.std.proofs.Common.{◌≡◌, ℕ, ⊎_elim, List, [], ◌∷◌, Bool, true, false, not, ◌==◌, ◌<◌, Some, refl, sym, ap, ◌∙◌, codes, arith}
+use Rattle.std.proofs.Common.{◌≡◌, ℕ, ⊎_elim, List, [], ◌∷◌, Bool, true, false, not, ◌==◌, ◌<◌, Some, refl, ap, ◌∙◌, codes, arith}
 use Rattle.std.proofs.lemmas.Bool.Decides.{eqb_tells, nat_tests}
 use Rattle.std.proofs.lemmas.Str.Parse.{digit_from_value}
 use Rattle.std.specs.Char.{is_digit, digit_value}
@@ -7,9 +7,9 @@ use Rattle.std.specs.Int.{IsInRange}
 use Rattle.std.specs.List.{list_any}
 use Rattle.hsail_reader.specs.Lexemes.{lexed, number_at, word_at, lexeme_at}
 use Rattle.hsail_reader.specs.Spelling.{AllPass, is_name_start, is_blank, is_mark}
-use Rattle.hsail_reader.specs.declared.token.LexemeKind.TheVariants.{Blank, Token}
 use Rattle.hsail_reader.specs.declared.token.TokenKind.TheVariants as token
 use Rattle.hsail_reader.proofs.Reaches.{true_is_not_false}
+use Rattle.hsail_reader.specs.Nouns.{Blank, Token}
 
 -- a byte that passes a test is none that doesn't
 pub differs : (test : ℕ → Bool) (b c : ℕ) → test b ≡ true → test c ≡ false → (b == c) ≡ false
@@ -26,43 +26,6 @@ is_none_of test b (c ∷ cs) passes fail =
     (λ w. rw w.0 (is_none_of test b cs passes fail.1))
     (eqb_tells c b)
 
--- a byte that is no blank, and begins no comment, name or register
-record IsPlain (b : ℕ) : Type 0 where
-  blank : is_blank b ≡ false
-  slash : (b == 47) ≡ false
-  ampersand : (b == 38) ≡ false
-  percent : (b == 37) ≡ false
-  at : (b == 64) ≡ false
-  dollar : (b == 36) ≡ false
-
--- where no blank passes a test, a byte that passes it is no blank
-is_no_blank : (test : ℕ → Bool) (b : ℕ) → test b ≡ true → AllPass (λ c. not (test c)) (32 ∷ 9 ∷ 10 ∷ 13 ∷ []) →
-    is_blank b ≡ false
-is_no_blank test b passes fail =
-    rw (
-      differs test b 32 passes (fails (test 32) fail.0),
-      differs test b 9 passes (fails (test 9) fail.1.0),
-      differs test b 10 passes (fails (test 10) fail.1.1.0),
-      differs test b 13 passes (fails (test 13) fail.1.1.1.0),
-    ) refl
-  where
-    fails : (p : Bool) → not p ≡ true → p ≡ false
-    fails true e = sym e
-    fails false e = refl
-
--- a byte is plain that passes a test which no blank and no first byte of a comment, name or register passes
-is_plain : (test : ℕ → Bool) (b : ℕ) → test b ≡ true →
-    AllPass (λ c. not (test c)) (32 ∷ 9 ∷ 10 ∷ 13 ∷ []) →
-    test 47 ≡ false → test 38 ≡ false → test 37 ≡ false → test 64 ≡ false → test 36 ≡ false → IsPlain b
-is_plain test b passes blanks slash ampersand percent at' dollar = record {
-  blank = is_no_blank test b passes blanks;
-  slash = differs test b 47 passes slash;
-  ampersand = differs test b 38 passes ampersand;
-  percent = differs test b 37 passes percent;
-  at = differs test b 64 passes at';
-  dollar = differs test b 36 passes dollar;
-}
-
 -- behind a blank, just the blank is found
 pub at_blank : (b : ℕ) (bytes : List ℕ) → is_blank b ≡ true → lexeme_at (b ∷ bytes) ≡ Some (lexed Blank 1)
 at_blank b bytes blank = rw blank refl
@@ -71,17 +34,17 @@ at_blank b bytes blank = rw blank refl
 pub at_mark : (b : ℕ) (bytes : List ℕ) → is_mark b ≡ true →
     lexeme_at (b ∷ bytes) ≡ Some (lexed (Token (token.Mark b)) 1)
 at_mark b bytes mark =
-    let p = is_plain is_mark b mark (refl, (refl, (refl, (refl, tt)))) refl refl refl refl refl in
-    rw (p.blank, p.slash, p.ampersand, p.percent, p.at, p.dollar, mark) refl
+    let d = λ (c : ℕ) (fails : is_mark c ≡ false). differs is_mark b c mark fails in
+    rw (d 32 refl, d 9 refl, d 10 refl, d 13 refl, d 47 refl, d 38 refl, d 37 refl, d 64 refl, d 36 refl, mark) refl
 
 -- behind a letter or `_`, a word is found
 pub at_name_start : (b : ℕ) (bytes : List ℕ) → is_name_start b ≡ true →
     lexeme_at (b ∷ bytes) ≡ Some (word_at (b ∷ bytes))
 at_name_start b bytes starts =
-    let p = is_plain is_name_start b starts (refl, (refl, (refl, (refl, tt)))) refl refl refl refl refl in
+    let d = λ (c : ℕ) (fails : is_name_start c ≡ false). differs is_name_start b c starts fails in
     let no_mark : is_mark b ≡ false = is_none_of is_name_start b (codes "(){}[],;:+-") starts
     (refl, (refl, (refl, (refl, (refl, (refl, (refl, (refl, (refl, (refl, (refl, tt))))))))))) in
-    rw (p.blank, p.slash, p.ampersand, p.percent, p.at, p.dollar, no_mark, starts) refl
+    rw (d 32 refl, d 9 refl, d 10 refl, d 13 refl, d 47 refl, d 38 refl, d 37 refl, d 64 refl, d 36 refl, no_mark, starts) refl
 
 -- a digit begins no name
 digit_is_no_start : (b : ℕ) → is_digit b 10 ≡ true → is_name_start b ≡ false
@@ -94,7 +57,7 @@ digit_is_no_start b digit =
 pub at_digit : (b : ℕ) (bytes : List ℕ) → is_digit b 10 ≡ true → lexeme_at (b ∷ bytes) ≡ number_at (b ∷ bytes)
 at_digit b bytes digit =
     let test : ℕ → Bool = λ c. is_digit c 10 in
-    let p = is_plain test b digit (refl, (refl, (refl, (refl, tt)))) refl refl refl refl refl in
+    let d = λ (c : ℕ) (fails : is_digit c 10 ≡ false). differs test b c digit fails in
     let no_mark : is_mark b ≡ false = is_none_of test b (codes "(){}[],;:+-") digit
     (refl, (refl, (refl, (refl, (refl, (refl, (refl, (refl, (refl, (refl, (refl, tt))))))))))) in
-    rw (p.blank, p.slash, p.ampersand, p.percent, p.at, p.dollar, no_mark, digit_is_no_start b digit) refl
+    rw (d 32 refl, d 9 refl, d 10 refl, d 13 refl, d 47 refl, d 38 refl, d 37 refl, d 64 refl, d 36 refl, no_mark, digit_is_no_start b digit) refl

@@ -5,15 +5,10 @@ use Rattle.std.specs.Option.{option_map}
 use Rattle.hsail_reader.specs.Rows.{types_of, type_name}
 use Rattle.hsail_reader.specs.Words.{type_at, align_part, width_part, modifiers_at, at_end, opcode_at}
 use Rattle.hsail_reader.specs.WordSpelling.{SpellsTypeBehind, SpellsBehindStem}
-use Rattle.hsail_reader.specs.declared.rows.Form.{Form}
+use Rattle.hsail_reader.specs.Nouns.{DataType, Form, Opcode, TypeSet, B1, Bit, Memory}
 use Rattle.hsail_reader.specs.declared.rows.Form.TheVariants as form
-use Rattle.hsail_reader.specs.declared.rows.TypeSet.{TypeSet}
-use Rattle.hsail_reader.specs.declared.rows.TypeSet.TheVariants.{Bit, Memory}
-use Rattle.hsail_reader.specs.declared.types.DataType.{DataType}
-use Rattle.hsail_reader.specs.declared.types.DataType.TheVariants.{B1, B8, B16, B32, B64, U8, U16, U32, U64, S8, S16, S32, S64}
-use Rattle.hsail_reader.specs.declared.words.Opcode.{Opcode}
 use Rattle.hsail_reader.specs.declared.words.Opcode.TheVariants as opcode
-use Rattle.hsail_reader.proofs.Reaches.{mapped}
+use Rattle.hsail_reader.proofs.Reaches.{mapped, same_some}
 use Rattle.hsail_reader.proofs.Spelled.{nothing}
 use Rattle.hsail_reader.proofs.ModifierSpelling.{NoModifier, align_part_is_read, width_part_is_read, modifiers_are_read}
 use Rattle.hsail_reader.proofs.ModifiersFound.{align_is_found, width_is_found, modifiers_are_found}
@@ -22,18 +17,7 @@ use Rattle.hsail_reader.proofs.WordRows.{contains_cases, contains_none, type_is_
 -- no modifier stands where a type does
 type_not_modifier : (t : DataType) → NoModifier (codes "_" ++ type_name t)
 type_not_modifier B1 = (refl, refl)
-type_not_modifier B8 = (refl, refl)
-type_not_modifier B16 = (refl, refl)
-type_not_modifier B32 = (refl, refl)
-type_not_modifier B64 = (refl, refl)
-type_not_modifier U8 = (refl, refl)
-type_not_modifier U16 = (refl, refl)
-type_not_modifier U32 = (refl, refl)
-type_not_modifier U64 = (refl, refl)
-type_not_modifier S8 = (refl, refl)
-type_not_modifier S16 = (refl, refl)
-type_not_modifier S32 = (refl, refl)
-type_not_modifier S64 = (refl, refl)
+type_not_modifier _ = (refl, refl)
 
 -- a type is read behind `_`
 type_at_is_read : (set : TypeSet) (t : DataType) (text : List ℕ) → SpellsTypeBehind [] set t text →
@@ -74,14 +58,10 @@ form_is_read (form.Identify query set) (opcode.Identify q t) text (same, spelled
     ∙ ap (λ x. Some (opcode.Identify x t)) (sym same)
 form_is_read _ _ text spelled = absurd spelled
 
--- what is read is one instruction
-same_opcode : (a b : Opcode) → Some a ≡ Some b → a ≡ b
-same_opcode a b e = cc
-
 -- an instruction with nothing behind its stem
 at_end_is : (f : Form) (code other : Opcode) (text : List ℕ) → SpellsBehindStem f code [] →
     at_end code text ≡ Some other → SpellsBehindStem f other text
-at_end_is f code other [] spelled is = subst (λ x. SpellsBehindStem f x []) (same_opcode code other is) spelled
+at_end_is f code other [] spelled is = subst (λ x. SpellsBehindStem f x []) (same_some code other is) spelled
 at_end_is f code other (b ∷ text) spelled is = nothing other is
 
 -- the set of one bit has one type
@@ -93,29 +73,29 @@ pub form_is_spelled : (f : Form) (code : Opcode) (text : List ℕ) → opcode_at
     SpellsBehindStem f code text
 form_is_spelled (form.Unary op set) code text is =
     let m = mapped (opcode.Unary op) (type_at set text) code is in
-    subst (λ x. SpellsBehindStem (form.Unary op set) x text) (same_opcode (opcode.Unary op m.0) code m.2)
+    subst (λ x. SpellsBehindStem (form.Unary op set) x text) (same_some (opcode.Unary op m.0) code m.2)
     (refl, type_behind_bar set text m.0 m.1)
 form_is_spelled (form.Binary op set) code text is =
     let m = mapped (opcode.Binary op) (type_at set text) code is in
-    subst (λ x. SpellsBehindStem (form.Binary op set) x text) (same_opcode (opcode.Binary op m.0) code m.2)
+    subst (λ x. SpellsBehindStem (form.Binary op set) x text) (same_some (opcode.Binary op m.0) code m.2)
     (refl, type_behind_bar set text m.0 m.1)
 form_is_spelled (form.Ternary op set) code text is =
     let m = mapped (opcode.Ternary op) (type_at set text) code is in
-    subst (λ x. SpellsBehindStem (form.Ternary op set) x text) (same_opcode (opcode.Ternary op m.0) code m.2)
+    subst (λ x. SpellsBehindStem (form.Ternary op set) x text) (same_some (opcode.Ternary op m.0) code m.2)
     (refl, type_behind_bar set text m.0 m.1)
 form_is_spelled (form.Load segment) code text is =
     let p = modifiers_at text in
     let m = mapped (opcode.Load segment p.0) (type_at Memory p.1) code is in
     let f = modifiers_are_found text in
     let b = type_behind_bar Memory p.1 m.0 m.1 in
-    subst (λ x. SpellsBehindStem (form.Load segment) x text) (same_opcode (opcode.Load segment p.0 m.0) code m.2)
+    subst (λ x. SpellsBehindStem (form.Load segment) x text) (same_some (opcode.Load segment p.0 m.0) code m.2)
     (refl, (f.0, f.2, (f.1 ∙ ap (λ xs. f.0 ++ xs) b.0, b.1)))
 form_is_spelled form.Store code text is =
     let p = align_part text in
     let m = mapped (opcode.Store p.0) (type_at Memory p.1) code is in
     let f = align_is_found text in
     let b = type_behind_bar Memory p.1 m.0 m.1 in
-    subst (λ x. SpellsBehindStem form.Store x text) (same_opcode (opcode.Store p.0 m.0) code m.2)
+    subst (λ x. SpellsBehindStem form.Store x text) (same_some (opcode.Store p.0 m.0) code m.2)
     (f.0, f.2, (f.1 ∙ ap (λ xs. f.0 ++ xs) b.0, b.1))
 form_is_spelled form.Branch code text is = at_end_is form.Branch opcode.Branch code text refl is
 form_is_spelled form.ConditionalBranch code text is =
@@ -123,7 +103,7 @@ form_is_spelled form.ConditionalBranch code text is =
     let m = mapped (λ (t : DataType). opcode.ConditionalBranch p.0) (type_at Bit p.1) code is in
     let f = width_is_found text in
     let b = type_behind_bar Bit p.1 m.0 m.1 in
-    subst (λ x. SpellsBehindStem form.ConditionalBranch x text) (same_opcode (opcode.ConditionalBranch p.0) code m.2) (
+    subst (λ x. SpellsBehindStem form.ConditionalBranch x text) (same_some (opcode.ConditionalBranch p.0) code m.2) (
       f.0,
       f.2,
       subst (λ t. SpellsTypeBehind f.0 Bit t text) (sym (only_bit m.0 b.1))
@@ -132,5 +112,5 @@ form_is_spelled form.ConditionalBranch code text is =
 form_is_spelled form.Return code text is = at_end_is form.Return opcode.Return code text refl is
 form_is_spelled (form.Identify query set) code text is =
     let m = mapped (opcode.Identify query) (type_at set text) code is in
-    subst (λ x. SpellsBehindStem (form.Identify query set) x text) (same_opcode (opcode.Identify query m.0) code m.2)
+    subst (λ x. SpellsBehindStem (form.Identify query set) x text) (same_some (opcode.Identify query m.0) code m.2)
     (refl, type_behind_bar set text m.0 m.1)

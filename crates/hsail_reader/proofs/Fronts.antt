@@ -3,7 +3,7 @@ use Rattle.std.proofs.Common.{◌≡◌, ℕ, ◌+◌, ◌≤◌, ◌⊎◌, Lis
 use Rattle.hsail_reader.specs.Bytes.{begins_name}
 use Rattle.hsail_reader.specs.Lexemes.{word_at}
 use Rattle.hsail_reader.specs.Spelling.{IsDecimal, IsHexadecimal}
-use Rattle.hsail_reader.specs.declared.token.Lexeme.{Lexeme}
+use Rattle.hsail_reader.specs.Nouns.{Lexeme, LexemeKind}
 
 -- a number, decimal or hexadecimal
 abbrev pub IsNumber : List ℕ → Type 0
@@ -21,11 +21,11 @@ IsLongest first IsSpelled at =
     first + length text ≤ found.length
 
 -- where a lexeme is found, a front of its length is spelled so; `first` bytes stand before
-abbrev pub IsFoundSpelled : ℕ → (List ℕ → Type 0) → (List ℕ → Option Lexeme) → Type 0
-IsFoundSpelled first IsSpelled at =
+abbrev pub IsFoundSpelled : ℕ → LexemeKind → (List ℕ → Type 0) → (List ℕ → Option Lexeme) → Type 0
+IsFoundSpelled first kind IsSpelled at =
     (bytes : List ℕ) (found : Lexeme) → at bytes ≡ Some found →
     (text : List ℕ) × (more : List ℕ) × (bytes ≡ text ++ more) × IsSpelled text
-    × (first + length text ≡ found.length)
+    × (first + length text ≡ found.length) × (kind ≡ found.kind)
 
 abbrev pub word_found : List ℕ → Option Lexeme
 word_found bytes = Some (word_at bytes)

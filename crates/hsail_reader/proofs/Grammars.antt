@@ -3,9 +3,8 @@
 use Rattle.std.proofs.Common.{◌≡◌, ℕ, zero, suc, ◌<◌, ◌≤◌, ◌⊎◌, inl, inr, ⊎_elim, List, [], ◌∷◌, length, Bool, true, false, ◌||◌, if◌then◌else◌, Option, Some, None, Result, Ok, Err, is_some, refl, ap, subst, ◌∙◌, arith}
 use Rattle.hsail_reader.specs.Grammars.{Grammar, give, token, behind, either, many, on_line, each, line_of, spells, Reading, ◌>>=◌, refuse, found_at, token_at, with_first, many_at, begun_by, begins, read}
 use Rattle.hsail_reader.specs.TextTokens.{PlacedToken}
-use Rattle.hsail_reader.specs.declared.fault.Flaw.{Flaw}
+use Rattle.hsail_reader.specs.Nouns.{Flaw, Refusal}
 use Rattle.hsail_reader.specs.declared.fault.Flaw.TheVariants.{Syntax}
-use Rattle.hsail_reader.specs.declared.fault.Refusal.{Refusal}
 
 -- what tokens begin with
 abbrev pub Front : Type 1
@@ -208,3 +207,8 @@ sound (either g h) F d from y is =
 sound (many stops g) F d from y is =
     many_sound stops g (λ from y is. sound g (Next stops g) d.0 from y is) (suc (length from)) from y is
 sound (on_line f) F d from y is = sound (f (line_of from)) F (d (line_of from)) from y is
+
+-- what takes a token is read before fewer tokens
+pub shortens : {X : Type 0} (g : Grammar X) (F : Front) → Decides g F → Takes g → (from : List PlacedToken) (y : X × List PlacedToken) →
+    read g from ≡ Ok y → length y.1 < length from
+shortens g F d some from y is = takes g some y.0 from y.1 (sound g F d from y is)

@@ -3,25 +3,17 @@ use Rattle.std.proofs.Common.{◌≡◌, ℕ, ◌+◌, ◌^◌, ◌<◌, inl, in
 use Rattle.std.proofs.lemmas.Bool.{cases_Bool}
 use Rattle.std.proofs.lemmas.Bool.Decides.{eqb_tells}
 use Rattle.std.specs.Char.{is_digit}
-use Rattle.std.specs.List.{prefix_len}
 use Rattle.std.specs.Option.{option_map}
 use Rattle.std.specs.Str.Parse.{digits_value}
-use Rattle.hsail_reader.specs.Bytes.{begins_digit, behind, closing_at, decimal_at, numeral_at, numeral_behind, numeral, align_at, ◌>>=◌}
-use Rattle.hsail_reader.specs.Lexemes.{lexed, name_at, register, register_at, word_at, lexeme_at}
-use Rattle.hsail_reader.specs.Spelling.{AllPass, IsName, IsDecimal, IsClosed, IsRestOfComment, is_name_byte, is_not_line_feed}
-use Rattle.hsail_reader.specs.TextTokens.{IsLexeme, IsWithin64Bits, IsLongestFront, class_name, header_name}
+use Rattle.hsail_reader.specs.Bytes.{begins_digit, behind, decimal_at, numeral_at, numeral_behind, numeral, ◌>>=◌}
+use Rattle.hsail_reader.specs.Lexemes.{lexed, register, register_at, lexeme_at}
+use Rattle.hsail_reader.specs.Spelling.{AllPass, IsDecimal}
+use Rattle.hsail_reader.specs.TextTokens.{IsLexeme, IsWithin64Bits, IsLongestFront, class_name}
 use Rattle.hsail_reader.specs.WordSpelling.{SpellsDecimal, SpellsHexadecimal}
-use Rattle.hsail_reader.specs.declared.token.Lexeme.{Lexeme}
-use Rattle.hsail_reader.specs.declared.token.LexemeKind.{LexemeKind}
-use Rattle.hsail_reader.specs.declared.token.LexemeKind.TheVariants.{Blank, Comment, Token}
-use Rattle.hsail_reader.specs.declared.token.Numeral.{Numeral}
-use Rattle.hsail_reader.specs.declared.token.TokenKind.{TokenKind}
+use Rattle.hsail_reader.specs.Nouns.{LexemeKind, Numeral, RegisterClass, Control, Double, Single, Token}
 use Rattle.hsail_reader.specs.declared.token.TokenKind.TheVariants as token
-use Rattle.hsail_reader.specs.declared.types.RegisterClass.{RegisterClass}
-use Rattle.hsail_reader.specs.declared.types.RegisterClass.TheVariants.{Control, Single, Double}
-use Rattle.hsail_reader.proofs.FirstBytes.{at_blank, at_mark}
-use Rattle.hsail_reader.proofs.LexemeFronts.{letter, at_register, at_header, at_number, at_word, lexeme_reaches}
-use Rattle.hsail_reader.proofs.LexemeSpellings.{word_kind, found_is_lexeme}
+use Rattle.hsail_reader.proofs.LexemeFronts.{letter, at_register, at_number, IsFound, plain_found, lexeme_reaches}
+use Rattle.hsail_reader.proofs.LexemeSpellings.{found_is_lexeme}
 use Rattle.hsail_reader.proofs.NumberSpelling.{decimal_is_read, hexadecimal_number_is_read}
 use Rattle.hsail_reader.proofs.Reaches.{decimal_short}
 use Rattle.hsail_reader.proofs.Spelled.{behind_parts}
@@ -112,37 +104,6 @@ hexadecimal_number_found n text more spelled fits longest =
         (λ no'. no')
         (cases_Bool (is_digit c 16))
 
--- a comment's end is found
-closing_found : (before : ℕ) (inside more : List ℕ) → IsClosed inside →
-    (n : ℕ) × (closing_at before (inside ++ more) ≡ Some n)
-closing_found before [] more closed = absurd closed
-closing_found before (b ∷ inside) more (inl e) =
-    let P : List ℕ → Type 0 = λ xs. (n : ℕ) × (closing_at before (xs ++ more) ≡ Some n) in
-    subst P (sym e) (before + 2, refl)
-closing_found before (b ∷ []) more (inr w) = absurd w.1
-closing_found before (b ∷ c ∷ inside) more (inr w) = rw w.0 (closing_found (before + 1) (c ∷ inside) more w.1)
-
--- a lexeme of this kind is found at the front of these bytes
-abbrev IsFound : LexemeKind → List ℕ → Type 0
-IsFound kind bytes = (found : Lexeme) × (lexeme_at bytes ≡ Some found) × (found.kind ≡ kind)
-
--- behind the first slash of a comment, a comment is found
-comment_found : (text more : List ℕ) → IsRestOfComment text → IsFound Comment (47 ∷ text ++ more)
-comment_found text more (inl (line, e, pass)) =
-    let P : List ℕ → Type 0 = λ xs. IsFound Comment (47 ∷ xs ++ more) in
-    subst P (sym e) (lexed Comment (prefix_len is_not_line_feed (line ++ more) + 2), refl, refl)
-comment_found text more (inr (inside, e, closed)) =
-    let P : List ℕ → Type 0 = λ xs. IsFound Comment (47 ∷ xs ++ more) in
-    let c = closing_found 0 inside more closed in
-    subst P (sym e) (lexed Comment (c.0 + 2), ap (option_map (λ n. lexed Comment (n + 2))) c.1, refl)
-
--- a name is found behind its first byte
-name_found : (kind : TokenKind) (text more : List ℕ) → IsName text →
-    (found : Lexeme) × (name_at kind (text ++ more) ≡ Some found) × (found.kind ≡ Token kind)
-name_found kind [] more spelled = absurd spelled
-name_found kind (b ∷ text) more spelled =
-    (lexed (Token kind) (prefix_len is_name_byte (b ∷ text ++ more) + 1), rw spelled.0 refl, refl)
-
 -- a register is read where its number is
 register_read : (class : RegisterClass) (digits more : List ℕ) (n : Numeral) → decimal_at (digits ++ more) ≡ Some n →
     register_at ((letter class ∷ digits) ++ more) ≡ Some (register class n)
@@ -153,11 +114,11 @@ register_read Double digits more n is = ap (λ o. o >>= λ (m : Numeral). Some (
 -- a register that is no front of a longer one is found
 register_found : (class : RegisterClass) (digits more : List ℕ) (n : ℕ) → SpellsDecimal n digits → n < 2 ^ 64 →
     IsLongestFront (class_name class ++ digits) ((class_name class ++ digits) ++ more) →
-    IsFound (Token (token.Register (record { class = class; number = n }))) ((class_name class ++ digits) ++ more)
+    IsFound (Token (token.Register (record { class = class; number = n }))) ((class_name class ++ digits) ++ more) 0
 register_found class [] more n spelled fits longest = absurd spelled.0
 register_found class (b ∷ digits) more n spelled fits longest =
     let found = at_register class b digits more spelled.0.0 ∙ register_read class (b ∷ digits) more read decimal in
-    (register class read, found, refl)
+    (register class read, found, refl, omega arith)
   where
     text : List ℕ
     text = class_name class ++ b ∷ digits
@@ -174,42 +135,27 @@ register_found class (b ∷ digits) more n spelled fits longest =
 
 -- a number that is read is found
 number_found : (n : ℕ) (text more : List ℕ) → IsNumber text →
-    numeral_at (text ++ more) ≡ Some (numeral n (length text)) → IsFound (Token (token.Number n)) (text ++ more)
+    numeral_at (text ++ more) ≡ Some (numeral n (length text)) → IsFound (Token (token.Number n)) (text ++ more) 0
 number_found n text more spelled read = (
   lexed (Token (token.Number n)) (length text),
   at_number text more spelled ∙ ap (option_map (λ (n : Numeral). lexed (Token (token.Number n.value)) n.length)) read,
   refl,
+  omega arith,
 )
 
 -- where the longest front that is a lexeme is of this kind, a lexeme of this kind is found
 kind_is_found : (kind : LexemeKind) (front more : List ℕ) → IsLexeme kind front → IsWithin64Bits kind →
-    IsLongestFront front (front ++ more) → IsFound kind (front ++ more)
-kind_is_found Blank front more (b, e, blank) within longest =
-    subst (λ xs. IsFound Blank (xs ++ more)) (sym e) (lexed Blank 1, at_blank b more blank, refl)
-kind_is_found Comment front more (rest, e, spelled) within longest =
-    subst (λ xs. IsFound Comment (xs ++ more)) (sym e) (comment_found rest more spelled)
-kind_is_found (Token token.Global) front more (rest, e, spelled) within longest =
-    subst (λ xs. IsFound (Token token.Global) (xs ++ more)) (sym e) (name_found token.Global rest more spelled)
-kind_is_found (Token token.Variable) front more (rest, e, spelled) within longest =
-    subst (λ xs. IsFound (Token token.Variable) (xs ++ more)) (sym e) (name_found token.Variable rest more spelled)
-kind_is_found (Token token.Label) front more (rest, e, spelled) within longest =
-    subst (λ xs. IsFound (Token token.Label) (xs ++ more)) (sym e) (name_found token.Label rest more spelled)
+    IsLongestFront front (front ++ more) → IsFound kind (front ++ more) 0
 kind_is_found (Token (token.Register r)) front more (digits, e, spelled) within longest =
     let Long : List ℕ → Type 0 = λ xs. IsLongestFront xs (xs ++ more) in
-    subst (λ xs. IsFound (Token (token.Register r)) (xs ++ more)) (sym e)
+    subst (λ xs. IsFound (Token (token.Register r)) (xs ++ more) 0) (sym e)
     (register_found r.class digits more r.number spelled within (subst Long e longest))
-kind_is_found (Token (token.Header h)) front more e within longest =
-    subst (λ xs. IsFound (Token (token.Header h)) (xs ++ more)) (sym e)
-    (lexed (Token (token.Header h)) (length (header_name h)), at_header h more, refl)
 kind_is_found (Token (token.Number n)) front more (inl spelled) within longest =
     number_found n front more (inl spelled.0) (decimal_number_found n front more spelled within longest)
 kind_is_found (Token (token.Number n)) front more (inr spelled) within longest =
     number_found n front more (inr spelled.0) (hexadecimal_number_found n front more spelled within longest)
-kind_is_found (Token (token.Mark b)) front more (e, mark) within longest =
-    subst (λ xs. IsFound (Token (token.Mark b)) (xs ++ more)) (sym e)
-    (lexed (Token (token.Mark b)) 1, at_mark b more mark, refl)
-kind_is_found (Token token.Word) front more spelled within longest =
-    (word_at (front ++ more), at_word front more spelled, sym (word_kind (align_at (front ++ more)) (front ++ more)))
+kind_is_found kind front more is within longest =
+    let p = plain_found kind front more tt is in (p.0, p.1, p.2, omega arith)
 
 -- the longest front that is a lexeme is found, as long as it is and of its kind
 pub longest_is_found : (kind : LexemeKind) (front more : List ℕ) → IsLexeme kind front → IsWithin64Bits kind →

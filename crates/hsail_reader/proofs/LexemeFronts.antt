@@ -1,34 +1,24 @@
 -- No front of some bytes that is longer than the lexeme found there is a lexeme of any kind.
 use Rattle.std.proofs.Common.{◌≡◌, ℕ, ◌+◌, ◌≤◌, ◌⊎◌, inl, inr, List, [], ◌∷◌, ◌++◌, length, true, Option, Some, None, refl, sym, ap, subst, ◌∙◌, codes, arith}
 use Rattle.std.specs.Char.{is_digit}
-use Rattle.hsail_reader.specs.Lexemes.{lexed, register_at, header_among, header_words, dollar_at, or_else, number_at, word_at, lexeme_at}
-use Rattle.hsail_reader.specs.Spelling.{IsDecimal, is_name_start}
+use Rattle.std.specs.List.{prefix_len}
+use Rattle.std.specs.Option.{option_map}
+use Rattle.hsail_reader.specs.Bytes.{align_at, or_else}
+use Rattle.hsail_reader.specs.Lexemes.{lexed, name_at, register_at, header_among, header_words, dollar_at, number_at, word_of, word_at, lexeme_at}
+use Rattle.hsail_reader.specs.Spelling.{IsDecimal, IsName, IsRestOfComment, is_name_byte, is_name_start, is_not_line_feed}
 use Rattle.hsail_reader.specs.WordLexemes.{IsWord}
 use Rattle.hsail_reader.specs.TextTokens.{IsLexeme, class_name, header_name}
-use Rattle.hsail_reader.specs.declared.token.Header.{Header}
-use Rattle.hsail_reader.specs.declared.token.Header.TheVariants.{Base, Full, Large, Default, Zero, Near}
-use Rattle.hsail_reader.specs.declared.token.Lexeme.{Lexeme}
-use Rattle.hsail_reader.specs.declared.token.LexemeKind.{LexemeKind}
-use Rattle.hsail_reader.specs.declared.token.LexemeKind.TheVariants.{Blank, Comment, Token}
+use Rattle.hsail_reader.specs.Nouns.{Header, Lexeme, LexemeKind, Numeral, RegisterClass, TokenKind, Base, Blank, Comment, Control, Double, Single, Token}
 use Rattle.hsail_reader.specs.declared.token.TokenKind.TheVariants as token
-use Rattle.hsail_reader.specs.declared.types.RegisterClass.{RegisterClass}
-use Rattle.hsail_reader.specs.declared.types.RegisterClass.TheVariants.{Control, Single, Double}
 use Rattle.hsail_reader.proofs.FirstBytes.{at_blank, at_mark, at_name_start, at_digit, differs}
 use Rattle.hsail_reader.proofs.Reaches as reaches
-use Rattle.hsail_reader.proofs.Reaches.{same_length}
+use Rattle.hsail_reader.proofs.Reaches.{run_reaches, closing_is_read, name_start_continues, same_length}
 use Rattle.hsail_reader.proofs.WordReaches.{words}
 use Rattle.hsail_reader.proofs.Fronts.{IsNumber}
 
 -- a front is no longer than the lexeme found there
 abbrev Reaches : List ℕ → List ℕ → Lexeme → Type 0
 Reaches text more found = lexeme_at (text ++ more) ≡ Some found → length text ≤ found.length
-
--- a lexeme of one byte
-one_byte : (b : ℕ) (more : List ℕ) (kind : LexemeKind) (found : Lexeme) →
-    lexeme_at (b ∷ more) ≡ Some (lexed kind 1) → Reaches (b ∷ []) more found
-one_byte b more kind found at' is =
-    let e : Some (lexed kind 1) ≡ Some found = sym at' ∙ is in
-    omega (arith, same_length (lexed kind 1) found e)
 
 -- the first byte of a number is a digit
 pub number_first : (text : List ℕ) → IsNumber text →
@@ -62,11 +52,6 @@ at_word text more spelled =
     let f = word_first text spelled in
     let P : List ℕ → Type 0 = λ xs. lexeme_at (xs ++ more) ≡ Some (word_at (xs ++ more)) in
     subst P (sym f.2) (at_name_start f.0 (f.1 ++ more) f.3)
-
--- a word is no longer than what is found there
-word_reaches : (text more : List ℕ) (found : Lexeme) → IsWord text → Reaches text more found
-word_reaches text more found spelled is =
-    omega (arith, words text more found spelled (sym (at_word text more spelled) ∙ is))
 
 -- nothing else
 or_none : (o : Option Lexeme) → or_else o None ≡ o
@@ -106,8 +91,7 @@ is_letter Double = inr (inr refl)
 register_length : (class : RegisterClass) (b : ℕ) (digits : List ℕ) →
     length (class_name class ++ b ∷ digits) ≡ 1 + length (letter class ∷ b ∷ digits)
 register_length Control b digits = omega arith
-register_length Single b digits = omega arith
-register_length Double b digits = omega arith
+register_length _ b digits = omega arith
 
 -- a register is no longer than what is found there
 dollar_reaches : (class : RegisterClass) (digits more : List ℕ) (found : Lexeme) → IsDecimal digits →
@@ -123,41 +107,74 @@ dollar_reaches class (b ∷ digits) more found spelled is =
 pub at_header : (h : Header) (more : List ℕ) →
     lexeme_at (header_name h ++ more) ≡ Some (lexed (Token (token.Header h)) (length (header_name h)))
 at_header Base more = refl
-at_header Full more = refl
-at_header Large more = refl
-at_header Default more = refl
-at_header Zero more = refl
-at_header Near more = refl
+at_header _ more = refl
 
--- a word of the header is no longer than what is found there
-header_reaches : (h : Header) (more : List ℕ) (found : Lexeme) → Reaches (header_name h) more found
-header_reaches h more found is =
-    let l = lexed (Token (token.Header h)) (length (header_name h)) in
-    let e : Some l ≡ Some found = sym (at_header h more) ∙ is in
-    omega (arith, same_length l found e)
+-- at the front of these bytes a lexeme of this kind is found, of n bytes at least
+abbrev pub IsFound : LexemeKind → List ℕ → ℕ → Type 0
+IsFound kind bytes n = (found : Lexeme) × (lexeme_at bytes ≡ Some found) × (found.kind ≡ kind) × (n ≤ found.length)
+
+-- a lexeme of one byte is found
+one_byte : (b : ℕ) (more : List ℕ) (kind : LexemeKind) → lexeme_at (b ∷ more) ≡ Some (lexed kind 1) → IsFound kind (b ∷ more) 1
+one_byte b more kind at' = (lexed kind 1, at', refl, omega arith)
+
+-- a name is found behind the first byte of its kind
+name_found : (b : ℕ) (kind : TokenKind) (text more : List ℕ) → ((bytes : List ℕ) → lexeme_at (b ∷ bytes) ≡ name_at kind bytes) →
+    IsName text → IsFound (Token kind) (b ∷ text ++ more) (length (b ∷ text))
+name_found b kind [] more at' spelled = absurd spelled
+name_found b kind (c ∷ text) more at' spelled =
+    let reach = run_reaches is_name_byte (c ∷ text) more (name_start_continues c spelled.0, spelled.1) in
+    let named : name_at kind (c ∷ text ++ more) ≡ Some (lexed (Token kind) (prefix_len is_name_byte (c ∷ text ++ more) + 1)) =
+    rw spelled.0 refl in
+    (lexed (Token kind) (prefix_len is_name_byte (c ∷ text ++ more) + 1), at' (c ∷ text ++ more) ∙ named, refl, omega (arith, reach))
+
+-- behind the first slash of a comment, a comment is found
+comment_found : (text more : List ℕ) → IsRestOfComment text → IsFound Comment (47 ∷ text ++ more) (length (47 ∷ text))
+comment_found text more (inl (line, e, pass)) =
+    subst (λ xs. IsFound Comment (47 ∷ xs ++ more) (length (47 ∷ xs))) (sym e)
+    (lexed Comment (prefix_len is_not_line_feed (line ++ more) + 2), refl, refl, omega (arith, run_reaches is_not_line_feed line more pass))
+comment_found text more (inr (inside, e, closed)) =
+    subst (λ xs. IsFound Comment (47 ∷ xs ++ more) (length (47 ∷ xs))) (sym e)
+    (lexed Comment (0 + length inside + 2), ap (option_map (λ n. lexed Comment (n + 2))) (closing_is_read 0 inside more closed), refl, omega arith)
+
+-- what is found as a word is of that kind
+word_kind : (a : Option Numeral) (bytes : List ℕ) → (word_of a bytes).kind ≡ Token token.Word
+word_kind None bytes = refl
+word_kind (Some n) bytes = refl
+
+-- the kinds that are found wherever they are spelled
+abbrev pub IsPlain : LexemeKind → Type 0
+IsPlain (Token (token.Register r)) = ⊥
+IsPlain (Token (token.Number n)) = ⊥
+IsPlain _ = Unit {0}
+
+pub plain_found : (kind : LexemeKind) (text more : List ℕ) → IsPlain kind → IsLexeme kind text → IsFound kind (text ++ more) (length text)
+plain_found Blank text more plain (b, e, blank) =
+    subst (λ xs. IsFound Blank (xs ++ more) (length xs)) (sym e) (one_byte b more Blank (at_blank b more blank))
+plain_found Comment text more plain (rest, e, spelled) =
+    subst (λ xs. IsFound Comment (xs ++ more) (length xs)) (sym e) (comment_found rest more spelled)
+plain_found (Token token.Global) text more plain (rest, e, spelled) =
+    subst (λ xs. IsFound (Token token.Global) (xs ++ more) (length xs)) (sym e) (name_found 38 token.Global rest more (λ bytes. refl) spelled)
+plain_found (Token token.Variable) text more plain (rest, e, spelled) =
+    subst (λ xs. IsFound (Token token.Variable) (xs ++ more) (length xs)) (sym e) (name_found 37 token.Variable rest more (λ bytes. refl) spelled)
+plain_found (Token token.Label) text more plain (rest, e, spelled) =
+    subst (λ xs. IsFound (Token token.Label) (xs ++ more) (length xs)) (sym e) (name_found 64 token.Label rest more (λ bytes. refl) spelled)
+plain_found (Token (token.Register r)) text more plain is = absurd plain
+plain_found (Token (token.Header h)) text more plain e =
+    subst (λ xs. IsFound (Token (token.Header h)) (xs ++ more) (length xs)) (sym e)
+    (lexed (Token (token.Header h)) (length (header_name h)), at_header h more, refl, omega arith)
+plain_found (Token (token.Number n)) text more plain is = absurd plain
+plain_found (Token (token.Mark b)) text more plain (e, mark) =
+    subst (λ xs. IsFound (Token (token.Mark b)) (xs ++ more) (length xs)) (sym e) (one_byte b more (Token (token.Mark b)) (at_mark b more mark))
+plain_found (Token token.Word) text more plain spelled =
+    let reach = words text more (word_at (text ++ more)) spelled refl in
+    (word_at (text ++ more), at_word text more spelled, word_kind (align_at (text ++ more)) (text ++ more), omega (arith, reach))
 
 -- what is a lexeme is no longer than the lexeme found where it stands
 pub lexeme_reaches : (kind : LexemeKind) (text more : List ℕ) (found : Lexeme) → IsLexeme kind text →
     lexeme_at (text ++ more) ≡ Some found → length text ≤ found.length
-lexeme_reaches Blank text more found (b, e, blank) =
-    subst (λ xs. Reaches xs more found) (sym e) (one_byte b more Blank found (at_blank b more blank))
-lexeme_reaches Comment text more found (rest, e, spelled) =
-    subst (λ xs. Reaches xs more found) (sym e) (λ is. omega (arith, reaches.comments rest more found spelled is))
-lexeme_reaches (Token token.Global) text more found (rest, e, spelled) =
-    subst (λ xs. Reaches xs more found) (sym e)
-    (λ is. omega (arith, reaches.names token.Global rest more found spelled is))
-lexeme_reaches (Token token.Variable) text more found (rest, e, spelled) =
-    subst (λ xs. Reaches xs more found) (sym e)
-    (λ is. omega (arith, reaches.names token.Variable rest more found spelled is))
-lexeme_reaches (Token token.Label) text more found (rest, e, spelled) =
-    subst (λ xs. Reaches xs more found) (sym e)
-    (λ is. omega (arith, reaches.names token.Label rest more found spelled is))
-lexeme_reaches (Token (token.Register r)) text more found (digits, e, spelled) =
-    subst (λ xs. Reaches xs more found) (sym e) (dollar_reaches r.class digits more found spelled.0)
-lexeme_reaches (Token (token.Header h)) text more found e =
-    subst (λ xs. Reaches xs more found) (sym e) (header_reaches h more found)
-lexeme_reaches (Token (token.Number n)) text more found (inl spelled) = number_reaches text more found (inl spelled.0)
-lexeme_reaches (Token (token.Number n)) text more found (inr spelled) = number_reaches text more found (inr spelled.0)
-lexeme_reaches (Token (token.Mark b)) text more found (e, mark) =
-    subst (λ xs. Reaches xs more found) (sym e) (one_byte b more (Token (token.Mark b)) found (at_mark b more mark))
-lexeme_reaches (Token token.Word) text more found spelled = word_reaches text more found spelled
+lexeme_reaches (Token (token.Register r)) text more found (digits, e, spelled) at' =
+    subst (λ xs. Reaches xs more found) (sym e) (dollar_reaches r.class digits more found spelled.0) at'
+lexeme_reaches (Token (token.Number n)) text more found (inl spelled) at' = number_reaches text more found (inl spelled.0) at'
+lexeme_reaches (Token (token.Number n)) text more found (inr spelled) at' = number_reaches text more found (inr spelled.0) at'
+lexeme_reaches kind text more found is at' =
+    let p = plain_found kind text more tt is in omega (arith, p.3, same_length p.0 found (sym p.1 ∙ at'))

@@ -2,23 +2,16 @@
 use Rattle.std.proofs.Common.{◌≡◌, ℕ, ◌+◌, ◌⊎◌, inl, inr, ⊎_elim, List, [], ◌∷◌, ◌++◌, length, true, false, ◌==◌, if◌then◌else◌, Option, Some, None, refl, sym, ap, subst, ◌∙◌, arith}
 use Rattle.std.proofs.lemmas.Bool.{cases_Bool}
 use Rattle.std.proofs.lemmas.Bool.Decides.{eqb_tells}
-use Rattle.std.specs.List.{prefix_len}
-use Rattle.std.specs.Option.{is_some, option_map}
-use Rattle.hsail_reader.specs.Bytes.{begins_name, behind, closing_at, decimal_at, numeral_at, align_at, ◌>>=◌}
-use Rattle.hsail_reader.specs.Spelling.{is_name_byte, is_name_start, is_not_line_feed, is_blank, is_mark}
-use Rattle.hsail_reader.specs.Lexemes.{HeaderWord, lexed, comment_at, name_at, class_at, register, register_at, header_words, header_among, or_else, dollar_at, number_at, word_of, word_at, lexeme_at}
+use Rattle.std.specs.Option.{is_some}
+use Rattle.hsail_reader.specs.Bytes.{behind, decimal_at, numeral_at, ◌>>=◌, or_else}
+use Rattle.hsail_reader.specs.Spelling.{IsName, is_name_start, is_blank, is_mark}
+use Rattle.hsail_reader.specs.Lexemes.{HeaderWord, lexed, comment_at, name_at, class_at, register, register_at, header_words, header_among, dollar_at, number_at, word_at, lexeme_at}
 use Rattle.hsail_reader.specs.TextTokens.{IsLexeme, IsWithin64Bits, class_name, header_name}
-use Rattle.hsail_reader.specs.declared.token.Lexeme.{Lexeme}
-use Rattle.hsail_reader.specs.declared.token.LexemeKind.{LexemeKind}
-use Rattle.hsail_reader.specs.declared.token.LexemeKind.TheVariants.{Blank, Comment, Token}
-use Rattle.hsail_reader.specs.declared.token.Numeral.{Numeral}
-use Rattle.hsail_reader.specs.declared.token.TokenKind.{TokenKind}
+use Rattle.hsail_reader.specs.Nouns.{Lexeme, LexemeKind, Numeral, RegisterClass, TokenKind, Blank, Comment, Control, Double, Single, Token}
 use Rattle.hsail_reader.specs.declared.token.TokenKind.TheVariants as token
-use Rattle.hsail_reader.specs.declared.types.RegisterClass.{RegisterClass}
-use Rattle.hsail_reader.specs.declared.types.RegisterClass.TheVariants.{Control, Single, Double}
 use Rattle.hsail_reader.proofs.BracketSpelling.{some_rest}
 use Rattle.hsail_reader.proofs.NumberSpelling.{number_is_spelled, decimal_is_spelled}
-use Rattle.hsail_reader.proofs.Reaches.{bound, chosen, mapped, same_lexeme}
+use Rattle.hsail_reader.proofs.Reaches.{bound, mapped, same_some}
 use Rattle.hsail_reader.proofs.Spelled as spelled
 use Rattle.hsail_reader.proofs.Spelled.{behind_parts, nothing}
 use Rattle.hsail_reader.proofs.WordSpelled.{words}
@@ -29,13 +22,9 @@ FoundSpelled bytes found =
     (front : List ℕ) × (behind : List ℕ) × (bytes ≡ front ++ behind) × (length front ≡ found.length)
     × IsLexeme found.kind front × IsWithin64Bits found.kind
 
--- two lexemes that are one are of one kind
-same_kind : (a b : Lexeme) → Some a ≡ Some b → a.kind ≡ b.kind
-same_kind a b e = ap (λ (l : Lexeme). l.kind) (same_lexeme a b e)
-
 -- one lexeme is found
 the_found : (bytes : List ℕ) (a found : Lexeme) → Some a ≡ Some found → FoundSpelled bytes a → FoundSpelled bytes found
-the_found bytes a found e = subst (FoundSpelled bytes) (same_lexeme a found e)
+the_found bytes a found e = subst (FoundSpelled bytes) (same_some a found e)
 
 -- the kinds without a value of 64 bits at most
 of_kind : (kind : LexemeKind) (bytes front behind : List ℕ) (found : Lexeme) → kind ≡ found.kind →
@@ -44,64 +33,20 @@ of_kind : (kind : LexemeKind) (bytes front behind : List ℕ) (found : Lexeme) �
 of_kind kind bytes front behind found e parts counts is within =
     (front, behind, parts, counts, subst (λ k. IsLexeme k front) e is, subst IsWithin64Bits e within)
 
--- what is found as a comment is of that kind
-comment_kind : (bytes : List ℕ) (found : Lexeme) → comment_at bytes ≡ Some found → Comment ≡ found.kind
-comment_kind [] found is = nothing found is
-comment_kind (b ∷ bytes) found is =
-    ⊎_elim
-    (λ w. let e : Some (lexed Comment (prefix_len is_not_line_feed bytes + 2)) ≡ Some found = rw w.0 at is in
-    same_kind (lexed Comment (prefix_len is_not_line_feed bytes + 2)) found e)
-    (λ w. ⊎_elim
-    (λ v. let e : option_map (λ length. lexed Comment (length + 2)) (closing_at 0 bytes) ≡ Some found =
-    rw (w.0, v.0) at is in
-    let m = mapped (λ (n : ℕ). lexed Comment (n + 2)) (closing_at 0 bytes) found e in
-    same_kind (lexed Comment (m.0 + 2)) found m.2)
-    (λ v. nothing found (rw (w.0, v.0) at is))
-    (eqb_tells b 42))
-    (eqb_tells b 47)
-
 -- a comment that is found is one, with its first slash
 comment_spelled : (bytes : List ℕ) (found : Lexeme) → comment_at bytes ≡ Some found → FoundSpelled (47 ∷ bytes) found
 comment_spelled bytes found is =
     let r = spelled.comments bytes found is in
-    of_kind Comment (47 ∷ bytes) (47 ∷ r.0) r.1 found (comment_kind bytes found is)
+    of_kind Comment (47 ∷ bytes) (47 ∷ r.0) r.1 found r.5
     (ap (λ xs. 47 ∷ xs) r.2) (omega (arith, r.4)) (r.0, refl, r.3) tt
 
--- what is found as a name is of the kind that its first byte says
-name_kind : (kind : TokenKind) (bytes : List ℕ) (found : Lexeme) → name_at kind bytes ≡ Some found →
-    Token kind ≡ found.kind
-name_kind kind bytes found is =
-    let l = lexed (Token kind) (prefix_len is_name_byte bytes + 1) in
-    ⊎_elim (λ w. same_kind l found w.1) (λ w. nothing found w.1)
-    (chosen (begins_name bytes) (Some l) None (Some found) is)
-
--- a name behind `&`
-global_spelled : (bytes : List ℕ) (found : Lexeme) → name_at token.Global bytes ≡ Some found →
-    FoundSpelled (38 ∷ bytes) found
-global_spelled bytes found is =
-    let r = spelled.names token.Global bytes found is in
-    of_kind (Token token.Global) (38 ∷ bytes) (38 ∷ r.0) r.1 found (name_kind token.Global bytes found is)
-    (ap (λ xs. 38 ∷ xs) r.2) (omega (arith, r.4)) (r.0, refl, r.3) tt
-
--- a name behind `%`
-variable_spelled : (bytes : List ℕ) (found : Lexeme) → name_at token.Variable bytes ≡ Some found →
-    FoundSpelled (37 ∷ bytes) found
-variable_spelled bytes found is =
-    let r = spelled.names token.Variable bytes found is in
-    of_kind (Token token.Variable) (37 ∷ bytes) (37 ∷ r.0) r.1 found (name_kind token.Variable bytes found is)
-    (ap (λ xs. 37 ∷ xs) r.2) (omega (arith, r.4)) (r.0, refl, r.3) tt
-
--- a name behind `@`
-label_spelled : (bytes : List ℕ) (found : Lexeme) → name_at token.Label bytes ≡ Some found →
-    FoundSpelled (64 ∷ bytes) found
-label_spelled bytes found is =
-    let r = spelled.names token.Label bytes found is in
-    of_kind (Token token.Label) (64 ∷ bytes) (64 ∷ r.0) r.1 found (name_kind token.Label bytes found is)
-    (ap (λ xs. 64 ∷ xs) r.2) (omega (arith, r.4)) (r.0, refl, r.3) tt
-
--- two classes that are one
-same_class : (a b : RegisterClass) → Some a ≡ Some b → a ≡ b
-same_class a b e = cc
+-- a name behind the first byte of its kind
+name_spelled : (b : ℕ) (kind : TokenKind) (bytes : List ℕ) (found : Lexeme) → name_at kind bytes ≡ Some found →
+    ((rest : List ℕ) → IsName rest → IsLexeme (Token kind) (b ∷ rest)) → IsWithin64Bits (Token kind) → FoundSpelled (b ∷ bytes) found
+name_spelled b kind bytes found is is_kind within =
+    let r = spelled.names kind bytes found is in
+    of_kind (Token kind) (b ∷ bytes) (b ∷ r.0) r.1 found r.5 (ap (λ xs. b ∷ xs) r.2)
+    (omega (arith, r.4)) (is_kind r.0 r.3) within
 
 -- the letter of a register's class, behind its dollar
 class_named : (c : ℕ) (bytes text : List ℕ) (class : RegisterClass) → class_at (c ∷ bytes) ≡ Some class →
@@ -109,11 +54,11 @@ class_named : (c : ℕ) (bytes text : List ℕ) (class : RegisterClass) → clas
 class_named c bytes text class is =
     let P : RegisterClass → Type 0 = λ k. 36 ∷ c ∷ text ≡ class_name k ++ text in
     ⊎_elim
-    (λ u. subst P (same_class Control class (rw u.0 at is)) (ap (λ x. 36 ∷ x ∷ text) u.1))
+    (λ u. subst P (same_some Control class (rw u.0 at is)) (ap (λ x. 36 ∷ x ∷ text) u.1))
     (λ u. ⊎_elim
-    (λ v. subst P (same_class Single class (rw (u.0, v.0) at is)) (ap (λ x. 36 ∷ x ∷ text) v.1))
+    (λ v. subst P (same_some Single class (rw (u.0, v.0) at is)) (ap (λ x. 36 ∷ x ∷ text) v.1))
     (λ v. ⊎_elim
-    (λ w. subst P (same_class Double class (rw (u.0, v.0, w.0) at is)) (ap (λ x. 36 ∷ x ∷ text) w.1))
+    (λ w. subst P (same_some Double class (rw (u.0, v.0, w.0) at is)) (ap (λ x. 36 ∷ x ∷ text) w.1))
     (λ w. nothing class (rw (u.0, v.0, w.0) at is))
     (eqb_tells c 100))
     (eqb_tells c 115))
@@ -122,8 +67,7 @@ class_named c bytes text class is =
 -- the dollar and the letter of a class are two bytes
 pub class_length : (class : RegisterClass) (digits : List ℕ) → length (class_name class ++ digits) ≡ length digits + 2
 class_length Control digits = omega arith
-class_length Single digits = omega arith
-class_length Double digits = omega arith
+class_length _ digits = omega arith
 
 -- what is read behind a register's letter
 register_parts : (class : RegisterClass) (c : ℕ) (bytes text more : List ℕ) → bytes ≡ text ++ more →
@@ -194,19 +138,12 @@ number_spelled bytes found is =
     the_found bytes (lexed (Token (token.Number m.0.value)) m.0.length) found m.2
     (r.0, r.1, r.2, r.3, r.4.1, r.4.0)
 
--- what is found as a word is of that kind
-pub word_kind : (a : Option Numeral) (bytes : List ℕ) → Token token.Word ≡ (word_of a bytes).kind
-word_kind None bytes = refl
-word_kind (Some n) bytes = refl
-
 -- a word that is found is one
 word_spelled : (b : ℕ) (bytes : List ℕ) (found : Lexeme) → is_name_start b ≡ true →
     Some (word_at (b ∷ bytes)) ≡ Some found → FoundSpelled (b ∷ bytes) found
 word_spelled b bytes found starts is =
     let r = words (b ∷ bytes) found (rw starts is) in
-    of_kind (Token token.Word) (b ∷ bytes) r.0 r.1 found
-    (word_kind (align_at (b ∷ bytes)) (b ∷ bytes) ∙ same_kind (word_at (b ∷ bytes)) found is)
-    r.2 (omega (arith, r.4)) r.3 tt
+    of_kind (Token token.Word) (b ∷ bytes) r.0 r.1 found r.5 r.2 (omega (arith, r.4)) r.3 tt
 
 -- a lexeme of one byte that is found is one
 one_byte_spelled : (b : ℕ) (bytes : List ℕ) (kind : LexemeKind) (found : Lexeme) → IsLexeme kind (b ∷ []) →
@@ -244,11 +181,11 @@ sign_spelled : (b : ℕ) (bytes : List ℕ) (found : Lexeme) →
     else number_at (b ∷ bytes)) ≡ Some found → FoundSpelled (b ∷ bytes) found
 sign_spelled b bytes found is =
     ⊎_elim
-    (λ u. behind_byte b 38 bytes found u.1 (global_spelled bytes found (rw u.0 at is)))
+    (λ u. behind_byte b 38 bytes found u.1 (name_spelled 38 token.Global bytes found (rw u.0 at is) (λ rest s. (rest, refl, s)) tt))
     (λ u. ⊎_elim
-    (λ v. behind_byte b 37 bytes found v.1 (variable_spelled bytes found (rw (u.0, v.0) at is)))
+    (λ v. behind_byte b 37 bytes found v.1 (name_spelled 37 token.Variable bytes found (rw (u.0, v.0) at is) (λ rest s. (rest, refl, s)) tt))
     (λ v. ⊎_elim
-    (λ w. behind_byte b 64 bytes found w.1 (label_spelled bytes found (rw (u.0, v.0, w.0) at is)))
+    (λ w. behind_byte b 64 bytes found w.1 (name_spelled 64 token.Label bytes found (rw (u.0, v.0, w.0) at is) (λ rest s. (rest, refl, s)) tt))
     (λ w. ⊎_elim
     (λ x. behind_byte b 36 bytes found x.1 (dollar_spelled bytes found (rw (u.0, v.0, w.0, x.0) at is)))
     (λ x. plain_spelled b bytes found (rw (u.0, v.0, w.0, x.0) at is))

@@ -4,17 +4,12 @@ use Rattle.hsail_reader.specs.Faults.{with_front}
 use Rattle.hsail_reader.specs.Lexemes.{lexeme_at}
 use Rattle.hsail_reader.specs.Tokens.{tokens_from, further, before_rest}
 use Rattle.hsail_reader.specs.TextTokens.{PlacedToken, kept, line_after, line_behind}
-use Rattle.hsail_reader.specs.declared.fault.Refusal.{Refusal}
-use Rattle.hsail_reader.specs.declared.token.Lexeme.{Lexeme}
+use Rattle.hsail_reader.specs.Nouns.{Lexeme, Refusal}
 
 pub with_front_append : (a b : List PlacedToken) (r : Result (List PlacedToken) Refusal) →
     with_front (a ++ b) r ≡ with_front a (with_front b r)
 with_front_append a b (Ok items) = ap (λ (x : List PlacedToken). Ok x) (simp append_assoc)
 with_front_append a b (Err r) = refl
-
-pub with_front_none : (r : Result (List PlacedToken) Refusal) → with_front [] r ≡ r
-with_front_none (Ok items) = refl
-with_front_none (Err r) = refl
 
 -- to go on after k bytes is to go on there
 pub tokens_from_drop : (k place line : ℕ) (bytes : List ℕ) → k ≤ length bytes →

@@ -1,15 +1,10 @@
 -- A fault that was found in the text isn't that the text is too long.
 use Rattle.std.proofs.Common.{◌≡◌, ℕ, ◌+◌, List, [], ◌∷◌, ◌==◌, Bool, true, false, Result, Err, refl, ap, sym, ◌∙◌, if◌then◌else◌}
 use Rattle.hsail_reader.specs.Faults.{fault_at, fault_of, before_place, cause_of, too_long}
-use Rattle.hsail_reader.specs.declared.fault.Cause.{Cause}
+use Rattle.hsail_reader.specs.Nouns.{Cause, Flaw, Module, ReadError, ReadFault, Refusal}
 use Rattle.hsail_reader.specs.declared.fault.Cause.TheVariants.{TooLong}
-use Rattle.hsail_reader.specs.declared.fault.Flaw.{Flaw}
 use Rattle.hsail_reader.specs.declared.fault.Flaw.TheVariants as flaw
-use Rattle.hsail_reader.specs.declared.fault.ReadError.{ReadError}
 use Rattle.hsail_reader.specs.declared.fault.ReadError.TheVariants as error
-use Rattle.hsail_reader.specs.declared.fault.ReadFault.{ReadFault}
-use Rattle.hsail_reader.specs.declared.fault.Refusal.{Refusal}
-use Rattle.hsail_reader.specs.declared.module.Module.{Module}
 
 if_same : (b : Bool) (x y : ReadFault) (cause : Cause) → x.cause ≡ cause → y.cause ≡ cause →
     (if b then x else y).cause ≡ cause

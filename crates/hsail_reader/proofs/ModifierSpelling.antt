@@ -3,8 +3,7 @@ use Rattle.std.proofs.Common.{◌≡◌, ℕ, ◌+◌, inl, inr, List, [], ◌�
 use Rattle.std.proofs.Math.Seq.{drop-append_seam}
 use Rattle.hsail_reader.specs.Words.{align_behind, align_part, width_behind, width_part, modifiers, modifiers_behind, modifiers_at}
 use Rattle.hsail_reader.specs.WordSpelling.{SpellsAlign, SpellsWidth, SpellsModifiers}
-use Rattle.hsail_reader.specs.declared.types.Modifiers.{Modifiers}
-use Rattle.hsail_reader.specs.declared.types.Width.{Width}
+use Rattle.hsail_reader.specs.Nouns.{Modifiers, Width}
 use Rattle.hsail_reader.proofs.BracketSpelling.{align_is_read, width_is_read, value_in}
 
 -- behind a front of six bytes, what stands in the bracket and the bracket, the rest stands

@@ -4,10 +4,7 @@ use Rattle.std.proofs.lemmas.Bool.Decides.{eqb_tells}
 use Rattle.hsail_reader.specs.Bytes.{align_at, width_at}
 use Rattle.hsail_reader.specs.Words.{align_behind, align_part, width_behind, width_part, modifiers_behind, modifiers_at}
 use Rattle.hsail_reader.specs.WordSpelling.{SpellsAlign, SpellsWidth, SpellsModifiers}
-use Rattle.hsail_reader.specs.declared.token.Numeral.{Numeral}
-use Rattle.hsail_reader.specs.declared.token.SpelledWidth.{SpelledWidth}
-use Rattle.hsail_reader.specs.declared.types.Modifiers.{Modifiers}
-use Rattle.hsail_reader.specs.declared.types.Width.{Width}
+use Rattle.hsail_reader.specs.Nouns.{Modifiers, Numeral, SpelledWidth, Width}
 use Rattle.hsail_reader.proofs.BracketSpelling.{align_is_spelled, width_is_spelled, width_of}
 use Rattle.hsail_reader.proofs.ModifierSpelling.{inside_drop}
 

@@ -8,8 +8,8 @@ use Rattle.std.specs.Str.Parse.{digits_value, digits_value_after}
 use Rattle.hsail_reader.specs.Bytes.{begins_digit, behind, digits_at, decimal_at, numeral_at, numeral_behind, numeral}
 use Rattle.hsail_reader.specs.Spelling.{AllPass, IsDecimal, begins_with}
 use Rattle.hsail_reader.specs.WordSpelling.{SpellsDecimal, SpellsHexadecimal, SpellsNumber}
-use Rattle.hsail_reader.specs.declared.token.Numeral.{Numeral}
-use Rattle.hsail_reader.proofs.Reaches.{chosen, numeral_length, true_is_not_false}
+use Rattle.hsail_reader.specs.Nouns.{Numeral}
+use Rattle.hsail_reader.proofs.Reaches.{chosen, numeral_length, true_is_not_false, same_some}
 use Rattle.hsail_reader.proofs.Spelled.{behind_parts, nothing}
 
 -- the value of digits is at least that of the digits before them
@@ -122,10 +122,6 @@ number_before_bracket_is_read n text more (fits, inl spelled) =
 number_before_bracket_is_read n text more (fits, inr spelled) =
     hexadecimal_number_is_read n text (41 ∷ more) spelled fits refl
 
--- what is read is one number
-same_numeral : (a b : Numeral) → Some a ≡ Some b → a ≡ b
-same_numeral a b e = cc
-
 -- the digits that are read are digits, and spell what is read
 abbrev DigitsSpelled : ℕ → ℕ → ℕ → List ℕ → Numeral → Type 0
 DigitsSpelled radix value before bytes m =
@@ -136,7 +132,7 @@ DigitsSpelled radix value before bytes m =
 no_digits : (radix value before : ℕ) (bytes : List ℕ) (m : Numeral) → value < 2 ^ 64 →
     Some (numeral value before) ≡ Some m → DigitsSpelled radix value before bytes m
 no_digits radix value before bytes m fits is =
-    let same : numeral value before ≡ m = same_numeral (numeral value before) m is in
+    let same : numeral value before ≡ m = same_some (numeral value before) m is in
     let values : m.value ≡ value = sym (ap (λ (n : Numeral). n.value) same) in
     ([], bytes, refl, omega (arith, numeral_length (numeral value before) m is), rw values fits, tt, values)
 
@@ -167,7 +163,7 @@ DecimalSpelled bytes m =
 zero_is_spelled : (b : ℕ) (bytes : List ℕ) (m : Numeral) → (b == 48) ≡ true → is_digit b 10 ≡ true →
     Some (numeral 0 1) ≡ Some m → DecimalSpelled (b ∷ bytes) m
 zero_is_spelled b bytes m zero' digit is =
-    let value : m.value ≡ 0 = sym (ap (λ (n : Numeral). n.value) (same_numeral (numeral 0 1) m is)) in
+    let value : m.value ≡ 0 = sym (ap (λ (n : Numeral). n.value) (same_some (numeral 0 1) m is)) in
     let same : b ≡ 48 = eqb-true b 48 zero' in (
       b ∷ [],
       bytes,

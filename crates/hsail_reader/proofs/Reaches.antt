@@ -6,34 +6,31 @@ use Rattle.std.specs.Option.{option_map}
 use Rattle.std.specs.Char.{is_digit, digit_value}
 use Rattle.std.specs.Int.{is_in_range}
 use Rattle.hsail_reader.specs.Bytes.{begins_digit, behind, closing_at, digits_at, decimal_at, numeral_at, numeral_behind, numeral, ◌>>=◌}
-use Rattle.hsail_reader.specs.Lexemes.{lexed, name_at, comment_at, class_at, register, register_at, number_at}
-use Rattle.hsail_reader.specs.Spelling.{AllPass, IsName, IsDecimal, IsClosed, IsRestOfComment, is_name_byte, is_name_start, is_not_line_feed}
-use Rattle.hsail_reader.specs.declared.token.Lexeme.{Lexeme}
-use Rattle.hsail_reader.specs.declared.token.LexemeKind.TheVariants.{Comment, Token}
-use Rattle.hsail_reader.specs.declared.token.Numeral.{Numeral}
-use Rattle.hsail_reader.specs.declared.token.TokenKind.{TokenKind}
+use Rattle.hsail_reader.specs.Lexemes.{lexed, class_at, register, register_at, number_at}
+use Rattle.hsail_reader.specs.Spelling.{AllPass, IsDecimal, IsClosed, is_name_byte, is_name_start}
+use Rattle.hsail_reader.specs.Nouns.{Lexeme, Numeral, Token}
 use Rattle.hsail_reader.specs.declared.token.TokenKind.TheVariants as token
 use Rattle.hsail_reader.proofs.Fronts.{IsNumber, IsRegister, IsLongest}
 
 -- a run of bytes that pass is at least as long as any front of them
-run_reaches : (test : ℕ → Bool) (text more : List ℕ) → AllPass test text →
+pub run_reaches : (test : ℕ → Bool) (text more : List ℕ) → AllPass test text →
     length text ≤ prefix_len test (text ++ more)
 run_reaches test [] more pass = omega arith
 run_reaches test (b ∷ text) more pass =
     let rest = run_reaches test text more pass.1 in
     rw pass.0 (omega (arith, rest))
 
-pub same_lexeme : (a b : Lexeme) → Some a ≡ Some b → a ≡ b
-same_lexeme a b e = cc
+pub same_some : {A : Type 0} (x y : A) → Some x ≡ Some y → x ≡ y
+same_some x y e = cc
 
 pub same_length : (a b : Lexeme) → Some a ≡ Some b → a.length ≡ b.length
-same_length a b e = ap (λ (l : Lexeme). l.length) (same_lexeme a b e)
+same_length a b e = ap (λ (l : Lexeme). l.length) (same_some a b e)
 
-same_numeral : (a b : Numeral) → Some a ≡ Some b → a ≡ b
-same_numeral a b e = cc
+pub same_kind : (a b : Lexeme) → Some a ≡ Some b → a.kind ≡ b.kind
+same_kind a b e = ap (λ (l : Lexeme). l.kind) (same_some a b e)
 
 pub numeral_length : (a b : Numeral) → Some a ≡ Some b → a.length ≡ b.length
-numeral_length a b e = ap (λ (n : Numeral). n.length) (same_numeral a b e)
+numeral_length a b e = ap (λ (n : Numeral). n.length) (same_some a b e)
 
 pub mapped : {A B : Type 0} (f : A → B) (o : Option A) (y : B) → option_map f o ≡ Some y →
     (x : A) × (o ≡ Some x) × (Some (f x) ≡ Some y)
@@ -58,62 +55,16 @@ pub name_start_continues : (b : ℕ) → is_name_start b ≡ true → is_name_by
 name_start_continues b e =
     or_true (is_in_range 48 57 b) (is_in_range 65 90 b) (is_in_range 97 122 b) (b == 95) e
 
-names_go : (kind : TokenKind) (b : ℕ) (text more : List ℕ) (found : Lexeme) → is_name_start b ≡ true → is_name_byte b ≡ true →
-    AllPass is_name_byte text → name_at kind (b ∷ text ++ more) ≡ Some found → 1 + length (b ∷ text) ≤ found.length
-names_go kind b text more found starts goes pass is =
-    let e : Some (lexed (Token kind) (prefix_len is_name_byte (b ∷ text ++ more) + 1)) ≡ Some found =
-    rw starts at is in
-    let reach : length (b ∷ text) ≤ prefix_len is_name_byte (b ∷ text ++ more) =
-    run_reaches is_name_byte (b ∷ text) more (goes, pass) in
-    omega (arith, same_length (lexed (Token kind) (prefix_len is_name_byte (b ∷ text ++ more) + 1)) found e, reach)
-
-pub names : (kind : TokenKind) → IsLongest 1 IsName (name_at kind)
-names kind [] more found spelled is = absurd spelled
-names kind (b ∷ text) more found spelled is =
-    names_go kind b text more found spelled.0 (name_start_continues b spelled.0) spelled.1 is
-
-some_is : (a b : ℕ) → Some a ≡ Some b → a ≡ b
-some_is a b e = cc
-
-one_is_not_two : (b : ℕ) → (b ∷ []) ≡ 42 ∷ 47 ∷ [] → ⊥
-one_is_not_two b e = cc
-
-closing_reaches : (before : ℕ) (text more : List ℕ) (n : ℕ) → IsClosed text →
-    closing_at before (text ++ more) ≡ Some n → before + length text ≤ n
-closing_reaches before [] more n closed is = absurd closed
-closing_reaches before (b ∷ []) more n (inl e) is = absurd (one_is_not_two b e)
-closing_reaches before (b ∷ []) more n (inr w) is = absurd w.1
-closing_reaches before (b ∷ c ∷ text) more n (inl e) is =
-    let P : List ℕ → Type 0 = λ xs. closing_at before (xs ++ more) ≡ Some n → before + length xs ≤ n in
-    subst P (sym e) (λ (h : Some (before + 2) ≡ Some n). omega (arith, some_is (before + 2) n h)) is
-closing_reaches before (b ∷ c ∷ text) more n (inr w) is =
-    let later : closing_at (before + 1) (c ∷ text ++ more) ≡ Some n = rw w.0 at is in
-    let reach = closing_reaches (before + 1) (c ∷ text) more n w.1 later in
-    omega (arith, reach)
-
-line_reaches : (line more : List ℕ) (found : Lexeme) → AllPass is_not_line_feed line →
-    comment_at (47 ∷ line ++ more) ≡ Some found → 1 + length (47 ∷ line) ≤ found.length
-line_reaches line more found pass is =
-    let reach = run_reaches is_not_line_feed line more pass in
-    let e : prefix_len is_not_line_feed (line ++ more) + 2 ≡ found.length =
-    same_length (lexed Comment (prefix_len is_not_line_feed (line ++ more) + 2)) found is in
-    omega (arith, e, reach)
-
-block_reaches : (inside more : List ℕ) (found : Lexeme) → IsClosed inside →
-    comment_at (42 ∷ inside ++ more) ≡ Some found → 1 + length (42 ∷ inside) ≤ found.length
-block_reaches inside more found closed is =
-    let m = mapped (λ (n : ℕ). lexed Comment (n + 2)) (closing_at 0 (inside ++ more)) found is in
-    let reach = closing_reaches 0 inside more m.0 closed m.1 in
-    let e : m.0 + 2 ≡ found.length = same_length (lexed Comment (m.0 + 2)) found m.2 in
-    omega (arith, e, reach)
-
-pub comments : IsLongest 1 IsRestOfComment comment_at
-comments text more found (inl (line, e, pass)) is =
-    let P : List ℕ → Type 0 = λ xs. comment_at (xs ++ more) ≡ Some found → 1 + length xs ≤ found.length in
-    subst P (sym e) (line_reaches line more found pass) is
-comments text more found (inr (inside, e, closed)) is =
-    let P : List ℕ → Type 0 = λ xs. comment_at (xs ++ more) ≡ Some found → 1 + length xs ≤ found.length in
-    subst P (sym e) (block_reaches inside more found closed) is
+-- a comment's end is found
+pub closing_is_read : (before : ℕ) (inside more : List ℕ) → IsClosed inside →
+    closing_at before (inside ++ more) ≡ Some (before + length inside)
+closing_is_read before [] more closed = absurd closed
+closing_is_read before (b ∷ inside) more (inl e) =
+    subst (λ xs. closing_at before (xs ++ more) ≡ Some (before + length xs)) (sym e) refl
+closing_is_read before (b ∷ []) more (inr w) = absurd w.1
+closing_is_read before (b ∷ c ∷ inside) more (inr w) =
+    let count : before + 1 + length (c ∷ inside) ≡ before + length (b ∷ c ∷ inside) = omega arith in
+    rw w.0 (closing_is_read (before + 1) (c ∷ inside) more w.1 ∙ ap (λ n. Some n) count)
 
 digits_step : (p q : Bool) (x : Option Numeral) (v k : ℕ) (f : Numeral) →
     (if p then (if q then x else None) else Some (numeral v k)) ≡ Some f →

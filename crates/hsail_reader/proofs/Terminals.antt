@@ -9,20 +9,11 @@ use Rattle.hsail_reader.specs.TextTokens.{PlacedToken}
 use Rattle.hsail_reader.specs.Types.{alignment_bytes}
 use Rattle.hsail_reader.specs.WordSpelling.{SpellsWord, stands_in_modules}
 use Rattle.hsail_reader.specs.Words.{word_of, alignment_of}
-use Rattle.hsail_reader.specs.declared.fault.Flaw.{Flaw}
-use Rattle.hsail_reader.specs.declared.module.Profile.{Profile}
+use Rattle.hsail_reader.specs.Nouns.{Alignment, DataType, Flaw, Opcode, Profile, Register, Rounding, TokenKind, Word, Eight, Four, One, Sixteen, Two}
 use Rattle.hsail_reader.specs.declared.module.Profile.TheVariants as profiles
-use Rattle.hsail_reader.specs.declared.module.Rounding.{Rounding}
 use Rattle.hsail_reader.specs.declared.module.Rounding.TheVariants as roundings
 use Rattle.hsail_reader.specs.declared.token.Header.TheVariants as headers
-use Rattle.hsail_reader.specs.declared.token.TokenKind.{TokenKind}
 use Rattle.hsail_reader.specs.declared.token.TokenKind.TheVariants as kinds
-use Rattle.hsail_reader.specs.declared.types.Alignment.{Alignment}
-use Rattle.hsail_reader.specs.declared.types.Alignment.TheVariants.{One, Two, Four, Eight, Sixteen}
-use Rattle.hsail_reader.specs.declared.types.DataType.{DataType}
-use Rattle.hsail_reader.specs.declared.types.Register.{Register}
-use Rattle.hsail_reader.specs.declared.words.Opcode.{Opcode}
-use Rattle.hsail_reader.specs.declared.words.Word.{Word}
 use Rattle.hsail_reader.specs.declared.words.Word.TheVariants as words
 use Rattle.hsail_reader.proofs.Grammars.{Decides}
 use Rattle.hsail_reader.proofs.WordSpellings.{word_is_read, word_is_spelled}
@@ -122,8 +113,7 @@ roundings_found = kind_finds (λ r. kinds.Header (rounding_header r)) rounding_o
   where
     there : (r : Rounding) → rounding_of (kinds.Header (rounding_header r)) ≡ Some r
     there roundings.Default = refl
-    there roundings.Zero = refl
-    there roundings.Near = refl
+    there _ = refl
 
     back : (k : TokenKind) (r : Rounding) → rounding_of k ≡ Some r → k ≡ kinds.Header (rounding_header r)
     back (kinds.Header headers.Default) roundings.Default is = refl
@@ -225,10 +215,7 @@ aligns = word_finds (λ a. words.Align (alignment_bytes a)) align_of syntax ther
   where
     there : (a : Alignment) → alignment_of (alignment_bytes a) ≡ Some a
     there One = refl
-    there Two = refl
-    there Four = refl
-    there Eight = refl
-    there Sixteen = refl
+    there _ = refl
 
 pub kernargs : (flaw : PlacedToken → Flaw) → Finds (kernarg flaw)
 kernargs flaw = word_finds words.Argument kernarg_of flaw (λ kind. refl) back (λ kind. refl)

@@ -6,12 +6,7 @@ use Rattle.hsail_reader.specs.Lexemes.{lexed, lexeme_at}
 use Rattle.hsail_reader.specs.TextTokens.{IsLexeme, IsLongestFront, AreTokens, none, lexeme, header_name, PlacedToken, kept, line_after, line_behind}
 use Rattle.hsail_reader.specs.Tokens.{tokens_from, further, before_rest}
 use Rattle.hsail_reader.specs.declared.fault.Flaw.TheVariants as flaw
-use Rattle.hsail_reader.specs.declared.fault.Refusal.{Refusal}
-use Rattle.hsail_reader.specs.declared.token.Header.{Header}
-use Rattle.hsail_reader.specs.declared.token.Header.TheVariants.{Base, Full, Large, Default, Zero, Near}
-use Rattle.hsail_reader.specs.declared.token.Lexeme.{Lexeme}
-use Rattle.hsail_reader.specs.declared.token.LexemeKind.{LexemeKind}
-use Rattle.hsail_reader.specs.declared.token.LexemeKind.TheVariants.{Blank, Comment, Token}
+use Rattle.hsail_reader.specs.Nouns.{Header, Lexeme, LexemeKind, Refusal, Base, Blank, Comment, Token}
 use Rattle.hsail_reader.specs.declared.token.TokenKind.TheVariants as token
 use Rattle.hsail_reader.proofs.LexemeFound.{longest_is_found}
 use Rattle.hsail_reader.proofs.LexemeFronts.{number_first, word_first, lexeme_reaches}
@@ -36,11 +31,7 @@ step place line kind front behind some is =
 -- a word of the header has a byte at least
 header_is_some : (h : Header) → 0 < length (header_name h)
 header_is_some Base = omega arith
-header_is_some Full = omega arith
-header_is_some Large = omega arith
-header_is_some Default = omega arith
-header_is_some Zero = omega arith
-header_is_some Near = omega arith
+header_is_some _ = omega arith
 
 -- a lexeme has a byte at least
 lexeme_is_some : (kind : LexemeKind) (front : List ℕ) → IsLexeme kind front → 0 < length front

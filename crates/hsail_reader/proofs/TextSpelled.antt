@@ -7,9 +7,7 @@ use Rattle.hsail_reader.specs.Grammars.{spells, read, ◌>>=◌}
 use Rattle.hsail_reader.specs.TextTokens.{PlacedToken}
 use Rattle.hsail_reader.specs.Syntax.{module_at, read_at, located, reading}
 use Rattle.hsail_reader.specs.Tokens.{tokens_of}
-use Rattle.hsail_reader.specs.declared.fault.ReadFault.{ReadFault}
-use Rattle.hsail_reader.specs.declared.fault.Refusal.{Refusal}
-use Rattle.hsail_reader.specs.declared.module.Module.{Module}
+use Rattle.hsail_reader.specs.Nouns.{Module, ReadFault, Refusal}
 use Rattle.hsail_reader.proofs.Decided.{module_decides}
 use Rattle.hsail_reader.proofs.Grammars.{Front, complete, sound, bound}
 use Rattle.hsail_reader.proofs.TextCut.{cut, spelled}

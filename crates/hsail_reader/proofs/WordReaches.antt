@@ -3,16 +3,14 @@ use Rattle.std.proofs.Common.{◌≡◌, ℕ, zero, suc, ◌+◌, ◌-◌, ◌<�
 use Rattle.std.proofs.lemmas.Bool.Decides.{eqb_tells}
 use Rattle.std.proofs.Math.Dec.{eqb-zero-suc}
 use Rattle.std.proofs.Math.Seq.{drop-append_seam}
-use Rattle.hsail_reader.specs.Bytes.{behind, numeral_at, align_at, width_value_at, width_at, numeral, spelled_width, ◌>>=◌}
+use Rattle.hsail_reader.specs.Bytes.{behind, align_at, width_at, numeral}
 use Rattle.hsail_reader.specs.Lexemes.{length_of, modifier_length, piece_length, pieces_length, word_of}
 use Rattle.hsail_reader.specs.Spelling.{AllPass, is_name_byte, is_name_start}
 use Rattle.hsail_reader.specs.WordLexemes.{IsModifier, ArePieces, none, byte, modifier, IsWord}
 use Rattle.hsail_reader.specs.WordSpelling.{SpellsNumber}
-use Rattle.hsail_reader.specs.declared.token.Lexeme.{Lexeme}
-use Rattle.hsail_reader.specs.declared.token.Numeral.{Numeral}
-use Rattle.hsail_reader.specs.declared.token.SpelledWidth.{SpelledWidth}
-use Rattle.hsail_reader.proofs.BracketSpelling.{align_is_read, modifier_is_read, modifier_is_some}
-use Rattle.hsail_reader.proofs.Reaches.{bound, numeral_length, same_length, name_start_continues, true_is_not_false}
+use Rattle.hsail_reader.specs.Nouns.{Lexeme, Numeral, SpelledWidth}
+use Rattle.hsail_reader.proofs.BracketSpelling.{align_is_spelled, width_is_spelled, align_is_read, modifier_is_read, modifier_is_some}
+use Rattle.hsail_reader.proofs.Reaches.{same_length, name_start_continues, true_is_not_false}
 use Rattle.hsail_reader.proofs.Pieces.{pieces_length_step}
 use Rattle.hsail_reader.proofs.Fronts.{IsLongest, word_found}
 
@@ -33,33 +31,17 @@ pieces_grow zero before (b ∷ bytes) =
 abbrev Begins : List ℕ → List ℕ → Type 0
 Begins front bytes = (r : List ℕ) × (behind front bytes ≡ Some r)
 
-pub width_length_of : (a b : SpelledWidth) → Some a ≡ Some b → a.length ≡ b.length
-width_length_of a b e = ap (λ (w : SpelledWidth). w.length) (same a b e)
-  where
-    same : (a b : SpelledWidth) → Some a ≡ Some b → a ≡ b
-    same a b e = cc
-
 pub align_length : (bytes : List ℕ) (n : Numeral) → align_at bytes ≡ Some n →
     (7 ≤ n.length) × Begins (codes "align(") bytes
 align_length bytes n is =
-    let p = bound (behind (codes "align(") bytes)
-    (λ inside. numeral_at inside >>= λ m. behind (codes ")") (drop m.length inside) >>= λ rest. Some (numeral m.value (m.length + 7))) n is in
-    let q = bound (numeral_at p.0)
-    (λ m. behind (codes ")") (drop m.length p.0) >>= λ rest. Some (numeral m.value (m.length + 7))) n p.2 in
-    let r = bound (behind (codes ")") (drop q.0.length p.0))
-    (λ rest. Some (numeral q.0.value (q.0.length + 7))) n q.2 in
-    (omega (arith, numeral_length (numeral q.0.value (q.0.length + 7)) n r.2), (p.0, p.1))
+    let r = align_is_spelled bytes n is in
+    (omega (arith, r.3), ((r.0 ++ codes ")") ++ r.1, ap (behind (codes "align(")) r.2))
 
 width_length : (bytes : List ℕ) (w : SpelledWidth) → width_at bytes ≡ Some w →
     (7 ≤ w.length) × Begins (codes "width(") bytes
 width_length bytes w is =
-    let p = bound (behind (codes "width(") bytes)
-    (λ inside. width_value_at inside >>= λ v. behind (codes ")") (drop v.length inside) >>= λ rest. Some (spelled_width v.width (v.length + 7))) w is in
-    let q = bound (width_value_at p.0)
-    (λ v. behind (codes ")") (drop v.length p.0) >>= λ rest. Some (spelled_width v.width (v.length + 7))) w p.2 in
-    let r = bound (behind (codes ")") (drop q.0.length p.0))
-    (λ rest. Some (spelled_width q.0.width (q.0.length + 7))) w q.2 in
-    (omega (arith, width_length_of (spelled_width q.0.width (q.0.length + 7)) w r.2), (p.0, p.1))
+    let r = width_is_spelled bytes w is in
+    (omega (arith, r.3), ((r.0 ++ codes ")") ++ r.1, ap (behind (codes "width(")) r.2))
 
 length_shape : (bytes : List ℕ) (a : Option Numeral) (w : Option SpelledWidth) →
     align_at bytes ≡ a → width_at bytes ≡ w → 0 < length_of a w →

@@ -7,12 +7,11 @@ use Rattle.hsail_reader.specs.Bytes.{align_at, width_at}
 use Rattle.hsail_reader.specs.Spelling.{is_name_byte, is_name_start}
 use Rattle.hsail_reader.specs.Lexemes.{length_of, modifier_length, piece_length, pieces_length, word_of}
 use Rattle.hsail_reader.specs.WordLexemes.{IsModifier, ArePieces, none, byte, modifier, IsWord}
-use Rattle.hsail_reader.specs.declared.token.Lexeme.{Lexeme}
-use Rattle.hsail_reader.specs.declared.token.Numeral.{Numeral}
-use Rattle.hsail_reader.specs.declared.token.SpelledWidth.{SpelledWidth}
+use Rattle.hsail_reader.specs.Nouns.{Lexeme, Numeral, SpelledWidth, Token}
+use Rattle.hsail_reader.specs.declared.token.TokenKind.TheVariants as token
 use Rattle.hsail_reader.proofs.BracketSpelling.{align_is_spelled, width_is_spelled, width_of, modifier_is_some}
 use Rattle.hsail_reader.proofs.Pieces.{pieces_length_step}
-use Rattle.hsail_reader.proofs.Reaches.{bound, same_length}
+use Rattle.hsail_reader.proofs.Reaches.{bound, same_kind, same_length}
 use Rattle.hsail_reader.proofs.Spelled.{nothing}
 use Rattle.hsail_reader.proofs.WordReaches.{piece_if}
 use Rattle.hsail_reader.proofs.Fronts.{IsFoundSpelled, begun_word}
@@ -103,6 +102,7 @@ pieces_read (suc bound) before (b ∷ bytes) fits =
 word_go : (b : ℕ) (bytes : List ℕ) (found : Lexeme) (a : Option Numeral) → is_name_start b ≡ true →
     align_at (b ∷ bytes) ≡ a → Some (word_of a (b ∷ bytes)) ≡ Some found →
     (text : List ℕ) × (more : List ℕ) × (b ∷ bytes ≡ text ++ more) × IsWord text × (0 + length text ≡ found.length)
+    × (Token token.Word ≡ found.kind)
 word_go b bytes found None starts read is =
     let r = pieces_read (length bytes) 1 bytes (omega arith) in (
       b ∷ r.0,
@@ -110,6 +110,7 @@ word_go b bytes found None starts read is =
       ap (λ xs. b ∷ xs) r.2,
       inl (starts, r.3),
       omega (arith, r.4, same_length (word_of None (b ∷ bytes)) found is),
+      same_kind (word_of None (b ∷ bytes)) found is,
     )
 word_go b bytes found (Some n) starts read is =
     let r = align_is_spelled (b ∷ bytes) n read in
@@ -119,9 +120,10 @@ word_go b bytes found (Some n) starts read is =
       r.2,
       inr (n.value, (r.0, refl, r.4)),
       omega (arith, long, r.3, same_length (word_of (Some n) (b ∷ bytes)) found is),
+      same_kind (word_of (Some n) (b ∷ bytes)) found is,
     )
 
-pub words : IsFoundSpelled 0 IsWord begun_word
+pub words : IsFoundSpelled 0 (Token token.Word) IsWord begun_word
 words [] found is = nothing found is
 words (b ∷ bytes) found is =
     ⊎_elim

@@ -4,22 +4,18 @@ use Rattle.std.proofs.lemmas.Bool.{eqb-true}
 use Rattle.std.proofs.lemmas.Bool.Decides.{eqb_tells}
 use Rattle.std.specs.List.{Contains}
 use Rattle.std.specs.Option.{is_some}
-use Rattle.hsail_reader.specs.Bytes.{behind, align_at}
+use Rattle.hsail_reader.specs.Bytes.{behind, align_at, ◌>>=◌}
 use Rattle.hsail_reader.specs.Rows.{InstructionRow, rows, types_of}
-use Rattle.hsail_reader.specs.Words.{is_spelled, is_end, type_among, opcode_among, instruction_at, argument_word, instruction_word, other_word, named_word, word_of}
+use Rattle.hsail_reader.specs.Words.{is_spelled, is_end, type_among, opcode_at, opcode_among, instruction_at, argument_word, instruction_word, other_word, named_word, word_of}
 use Rattle.hsail_reader.specs.WordSpelling.{SpellsNumber, SpellsBehindStem, SpellsWord, stands_in_modules}
-use Rattle.hsail_reader.specs.declared.rows.TypeSet.TheVariants.{Memory}
-use Rattle.hsail_reader.specs.declared.token.Numeral.{Numeral}
-use Rattle.hsail_reader.specs.declared.types.DataType.{DataType}
-use Rattle.hsail_reader.specs.declared.words.Opcode.{Opcode}
-use Rattle.hsail_reader.specs.declared.words.Word.{Word}
+use Rattle.hsail_reader.specs.Nouns.{DataType, Numeral, Opcode, Word, Memory}
 use Rattle.hsail_reader.specs.declared.words.Word.TheVariants as word
 use Rattle.hsail_reader.proofs.FormSpelling.{form_is_read, form_is_spelled}
 use Rattle.hsail_reader.proofs.BracketSpelling.{align_is_read}
 use Rattle.hsail_reader.proofs.BracketSpelling.{align_is_spelled}
-use Rattle.hsail_reader.proofs.Reaches.{chosen, true_is_not_false}
+use Rattle.hsail_reader.proofs.Reaches.{bound, chosen, true_is_not_false}
 use Rattle.hsail_reader.proofs.Spelled.{behind_parts}
-use Rattle.hsail_reader.proofs.WordRows.{clashes_all, clashes_not_behind, row_is_read, row_is_found, spelled_is, type_is_read, type_is_found}
+use Rattle.hsail_reader.proofs.WordRows.{behind_front, clashes_all, clashes_not_behind, first_is_read, first_is_found, spelled_is, type_is_read, type_is_found}
 
 -- equal numbers pass the test
 same_tested : (a b : ℕ) → a ≡ b → (a == b) ≡ true
@@ -48,7 +44,9 @@ instruction_steps : (row : InstructionRow) (rest : List ℕ) (code : Opcode) →
     SpellsBehindStem row.form code rest → instruction_at (row.stem ++ rest) ≡ Some code
 unfolding instruction_at
 instruction_steps row rest code c spelled =
-    row_is_read rows row rest code refl c (form_is_read row.form code rest spelled)
+    first_is_read (λ r. r.stem) (λ r text. behind r.stem text >>= opcode_at r.form)
+    (λ r text e. ap (λ o. o >>= opcode_at r.form) e) rows row rest code refl c
+    (ap (λ o. o >>= opcode_at row.form) (behind_front row.stem rest) ∙ form_is_read row.form code rest spelled)
 
 -- no align(n) is read where its name does not stand
 no_align : (bytes : List ℕ) → behind (codes "align(") bytes ≡ None → align_at bytes ≡ None
@@ -59,7 +57,7 @@ instruction_is_read : (row : InstructionRow) (rest : List ℕ) (code : Opcode) �
     SpellsBehindStem row.form code rest → word_of (row.stem ++ rest) ≡ word.Instruction code
 instruction_is_read row rest code c spelled =
     let not_behind =
-    λ (front : List ℕ) (e : clashes_all front rows ≡ true). clashes_not_behind front rows row rest e c in
+    λ (front : List ℕ) (e : clashes_all (λ r. r.stem) front rows ≡ true). clashes_not_behind (λ r. r.stem) front rows row rest e c in
     word_steps (row.stem ++ rest) (word.Instruction code)
     (ap is_end (not_behind (codes "module") refl))
     (ap is_end (not_behind (codes "prog") refl))
@@ -122,8 +120,10 @@ instruction_is_spelled : (text : List ℕ) (o : Option Opcode) (w : Word) → op
     instruction_word o ≡ w → stands_in_modules w ≡ true → SpellsWord w text
 instruction_is_spelled text None w found e stands = outside word.Unknown w text refl e stands
 instruction_is_spelled text (Some code) w found e stands =
-    let f = row_is_found rows text code found in
-    spelled_of (word.Instruction code) w text (f.0, f.1, f.2, f.3, form_is_spelled f.0.form code f.1 f.4) e
+    let f = first_is_found (λ r text. behind r.stem text >>= opcode_at r.form) rows text code found in
+    let b = bound (behind f.0.stem text) (opcode_at f.0.form) code f.2 in
+    spelled_of (word.Instruction code) w text
+    (f.0, b.0, f.1, behind_parts f.0.stem text b.0 b.1, form_is_spelled f.0.form code b.0 b.2) e
 
 -- a word that is not align(n) is spelled
 other_is_spelled : (o : Option (List ℕ)) (text : List ℕ) (w : Word) → behind (codes "kernarg_") text ≡ o →

@@ -3,10 +3,7 @@ use Rattle.std.specs.Prelude.{ℕ, ◌+◌, ◌*◌, ◌^◌, List, [], ◌∷�
 use Rattle.std.specs.Char.{is_digit, digit_value}
 use Rattle.std.specs.Option.{is_some, option_map}
 use Rattle.hsail_reader.specs.Spelling.{is_name_start, begins_with}
-use Rattle.hsail_reader.specs.declared.token.Numeral.{Numeral}
-use Rattle.hsail_reader.specs.declared.token.SpelledWidth.{SpelledWidth}
-use Rattle.hsail_reader.specs.declared.types.Width.{Width}
-use Rattle.hsail_reader.specs.declared.types.Width.TheVariants.{Number, All, WaveSize}
+use Rattle.hsail_reader.specs.Nouns.{Numeral, SpelledWidth, Width, All, Number, WaveSize}
 
 -- the first byte begins a name
 abbrev pub begins_name : List ℕ → Bool
@@ -64,6 +61,15 @@ infixl 10 ◌>>=◌
 abbrev pub ◌>>=◌ : {A B : Type 0} → Option A → (A → Option B) → Option B
 None >>= f = None
 (Some x) >>= f = f x
+
+abbrev pub or_else : {A : Type 0} → Option A → Option A → Option A
+or_else None other = other
+or_else (Some found) other = Some found
+
+-- what the first of some reads
+abbrev pub first_of : {A B : Type 0} → (A → List ℕ → Option B) → List A → List ℕ → Option B
+first_of read [] text = None
+first_of read (x ∷ others) text = or_else (read x text) (first_of read others text)
 
 -- align(n)
 abbrev pub align_at : List ℕ → Option Numeral

@@ -1,12 +1,8 @@
 -- Where and why a text is not read (own).
 use Rattle.std.specs.Prelude.{◌≡◌, ℕ, ◌+◌, List, [], ◌∷◌, ◌++◌, ◌==◌, if◌then◌else◌, Option, Some, None, Result, Ok, Err, take}
-use Rattle.hsail_reader.specs.declared.fault.Cause.{Cause}
+use Rattle.hsail_reader.specs.Nouns.{Cause, Flaw, ReadFault, Refusal, Stop}
 use Rattle.hsail_reader.specs.declared.fault.Cause.TheVariants.{Lexeme, Syntax, NotInProfile, TooLong}
-use Rattle.hsail_reader.specs.declared.fault.Flaw.{Flaw}
 use Rattle.hsail_reader.specs.declared.fault.Flaw.TheVariants as flaw
-use Rattle.hsail_reader.specs.declared.fault.ReadFault.{ReadFault}
-use Rattle.hsail_reader.specs.declared.fault.Refusal.{Refusal}
-use Rattle.hsail_reader.specs.declared.fault.Stop.{Stop}
 use Rattle.hsail_reader.specs.declared.fault.Stop.TheVariants as stop
 
 -- the numbers of the causes (own)

@@ -6,34 +6,13 @@ use Rattle.std.specs.Prelude.{ℕ, ◌≤◌, List, [], ◌∷◌, Bool, true, f
 use Rattle.hsail_reader.specs.Grammars.{Grammar, give, either, many, on_line, spells, begins}
 use Rattle.hsail_reader.specs.Terminals.{◌>>=◌, ◌>>◌, optional, open_parenthesis, close_parenthesis, open_bracket, close_bracket, open_brace, close_brace, plus, minus, comma, colon, semicolon, register, number, global, variable, label, major, minor, profile, large, rounding, module_word, prog, kernel_word, align, kernarg, opcode, outside, syntax, at_begin, behind_align}
 use Rattle.hsail_reader.specs.TextTokens.{AreTokens, PlacedToken}
-use Rattle.hsail_reader.specs.declared.fault.Flaw.{Flaw}
-use Rattle.hsail_reader.specs.declared.fault.ReadError.{ReadError}
+use Rattle.hsail_reader.specs.Nouns.{Address, Alignment, Argument, BinaryOperation, Constant, DataType, Fields, Flaw, Item, Kernel, Modifiers, Module, Opcode, Operation, Place, Query, ReadError, Segment, Source, TernaryOperation, UnaryOperation, Width}
 use Rattle.hsail_reader.specs.declared.fault.ReadError.TheVariants as error
-use Rattle.hsail_reader.specs.declared.module.Address.{Address}
 use Rattle.hsail_reader.specs.declared.module.Address.TheVariants as addresses
-use Rattle.hsail_reader.specs.declared.module.Argument.{Argument}
-use Rattle.hsail_reader.specs.declared.module.Item.{Item}
 use Rattle.hsail_reader.specs.declared.module.Item.TheVariants as an_item
-use Rattle.hsail_reader.specs.declared.module.Kernel.{Kernel}
-use Rattle.hsail_reader.specs.declared.module.Module.{Module}
-use Rattle.hsail_reader.specs.declared.module.Operation.{Operation}
 use Rattle.hsail_reader.specs.declared.module.Operation.TheVariants as operations
-use Rattle.hsail_reader.specs.declared.module.Place.{Place}
 use Rattle.hsail_reader.specs.declared.module.Place.TheVariants as places
-use Rattle.hsail_reader.specs.declared.reading.Fields.{Fields}
-use Rattle.hsail_reader.specs.declared.types.Alignment.{Alignment}
-use Rattle.hsail_reader.specs.declared.types.BinaryOperation.{BinaryOperation}
-use Rattle.hsail_reader.specs.declared.types.Constant.{Constant}
-use Rattle.hsail_reader.specs.declared.types.DataType.{DataType}
-use Rattle.hsail_reader.specs.declared.types.Modifiers.{Modifiers}
-use Rattle.hsail_reader.specs.declared.types.Query.{Query}
-use Rattle.hsail_reader.specs.declared.types.Segment.{Segment}
-use Rattle.hsail_reader.specs.declared.types.Source.{Source}
 use Rattle.hsail_reader.specs.declared.types.Source.TheVariants as sources
-use Rattle.hsail_reader.specs.declared.types.TernaryOperation.{TernaryOperation}
-use Rattle.hsail_reader.specs.declared.types.UnaryOperation.{UnaryOperation}
-use Rattle.hsail_reader.specs.declared.types.Width.{Width}
-use Rattle.hsail_reader.specs.declared.words.Opcode.{Opcode}
 use Rattle.hsail_reader.specs.declared.words.Opcode.TheVariants as opcodes
 
 -- a number, with the sign that stood before it

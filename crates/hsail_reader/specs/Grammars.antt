@@ -3,9 +3,8 @@
 use Rattle.std.specs.Prelude.{◌≡◌, ℕ, zero, suc, ◌⊎◌, List, [], ◌∷◌, Bool, true, false, ◌||◌, if◌then◌else◌, Option, Some, None, Result, Ok, Err, is_some, length}
 use Rattle.hsail_reader.specs.Faults.{refusal}
 use Rattle.hsail_reader.specs.TextTokens.{PlacedToken}
-use Rattle.hsail_reader.specs.declared.fault.Flaw.{Flaw}
+use Rattle.hsail_reader.specs.Nouns.{Flaw, Refusal}
 use Rattle.hsail_reader.specs.declared.fault.Flaw.TheVariants.{Syntax}
-use Rattle.hsail_reader.specs.declared.fault.Refusal.{Refusal}
 
 -- a grammar of an X:
 -- give x: nothing, which stands for x

@@ -3,20 +3,10 @@
 use Rattle.std.specs.Prelude.{ℕ, zero, suc, ◌+◌, ◌-◌, List, [], ◌∷◌, ◌==◌, if◌then◌else◌, Option, Some, None, codes, length, drop}
 use Rattle.std.specs.List.{prefix_len}
 use Rattle.std.specs.Option.{is_some, option_map}
-use Rattle.hsail_reader.specs.Bytes.{begins_name, behind, closing_at, decimal_at, numeral_at, align_at, width_at, ◌>>=◌}
+use Rattle.hsail_reader.specs.Bytes.{begins_name, behind, closing_at, decimal_at, numeral_at, align_at, width_at, or_else, ◌>>=◌}
 use Rattle.hsail_reader.specs.Spelling.{is_blank, is_mark, is_name_byte, is_name_start, is_not_line_feed}
-use Rattle.hsail_reader.specs.declared.token.Header.{Header}
-use Rattle.hsail_reader.specs.declared.token.Header.TheVariants.{Base, Full, Large, Default, Zero, Near}
-use Rattle.hsail_reader.specs.declared.token.HeaderName.{HeaderName}
-use Rattle.hsail_reader.specs.declared.token.Lexeme.{Lexeme}
-use Rattle.hsail_reader.specs.declared.token.LexemeKind.{LexemeKind}
-use Rattle.hsail_reader.specs.declared.token.LexemeKind.TheVariants.{Blank, Comment, Token}
-use Rattle.hsail_reader.specs.declared.token.Numeral.{Numeral}
-use Rattle.hsail_reader.specs.declared.token.SpelledWidth.{SpelledWidth}
-use Rattle.hsail_reader.specs.declared.token.TokenKind.{TokenKind}
+use Rattle.hsail_reader.specs.Nouns.{Header, HeaderName, Lexeme, LexemeKind, Numeral, RegisterClass, SpelledWidth, TokenKind, Base, Blank, Comment, Control, Default, Double, Full, Large, Near, Single, Token, Zero}
 use Rattle.hsail_reader.specs.declared.token.TokenKind.TheVariants as token
-use Rattle.hsail_reader.specs.declared.types.RegisterClass.{RegisterClass}
-use Rattle.hsail_reader.specs.declared.types.RegisterClass.TheVariants.{Control, Single, Double}
 
 abbrev pub lexed : LexemeKind → ℕ → Lexeme
 lexed kind length = record { kind = kind; length = length }
@@ -76,10 +66,6 @@ header_among (h ∷ words) bytes =
     if is_some (behind h.name bytes)
     then Some (lexed (Token (token.Header h.header)) (length h.name + 1))
     else header_among words bytes
-
-abbrev pub or_else : Option Lexeme → Option Lexeme → Option Lexeme
-or_else None other = other
-or_else (Some found) other = Some found
 
 -- behind a dollar: a register, or a word of the header
 abbrev pub dollar_at : List ℕ → Option Lexeme

@@ -1,3 +1,4 @@
+pub mod Nouns
 pub mod Types
 pub mod Rows
 pub mod Faults

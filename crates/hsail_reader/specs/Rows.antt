@@ -1,11 +1,7 @@
 -- The table of instructions (PRM, the chapters on instructions; which rows and types there are is (own)).
 use Rattle.std.specs.Prelude.{ℕ, List, [], ◌∷◌, codes}
-use Rattle.hsail_reader.specs.declared.rows.Row.{Row}
-use Rattle.hsail_reader.specs.declared.rows.Form.{Form}
+use Rattle.hsail_reader.specs.Nouns.{DataType, Form, Row, TypeSet, Bit, Bits, BitsAndIntegers, Convertible, Integers, Memory, Unsigned32, Unsigned32And64}
 use Rattle.hsail_reader.specs.declared.rows.Form.TheVariants as form
-use Rattle.hsail_reader.specs.declared.rows.TypeSet.{TypeSet}
-use Rattle.hsail_reader.specs.declared.rows.TypeSet.TheVariants.{Bit, Bits, Integers, BitsAndIntegers, Convertible, Memory, Unsigned32, Unsigned32And64}
-use Rattle.hsail_reader.specs.declared.types.DataType.{DataType}
 use Rattle.hsail_reader.specs.declared.types.DataType.TheVariants as type
 use Rattle.hsail_reader.specs.declared.types.UnaryOperation.TheVariants as unary
 use Rattle.hsail_reader.specs.declared.types.BinaryOperation.TheVariants as binary

@@ -1,11 +1,8 @@
 -- A text and the module that it spells (own).
 use Rattle.std.specs.Prelude.{ℕ, List, [], ◌∷◌, Some, None, codes}
 use Rattle.hsail_reader.specs.declared.module.Address.TheVariants as addresses
-use Rattle.hsail_reader.specs.declared.module.Argument.{Argument}
-use Rattle.hsail_reader.specs.declared.module.Item.{Item}
+use Rattle.hsail_reader.specs.Nouns.{Argument, Item, Kernel, Module}
 use Rattle.hsail_reader.specs.declared.module.Item.TheVariants as items
-use Rattle.hsail_reader.specs.declared.module.Kernel.{Kernel}
-use Rattle.hsail_reader.specs.declared.module.Module.{Module}
 use Rattle.hsail_reader.specs.declared.module.Operation.TheVariants as operations
 use Rattle.hsail_reader.specs.declared.module.Profile.TheVariants as profiles
 use Rattle.hsail_reader.specs.declared.module.Rounding.TheVariants as roundings

@@ -6,11 +6,8 @@ use Rattle.hsail_reader.specs.Grammar.{module_text}
 use Rattle.hsail_reader.specs.Grammars.{read, ◌>>=◌}
 use Rattle.hsail_reader.specs.TextTokens.{PlacedToken}
 use Rattle.hsail_reader.specs.Tokens.{tokens_of}
-use Rattle.hsail_reader.specs.declared.fault.ReadError.{ReadError}
+use Rattle.hsail_reader.specs.Nouns.{Module, ReadError, ReadFault, Refusal}
 use Rattle.hsail_reader.specs.declared.fault.ReadError.TheVariants as error
-use Rattle.hsail_reader.specs.declared.fault.ReadFault.{ReadFault}
-use Rattle.hsail_reader.specs.declared.fault.Refusal.{Refusal}
-use Rattle.hsail_reader.specs.declared.module.Module.{Module}
 
 -- the module that some tokens are
 unfoldable pub module_at : List PlacedToken → Result Module Refusal

@@ -7,21 +7,12 @@ use Rattle.hsail_reader.specs.TextTokens.{PlacedToken}
 use Rattle.hsail_reader.specs.Types.{alignment_bytes}
 use Rattle.hsail_reader.specs.WordSpelling.{SpellsWord}
 use Rattle.hsail_reader.specs.Words.{word_of, alignment_of}
-use Rattle.hsail_reader.specs.declared.fault.Flaw.{Flaw}
+use Rattle.hsail_reader.specs.Nouns.{Alignment, DataType, Flaw, Header, Opcode, Profile, Register, Rounding, TokenKind, Word}
 use Rattle.hsail_reader.specs.declared.fault.Flaw.TheVariants.{Syntax, NotInProfile}
-use Rattle.hsail_reader.specs.declared.module.Profile.{Profile}
 use Rattle.hsail_reader.specs.declared.module.Profile.TheVariants as profiles
-use Rattle.hsail_reader.specs.declared.module.Rounding.{Rounding}
 use Rattle.hsail_reader.specs.declared.module.Rounding.TheVariants as roundings
-use Rattle.hsail_reader.specs.declared.token.Header.{Header}
 use Rattle.hsail_reader.specs.declared.token.Header.TheVariants as headers
-use Rattle.hsail_reader.specs.declared.token.TokenKind.{TokenKind}
 use Rattle.hsail_reader.specs.declared.token.TokenKind.TheVariants as kinds
-use Rattle.hsail_reader.specs.declared.types.Alignment.{Alignment}
-use Rattle.hsail_reader.specs.declared.types.DataType.{DataType}
-use Rattle.hsail_reader.specs.declared.types.Register.{Register}
-use Rattle.hsail_reader.specs.declared.words.Opcode.{Opcode}
-use Rattle.hsail_reader.specs.declared.words.Word.{Word}
 use Rattle.hsail_reader.specs.declared.words.Word.TheVariants as words
 
 -- a g, and behind it what its value asks for

@@ -4,14 +4,8 @@ use Rattle.std.specs.Prelude.{◌≡◌, ℕ, ◌+◌, ◌^◌, ◌<◌, ◌≤�
 use Rattle.hsail_reader.specs.Spelling.{IsRestOfComment, IsName, is_blank, is_mark}
 use Rattle.hsail_reader.specs.WordLexemes.{IsWord}
 use Rattle.hsail_reader.specs.WordSpelling.{SpellsDecimal, SpellsHexadecimal}
-use Rattle.hsail_reader.specs.declared.token.Header.{Header}
-use Rattle.hsail_reader.specs.declared.token.Header.TheVariants.{Base, Full, Large, Default, Zero, Near}
-use Rattle.hsail_reader.specs.declared.token.LexemeKind.{LexemeKind}
-use Rattle.hsail_reader.specs.declared.token.LexemeKind.TheVariants.{Blank, Comment, Token}
-use Rattle.hsail_reader.specs.declared.token.TokenKind.{TokenKind}
+use Rattle.hsail_reader.specs.Nouns.{Header, LexemeKind, RegisterClass, TokenKind, Base, Blank, Comment, Control, Default, Double, Full, Large, Near, Single, Token, Zero}
 use Rattle.hsail_reader.specs.declared.token.TokenKind.TheVariants as token
-use Rattle.hsail_reader.specs.declared.types.RegisterClass.{RegisterClass}
-use Rattle.hsail_reader.specs.declared.types.RegisterClass.TheVariants.{Control, Single, Double}
 
 -- a token with its text, how many bytes stand before it, and its line
 pub record PlacedToken : Type 0 where

@@ -5,8 +5,7 @@ use Rattle.hsail_reader.specs.Faults.{refusal, with_front}
 use Rattle.hsail_reader.specs.Lexemes.{lexeme_at}
 use Rattle.hsail_reader.specs.TextTokens.{PlacedToken, placed, kept, line_behind}
 use Rattle.hsail_reader.specs.declared.fault.Flaw.TheVariants as flaw
-use Rattle.hsail_reader.specs.declared.fault.Refusal.{Refusal}
-use Rattle.hsail_reader.specs.declared.token.Lexeme.{Lexeme}
+use Rattle.hsail_reader.specs.Nouns.{Lexeme, Refusal}
 use Rattle.hsail_reader.specs.declared.token.Token.{Token}
 
 -- a token of the code

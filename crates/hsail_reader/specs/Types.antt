@@ -1,11 +1,6 @@
 -- Data types, registers and alignments (PRM, Data Types; Registers).
 use Rattle.std.specs.Prelude.{ℕ}
-use Rattle.hsail_reader.specs.declared.types.DataType.{DataType}
-use Rattle.hsail_reader.specs.declared.types.DataType.TheVariants.{B1, B8, B16, B32, B64, U8, U16, U32, U64, S8, S16, S32, S64}
-use Rattle.hsail_reader.specs.declared.types.RegisterClass.{RegisterClass}
-use Rattle.hsail_reader.specs.declared.types.RegisterClass.TheVariants.{Control, Single, Double}
-use Rattle.hsail_reader.specs.declared.types.Alignment.{Alignment}
-use Rattle.hsail_reader.specs.declared.types.Alignment.TheVariants.{One, Two, Four, Eight, Sixteen}
+use Rattle.hsail_reader.specs.Nouns.{Alignment, DataType, RegisterClass, B1, B16, B32, B64, B8, Control, Double, Eight, Four, One, S16, S32, S64, S8, Single, Sixteen, Two, U16, U32, U64, U8}
 
 -- the bits of a value of a type (PRM, Data Types)
 abbrev pub type_bits : DataType → ℕ

@@ -3,7 +3,7 @@
 use Rattle.std.specs.Prelude.{◌≡◌, ℕ, ◌⊎◌, List, [], ◌∷◌, ◌++◌, true, Some, codes}
 use Rattle.hsail_reader.specs.Spelling.{is_name_byte, is_name_start}
 use Rattle.hsail_reader.specs.WordSpelling.{SpellsNumberIn, SpellsAlign, SpellsWidth}
-use Rattle.hsail_reader.specs.declared.types.Width.{Width}
+use Rattle.hsail_reader.specs.Nouns.{Width}
 
 -- align(n)
 abbrev pub IsAlign : List ℕ → Type 0

@@ -6,18 +6,9 @@ use Rattle.std.specs.List.{Contains}
 use Rattle.std.specs.Str.Parse.{digits_value}
 use Rattle.hsail_reader.specs.Rows.{InstructionRow, rows, types_of, type_name}
 use Rattle.hsail_reader.specs.Spelling.{IsDecimal, IsHexadecimal}
-use Rattle.hsail_reader.specs.declared.rows.Form.{Form}
+use Rattle.hsail_reader.specs.Nouns.{DataType, Form, Modifiers, Opcode, TypeSet, Width, Word, All, B1, Bit, Memory, Number, WaveSize}
 use Rattle.hsail_reader.specs.declared.rows.Form.TheVariants as form
-use Rattle.hsail_reader.specs.declared.rows.TypeSet.{TypeSet}
-use Rattle.hsail_reader.specs.declared.rows.TypeSet.TheVariants.{Bit, Memory}
-use Rattle.hsail_reader.specs.declared.types.DataType.{DataType}
-use Rattle.hsail_reader.specs.declared.types.DataType.TheVariants.{B1}
-use Rattle.hsail_reader.specs.declared.types.Modifiers.{Modifiers}
-use Rattle.hsail_reader.specs.declared.types.Width.{Width}
-use Rattle.hsail_reader.specs.declared.types.Width.TheVariants.{Number, All, WaveSize}
-use Rattle.hsail_reader.specs.declared.words.Opcode.{Opcode}
 use Rattle.hsail_reader.specs.declared.words.Opcode.TheVariants as opcode
-use Rattle.hsail_reader.specs.declared.words.Word.{Word}
 use Rattle.hsail_reader.specs.declared.words.Word.TheVariants as word
 
 -- a decimal number that is n

@@ -2,22 +2,11 @@
 -- What spells each word stands in `WordSpelling`.
 use Rattle.std.specs.Prelude.{ℕ, List, [], ◌∷◌, Bool, true, false, ◌==◌, if◌then◌else◌, Option, Some, None, codes, drop, is_some, length}
 use Rattle.std.specs.Option.{option_map}
-use Rattle.hsail_reader.specs.Bytes.{behind, align_at, width_at, ◌>>=◌}
+use Rattle.hsail_reader.specs.Bytes.{behind, first_of, align_at, width_at, ◌>>=◌}
 use Rattle.hsail_reader.specs.Rows.{InstructionRow, rows, types_of, type_name}
-use Rattle.hsail_reader.specs.declared.rows.Form.{Form}
+use Rattle.hsail_reader.specs.Nouns.{Alignment, DataType, Form, Modifiers, Numeral, Opcode, SpelledWidth, TypeSet, Width, Word, Bit, Eight, Four, Memory, One, Sixteen, Two}
 use Rattle.hsail_reader.specs.declared.rows.Form.TheVariants as form
-use Rattle.hsail_reader.specs.declared.rows.TypeSet.{TypeSet}
-use Rattle.hsail_reader.specs.declared.rows.TypeSet.TheVariants.{Bit, Memory}
-use Rattle.hsail_reader.specs.declared.token.Numeral.{Numeral}
-use Rattle.hsail_reader.specs.declared.token.SpelledWidth.{SpelledWidth}
-use Rattle.hsail_reader.specs.declared.types.Alignment.{Alignment}
-use Rattle.hsail_reader.specs.declared.types.Alignment.TheVariants.{One, Two, Four, Eight, Sixteen}
-use Rattle.hsail_reader.specs.declared.types.DataType.{DataType}
-use Rattle.hsail_reader.specs.declared.types.Modifiers.{Modifiers}
-use Rattle.hsail_reader.specs.declared.types.Width.{Width}
-use Rattle.hsail_reader.specs.declared.words.Opcode.{Opcode}
 use Rattle.hsail_reader.specs.declared.words.Opcode.TheVariants as opcode
-use Rattle.hsail_reader.specs.declared.words.Word.{Word}
 use Rattle.hsail_reader.specs.declared.words.Word.TheVariants as word
 
 -- nothing stands behind
@@ -31,8 +20,7 @@ is_spelled spelling text = is_end (behind spelling text)
 
 -- the first of some types that is spelled so
 abbrev pub type_among : List DataType → List ℕ → Option DataType
-type_among [] text = None
-type_among (t ∷ types) text = if is_spelled (type_name t) text then Some t else type_among types text
+type_among types text = first_of (λ t text. if is_spelled (type_name t) text then Some t else None) types text
 
 -- `_` and a type of the set, to the end of the word
 abbrev pub type_at : TypeSet → List ℕ → Option DataType
@@ -89,14 +77,9 @@ opcode_at form.ConditionalBranch rest =
 opcode_at form.Return rest = at_end opcode.Return rest
 opcode_at (form.Identify query set) rest = option_map (opcode.Identify query) (type_at set rest)
 
-abbrev pub or_else : Option Opcode → Option Opcode → Option Opcode
-or_else None other = other
-or_else (Some found) other = Some found
-
 -- the word of an instruction, by the first of some rows that spells it
 abbrev pub opcode_among : List InstructionRow → List ℕ → Option Opcode
-opcode_among [] text = None
-opcode_among (r ∷ others) text = or_else (behind r.stem text >>= opcode_at r.form) (opcode_among others text)
+opcode_among rows text = first_of (λ r text. behind r.stem text >>= opcode_at r.form) rows text
 
 -- the word of an instruction, by the first row of the table that spells it
 unfoldable pub instruction_at : List ℕ → Option Opcode

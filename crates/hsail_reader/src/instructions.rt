@@ -1,15 +1,12 @@
 //! The operands of each family of instructions.
 
-ghost use Rattle.std.specs.Prelude.{◌≡◌, ◌<◌, ◌≤◌, length, IfOk, Ok};
 ghost use Rattle.hsail_reader.specs.Faults.{Gives};
 ghost use Rattle.hsail_reader.specs.Tokens.{token_views};
 ghost use Rattle.hsail_reader.specs.Grammar as grammar;
 ghost use Rattle.hsail_reader.specs.Grammars.{read};
 
-use crate::fault::Stop;
 use crate::module::{Binary, ConditionalBranch, Identify, Load, Operation, Store, Ternary, Unary};
-use crate::operands::{address, label, mark, number, register, source};
-use crate::token::Token;
+use crate::operands::{Read, Tokens, address, label, mark, number, register, source};
 use crate::types::{
     BinaryOperation, DataType, Modifiers, Query, Segment, Source, TernaryOperation, UnaryOperation,
     Width,
@@ -19,9 +16,8 @@ use std::alloc::Global;
 
 /// A comma and a source.
 #[tactic(auto, unfolding(crate::specs::Grammar::next_source))]
-fn next_source<'a, 't>(tokens: &'a [Token<'t>]) -> Result<(Source, &'a [Token<'t>]), Stop>
-    ensures value { Gives (λ x. (x.0, token_views x.1.now)) result (read grammar.next_source (token_views tokens.now)) }
-    ensures shorter { IfOk result (λ x. length x.1.now < length tokens.now) }
+fn next_source<'a, 't>(tokens: Tokens<'a, 't>) -> Read<'a, 't, Source>
+    ensures { Gives (λ x. (x.0, token_views x.1.now)) result (read grammar.next_source (token_views tokens.now)) }
 {
     let rest = mark(b',', tokens)?;
     source(rest)
@@ -32,10 +28,9 @@ fn next_source<'a, 't>(tokens: &'a [Token<'t>]) -> Result<(Source, &'a [Token<'t
 fn read_unary<'a, 't>(
     operation: UnaryOperation,
     kind: DataType,
-    tokens: &'a [Token<'t>],
-) -> Result<(Operation, &'a [Token<'t>]), Stop>
-    ensures value { Gives (λ x. (x.0, token_views x.1.now)) result (read (grammar.unary operation kind) (token_views tokens.now)) }
-    ensures shorter { IfOk result (λ x. length x.1.now < length tokens.now) }
+    tokens: Tokens<'a, 't>,
+) -> Read<'a, 't, Operation>
+    ensures { Gives (λ x. (x.0, token_views x.1.now)) result (read (grammar.unary operation kind) (token_views tokens.now)) }
 {
     let (target, rest) = register(tokens)?;
     let (source, rest) = next_source(rest)?;
@@ -53,10 +48,9 @@ fn read_unary<'a, 't>(
 fn read_binary<'a, 't>(
     operation: BinaryOperation,
     kind: DataType,
-    tokens: &'a [Token<'t>],
-) -> Result<(Operation, &'a [Token<'t>]), Stop>
-    ensures value { Gives (λ x. (x.0, token_views x.1.now)) result (read (grammar.binary operation kind) (token_views tokens.now)) }
-    ensures shorter { IfOk result (λ x. length x.1.now < length tokens.now) }
+    tokens: Tokens<'a, 't>,
+) -> Read<'a, 't, Operation>
+    ensures { Gives (λ x. (x.0, token_views x.1.now)) result (read (grammar.binary operation kind) (token_views tokens.now)) }
 {
     let (target, rest) = register(tokens)?;
     let (left, rest) = next_source(rest)?;
@@ -76,10 +70,9 @@ fn read_binary<'a, 't>(
 fn read_ternary<'a, 't>(
     operation: TernaryOperation,
     kind: DataType,
-    tokens: &'a [Token<'t>],
-) -> Result<(Operation, &'a [Token<'t>]), Stop>
-    ensures value { Gives (λ x. (x.0, token_views x.1.now)) result (read (grammar.ternary operation kind) (token_views tokens.now)) }
-    ensures shorter { IfOk result (λ x. length x.1.now < length tokens.now) }
+    tokens: Tokens<'a, 't>,
+) -> Read<'a, 't, Operation>
+    ensures { Gives (λ x. (x.0, token_views x.1.now)) result (read (grammar.ternary operation kind) (token_views tokens.now)) }
 {
     let (target, rest) = register(tokens)?;
     let (first, rest) = next_source(rest)?;
@@ -103,10 +96,9 @@ fn read_load<'a, 't>(
     segment: Segment,
     modifiers: Modifiers,
     kind: DataType,
-    tokens: &'a [Token<'t>],
-) -> Result<(Operation, &'a [Token<'t>]), Stop>
-    ensures value { Gives (λ x. (x.0, token_views x.1.now)) result (read (grammar.load segment modifiers kind) (token_views tokens.now)) }
-    ensures shorter { IfOk result (λ x. length x.1.now < length tokens.now) }
+    tokens: Tokens<'a, 't>,
+) -> Read<'a, 't, Operation>
+    ensures { Gives (λ x. (x.0, token_views x.1.now)) result (read (grammar.load segment modifiers kind) (token_views tokens.now)) }
 {
     let (target, rest) = register(tokens)?;
     let rest = mark(b',', rest)?;
@@ -127,10 +119,9 @@ fn read_store<'a, 't>(
     alloc: Global,
     align: Option<u64>,
     kind: DataType,
-    tokens: &'a [Token<'t>],
-) -> Result<(Operation, &'a [Token<'t>]), Stop>
-    ensures value { Gives (λ x. (x.0, token_views x.1.now)) result (read (grammar.store align kind) (token_views tokens.now)) }
-    ensures shorter { IfOk result (λ x. length x.1.now < length tokens.now) }
+    tokens: Tokens<'a, 't>,
+) -> Read<'a, 't, Operation>
+    ensures { Gives (λ x. (x.0, token_views x.1.now)) result (read (grammar.store align kind) (token_views tokens.now)) }
 {
     let (source, rest) = source(tokens)?;
     let rest = mark(b',', rest)?;
@@ -146,12 +137,8 @@ fn read_store<'a, 't>(
 
 /// `@x`
 #[tactic(auto, unfolding(crate::specs::Grammar::branch))]
-fn read_branch<'a, 't>(
-    alloc: Global,
-    tokens: &'a [Token<'t>],
-) -> Result<(Operation, &'a [Token<'t>]), Stop>
-    ensures value { Gives (λ x. (x.0, token_views x.1.now)) result (read grammar.branch (token_views tokens.now)) }
-    ensures shorter { IfOk result (λ x. length x.1.now < length tokens.now) }
+fn read_branch<'a, 't>(alloc: Global, tokens: Tokens<'a, 't>) -> Read<'a, 't, Operation>
+    ensures { Gives (λ x. (x.0, token_views x.1.now)) result (read grammar.branch (token_views tokens.now)) }
 {
     let (name, rest) = label(alloc, tokens)?;
     Ok((Operation::Branch(name), rest))
@@ -162,10 +149,9 @@ fn read_branch<'a, 't>(
 fn read_conditional_branch<'a, 't>(
     alloc: Global,
     width: Option<Width>,
-    tokens: &'a [Token<'t>],
-) -> Result<(Operation, &'a [Token<'t>]), Stop>
-    ensures value { Gives (λ x. (x.0, token_views x.1.now)) result (read (grammar.conditional_branch width) (token_views tokens.now)) }
-    ensures shorter { IfOk result (λ x. length x.1.now < length tokens.now) }
+    tokens: Tokens<'a, 't>,
+) -> Read<'a, 't, Operation>
+    ensures { Gives (λ x. (x.0, token_views x.1.now)) result (read (grammar.conditional_branch width) (token_views tokens.now)) }
 {
     let (condition, rest) = source(tokens)?;
     let rest = mark(b',', rest)?;
@@ -183,10 +169,9 @@ fn read_conditional_branch<'a, 't>(
 fn read_identify<'a, 't>(
     query: Query,
     kind: DataType,
-    tokens: &'a [Token<'t>],
-) -> Result<(Operation, &'a [Token<'t>]), Stop>
-    ensures value { Gives (λ x. (x.0, token_views x.1.now)) result (read (grammar.identify query kind) (token_views tokens.now)) }
-    ensures shorter { IfOk result (λ x. length x.1.now < length tokens.now) }
+    tokens: Tokens<'a, 't>,
+) -> Read<'a, 't, Operation>
+    ensures { Gives (λ x. (x.0, token_views x.1.now)) result (read (grammar.identify query kind) (token_views tokens.now)) }
 {
     let (target, rest) = register(tokens)?;
     let rest = mark(b',', rest)?;
@@ -204,10 +189,9 @@ fn read_identify<'a, 't>(
 pub fn operands<'a, 't>(
     alloc: Global,
     opcode: Opcode,
-    tokens: &'a [Token<'t>],
-) -> Result<(Operation, &'a [Token<'t>]), Stop>
-    ensures value { Gives (λ x. (x.0, token_views x.1.now)) result (read (grammar.operands opcode) (token_views tokens.now)) }
-    ensures shorter { IfOk result (λ x. length x.1.now ≤ length tokens.now) }
+    tokens: Tokens<'a, 't>,
+) -> Read<'a, 't, Operation>
+    ensures { Gives (λ x. (x.0, token_views x.1.now)) result (read (grammar.operands opcode) (token_views tokens.now)) }
 {
     match opcode {
         Opcode::Unary(operation, kind) => read_unary(operation, kind, tokens),

@@ -1,6 +1,6 @@
 //! Items, arguments and kernels, each read at the front of some tokens.
 
-ghost use Rattle.std.specs.Prelude.{◌≡◌, ◌<◌, ◌≤◌, length, IfOk, Ok};
+ghost use Rattle.std.specs.Prelude.{◌≡◌, Ok};
 ghost use Rattle.hsail_reader.specs.Faults.{Gives, Fails};
 ghost use Rattle.hsail_reader.specs.Tokens.{token_views, token_view};
 ghost use Rattle.hsail_reader.specs.Grammar as grammar;
@@ -11,7 +11,7 @@ ghost use Rattle.hsail_reader.specs.Terminals as terminals;
 use crate::fault::{Flaw, Stop};
 use crate::instructions::operands;
 use crate::module::{Argument, Instruction, Item, Kernel, Label};
-use crate::operands::{copied, global, has_mark, line_of, mark, refused, variable};
+use crate::operands::{Read, Tokens, copied, global, has_mark, line_of, mark, refused, variable};
 use crate::token::{Token, TokenKind};
 use crate::types::{Alignment, DataType};
 use crate::words::{Word, classify, variable_alignment};
@@ -70,12 +70,8 @@ fn refused_variable(tokens: &[Token<'_>]) -> Stop
 
 /// An instruction and `;`.
 #[tactic(auto, unfolding(crate::specs::Grammar::performed))]
-fn instruction<'a, 't>(
-    alloc: Global,
-    tokens: &'a [Token<'t>],
-) -> Result<(Item, &'a [Token<'t>]), Stop>
-    ensures value { Gives (λ x. (x.0, token_views x.1.now)) result (read grammar.performed (token_views tokens.now)) }
-    ensures shorter { IfOk result (λ x. length x.1.now < length tokens.now) }
+fn instruction<'a, 't>(alloc: Global, tokens: Tokens<'a, 't>) -> Read<'a, 't, Item>
+    ensures { Gives (λ x. (x.0, token_views x.1.now)) result (read grammar.performed (token_views tokens.now)) }
 {
     let [first, rest @ ..] = tokens else {
         return Err(refused(tokens, Flaw::Syntax));
@@ -93,12 +89,8 @@ fn instruction<'a, 't>(
 
 /// An item that begins with no label.
 #[tactic(auto, unfolding(crate::specs::Grammar::unlabelled))]
-fn unlabelled<'a, 't>(
-    alloc: Global,
-    tokens: &'a [Token<'t>],
-) -> Result<(Item, &'a [Token<'t>]), Stop>
-    ensures value { Gives (λ x. (x.0, token_views x.1.now)) result (read grammar.unlabelled (token_views tokens.now)) }
-    ensures shorter { IfOk result (λ x. length x.1.now < length tokens.now) }
+fn unlabelled<'a, 't>(alloc: Global, tokens: Tokens<'a, 't>) -> Read<'a, 't, Item>
+    ensures { Gives (λ x. (x.0, token_views x.1.now)) result (read grammar.unlabelled (token_views tokens.now)) }
 {
     if let [first, rest @ ..] = tokens {
         if align_of(word_of_token(first)).is_some() {
@@ -110,12 +102,8 @@ fn unlabelled<'a, 't>(
 
 /// An item of a kernel's body.
 #[tactic(auto, unfolding(crate::specs::Grammar::item, crate::specs::Grammar::labelled))]
-fn read_item<'a, 't>(
-    alloc: Global,
-    tokens: &'a [Token<'t>],
-) -> Result<(Item, &'a [Token<'t>]), Stop>
-    ensures value { Gives (λ x. (x.0, token_views x.1.now)) result (read grammar.item (token_views tokens.now)) }
-    ensures shorter { IfOk result (λ x. length x.1.now < length tokens.now) }
+fn read_item<'a, 't>(alloc: Global, tokens: Tokens<'a, 't>) -> Read<'a, 't, Item>
+    ensures { Gives (λ x. (x.0, token_views x.1.now)) result (read grammar.item (token_views tokens.now)) }
 {
     if let [first, rest @ ..] = tokens {
         if let TokenKind::Label = first.kind {
@@ -130,12 +118,8 @@ fn read_item<'a, 't>(
 
 /// `{` and items up to the closing brace.
 #[tactic(auto, unfolding(crate::specs::Grammar::items))]
-fn items<'a, 't>(
-    alloc: Global,
-    tokens: &'a [Token<'t>],
-) -> Result<(Sequence<Item>, &'a [Token<'t>]), Stop>
-    ensures value { Gives (λ x. (x.0, token_views x.1.now)) result (read grammar.items (token_views tokens.now)) }
-    ensures shorter { IfOk result (λ x. length x.1.now ≤ length tokens.now) }
+fn items<'a, 't>(alloc: Global, tokens: Tokens<'a, 't>) -> Read<'a, 't, Sequence<Item>>
+    ensures { Gives (λ x. (x.0, token_views x.1.now)) result (read grammar.items (token_views tokens.now)) }
 {
     let mut items = Vec::new(alloc);
     let mut rest = mark(b'{', tokens)?;
@@ -149,9 +133,8 @@ fn items<'a, 't>(
 
 /// `align(n)`, which may be absent.
 #[tactic(auto, unfolding(crate::specs::Grammar::alignment))]
-fn alignment<'a, 't>(tokens: &'a [Token<'t>]) -> Result<(Option<Alignment>, &'a [Token<'t>]), Stop>
-    ensures value { Gives (λ x. (x.0, token_views x.1.now)) result (read grammar.alignment (token_views tokens.now)) }
-    ensures shorter { IfOk result (λ x. length x.1.now ≤ length tokens.now) }
+fn alignment<'a, 't>(tokens: Tokens<'a, 't>) -> Read<'a, 't, Option<Alignment>>
+    ensures { Gives (λ x. (x.0, token_views x.1.now)) result (read grammar.alignment (token_views tokens.now)) }
 {
     if let [first, rest @ ..] = tokens {
         if let Some(align) = align_of(word_of_token(first)) {
@@ -162,12 +145,8 @@ fn alignment<'a, 't>(tokens: &'a [Token<'t>]) -> Result<(Option<Alignment>, &'a 
 }
 
 /// `kernarg_T`, behind `align(n)` or where none stands.
-fn argument_kind<'a, 't>(
-    align: Option<Alignment>,
-    tokens: &'a [Token<'t>],
-) -> Result<(DataType, &'a [Token<'t>]), Stop>
-    ensures value { Gives (λ x. (x.0, token_views x.1.now)) result (read (terminals.kernarg (grammar.kernarg_flaw align)) (token_views tokens.now)) }
-    ensures shorter { IfOk result (λ x. length x.1.now < length tokens.now) }
+fn argument_kind<'a, 't>(align: Option<Alignment>, tokens: Tokens<'a, 't>) -> Read<'a, 't, DataType>
+    ensures { Gives (λ x. (x.0, token_views x.1.now)) result (read (terminals.kernarg (grammar.kernarg_flaw align)) (token_views tokens.now)) }
 {
     let [first, rest @ ..] = tokens else {
         return Err(refused(tokens, Flaw::Syntax));
@@ -181,12 +160,8 @@ fn argument_kind<'a, 't>(
 
 /// An argument of a kernel.
 #[tactic(auto, unfolding(crate::specs::Grammar::argument))]
-fn read_argument<'a, 't>(
-    alloc: Global,
-    tokens: &'a [Token<'t>],
-) -> Result<(Argument, &'a [Token<'t>]), Stop>
-    ensures value { Gives (λ x. (x.0, token_views x.1.now)) result (read grammar.argument (token_views tokens.now)) }
-    ensures shorter { IfOk result (λ x. length x.1.now < length tokens.now) }
+fn read_argument<'a, 't>(alloc: Global, tokens: Tokens<'a, 't>) -> Read<'a, 't, Argument>
+    ensures { Gives (λ x. (x.0, token_views x.1.now)) result (read grammar.argument (token_views tokens.now)) }
 {
     let line = line_of(tokens);
     let (align, rest) = alignment(tokens)?;
@@ -203,12 +178,8 @@ fn read_argument<'a, 't>(
 
 /// An argument behind a comma.
 #[tactic(auto, unfolding(crate::specs::Grammar::next_argument))]
-fn next_argument<'a, 't>(
-    alloc: Global,
-    tokens: &'a [Token<'t>],
-) -> Result<(Argument, &'a [Token<'t>]), Stop>
-    ensures value { Gives (λ x. (x.0, token_views x.1.now)) result (read grammar.next_argument (token_views tokens.now)) }
-    ensures shorter { IfOk result (λ x. length x.1.now < length tokens.now) }
+fn next_argument<'a, 't>(alloc: Global, tokens: Tokens<'a, 't>) -> Read<'a, 't, Argument>
+    ensures { Gives (λ x. (x.0, token_views x.1.now)) result (read grammar.next_argument (token_views tokens.now)) }
 {
     let rest = mark(b',', tokens)?;
     read_argument(alloc, rest)
@@ -216,12 +187,8 @@ fn next_argument<'a, 't>(
 
 /// The first argument, and further ones up to the closing parenthesis.
 #[tactic(auto, unfolding(crate::specs::Grammar::some_arguments))]
-fn some_arguments<'a, 't>(
-    alloc: Global,
-    tokens: &'a [Token<'t>],
-) -> Result<(Sequence<Argument>, &'a [Token<'t>]), Stop>
-    ensures value { Gives (λ x. (x.0, token_views x.1.now)) result (read grammar.some_arguments (token_views tokens.now)) }
-    ensures shorter { IfOk result (λ x. length x.1.now ≤ length tokens.now) }
+fn some_arguments<'a, 't>(alloc: Global, tokens: Tokens<'a, 't>) -> Read<'a, 't, Sequence<Argument>>
+    ensures { Gives (λ x. (x.0, token_views x.1.now)) result (read grammar.some_arguments (token_views tokens.now)) }
 {
     let mut arguments = Vec::new(alloc);
     let (first, mut rest) = read_argument(alloc, tokens)?;
@@ -236,12 +203,8 @@ fn some_arguments<'a, 't>(
 
 /// `( )` or `( arguments )`
 #[tactic(auto, unfolding(crate::specs::Grammar::signature))]
-fn signature<'a, 't>(
-    alloc: Global,
-    tokens: &'a [Token<'t>],
-) -> Result<(Sequence<Argument>, &'a [Token<'t>]), Stop>
-    ensures value { Gives (λ x. (x.0, token_views x.1.now)) result (read grammar.signature (token_views tokens.now)) }
-    ensures shorter { IfOk result (λ x. length x.1.now < length tokens.now) }
+fn signature<'a, 't>(alloc: Global, tokens: Tokens<'a, 't>) -> Read<'a, 't, Sequence<Argument>>
+    ensures { Gives (λ x. (x.0, token_views x.1.now)) result (read grammar.signature (token_views tokens.now)) }
 {
     let rest = mark(b'(', tokens)?;
     if has_mark(b')', rest) {
@@ -254,9 +217,8 @@ fn signature<'a, 't>(
 }
 
 /// The tokens behind a mark that may be absent.
-fn skipped<'a, 't>(mark: u8, tokens: &'a [Token<'t>]) -> &'a [Token<'t>]
-    ensures value { read (terminals.optional (terminals.mark mark)) (token_views tokens.now) ≡ Ok (tt, token_views result.now) }
-    ensures shorter { length result.now ≤ length tokens.now }
+fn skipped<'a, 't>(mark: u8, tokens: Tokens<'a, 't>) -> Tokens<'a, 't>
+    ensures { read (terminals.optional (terminals.mark mark)) (token_views tokens.now) ≡ Ok (tt, token_views result.now) }
 {
     match tokens {
         [_, rest @ ..] if has_mark(mark, tokens) => rest,
@@ -266,12 +228,8 @@ fn skipped<'a, 't>(mark: u8, tokens: &'a [Token<'t>]) -> &'a [Token<'t>]
 
 /// `{ items }` and `;`, which may be absent.
 #[tactic(auto, unfolding(crate::specs::Grammar::body))]
-fn body<'a, 't>(
-    alloc: Global,
-    tokens: &'a [Token<'t>],
-) -> Result<(Sequence<Item>, &'a [Token<'t>]), Stop>
-    ensures value { Gives (λ x. (x.0, token_views x.1.now)) result (read grammar.body (token_views tokens.now)) }
-    ensures shorter { IfOk result (λ x. length x.1.now < length tokens.now) }
+fn body<'a, 't>(alloc: Global, tokens: Tokens<'a, 't>) -> Read<'a, 't, Sequence<Item>>
+    ensures { Gives (λ x. (x.0, token_views x.1.now)) result (read grammar.body (token_views tokens.now)) }
 {
     let (items, rest) = items(alloc, tokens)?;
     let rest = mark(b'}', rest)?;
@@ -279,9 +237,8 @@ fn body<'a, 't>(
 }
 
 /// `kernel` behind `prog`.
-fn behind_prog<'a, 't>(tokens: &'a [Token<'t>]) -> Result<&'a [Token<'t>], Stop>
-    ensures value { Gives (λ x. (tt, token_views x.now)) result (read (terminals.kernel_word terminals.syntax) (token_views tokens.now)) }
-    ensures shorter { IfOk result (λ x. length x.now < length tokens.now) }
+fn behind_prog<'a, 't>(tokens: Tokens<'a, 't>) -> Result<Tokens<'a, 't>, Stop>
+    ensures { Gives (λ x. (tt, token_views x.now)) result (read (terminals.kernel_word terminals.syntax) (token_views tokens.now)) }
 {
     if let [first, rest @ ..] = tokens {
         if let Some(Word::Kernel) = word_of_token(first) {
@@ -293,9 +250,8 @@ fn behind_prog<'a, 't>(tokens: &'a [Token<'t>]) -> Result<&'a [Token<'t>], Stop>
 
 /// `prog kernel` or `kernel`
 #[tactic(auto, unfolding(crate::specs::Grammar::kernel_begin))]
-fn kernel_begin<'a, 't>(tokens: &'a [Token<'t>]) -> Result<&'a [Token<'t>], Stop>
-    ensures value { Gives (λ x. (tt, token_views x.now)) result (read grammar.kernel_begin (token_views tokens.now)) }
-    ensures shorter { IfOk result (λ x. length x.now < length tokens.now) }
+fn kernel_begin<'a, 't>(tokens: Tokens<'a, 't>) -> Result<Tokens<'a, 't>, Stop>
+    ensures { Gives (λ x. (tt, token_views x.now)) result (read grammar.kernel_begin (token_views tokens.now)) }
 {
     let [first, rest @ ..] = tokens else {
         return Err(refused(tokens, Flaw::Syntax));
@@ -309,12 +265,8 @@ fn kernel_begin<'a, 't>(tokens: &'a [Token<'t>]) -> Result<&'a [Token<'t>], Stop
 
 /// A kernel.
 #[tactic(auto, unfolding(crate::specs::Grammar::kernel))]
-fn read_kernel<'a, 't>(
-    alloc: Global,
-    tokens: &'a [Token<'t>],
-) -> Result<(Kernel, &'a [Token<'t>]), Stop>
-    ensures value { Gives (λ x. (x.0, token_views x.1.now)) result (read grammar.kernel (token_views tokens.now)) }
-    ensures shorter { IfOk result (λ x. length x.1.now < length tokens.now) }
+fn read_kernel<'a, 't>(alloc: Global, tokens: Tokens<'a, 't>) -> Read<'a, 't, Kernel>
+    ensures { Gives (λ x. (x.0, token_views x.1.now)) result (read grammar.kernel (token_views tokens.now)) }
 {
     let line = line_of(tokens);
     let rest = kernel_begin(tokens)?;
@@ -342,12 +294,8 @@ fn none_left(tokens: &[Token<'_>]) -> bool
 
 /// `;` and kernels up to the end of the text.
 #[tactic(auto, unfolding(crate::specs::Grammar::kernels))]
-pub fn kernels<'a, 't>(
-    alloc: Global,
-    tokens: &'a [Token<'t>],
-) -> Result<(Sequence<Kernel>, &'a [Token<'t>]), Stop>
-    ensures value { Gives (λ x. (x.0, token_views x.1.now)) result (read grammar.kernels (token_views tokens.now)) }
-    ensures shorter { IfOk result (λ x. length x.1.now < length tokens.now) }
+pub fn kernels<'a, 't>(alloc: Global, tokens: Tokens<'a, 't>) -> Read<'a, 't, Sequence<Kernel>>
+    ensures { Gives (λ x. (x.0, token_views x.1.now)) result (read grammar.kernels (token_views tokens.now)) }
 {
     let mut kernels = Vec::new(alloc);
     let mut rest = mark(b';', tokens)?;

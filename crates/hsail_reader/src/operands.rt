@@ -1,6 +1,6 @@
 //! The operands of instructions, each read at the front of some tokens.
 
-ghost use Rattle.std.specs.Prelude.{◌≡◌, ◌<◌, ◌≤◌, length, IfOk, Ok};
+ghost use Rattle.std.specs.Prelude.{◌≡◌, IfOk};
 ghost use Rattle.hsail_reader.specs.declared.fault.Stop.TheVariants as stop;
 ghost use Rattle.hsail_reader.specs.Faults.{Gives, refusal};
 ghost use Rattle.hsail_reader.specs.Tokens.{token_views};
@@ -15,6 +15,12 @@ use crate::token::{Token, TokenKind};
 use crate::types::{Constant, Register, Source};
 use sequences::Sequence;
 use std::alloc::{AllocError, Global};
+
+/// The tokens from a place on.
+pub type Tokens<'a, 't> = &'a [Token<'t>];
+
+/// What is read at the front of some tokens, with the tokens behind it.
+pub type Read<'a, 't, X> = Result<(X, Tokens<'a, 't>), Stop>;
 
 /// A fault at the first of these tokens, or at the end of the text.
 pub fn refused(tokens: &[Token<'_>], flaw: Flaw) -> Stop
@@ -51,9 +57,8 @@ pub fn has_mark(mark: u8, tokens: &[Token<'_>]) -> bool
 }
 
 /// The tokens behind this mark.
-pub fn mark<'a, 't>(mark: u8, tokens: &'a [Token<'t>]) -> Result<&'a [Token<'t>], Stop>
-    ensures value { Gives (λ x. (tt, token_views x.now)) result (read (terminals.mark mark) (token_views tokens.now)) }
-    ensures shorter { IfOk result (λ x. length x.now < length tokens.now) }
+pub fn mark<'a, 't>(mark: u8, tokens: Tokens<'a, 't>) -> Result<Tokens<'a, 't>, Stop>
+    ensures { Gives (λ x. (tt, token_views x.now)) result (read (terminals.mark mark) (token_views tokens.now)) }
 {
     if let [first, rest @ ..] = tokens {
         if let TokenKind::Mark(byte) = first.kind {
@@ -66,9 +71,8 @@ pub fn mark<'a, 't>(mark: u8, tokens: &'a [Token<'t>]) -> Result<&'a [Token<'t>]
 }
 
 /// A register.
-pub fn register<'a, 't>(tokens: &'a [Token<'t>]) -> Result<(Register, &'a [Token<'t>]), Stop>
-    ensures value { Gives (λ x. (x.0, token_views x.1.now)) result (read terminals.register (token_views tokens.now)) }
-    ensures shorter { IfOk result (λ x. length x.1.now < length tokens.now) }
+pub fn register<'a, 't>(tokens: Tokens<'a, 't>) -> Read<'a, 't, Register>
+    ensures { Gives (λ x. (x.0, token_views x.1.now)) result (read terminals.register (token_views tokens.now)) }
 {
     if let [first, rest @ ..] = tokens {
         if let TokenKind::Register(register) = first.kind {
@@ -79,9 +83,8 @@ pub fn register<'a, 't>(tokens: &'a [Token<'t>]) -> Result<(Register, &'a [Token
 }
 
 /// A number without a sign.
-pub fn number<'a, 't>(tokens: &'a [Token<'t>]) -> Result<(u64, &'a [Token<'t>]), Stop>
-    ensures value { Gives (λ x. (x.0, token_views x.1.now)) result (read terminals.number (token_views tokens.now)) }
-    ensures shorter { IfOk result (λ x. length x.1.now < length tokens.now) }
+pub fn number<'a, 't>(tokens: Tokens<'a, 't>) -> Read<'a, 't, u64>
+    ensures { Gives (λ x. (x.0, token_views x.1.now)) result (read terminals.number (token_views tokens.now)) }
 {
     if let [first, rest @ ..] = tokens {
         if let TokenKind::Number(number) = first.kind {
@@ -99,12 +102,8 @@ pub fn copied(alloc: Global, name: &[u8]) -> Result<Sequence<u8>, AllocError>
 }
 
 /// `&name`
-pub fn global<'a, 't>(
-    alloc: Global,
-    tokens: &'a [Token<'t>],
-) -> Result<(Sequence<u8>, &'a [Token<'t>]), Stop>
-    ensures value { Gives (λ x. (x.0, token_views x.1.now)) result (read terminals.global (token_views tokens.now)) }
-    ensures shorter { IfOk result (λ x. length x.1.now < length tokens.now) }
+pub fn global<'a, 't>(alloc: Global, tokens: Tokens<'a, 't>) -> Read<'a, 't, Sequence<u8>>
+    ensures { Gives (λ x. (x.0, token_views x.1.now)) result (read terminals.global (token_views tokens.now)) }
 {
     if let [first, rest @ ..] = tokens {
         if let TokenKind::Global = first.kind {
@@ -115,12 +114,8 @@ pub fn global<'a, 't>(
 }
 
 /// `%name`
-pub fn variable<'a, 't>(
-    alloc: Global,
-    tokens: &'a [Token<'t>],
-) -> Result<(Sequence<u8>, &'a [Token<'t>]), Stop>
-    ensures value { Gives (λ x. (x.0, token_views x.1.now)) result (read terminals.variable (token_views tokens.now)) }
-    ensures shorter { IfOk result (λ x. length x.1.now < length tokens.now) }
+pub fn variable<'a, 't>(alloc: Global, tokens: Tokens<'a, 't>) -> Read<'a, 't, Sequence<u8>>
+    ensures { Gives (λ x. (x.0, token_views x.1.now)) result (read terminals.variable (token_views tokens.now)) }
 {
     if let [first, rest @ ..] = tokens {
         if let TokenKind::Variable = first.kind {
@@ -131,12 +126,8 @@ pub fn variable<'a, 't>(
 }
 
 /// `@name`
-pub fn label<'a, 't>(
-    alloc: Global,
-    tokens: &'a [Token<'t>],
-) -> Result<(Sequence<u8>, &'a [Token<'t>]), Stop>
-    ensures value { Gives (λ x. (x.0, token_views x.1.now)) result (read terminals.label (token_views tokens.now)) }
-    ensures shorter { IfOk result (λ x. length x.1.now < length tokens.now) }
+pub fn label<'a, 't>(alloc: Global, tokens: Tokens<'a, 't>) -> Read<'a, 't, Sequence<u8>>
+    ensures { Gives (λ x. (x.0, token_views x.1.now)) result (read terminals.label (token_views tokens.now)) }
 {
     if let [first, rest @ ..] = tokens {
         if let TokenKind::Label = first.kind {
@@ -148,12 +139,8 @@ pub fn label<'a, 't>(
 
 /// A number, with the sign that stood before it.
 #[tactic(auto, unfolding(crate::specs::Grammar::signed))]
-fn signed<'a, 't>(
-    negative: bool,
-    tokens: &'a [Token<'t>],
-) -> Result<(Constant, &'a [Token<'t>]), Stop>
-    ensures value { Gives (λ x. (x.0, token_views x.1.now)) result (read (grammar.signed negative) (token_views tokens.now)) }
-    ensures shorter { IfOk result (λ x. length x.1.now < length tokens.now) }
+fn signed<'a, 't>(negative: bool, tokens: Tokens<'a, 't>) -> Read<'a, 't, Constant>
+    ensures { Gives (λ x. (x.0, token_views x.1.now)) result (read (grammar.signed negative) (token_views tokens.now)) }
 {
     let (magnitude, rest) = number(tokens)?;
     let constant = Constant {
@@ -165,9 +152,8 @@ fn signed<'a, 't>(
 
 /// A number with an optional sign.
 #[tactic(auto, unfolding(crate::specs::Grammar::constant))]
-fn constant<'a, 't>(tokens: &'a [Token<'t>]) -> Result<(Constant, &'a [Token<'t>]), Stop>
-    ensures value { Gives (λ x. (x.0, token_views x.1.now)) result (read grammar.constant (token_views tokens.now)) }
-    ensures shorter { IfOk result (λ x. length x.1.now < length tokens.now) }
+fn constant<'a, 't>(tokens: Tokens<'a, 't>) -> Read<'a, 't, Constant>
+    ensures { Gives (λ x. (x.0, token_views x.1.now)) result (read grammar.constant (token_views tokens.now)) }
 {
     if let [first, rest @ ..] = tokens {
         match first.kind {
@@ -181,9 +167,8 @@ fn constant<'a, 't>(tokens: &'a [Token<'t>]) -> Result<(Constant, &'a [Token<'t>
 
 /// A register, or a number with an optional sign.
 #[tactic(auto, unfolding(crate::specs::Grammar::source))]
-pub fn source<'a, 't>(tokens: &'a [Token<'t>]) -> Result<(Source, &'a [Token<'t>]), Stop>
-    ensures value { Gives (λ x. (x.0, token_views x.1.now)) result (read grammar.source (token_views tokens.now)) }
-    ensures shorter { IfOk result (λ x. length x.1.now < length tokens.now) }
+pub fn source<'a, 't>(tokens: Tokens<'a, 't>) -> Read<'a, 't, Source>
+    ensures { Gives (λ x. (x.0, token_views x.1.now)) result (read grammar.source (token_views tokens.now)) }
 {
     if let [first, rest @ ..] = tokens {
         if let TokenKind::Register(register) = first.kind {
@@ -196,9 +181,8 @@ pub fn source<'a, 't>(tokens: &'a [Token<'t>]) -> Result<(Source, &'a [Token<'t>
 
 /// What is added to a register: `- n`, `+ n` or nothing.
 #[tactic(auto, unfolding(crate::specs::Grammar::offset))]
-fn offset<'a, 't>(tokens: &'a [Token<'t>]) -> Result<(Constant, &'a [Token<'t>]), Stop>
-    ensures value { Gives (λ x. (x.0, token_views x.1.now)) result (read grammar.offset (token_views tokens.now)) }
-    ensures shorter { IfOk result (λ x. length x.1.now ≤ length tokens.now) }
+fn offset<'a, 't>(tokens: Tokens<'a, 't>) -> Read<'a, 't, Constant>
+    ensures { Gives (λ x. (x.0, token_views x.1.now)) result (read grammar.offset (token_views tokens.now)) }
 {
     if let [first, rest @ ..] = tokens {
         match first.kind {
@@ -216,9 +200,8 @@ fn offset<'a, 't>(tokens: &'a [Token<'t>]) -> Result<(Constant, &'a [Token<'t>])
 
 /// A number; or a register and what is added to it.
 #[tactic(auto, unfolding(crate::specs::Grammar::place))]
-fn place<'a, 't>(tokens: &'a [Token<'t>]) -> Result<(Place, &'a [Token<'t>]), Stop>
-    ensures value { Gives (λ x. (x.0, token_views x.1.now)) result (read grammar.place (token_views tokens.now)) }
-    ensures shorter { IfOk result (λ x. length x.1.now < length tokens.now) }
+fn place<'a, 't>(tokens: Tokens<'a, 't>) -> Read<'a, 't, Place>
+    ensures { Gives (λ x. (x.0, token_views x.1.now)) result (read grammar.place (token_views tokens.now)) }
 {
     if let [first, rest @ ..] = tokens {
         if let TokenKind::Number(number) = first.kind {
@@ -232,9 +215,8 @@ fn place<'a, 't>(tokens: &'a [Token<'t>]) -> Result<(Place, &'a [Token<'t>]), St
 
 /// A place and the bracket behind it.
 #[tactic(auto, unfolding(crate::specs::Grammar::place_inside))]
-fn place_inside<'a, 't>(tokens: &'a [Token<'t>]) -> Result<(Place, &'a [Token<'t>]), Stop>
-    ensures value { Gives (λ x. (x.0, token_views x.1.now)) result (read grammar.place_inside (token_views tokens.now)) }
-    ensures shorter { IfOk result (λ x. length x.1.now < length tokens.now) }
+fn place_inside<'a, 't>(tokens: Tokens<'a, 't>) -> Read<'a, 't, Place>
+    ensures { Gives (λ x. (x.0, token_views x.1.now)) result (read grammar.place_inside (token_views tokens.now)) }
 {
     let (place, rest) = place(tokens)?;
     let rest = mark(b']', rest)?;
@@ -243,12 +225,8 @@ fn place_inside<'a, 't>(tokens: &'a [Token<'t>]) -> Result<(Place, &'a [Token<'t
 
 /// What stands behind `[%x]`: an index in brackets, or nothing.
 #[tactic(auto, unfolding(crate::specs::Grammar::index))]
-fn index<'a, 't>(
-    variable: Sequence<u8>,
-    tokens: &'a [Token<'t>],
-) -> Result<(Address, &'a [Token<'t>]), Stop>
-    ensures value { Gives (λ x. (x.0, token_views x.1.now)) result (read (grammar.index variable) (token_views tokens.now)) }
-    ensures shorter { IfOk result (λ x. length x.1.now ≤ length tokens.now) }
+fn index<'a, 't>(variable: Sequence<u8>, tokens: Tokens<'a, 't>) -> Read<'a, 't, Address>
+    ensures { Gives (λ x. (x.0, token_views x.1.now)) result (read (grammar.index variable) (token_views tokens.now)) }
 {
     if !has_mark(b'[', tokens) {
         return Ok((Address::Variable(variable), tokens));
@@ -260,12 +238,8 @@ fn index<'a, 't>(
 
 /// What stands behind the first bracket of an address.
 #[tactic(auto, unfolding(crate::specs::Grammar::address_inside))]
-fn inside<'a, 't>(
-    alloc: Global,
-    tokens: &'a [Token<'t>],
-) -> Result<(Address, &'a [Token<'t>]), Stop>
-    ensures value { Gives (λ x. (x.0, token_views x.1.now)) result (read grammar.address_inside (token_views tokens.now)) }
-    ensures shorter { IfOk result (λ x. length x.1.now < length tokens.now) }
+fn inside<'a, 't>(alloc: Global, tokens: Tokens<'a, 't>) -> Read<'a, 't, Address>
+    ensures { Gives (λ x. (x.0, token_views x.1.now)) result (read grammar.address_inside (token_views tokens.now)) }
 {
     if let [first, rest @ ..] = tokens {
         if let TokenKind::Variable = first.kind {
@@ -280,12 +254,8 @@ fn inside<'a, 't>(
 
 /// An address in brackets.
 #[tactic(auto, unfolding(crate::specs::Grammar::address))]
-pub fn address<'a, 't>(
-    alloc: Global,
-    tokens: &'a [Token<'t>],
-) -> Result<(Address, &'a [Token<'t>]), Stop>
-    ensures value { Gives (λ x. (x.0, token_views x.1.now)) result (read grammar.address (token_views tokens.now)) }
-    ensures shorter { IfOk result (λ x. length x.1.now < length tokens.now) }
+pub fn address<'a, 't>(alloc: Global, tokens: Tokens<'a, 't>) -> Read<'a, 't, Address>
+    ensures { Gives (λ x. (x.0, token_views x.1.now)) result (read grammar.address (token_views tokens.now)) }
 {
     let rest = mark(b'[', tokens)?;
     inside(alloc, rest)

@@ -11,7 +11,7 @@ ghost use Rattle.hsail_reader.specs.Terminals as terminals;
 use crate::fault::{Cause, Flaw, ReadError, ReadFault, Stop, located};
 use crate::kernels::{kernels, word_of_token};
 use crate::module::{Module, Profile, Rounding};
-use crate::operands::{global, mark, refused};
+use crate::operands::{Read, Tokens, global, mark, refused};
 use crate::token::{Header, Token, TokenKind};
 use crate::tokens::tokens;
 use crate::words::Word;
@@ -29,7 +29,7 @@ pub struct Fields {
 }
 
 /// `: 1`, the major version.
-fn major<'a, 't>(tokens: &'a [Token<'t>]) -> Result<&'a [Token<'t>], Stop>
+fn major<'a, 't>(tokens: Tokens<'a, 't>) -> Result<Tokens<'a, 't>, Stop>
     ensures { Gives (λ x. (tt, token_views x.now)) result (read (field terminals.major) (token_views tokens.now)) }
 {
     let rest = mark(b':', tokens)?;
@@ -42,7 +42,7 @@ fn major<'a, 't>(tokens: &'a [Token<'t>]) -> Result<&'a [Token<'t>], Stop>
 }
 
 /// `: minor`, the minor version.
-fn minor<'a, 't>(tokens: &'a [Token<'t>]) -> Result<(u8, &'a [Token<'t>]), Stop>
+fn minor<'a, 't>(tokens: Tokens<'a, 't>) -> Read<'a, 't, u8>
     ensures { Gives (λ x. (x.0, token_views x.1.now)) result (read (field terminals.minor) (token_views tokens.now)) }
 {
     let rest = mark(b':', tokens)?;
@@ -57,7 +57,7 @@ fn minor<'a, 't>(tokens: &'a [Token<'t>]) -> Result<(u8, &'a [Token<'t>]), Stop>
 }
 
 /// `: $base` or `: $full`
-fn profile<'a, 't>(tokens: &'a [Token<'t>]) -> Result<(Profile, &'a [Token<'t>]), Stop>
+fn profile<'a, 't>(tokens: Tokens<'a, 't>) -> Read<'a, 't, Profile>
     ensures { Gives (λ x. (x.0, token_views x.1.now)) result (read (field terminals.profile) (token_views tokens.now)) }
 {
     let rest = mark(b':', tokens)?;
@@ -72,7 +72,7 @@ fn profile<'a, 't>(tokens: &'a [Token<'t>]) -> Result<(Profile, &'a [Token<'t>])
 }
 
 /// `: $large`, the machine model.
-fn large<'a, 't>(tokens: &'a [Token<'t>]) -> Result<&'a [Token<'t>], Stop>
+fn large<'a, 't>(tokens: Tokens<'a, 't>) -> Result<Tokens<'a, 't>, Stop>
     ensures { Gives (λ x. (tt, token_views x.now)) result (read (field terminals.large) (token_views tokens.now)) }
 {
     let rest = mark(b':', tokens)?;
@@ -85,7 +85,7 @@ fn large<'a, 't>(tokens: &'a [Token<'t>]) -> Result<&'a [Token<'t>], Stop>
 }
 
 /// `: $default`, `: $zero` or `: $near`
-fn rounding<'a, 't>(tokens: &'a [Token<'t>]) -> Result<(Rounding, &'a [Token<'t>]), Stop>
+fn rounding<'a, 't>(tokens: Tokens<'a, 't>) -> Read<'a, 't, Rounding>
     ensures { Gives (λ x. (x.0, token_views x.1.now)) result (read (field terminals.rounding) (token_views tokens.now)) }
 {
     let rest = mark(b':', tokens)?;
@@ -102,7 +102,7 @@ fn rounding<'a, 't>(tokens: &'a [Token<'t>]) -> Result<(Rounding, &'a [Token<'t>
 
 /// `: 1 : minor : profile : $large : rounding`
 #[tactic(auto, unfolding(crate::specs::Grammar::fields))]
-fn header_fields<'a, 't>(tokens: &'a [Token<'t>]) -> Result<(Fields, &'a [Token<'t>]), Stop>
+fn header_fields<'a, 't>(tokens: Tokens<'a, 't>) -> Read<'a, 't, Fields>
     ensures { Gives (λ x. (x.0, token_views x.1.now)) result (read fields (token_views tokens.now)) }
 {
     let rest = major(tokens)?;
