@@ -41,16 +41,16 @@ numbered-map h xs n = choose (nat_lt 0 n)
     choose false = refl
 
 module _ (start : Start) (es : List Entry) (client : ClientId) (on : Object) (rights : Rights) where
-  by_history : (f : InFlight) (h : IsHeld start es f) → (is_owned start es client f.queue && holds_one_of start es on rights f) ≡ (h.opening.client.0 == client.0 && list_any (is_among on rights) (held_at_launch start [] h.opening f.packet))
+  by_history : (f : InFlight) (h : IsHeld start es f) → (is_owned start es client f.queue && holds_one_of start es on rights f) ≡ (h.opening.client.0 == client.0 && list_any (is_among on rights) (held_at_launch h.opening f.packet))
   by_history f h =
       ap (λ (o : Option Opening). (elim o [ None ↦ false | Some opening ↦ opening.client.0 == client.0 ]) && holds_one_of start es on rights f) h.owner_is
       ∙ ap (λ (l : List Held). h.opening.client.0 == client.0 && list_any (is_among on rights) l) h.held_is
 
-  by_kept : (f : InFlight) (opening : Opening) (o : Option Queue) → option_map kept_opening o ≡ Some opening → queue_holds start o client on rights f ≡ (opening.client.0 == client.0 && list_any (is_among on rights) (held_at_launch start [] opening f.packet))
+  by_kept : (f : InFlight) (opening : Opening) (o : Option Queue) → option_map kept_opening o ≡ Some opening → queue_holds start o client on rights f ≡ (opening.client.0 == client.0 && list_any (is_among on rights) (held_at_launch opening f.packet))
   by_kept f opening None e = absurd (cc)
   by_kept f opening (Some q) e =
       let same : kept_opening q ≡ opening = cc in
-      ap (λ (o : Opening). o.client.0 == client.0 && list_any (is_among on rights) (held_at_launch start [] o f.packet)) same
+      ap (λ (o : Opening). o.client.0 == client.0 && list_any (is_among on rights) (held_at_launch o f.packet)) same
 
   pub holder-kept : (queues : List Queue) (fs : List InFlight) → IsLegal start es → map kept_opening queues ≡ openings start es → fs ≡ flight start es → holder start es client on rights ≡ kept_holder start queues fs client on rights
   holder-kept queues fs legal opened flying =

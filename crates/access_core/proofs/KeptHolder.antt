@@ -18,7 +18,7 @@ use Rattle.access_core.specs.Held.{queue_holds, kept_holds, kept_holder}
 
 module _ (start : Start) (client : ClientId) (on : Object) (rights : Rights) where
   -- a queue of the client's holds what its packet holds
-  pub queue_holds-some : (o : Option Queue) (q : Queue) (f : InFlight) (r : Bool) → Some q ≡ o → q.client.0 ≡ client.0 → r ≡ list_any (is_among on rights) (held_at_launch start [] (kept_opening q) f.packet) → r ≡ queue_holds start o client on rights f
+  pub queue_holds-some : (o : Option Queue) (q : Queue) (f : InFlight) (r : Bool) → Some q ≡ o → q.client.0 ≡ client.0 → r ≡ list_any (is_among on rights) (held_at_launch (kept_opening q) f.packet) → r ≡ queue_holds start o client on rights f
   queue_holds-some o q f r is same e = rw (← is) (rw (eq-eqb _ _ same) e)
 
   step : (b : Bool) (before : Option Holder) (f : InFlight) → fold least_of before (cond b (f ∷ []) []) ≡ (if b then least_of before f else before)

@@ -21,7 +21,7 @@ use Rattle.core_model.proofs.Legality.{IsLegal-more}
 use Rattle.access_core.specs.declared.access.AccessCore.TheInside.{Inside}
 use Rattle.grants.specs.Table.{has_granted}
 use Rattle.access_core.specs.Kept.{IsKept, start_of, kept_opening, kept_next, kept_errors, kept_stopped}
-use Rattle.access_core.specs.Reachable.{is_reachable}
+use Rattle.access_core.specs.LiesInRegions.{lies_in_regions}
 use Rattle.access_core.specs.ErrorRoom.{HasErrorRoom}
 
 -- How the fields move along with an entry.
@@ -36,7 +36,7 @@ pub record MovesAlong (a b : Inside) (event : Event) (outcome : Outcome) (effect
   pub stops : (queue : QueueId) → kept_stopped (numbered b.queues.items queue.0) ≡ (if stops queue event then true else kept_stopped (numbered a.queues.items queue.0))
   pub few_queues : length b.queues.items ≤ 64
   pub flight : b.flight ≡ flight_after a.flight (entry_of event outcome effects)
-  pub reachable : All (λ f. is_reachable (region_lengths (start_of a)) f.packet ≡ true) b.flight
+  pub reachable : All (λ f. lies_in_regions (region_lengths (start_of a)) f.packet ≡ true) b.flight
   pub error_room : HasErrorRoom b.queues.items b.flight
 
 -- The audit has one entry more, and there was room for it.

@@ -23,7 +23,7 @@ use Rattle.grants.specs.Table.{has_granted}
 use Rattle.access_core.specs.Kept.{IsKept, start_of, kept_opening, kept_next, kept_errors, kept_stopped}
 use Rattle.access_core.specs.QueueShown.{kept_places}
 use Rattle.access_core.specs.ErrorRoom.{HasErrorRoom}
-use Rattle.access_core.specs.Reachable.{is_reachable}
+use Rattle.access_core.specs.LiesInRegions.{lies_in_regions}
 use Rattle.access_core.specs.Opening.{is_capacity, lengths_of_rows, values_of_rows}
 use Rattle.std.proofs.lemmas.Bool.Decides.{nat_tests}
 
@@ -106,8 +106,8 @@ module _ (a : Inside) (granted : a.granted ≡ []) (memory : a.memory ≡ zeros 
   flight-opened : a.flight ≡ flight (start_of a) a.audit.items
   flight-opened = flying ∙ no_flight (start_of a) ∙ sym (ap (flight (start_of a)) entries)
 
-  reachable-opened : All (λ (f : InFlight). is_reachable (region_lengths (start_of a)) f.packet ≡ true) a.flight
-  reachable-opened = subst (All (λ (f : InFlight). is_reachable (region_lengths (start_of a)) f.packet ≡ true)) (sym flying) (All-nil _)
+  reachable-opened : All (λ (f : InFlight). lies_in_regions (region_lengths (start_of a)) f.packet ≡ true) a.flight
+  reachable-opened = subst (All (λ (f : InFlight). lies_in_regions (region_lengths (start_of a)) f.packet ≡ true)) (sym flying) (All-nil _)
 
   error_room-opened : HasErrorRoom a.queues.items a.flight
   error_room-opened = record {

@@ -16,7 +16,7 @@ use Rattle.core_model.specs.Flight.{flight, flight_after, has_seen, in_flight, i
 use Rattle.access_core.specs.declared.access.AccessCore.TheInside.{Inside}
 use Rattle.access_core.specs.declared.queue.Queue.{Queue}
 use Rattle.access_core.specs.Kept.{IsKept, start_of, history_of, kept_opening}
-use Rattle.access_core.specs.Reachable.{is_reachable}
+use Rattle.access_core.specs.LiesInRegions.{lies_in_regions}
 use Rattle.access_core.specs.Held.{IsHeld}
 use Rattle.access_core.specs.Moves.{IsThere}
 use Rattle.access_core.specs.Polling.{sight}
@@ -42,12 +42,12 @@ module _ (a : Inside) (kept : IsKept a) (old : History) (seen_as : history_of a 
       either (Some q) is = (q, is)
 
 -- positions that are seen change nothing of what packets reach
-pub reachable-seen : (lengths : List ℕ) (queue : QueueId) (id : PacketId) (seen : Seen) (fs : List InFlight) → All (λ f. is_reachable lengths f.packet ≡ true) fs → All (λ f. is_reachable lengths f.packet ≡ true) (map (has_seen queue id seen) fs)
+pub reachable-seen : (lengths : List ℕ) (queue : QueueId) (id : PacketId) (seen : Seen) (fs : List InFlight) → All (λ f. lies_in_regions lengths f.packet ≡ true) fs → All (λ f. lies_in_regions lengths f.packet ≡ true) (map (has_seen queue id seen) fs)
 reachable-seen lengths queue id seen fs all =
-    All-map (λ f. is_reachable lengths f.packet ≡ true) (has_seen queue id seen) fs
+    All-map (λ f. lies_in_regions lengths f.packet ≡ true) (has_seen queue id seen) fs
     (λ k d h. either (get_or fs k d) (is_packet queue id (get_or fs k d)) (all k d h))
   where
-    either : (f : InFlight) (b : Bool) → is_reachable lengths f.packet ≡ true → is_reachable lengths (if b then record f { seen = seen_with f.seen seen } else f).packet ≡ true
+    either : (f : InFlight) (b : Bool) → lies_in_regions lengths f.packet ≡ true → lies_in_regions lengths (if b then record f { seen = seen_with f.seen seen } else f).packet ≡ true
     either f true here = here
     either f false here = here
 

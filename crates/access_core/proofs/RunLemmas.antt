@@ -1,6 +1,6 @@
 -- Groups that ran: what their writes leave, and how many there can be.
 use Rattle.std.proofs.Common.{◌≡◌, ℕ, zero, suc, ◌+◌, ◌<◌, ◌≤◌, ◌^◌, List, [], ◌∷◌, ◌++◌, length, get_or, take, drop, map, add-one, refl, sym, ◌∙◌, ap, subst, Bool, true, false, Option, Some, None, arith, All}
-use Rattle.std.specs.Prelude.{ℤ, ◌==◌, Result, Ok, Err, IfOk, IfErr, fold, find, not, slice_set, if◌then◌else◌}
+use Rattle.std.specs.Prelude.{ℤ, ◌==◌, Result, Ok, Err, IfOk, IfErr, fold, find, not, slice_set, replicate, if◌then◌else◌}
 use Rattle.std.proofs.lemmas.List.Sums.{fold-append}
 use Rattle.std.proofs.lemmas.List.Elements.{All-nil, All-map, All-append, All-cons, All-head, All-tail, All-filter}
 use Rattle.aql_packet.specs.declared.ids.QueueId.{QueueId}
@@ -21,15 +21,17 @@ use Rattle.core_model.specs.declared.entry.Effect.{Effect}
 use Rattle.core_model.specs.declared.entry.Effect.TheVariants as effect
 use Rattle.core_model.specs.declared.flight.InFlight.{InFlight}
 use Rattle.core_model.specs.History.{Start}
-use Rattle.core_model.specs.Memory.{signals_after}
+use Rattle.core_model.specs.Memory.{memory_from, signals_after}
 use Rattle.core_model.specs.Flight.{flight, flight_after, flight_after_effect, flight_moved, with_launched, group_ran, has_seen, is_packet, seen_with}
 use Rattle.core_model.specs.Work.{write_of, agent_writes, function_writes, function_result, result_writes, number_in_memory}
-use Rattle.core_model.specs.LaunchRules.{argument}
+use Rattle.core_model.specs.declared.need.AgentFunction.{AgentFunction}
+use Rattle.core_model.specs.declared.need.AgentFunction.TheVariants.{Fill, Copy, Add64}
+use Rattle.core_model.specs.Needs.{function_of}
 use Rattle.std.specs.Int.{w64, to_le_bytes}
 use Rattle.std.specs.Prelude.{◌%◌}
 use Rattle.access_core.specs.declared.access.AccessCore.TheInside.{Inside}
 use Rattle.access_core.specs.Kept.{IsKept, start_of, history_of}
-use Rattle.access_core.specs.Reachable.{is_reachable}
+use Rattle.access_core.specs.LiesInRegions.{lies_in_regions}
 use Rattle.access_core.specs.ToldWork.{run_owed}
 use Rattle.core_model.specs.Memory.{region_lengths}
 use Rattle.core_model.specs.Owed.{owed, enters}
@@ -58,15 +60,16 @@ if-writes false xs ys first second = second
 one-writes : (address : ℕ) (bytes : List ℕ) → OnlyWrites (write_of address bytes)
 one-writes address bytes = if-writes (length bytes == 0) _ _ none-writes (record { flight = λ flying. refl; signals = λ values. refl })
 
-function-writes : (start : Start) (entries : List Entry) (dispatch : AgentDispatch) → OnlyWrites (function_writes start entries dispatch)
-function-writes start entries dispatch =
-    if-writes (dispatch.function == 0x8000) _ _ (one-writes _ _)
-    (if-writes (dispatch.function == 0x8001) _ _ (one-writes _ _)
-    (if-writes (dispatch.function == 0x8002) _ _ (one-writes (argument dispatch 0) (to_le_bytes w64 ((number_in_memory start entries (argument dispatch 0) + argument dispatch 1) % 2 ^ 64))) none-writes))
+function-writes : (start : Start) (entries : List Entry) (function : Option AgentFunction) → OnlyWrites (function_writes start entries function)
+function-writes start entries None = none-writes
+function-writes start entries (Some (Fill target byte)) = one-writes target.address.0 (replicate target.size byte)
+function-writes start entries (Some (Copy source target)) = one-writes target.address.0 (memory_from start entries source.address.0 source.size)
+function-writes start entries (Some (Add64 number addend)) =
+    one-writes number.address.0 (to_le_bytes w64 ((number_in_memory start entries number.address.0 + addend) % 2 ^ 64))
 
 pub agent-writes : (start : Start) (entries : List Entry) (dispatch : AgentDispatch) → OnlyWrites (agent_writes start entries dispatch)
 agent-writes start entries dispatch =
-    both-write _ _ (function-writes start entries dispatch) (if-writes (dispatch.return_address.0 == 0) _ _ none-writes (one-writes dispatch.return_address.0 (to_le_bytes w64 (function_result start entries dispatch))))
+    both-write _ _ (function-writes start entries (function_of dispatch)) (if-writes (dispatch.return_address.0 == 0) _ _ none-writes (one-writes dispatch.return_address.0 (to_le_bytes w64 (function_result start entries (function_of dispatch)))))
 
 -- ---- no packet's count is above the number of entries
 
@@ -188,29 +191,29 @@ all-found P test (x ∷ xs) f all found = first (test x) found (all-found P test
     first true same more = let here : x ≡ f = cc in subst P here (All-head P x xs all)
     first false same more = more same
 
-pub reachable-ran : (lengths : List ℕ) (queue : QueueId) (id : PacketId) (fs : List InFlight) → All (λ f. is_reachable lengths f.packet ≡ true) fs → All (λ f. is_reachable lengths f.packet ≡ true) (map (group_ran queue id) fs)
+pub reachable-ran : (lengths : List ℕ) (queue : QueueId) (id : PacketId) (fs : List InFlight) → All (λ f. lies_in_regions lengths f.packet ≡ true) fs → All (λ f. lies_in_regions lengths f.packet ≡ true) (map (group_ran queue id) fs)
 reachable-ran lengths queue id fs all =
-    All-map (λ f. is_reachable lengths f.packet ≡ true) (group_ran queue id) fs
+    All-map (λ f. lies_in_regions lengths f.packet ≡ true) (group_ran queue id) fs
     (λ k d h. either (get_or fs k d) (is_packet queue id (get_or fs k d)) (all k d h))
   where
-    either : (f : InFlight) (b : Bool) → is_reachable lengths f.packet ≡ true → is_reachable lengths (if b then record f { groups_run = f.groups_run + 1 } else f).packet ≡ true
+    either : (f : InFlight) (b : Bool) → lies_in_regions lengths f.packet ≡ true → lies_in_regions lengths (if b then record f { groups_run = f.groups_run + 1 } else f).packet ≡ true
     either f true here = here
     either f false here = here
 
 module _ (a : Inside) (kept : IsKept a) (old : History) (seen_as : history_of a ≡ old) where
-  pub reachable-found : (queue : QueueId) (id : PacketId) (f : InFlight) → find (is_packet queue id) a.flight ≡ Some f → is_reachable (region_lengths old.start) f.packet ≡ true
+  pub reachable-found : (queue : QueueId) (id : PacketId) (f : InFlight) → find (is_packet queue id) a.flight ≡ Some f → lies_in_regions (region_lengths old.start) f.packet ≡ true
   reachable-found queue id f found =
-      subst (λ h. is_reachable (region_lengths h.start) f.packet ≡ true) seen_as
-      (all-found (λ g. is_reachable (region_lengths (start_of a)) g.packet ≡ true) (is_packet queue id) a.flight f kept.reachable found)
+      subst (λ h. lies_in_regions (region_lengths h.start) f.packet ≡ true) seen_as
+      (all-found (λ g. lies_in_regions (region_lengths (start_of a)) g.packet ≡ true) (is_packet queue id) a.flight f kept.reachable found)
 
   pub run-inside : (event : Event) (next : Option AgentDispatch) (dispatch : AgentDispatch) → owed old.start old.entries event ≡ run_owed old.start old.entries next → next ≡ Some dispatch →
       owed (start_of a) a.audit.items event ≡ enters (outcome.Worked (Ran 0 0)) (agent_writes (start_of a) a.audit.items dispatch)
   run-inside event next dispatch due is =
       subst (λ h. owed h.start h.entries event ≡ run_owed h.start h.entries (Some dispatch)) (sym seen_as) (due ∙ ap (run_owed old.start old.entries) is)
 
-  pub pieces-inside : (dispatch : AgentDispatch) (target place : ℕ) (bytes result : List ℕ) → write_of target bytes ≡ function_writes old.start old.entries dispatch → write_of place result ≡ result_writes old.start old.entries dispatch →
+  pub pieces-inside : (dispatch : AgentDispatch) (target place : ℕ) (bytes result : List ℕ) → write_of target bytes ≡ function_writes old.start old.entries (function_of dispatch) → write_of place result ≡ result_writes old.start old.entries dispatch →
       write_of target bytes ++ write_of place result ≡ agent_writes (start_of a) a.audit.items dispatch
   pieces-inside dispatch target place bytes result first second =
       ap (λ xs. xs ++ write_of place result) first
-      ∙ ap (λ ys. function_writes old.start old.entries dispatch ++ ys) second
+      ∙ ap (λ ys. function_writes old.start old.entries (function_of dispatch) ++ ys) second
       ∙ ap (λ h. agent_writes h.start h.entries dispatch) (sym seen_as)

@@ -12,7 +12,7 @@ use Rattle.regions.specs.Memory.{is_within}
 use Rattle.queue_error.specs.declared.rule.Rule.{Rule}
 use Rattle.queue_error.specs.declared.rule.Rule.TheVariants as rule
 use Rattle.std.specs.List.{list_all, list_any}
-use Rattle.access_core.specs.Reachable.{is_reachable}
+use Rattle.access_core.specs.LiesInRegions.{lies_in_regions}
 use Rattle.packet_processor.proofs.FirstFailing.{first_failing-decoded}
 use Rattle.policy.specs.Policy.{numbered}
 use Rattle.core_model.specs.declared.event.Event.TheVariants.{Take}
@@ -27,7 +27,9 @@ use Rattle.queue_error.specs.declared.error.QueueError.{QueueError}
 use Rattle.std.proofs.lemmas.List.Sums.{count_by-le-length}
 use Rattle.std.proofs.lemmas.Bool.{leb-false, lt-ltb}
 use Rattle.access_core.specs.Moves.{CanHandOver}
-use Rattle.core_model.specs.LaunchRules.{Facts, Range, ranges, may_use_range, may_use_ranges, first_failing, is_barrier, may_start}
+use Rattle.core_model.specs.declared.need.Need.{Need}
+use Rattle.core_model.specs.Needs.{memory_needs}
+use Rattle.core_model.specs.LaunchRules.{Facts, is_met, lies_whole, first_failing, is_barrier, may_start}
 use Rattle.core_model.specs.Owed.{refuses, owed, refuse_if, refuse_unless, decided, facts_of}
 use Rattle.access_core.specs.declared.queue.Queue.{Queue}
 use Rattle.access_core.specs.declared.access.AccessCore.TheInside.{Inside}
@@ -84,26 +86,19 @@ passed-ranges true false l8 rest e = cc
 passed-ranges true true false rest e = cc
 passed-ranges true true true rest e = refl
 
--- ranges that may be used lie whole in regions
-within-used : (facts : Facts) (all : List Range) → list_all (may_use_range facts) all ≡ true → list_all (λ r. is_within facts.lengths r.address r.size) all ≡ true
-within-used facts [] used = refl
-within-used facts (r ∷ all) used =
-    let both = both_true (may_use_range facts r) (list_all (may_use_range facts) all) used in
-    let within = both_true (is_within facts.lengths r.address r.size) _ both.0 in
-    rw (within.0, within-used facts all both.1) refl
-
--- what a packet that may use its ranges reaches lies whole in regions
-reachable-used : (facts : Facts) (p : Packet) → may_use_ranges facts p ≡ true → is_reachable facts.lengths p ≡ true
-reachable-used facts (packet.Agent dispatch) used = within-used facts (ranges dispatch) used
-reachable-used facts (packet.Kernel dispatch) used = refl
-reachable-used facts (packet.BarrierAnd barrier) used = refl
-reachable-used facts (packet.BarrierOr barrier) used = refl
+-- what is needed and met lies whole in regions
+lies-met : (facts : Facts) (all : List Need) → list_all (is_met facts) all ≡ true → list_all (λ need. lies_whole facts.lengths need.subject) all ≡ true
+lies-met facts [] met = refl
+lies-met facts (need ∷ all) met =
+    let both = both_true (is_met facts need) (list_all (is_met facts) all) met in
+    let lies = both_true (lies_whole facts.lengths need.subject) _ both.0 in
+    rw (lies.0, lies-met facts all both.1) refl
 
 -- a packet that is launched reaches only what lies whole in regions
-pub reachable-launched : (a : Inside) (q : Queue) (bytes : List ℕ) (p : Packet) → IsKept a → decoded bytes ≡ Some p → first_failing (facts_lent a.policy a.granted a.memory q.client q.agent) bytes ≡ None → is_reachable (region_lengths (start_of a)) p ≡ true
+pub reachable-launched : (a : Inside) (q : Queue) (bytes : List ℕ) (p : Packet) → IsKept a → decoded bytes ≡ Some p → first_failing (facts_lent a.policy a.granted a.memory q.client q.agent) bytes ≡ None → lies_in_regions (region_lengths (start_of a)) p ≡ true
 reachable-launched a q bytes p kept found none =
-    rw (← kept.lengths) (reachable-used (facts_lent a.policy a.granted a.memory q.client q.agent) p
-    (passed-ranges _ _ (may_use_ranges (facts_lent a.policy a.granted a.memory q.client q.agent) p) _ (sym (first_failing-decoded _ bytes p found) ∙ none)))
+    rw (← kept.lengths) (lies-met (facts_lent a.policy a.granted a.memory q.client q.agent) (memory_needs p)
+    (passed-ranges _ _ (list_all (is_met (facts_lent a.policy a.granted a.memory q.client q.agent)) (memory_needs p)) _ (sym (first_failing-decoded _ bytes p found) ∙ none)))
 
 -- a packet that may start finds a slot free
 may_start-few : (fs : List InFlight) (barrier : Bool) → may_start fs barrier ≡ None → length fs < 8
@@ -160,7 +155,7 @@ kept-next a kept queue takes = either (numbered a.queues.items queue.0) refl
         ((q, is, small), sym (kept.errors queue) ∙ errs)
 
 -- one packet more reaches only what lies whole in regions
-pub reachable-more : (lengths : List ℕ) (flying : List InFlight) (f : InFlight) → All (λ (x : InFlight). is_reachable lengths x.packet ≡ true) flying → is_reachable lengths f.packet ≡ true → All (λ (x : InFlight). is_reachable lengths x.packet ≡ true) (flying ++ f ∷ [])
+pub reachable-more : (lengths : List ℕ) (flying : List InFlight) (f : InFlight) → All (λ (x : InFlight). lies_in_regions lengths x.packet ≡ true) flying → lies_in_regions lengths f.packet ≡ true → All (λ (x : InFlight). lies_in_regions lengths x.packet ≡ true) (flying ++ f ∷ [])
 reachable-more lengths flying f all one =
-    let P : InFlight → Type 0 = λ x. is_reachable lengths x.packet ≡ true in
+    let P : InFlight → Type 0 = λ x. lies_in_regions lengths x.packet ≡ true in
     All-append P flying (f ∷ []) all (All-cons P f [] one (λ k d below. absurd (omega (arith, below))))

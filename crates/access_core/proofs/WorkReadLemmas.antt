@@ -1,6 +1,10 @@
 -- Memory that is read and written, as the history has it.
-use Rattle.std.proofs.Common.{◌≡◌, ℕ, ◌+◌, ◌-◌, ◌<◌, ◌≤◌, ◌^◌, List, length, refl, sym, ◌∙◌, ap, subst, Bool, true, false, Some, arith}
-use Rattle.std.specs.Prelude.{◌≢◌, ◌==◌, ◌&&◌, slice_get, slice_index, nat_le, nat_lt, if◌then◌else◌}
+use Rattle.std.proofs.Common.{◌≡◌, ℕ, ◌+◌, ◌-◌, ◌<◌, ◌≤◌, ◌^◌, List, [], ◌∷◌, ◌++◌, length, refl, sym, ◌∙◌, ap, subst, Bool, true, false, Some, None, arith}
+use Rattle.std.specs.List.{list_all}
+use Rattle.std.proofs.lemmas.List.Folds.{list_all-append}
+use Rattle.policy.specs.declared.rights.Right.{Right}
+use Rattle.policy.specs.declared.rights.Right.TheVariants.{Read, Write}
+use Rattle.std.specs.Prelude.{◌≢◌, ◌==◌, ◌&&◌, ◌%◌, slice_get, slice_index, nat_le, nat_lt, if◌then◌else◌}
 use Rattle.std.proofs.lemmas.Bool.{lt-ltb}
 use Rattle.std.proofs.lemmas.List.{same_lists}
 use Rattle.std.proofs.lemmas.List.FromFn.{length-map-range_with_len, get_or-map-range_with_len}
@@ -14,9 +18,15 @@ use Rattle.core_model.specs.Work.{write_of}
 use Rattle.access_core.specs.declared.access.AccessCore.TheInside.{Inside}
 use Rattle.aql_packet.specs.declared.packet.AgentDispatch.{AgentDispatch}
 use Rattle.aql_packet.specs.declared.packet.Packet.TheVariants as packet
-use Rattle.core_model.specs.LaunchRules.{argument}
+use Rattle.core_model.specs.declared.need.Range.{Range}
+use Rattle.core_model.specs.declared.need.Need.{Need}
+use Rattle.core_model.specs.declared.need.Subject.TheVariants as subject
+use Rattle.core_model.specs.declared.need.AgentFunction.TheVariants.{Fill, Copy, Add64}
+use Rattle.core_model.specs.declared.need.TheConstants.{FILL, COPY, ADD64}
+use Rattle.core_model.specs.Needs.{argument, bytes_at, function_of, function_needs, range_need, result_range}
+use Rattle.core_model.specs.LaunchRules.{lies_whole}
 use Rattle.access_core.specs.Kept.{IsKept, start_of, history_of}
-use Rattle.access_core.specs.Reachable.{is_reachable}
+use Rattle.access_core.specs.LiesInRegions.{lies_in_regions}
 use Rattle.access_core.specs.ToldWork.{is_placed, IsChanged}
 
 -- each address of a range that lies whole in a region lies in it
@@ -67,6 +77,63 @@ written-changed old address bytes new some written = λ x byte before.
     inside x byte before false true low high = before
     inside x byte before false false low high = before
 
--- the target of a copy has its place where the dispatch reaches only what lies in regions
-pub copy-placed : (lengths : List ℕ) (dispatch : AgentDispatch) → dispatch.function ≡ 0x8001 → is_reachable lengths (packet.Agent dispatch) ≡ true → is_placed lengths (argument dispatch 1) (argument dispatch 2) ≡ true
-copy-placed lengths dispatch is reachable = grind arith
+-- both parts of a conjunction hold
+both_true : (a b : Bool) → (a && b) ≡ true → (a ≡ true) × (b ≡ true)
+both_true true true e = (refl, refl)
+both_true true false e = absurd cc
+both_true false b e = absurd cc
+
+lie-first : (lengths : List ℕ) (xs ys : List Need) → list_all (λ need. lies_whole lengths need.subject) (xs ++ ys) ≡ true → list_all (λ need. lies_whole lengths need.subject) xs ≡ true
+lie-first lengths xs ys lies = (both_true _ _ (sym (list_all-append (λ need. lies_whole lengths need.subject) xs ys) ∙ lies)).0
+
+lie-second : (lengths : List ℕ) (xs ys : List Need) → list_all (λ need. lies_whole lengths need.subject) (xs ++ ys) ≡ true → list_all (λ need. lies_whole lengths need.subject) ys ≡ true
+lie-second lengths xs ys lies = (both_true _ _ (sym (list_all-append (λ need. lies_whole lengths need.subject) xs ys) ∙ lies)).1
+
+-- a range that is needed, and lies whole in a region, has its place
+placed-needed : (lengths : List ℕ) (right : Right) (range : Range) → list_all (λ need. lies_whole lengths need.subject) (range_need right range) ≡ true → is_placed lengths range.address.0 range.size ≡ true
+placed-needed lengths right range lies = by_test (range.size == 0) refl lies
+  where
+    by_test : (b : Bool) → (range.size == 0) ≡ b → list_all {X = Need} (λ need. lies_whole lengths need.subject) (if b then [] else record { subject = subject.Range range; right = right } ∷ []) ≡ true → is_placed lengths range.address.0 range.size ≡ true
+    by_test true is lies = rw is refl
+    by_test false is lies = rw is (both_true _ _ lies).0
+
+module _ (lengths : List ℕ) (dispatch : AgentDispatch) (reaches : lies_in_regions lengths (packet.Agent dispatch) ≡ true) where
+  of_function : list_all (λ need. lies_whole lengths need.subject) (function_needs (function_of dispatch)) ≡ true
+  of_function = lie-first lengths (function_needs (function_of dispatch)) (range_need Write (result_range dispatch)) reaches
+
+  -- what a fill writes has its place
+  pub fill-placed : (target : Range) (byte : ℕ) → function_of dispatch ≡ Some (Fill target byte) → is_placed lengths target.address.0 target.size ≡ true
+  fill-placed target byte is = placed-needed lengths Write target (rw is at of_function)
+
+  -- what a copy reads and writes has its place
+  pub source-placed : (source target : Range) → function_of dispatch ≡ Some (Copy source target) → is_placed lengths source.address.0 source.size ≡ true
+  source-placed source target is = placed-needed lengths Read source (lie-first lengths (range_need Read source) (range_need Write target) (rw is at of_function))
+
+  pub target-placed : (source target : Range) → function_of dispatch ≡ Some (Copy source target) → is_placed lengths target.address.0 target.size ≡ true
+  target-placed source target is = placed-needed lengths Write target (lie-second lengths (range_need Read source) (range_need Write target) (rw is at of_function))
+
+  -- a copy's two ranges are as long as each other
+  copy-sizes : (source target : Range) → function_of dispatch ≡ Some (Copy source target) → source.size ≡ target.size
+  copy-sizes source target is = by_tests (dispatch.function == FILL) (dispatch.function == COPY) (dispatch.function == ADD64) is
+    where
+      by_tests : (a b c : Bool) → (if a then Some (Fill (bytes_at (argument dispatch 0) (argument dispatch 1)) (argument dispatch 2 % 256))
+          else if b then Some (Copy (bytes_at (argument dispatch 0) (argument dispatch 2)) (bytes_at (argument dispatch 1) (argument dispatch 2)))
+          else if c then Some (Add64 (bytes_at (argument dispatch 0) 8) (argument dispatch 1)) else None) ≡ Some (Copy source target) → source.size ≡ target.size
+      by_tests true b c e = absurd cc
+      by_tests false true c e =
+          let from : bytes_at (argument dispatch 0) (argument dispatch 2) ≡ source = cc in
+          let to : bytes_at (argument dispatch 1) (argument dispatch 2) ≡ target = cc in
+          ap (λ (r : Range). r.size) (sym from) ∙ ap (λ (r : Range). r.size) to
+      by_tests false false true e = absurd cc
+      by_tests false false false e = absurd cc
+
+  pub copy-placed : (source target : Range) → function_of dispatch ≡ Some (Copy source target) → is_placed lengths target.address.0 source.size ≡ true
+  copy-placed source target is = rw (copy-sizes source target is) (target-placed source target is)
+
+  -- the number that is added to has its place
+  pub number-placed : (number : Range) (addend : ℕ) → function_of dispatch ≡ Some (Add64 number addend) → is_placed lengths number.address.0 number.size ≡ true
+  number-placed number addend is = placed-needed lengths Write number (lie-second lengths (range_need Read number) (range_need Write number) (rw is at of_function))
+
+  -- and so has the result
+  pub result-placed : is_placed lengths dispatch.return_address.0 (result_range dispatch).size ≡ true
+  result-placed = placed-needed lengths Write (result_range dispatch) (lie-second lengths (function_needs (function_of dispatch)) (range_need Write (result_range dispatch)) reaches)

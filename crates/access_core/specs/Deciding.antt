@@ -10,8 +10,8 @@ use Rattle.core_model.specs.History.{History}
 use Rattle.core_model.specs.Memory.{region_lengths}
 use Rattle.core_model.specs.Queues.{Opening, owner, is_down}
 use Rattle.core_model.specs.Owed.{owed, answers, enters, error_at, flight_of}
-use Rattle.core_model.specs.LaunchRules.{SLOTS}
-use Rattle.access_core.specs.Reachable.{is_reachable}
+use Rattle.core_model.specs.declared.limits.TheConstants.{SLOTS}
+use Rattle.access_core.specs.LiesInRegions.{lies_in_regions}
 use Rattle.access_core.specs.declared.access.taking.Decision.{Decision}
 use Rattle.access_core.specs.declared.access.taking.Decision.TheVariants.{Wait, Deny, Launch}
 use Rattle.std.specs.Prelude.{true, false}
@@ -31,4 +31,4 @@ Decides history queue id bytes (Deny rule) =
     × TakesNext history queue
 Decides history queue id bytes (Launch packet) =
     (owed history.start history.entries (Take queue id bytes) ≡ enters (outcome.Taken Launched) [])
-    × (decoded bytes ≡ Some packet) × (is_reachable (region_lengths history.start) packet ≡ true) × TakesNext history queue
+    × (decoded bytes ≡ Some packet) × (lies_in_regions (region_lengths history.start) packet ≡ true) × TakesNext history queue

@@ -3,7 +3,7 @@ use Rattle.std.specs.Prelude.{◌≡◌, ◌≤◌, ◌+◌, ◌==◌, List, fil
 use Rattle.aql_packet.specs.declared.ids.QueueId.{QueueId}
 use Rattle.policy.specs.Policy.{numbered}
 use Rattle.core_model.specs.declared.flight.InFlight.{InFlight}
-use Rattle.core_model.specs.LaunchRules.{SLOTS}
+use Rattle.core_model.specs.declared.limits.TheConstants.{SLOTS}
 use Rattle.access_core.specs.declared.queue.Queue.{Queue}
 use Rattle.access_core.specs.QueueShown.{kept_errors, kept_places}
 

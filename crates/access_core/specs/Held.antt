@@ -18,13 +18,13 @@ use Rattle.access_core.specs.Kept.{kept_opening}
 pub record IsHeld (start : Start) (entries : List Entry) (f : InFlight) : Type 0 where
   pub opening : Opening
   pub owner_is : owner start entries f.queue ≡ Some opening
-  pub held_is : held start entries f.queue f.id ≡ held_at_launch start [] opening f.packet
+  pub held_is : held start entries f.queue f.id ≡ held_at_launch opening f.packet
 
 -- whether a queue is there and the client's, and a packet of it holds one of these rights on the object
 abbrev pub queue_holds : Start → Option Queue → ClientId → Object → Rights → InFlight → Bool
 queue_holds start None client on rights f = false
 queue_holds start (Some q) client on rights f =
-    q.client.0 == client.0 && list_any (is_among on rights) (held_at_launch start [] (kept_opening q) f.packet)
+    q.client.0 == client.0 && list_any (is_among on rights) (held_at_launch (kept_opening q) f.packet)
 
 -- whether a packet in flight is of the client's queues and holds one of these rights on the object, by what is kept of its queue
 abbrev pub kept_holds : Start → List Queue → ClientId → Object → Rights → InFlight → Bool

@@ -15,7 +15,7 @@ use Rattle.core_model.specs.Legal.{IsLegal}
 use Rattle.access_core.specs.declared.access.AccessCore.TheInside.{Inside}
 use Rattle.grants.specs.Table.{has_granted}
 pub use Rattle.access_core.specs.QueueShown.{kept_opening, kept_next, kept_errors, kept_stopped}
-use Rattle.access_core.specs.Reachable.{is_reachable}
+use Rattle.access_core.specs.LiesInRegions.{lies_in_regions}
 use Rattle.access_core.specs.ErrorRoom.{HasErrorRoom}
 
 -- what the history begins from
@@ -43,7 +43,7 @@ pub record IsKept (a : Inside) : Type 0 where
   pub few_queues : length a.queues.items ≤ 64
   -- the packets in flight, none of which reaches past a region
   pub flight : a.flight ≡ flight (start_of a) a.audit.items
-  pub reachable : All (λ f. is_reachable (region_lengths (start_of a)) f.packet ≡ true) a.flight
+  pub reachable : All (λ f. lies_in_regions (region_lengths (start_of a)) f.packet ≡ true) a.flight
   -- room for an error of each packet in flight
   pub error_room : HasErrorRoom a.queues.items a.flight
   -- room for an entry of each packet in flight, and memory for all entries

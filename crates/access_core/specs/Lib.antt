@@ -4,7 +4,7 @@ pub mod Judged
 pub mod QueueShown
 pub mod Moves
 pub mod ErrorRoom
-pub mod Reachable
+pub mod LiesInRegions
 pub mod Deciding
 pub mod Kept
 pub mod Opening

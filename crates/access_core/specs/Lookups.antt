@@ -15,12 +15,6 @@ use Rattle.core_model.specs.Queues.{Opening, owner, next_id, errors, is_stopped}
 use Rattle.access_core.specs.declared.queue.Queue.{Queue}
 use Rattle.access_core.specs.Kept.{kept_opening, kept_next, kept_errors, kept_stopped}
 
--- a range lies whole in one region on which a client's right is in force
-abbrev pub may_reach : History → ClientId → Address → ℕ → Right → Bool
-may_reach history client address size right =
-    is_within (region_lengths history.start) address.0 size
-    && in_force history.start history.entries client (object.Region (record { 0 = region_of address.0 })) right
-
 -- the bytes of a range that lies whole in one region; of any other, none
 abbrev pub bytes_within : History → Address → ℕ → Option (List ℕ)
 bytes_within history address size =

@@ -1,6 +1,7 @@
 -- When a core is opened, and what a policy says of regions and signals, as lists.
 use Rattle.std.specs.Prelude.{ℕ, ℤ, ◌≡◌, ◌^◌, ◌&&◌, Bool, true, false, nat_le, List, [], map, Result, Ok, Err}
 use Rattle.policy.specs.Policy.{Declared}
+use Rattle.core_model.specs.declared.limits.TheConstants.{MOST_ENTRIES}
 use Rattle.core_model.specs.History.{History}
 use Rattle.core_model.specs.Legal.{opened}
 use Rattle.regions.specs.Memory.{zeros}
@@ -16,9 +17,9 @@ lengths_of_rows policy = map (λ row. row.1) policy.regions
 abbrev pub values_of_rows : Declared → List ℤ
 values_of_rows policy = map (λ row. row.1) policy.signals
 
--- how many entries an audit may have place for: 1 to 2^20 (own)
+-- how many entries an audit may have place for: at least 1 (own)
 abbrev pub is_capacity : ℕ → Bool
-is_capacity capacity = nat_le 1 capacity && nat_le capacity (2 ^ 20)
+is_capacity capacity = nat_le 1 capacity && nat_le capacity MOST_ENTRIES
 
 -- a core is opened just where its audit's capacity is one, unless memory is wanted (own)
 abbrev pub Opens : Declared → ℕ → Result History OpenFault → Type 0

@@ -2,7 +2,7 @@
 use Rattle.std.specs.Prelude.{ℕ, ◌+◌, Bool, false, List, [], length, Option, Some, None}
 use Rattle.queue_error.specs.declared.error.QueueError.{QueueError}
 use Rattle.core_model.specs.Queues.{Opening}
-use Rattle.core_model.specs.LaunchRules.{SLOTS}
+use Rattle.core_model.specs.declared.limits.TheConstants.{SLOTS}
 use Rattle.access_core.specs.declared.queue.Queue.{Queue}
 
 -- the opening of a queue that is kept

@@ -17,8 +17,8 @@ use Rattle.core_model.specs.declared.entry.Effect.TheVariants as effect
 use Rattle.core_model.specs.declared.event.Event.{Event}
 use Rattle.aql_packet.specs.declared.packet.Packet.{Packet}
 use Rattle.core_model.specs.History.{Start, History}
-use Rattle.core_model.specs.LaunchRules.{completion}
-use Rattle.access_core.specs.Reachable.{is_reachable}
+use Rattle.core_model.specs.Needs.{completion}
+use Rattle.access_core.specs.LiesInRegions.{lies_in_regions}
 use Rattle.core_model.specs.Queues.{owner}
 use Rattle.core_model.specs.Flight.{in_flight, is_packet}
 use Rattle.core_model.specs.Memory.{byte_after, region_lengths, signals}
@@ -75,7 +75,7 @@ GroupOwed f owing = (start : Start) (entries : List Entry) → owed_group start 
 
 -- a dispatch reaches only what lies whole in regions
 abbrev pub Reaches : History → Packet → Type 0
-Reaches history p = is_reachable (region_lengths history.start) p ≡ true
+Reaches history p = lies_in_regions (region_lengths history.start) p ≡ true
 
 -- whether bytes have their place in memory: there are none, or they lie whole in one region
 abbrev pub is_placed : List ℕ → ℕ → ℕ → Bool

@@ -4,10 +4,6 @@ use aql_packet::{AgentHandle, ClientId};
 use queue_error::QueueError;
 use sequences::Reserved;
 
-/// How many packets of a queue are in flight at the most. So many errors it can have, too: it
-/// launches nothing more after the first, and each packet in flight leaves one at the most.
-pub const SLOTS: usize = 8;
-
 /// A queue that was opened.
 #[derive(Drop)]
 pub struct Queue {

@@ -1,18 +1,13 @@
 -- What packets in flight hold, and which of them stands against a revocation.
 use Rattle.std.specs.Prelude.{ℕ, ◌==◌, ◌&&◌, ◌||◌, Bool, false, nat_lt, List, [], ◌∷◌, ◌++◌, map, filter, fold, Option, Some, None, if◌then◌else◌}
-use Rattle.std.specs.List.{list_any}
+use Rattle.std.specs.List.{flat_map, list_any}
 use Rattle.aql_packet.specs.declared.ids.ClientId.{ClientId}
 use Rattle.aql_packet.specs.declared.ids.QueueId.{QueueId}
 use Rattle.aql_packet.specs.declared.ids.PacketId.{PacketId}
-use Rattle.aql_packet.specs.declared.ids.SignalHandle.{SignalHandle}
 use Rattle.aql_packet.specs.declared.packet.Packet.{Packet}
-use Rattle.aql_packet.specs.declared.packet.Packet.TheVariants as packet
 use Rattle.aql_packet.specs.Reading.{decoded}
-use Rattle.regions.specs.Memory.{region_of}
 use Rattle.policy.specs.declared.object.Object.{Object}
-use Rattle.policy.specs.declared.object.Object.TheVariants as object
 use Rattle.policy.specs.declared.rights.Right.{Right}
-use Rattle.policy.specs.declared.rights.Right.TheVariants as right
 use Rattle.policy.specs.declared.rights.Rights.{Rights}
 use Rattle.policy.specs.Object.{same_object}
 use Rattle.policy.specs.Rights.{has}
@@ -26,40 +21,25 @@ use Rattle.core_model.specs.declared.flight.InFlight.{InFlight}
 use Rattle.core_model.specs.History.{Start}
 use Rattle.core_model.specs.Queues.{Opening, owner}
 use Rattle.core_model.specs.Flight.{flight}
-use Rattle.core_model.specs.LaunchRules.{ranges, Range, completion}
+use Rattle.core_model.specs.declared.need.Need.{Need}
+use Rattle.core_model.specs.Needs.{needs, object_of}
+use Rattle.core_model.specs.LaunchRules.{launch_rules}
 
 -- one right on one object
 abbrev pub Held : Type 0
 Held = Object × Right
 
--- a right on a signal that isn't null
-abbrev pub held_signal : Right → SignalHandle → List Held
-held_signal needed signal = if signal.0 == 0 then [] else (object.Signal signal, needed) ∷ []
+-- the right on the object that a need asks for
+abbrev pub as_held : Need → Held
+as_held need = (object_of need.subject, need.right)
 
--- the rights on all signals that aren't null among some
-abbrev pub held_signals : Right → List SignalHandle → List Held
-held_signals needed [] = []
-held_signals needed (signal ∷ others) = held_signal needed signal ++ held_signals needed others
-
--- a right on the region of a range
-abbrev pub held_range : Range → Held
-held_range r = (object.Region (record { 0 = region_of r.address }), r.right)
-
--- what a packet holds beside its agent and its completion signal: an agent dispatch the regions that it reaches,
--- a barrier packet its dependencies (own)
-abbrev pub held_by_kind : Packet → List Held
-held_by_kind (packet.Agent dispatch) = map held_range (ranges dispatch)
-held_by_kind (packet.Kernel _) = []
-held_by_kind (packet.BarrierAnd barrier) = held_signals right.Wait barrier.dependencies
-held_by_kind (packet.BarrierOr barrier) = held_signals right.Wait barrier.dependencies
-
--- what a packet holds from its launch on: its agent's USE, CHANGE on its completion signal, and what its kind needs (own)
-abbrev pub held_at_launch : Start → List Entry → Opening → Packet → List Held
-held_at_launch start before opening p = (object.Agent opening.agent, right.Use) ∷ held_signal right.Change (completion p) ++ held_by_kind p
+-- what a packet holds from its launch on: all that it needs for its agent (own)
+abbrev pub held_at_launch : Opening → Packet → List Held
+held_at_launch opening p = flat_map (λ rule. map as_held (needs rule opening.agent p)) launch_rules
 
 -- what a launch in a queue with this opening holds, if there are both
 abbrev pub held_if : Start → List Entry → Option Opening → Option Packet → List Held
-held_if start before (Some opening) (Some p) = held_at_launch start before opening p
+held_if start before (Some opening) (Some p) = held_at_launch opening p
 held_if start before _ _ = []
 
 -- whether an entry launches the packet with this queue and id

@@ -4,6 +4,7 @@ pub mod Grants
 pub mod Memory
 pub mod Queues
 pub mod Flight
+pub mod Needs
 pub mod LaunchRules
 pub mod Work
 pub mod Holds

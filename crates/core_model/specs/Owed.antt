@@ -39,7 +39,9 @@ use Rattle.core_model.specs.Grants.{in_force}
 use Rattle.core_model.specs.Memory.{region_lengths, signals}
 use Rattle.core_model.specs.Queues.{Opening, openings, owner, next_id, is_stopped, is_down}
 use Rattle.core_model.specs.Flight.{flight, in_flight, none_seen, seen_with}
-use Rattle.core_model.specs.LaunchRules.{Facts, first_failing, may_start, is_barrier, completion}
+use Rattle.core_model.specs.declared.limits.TheConstants.{MOST_HOST_BYTES, QUEUES}
+use Rattle.core_model.specs.Needs.{completion}
+use Rattle.core_model.specs.LaunchRules.{Facts, first_failing, may_start, is_barrier}
 use Rattle.core_model.specs.Work.{agent_writes, groups_of, is_ready, is_negative, newly_seen, awaited}
 use Rattle.core_model.specs.Holds.{holder, Holder}
 
@@ -65,18 +67,14 @@ abbrev pub for_some : {X : Type 0} → Option X → Refusal → (X → Owed) →
 for_some None why rest = refuses why
 for_some (Some x) why rest = rest x
 
--- how many queues may be opened (own)
-abbrev pub QUEUES : ℕ
-QUEUES = 64
-
 -- the sizes that a ring may have: powers of two from 2 to 4,096 (own)
 abbrev pub is_ring_size : ℕ → Bool
 is_ring_size size =
     list_any (λ power. size == power) (2 ∷ 4 ∷ 8 ∷ 16 ∷ 32 ∷ 64 ∷ 128 ∷ 256 ∷ 512 ∷ 1024 ∷ 2048 ∷ 4096 ∷ [])
 
--- how many bytes a client may read or write in one call: 1 to 65,536 (own)
+-- how many bytes a client may read or write in one call: at least 1 (own)
 abbrev pub is_host_size : ℕ → Bool
-is_host_size size = nat_le 1 size && nat_le size 65536
+is_host_size size = nat_le 1 size && nat_le size MOST_HOST_BYTES
 
 -- an agent that takes no dispatch
 abbrev pub takes_nothing : Takes

@@ -1,5 +1,5 @@
 -- What a dispatch's groups write, and what a poll of a barrier packet finds.
-use Rattle.std.specs.Prelude.{ℕ, ℤ, pos, int_lt, ◌+◌, ◌%◌, ◌^◌, ◌==◌, ◌&&◌, ◌||◌, Bool, false, not, List, [], ◌∷◌, ◌++◌, map, length, replicate, if◌then◌else◌}
+use Rattle.std.specs.Prelude.{ℕ, ℤ, pos, int_lt, ◌+◌, ◌%◌, ◌^◌, ◌==◌, ◌&&◌, ◌||◌, Bool, false, not, List, [], ◌∷◌, ◌++◌, map, length, replicate, Option, Some, None, if◌then◌else◌}
 use Rattle.std.specs.List.{list_all, list_any, zip}
 use Rattle.std.specs.Int.{w64, to_le_bytes, from_le_bytes}
 use Rattle.std.specs.Option.{unwrap_or}
@@ -15,7 +15,9 @@ use Rattle.core_model.specs.declared.entry.Entry.{Entry}
 use Rattle.core_model.specs.declared.outcome.Seen.{Seen}
 use Rattle.core_model.specs.History.{Start}
 use Rattle.core_model.specs.Memory.{memory_from}
-use Rattle.core_model.specs.LaunchRules.{FILL, COPY, ADD64, argument, dependencies}
+use Rattle.core_model.specs.declared.need.AgentFunction.{AgentFunction}
+use Rattle.core_model.specs.declared.need.AgentFunction.TheVariants.{Fill, Copy, Add64}
+use Rattle.core_model.specs.Needs.{function_of, dependencies}
 
 -- a change of memory: none for no bytes (own)
 abbrev pub write_of : ℕ → List ℕ → List Effect
@@ -25,28 +27,30 @@ write_of address bytes = if length bytes == 0 then [] else Write (record { 0 = a
 abbrev pub number_in_memory : Start → List Entry → ℕ → ℕ
 number_in_memory start entries address = from_le_bytes w64 (memory_from start entries address 8)
 
--- what an agent's function writes: FILL the low byte of its third argument, COPY its source as it was before, ADD64 the wrapped sum (own)
-abbrev pub function_writes : Start → List Entry → AgentDispatch → List Effect
-function_writes start entries dispatch =
-    if dispatch.function == FILL then write_of (argument dispatch 0) (replicate (argument dispatch 1) (argument dispatch 2 % 256))
-    else if dispatch.function == COPY then write_of (argument dispatch 1) (memory_from start entries (argument dispatch 0) (argument dispatch 2))
-    else if dispatch.function == ADD64 then
-    write_of (argument dispatch 0) (to_le_bytes w64 ((number_in_memory start entries (argument dispatch 0) + argument dispatch 1) % 2 ^ 64))
-    else []
+-- what an agent's function writes: FILL its byte, COPY its source as it was before, ADD64 the wrapped sum (own)
+abbrev pub function_writes : Start → List Entry → Option AgentFunction → List Effect
+function_writes start entries None = []
+function_writes start entries (Some (Fill target byte)) = write_of target.address.0 (replicate target.size byte)
+function_writes start entries (Some (Copy source target)) = write_of target.address.0 (memory_from start entries source.address.0 source.size)
+function_writes start entries (Some (Add64 number addend)) =
+    write_of number.address.0 (to_le_bytes w64 ((number_in_memory start entries number.address.0 + addend) % 2 ^ 64))
 
 -- an agent's function's result: ADD64's is the old number, the others' is 0 (own)
-abbrev pub function_result : Start → List Entry → AgentDispatch → ℕ
-function_result start entries dispatch = if dispatch.function == ADD64 then number_in_memory start entries (argument dispatch 0) else 0
+abbrev pub function_result : Start → List Entry → Option AgentFunction → ℕ
+function_result start entries None = 0
+function_result start entries (Some (Fill target byte)) = 0
+function_result start entries (Some (Copy source target)) = 0
+function_result start entries (Some (Add64 number addend)) = number_in_memory start entries number.address.0
 
 -- the result's 8 bytes go to the return address, unless that is 0 (own)
 abbrev pub result_writes : Start → List Entry → AgentDispatch → List Effect
 result_writes start entries dispatch =
     if dispatch.return_address.0 == 0 then []
-    else write_of dispatch.return_address.0 (to_le_bytes w64 (function_result start entries dispatch))
+    else write_of dispatch.return_address.0 (to_le_bytes w64 (function_result start entries (function_of dispatch)))
 
 -- what the one group of an agent dispatch writes: its function's target, then its result (own)
 abbrev pub agent_writes : Start → List Entry → AgentDispatch → List Effect
-agent_writes start entries dispatch = function_writes start entries dispatch ++ result_writes start entries dispatch
+agent_writes start entries dispatch = function_writes start entries (function_of dispatch) ++ result_writes start entries dispatch
 
 -- how many groups a packet has: an agent dispatch has one; barrier packets have no work (own)
 abbrev pub groups_of : Packet → ℕ

@@ -7,6 +7,8 @@ mod effects;
 mod entry;
 mod event;
 mod flight;
+mod limits;
+mod need;
 mod outcome;
 mod refusal;
 
@@ -15,5 +17,7 @@ pub use effects::Effects;
 pub use entry::{Effect, Entry};
 pub use event::{Event, Query, Request};
 pub use flight::InFlight;
+pub use limits::{MOST_ENTRIES, MOST_HOST_BYTES, QUEUES, SLOTS};
+pub use need::{ADD64, AgentFunction, COPY, FILL, Need, Range, Subject};
 pub use outcome::{Cause, Outcome, Polled, Seen, Taken, Worked};
 pub use refusal::Refusal;

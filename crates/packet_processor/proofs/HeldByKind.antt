@@ -1,36 +1,57 @@
--- What a packet holds, item by item.
-use Rattle.std.proofs.Common.{◌≡◌, List, [], ◌∷◌, ◌++◌, refl, ◌∙◌, ap, Bool, true, false}
-use Rattle.std.specs.Prelude.{◌||◌, not, ◌==◌, map, filter}
-use Rattle.std.specs.List.{list_any}
-use Rattle.std.proofs.lemmas.List.Folds.{list_any-append}
-use Rattle.aql_packet.specs.declared.ids.SignalHandle.{SignalHandle}
-use Rattle.aql_packet.specs.declared.packet.AgentDispatch.{AgentDispatch}
+-- What a packet needs and holds, rule by rule.
+use Rattle.std.proofs.Common.{◌≡◌, List, [], ◌∷◌, ◌++◌, refl, sym, ◌∙◌, ap, Bool, true, false, Option}
+use Rattle.std.specs.Prelude.{◌||◌, ◌&&◌, map, option_to_list}
+use Rattle.std.specs.List.{list_all, list_any, flat_map}
+use Rattle.std.proofs.lemmas.List.Folds.{list_any-append, list_all-append}
+use Rattle.aql_packet.specs.declared.packet.Packet.{Packet}
 use Rattle.policy.specs.declared.object.Object.{Object}
-use Rattle.policy.specs.declared.rights.Right.{Right}
+use Rattle.policy.specs.declared.object.Object.TheVariants as object
+use Rattle.policy.specs.declared.rights.Right.TheVariants.{Use}
 use Rattle.policy.specs.declared.rights.Rights.{Rights}
-use Rattle.core_model.specs.LaunchRules.{Range, ranges, function_ranges, result_range}
-use Rattle.core_model.specs.Holds.{Held, held_signal, held_signals, held_range}
-use Rattle.packet_processor.specs.Holding.{is_among, range_is_among}
+use Rattle.queue_error.specs.declared.rule.Rule.TheVariants.{L4, L8, L9, L10}
+use Rattle.core_model.specs.declared.need.Need.{Need}
+use Rattle.core_model.specs.Queues.{Opening}
+use Rattle.core_model.specs.Needs.{needs}
+use Rattle.core_model.specs.Holds.{Held, as_held, held_at_launch}
+use Rattle.packet_processor.specs.Holding.{is_among}
 
--- a test of what some signals hold is a test of each
-pub any_held_signals : (p : Held → Bool) (needed : Right) (signals : List SignalHandle) → list_any p (held_signals needed signals) ≡ list_any (λ signal. list_any p (held_signal needed signal)) signals
-any_held_signals p needed [] = refl
-any_held_signals p needed (s ∷ ss) =
-    list_any-append p (held_signal needed s) (held_signals needed ss) ∙ ap (λ x. list_any p (held_signal needed s) || x) (any_held_signals p needed ss)
+-- a test of what is there among some options is a test of each
+pub any-options : {X : Type 0} (p : X → Bool) (os : List (Option X)) → list_any p (flat_map option_to_list os) ≡ list_any (λ o. list_any p (option_to_list o)) os
+any-options p [] = refl
+any-options p (o ∷ os) = list_any-append p (option_to_list o) (flat_map option_to_list os) ∙ ap (λ b. list_any p (option_to_list o) || b) (any-options p os)
 
--- a test of what some ranges hold is a test of each that isn't empty
-any_held_ranges : (on : Object) (rights : Rights) (rs : List Range) → list_any (is_among on rights) (map held_range (filter (λ r. not (r.size == 0)) rs)) ≡ list_any (range_is_among on rights) rs
-any_held_ranges on rights [] = refl
-any_held_ranges on rights (r ∷ rs) = by_test (r.size == 0) refl (any_held_ranges on rights rs)
-  where
-    by_test : (b : Bool) → (r.size == 0) ≡ b
-        → list_any (is_among on rights) (map held_range (filter (λ r. not (r.size == 0)) rs)) ≡ list_any (range_is_among on rights) rs
-        → list_any (is_among on rights) (map held_range (filter (λ r. not (r.size == 0)) (r ∷ rs))) ≡ list_any (range_is_among on rights) (r ∷ rs)
-    by_test true is rest = rw is rest
-    by_test false is rest = rw is (ap (λ x. is_among on rights (held_range r) || x) rest)
+pub all-options : {X : Type 0} (p : X → Bool) (os : List (Option X)) → list_all p (flat_map option_to_list os) ≡ list_all (λ o. list_all p (option_to_list o)) os
+all-options p [] = refl
+all-options p (o ∷ os) = list_all-append p (option_to_list o) (flat_map option_to_list os) ∙ ap (λ b. list_all p (option_to_list o) && b) (all-options p os)
 
--- what a dispatch holds is what its function and its result need
-pub any_held_by_dispatch : (on : Object) (rights : Rights) (dispatch : AgentDispatch) → list_any (is_among on rights) (map held_range (ranges dispatch)) ≡ (list_any (range_is_among on rights) (function_ranges dispatch) || list_any (range_is_among on rights) (result_range dispatch))
-any_held_by_dispatch on rights dispatch =
-    any_held_ranges on rights (function_ranges dispatch ++ result_range dispatch)
-    ∙ list_any-append (range_is_among on rights) (function_ranges dispatch) (result_range dispatch)
+or_false : (b : Bool) → (b || false) ≡ b
+or_false true = refl
+or_false false = refl
+
+any_map : (p : Held → Bool) (ns : List Need) → list_any p (map as_held ns) ≡ list_any (λ need. p (as_held need)) ns
+any_map p [] = refl
+any_map p (n ∷ ns) = ap (λ b. p (as_held n) || b) (any_map p ns)
+
+joined : (a b c d e f g h : Bool) → a ≡ e → b ≡ f → c ≡ g → d ≡ h → (a || (b || (c || d))) ≡ (e || (f || (g || h)))
+joined a b c d e f g h first second third fourth = rw (first, second, third, fourth) refl
+
+-- what a packet holds is what its agent, its ranges, its dependencies and its completion need
+pub any_held : (on : Object) (rights : Rights) (opening : Opening) (p : Packet) (a b c d : Bool)
+    → a ≡ list_any (λ need. is_among on rights (as_held need)) (needs L4 opening.agent p)
+    → b ≡ list_any (λ need. is_among on rights (as_held need)) (needs L8 opening.agent p)
+    → c ≡ list_any (λ need. is_among on rights (as_held need)) (needs L9 opening.agent p)
+    → d ≡ list_any (λ need. is_among on rights (as_held need)) (needs L10 opening.agent p)
+    → (a || (b || (c || d))) ≡ list_any (is_among on rights) (held_at_launch opening p)
+any_held on rights opening p a b c d first second third fourth =
+    let test : Held → Bool = is_among on rights in
+    let l8 : List Held = map as_held (needs L8 opening.agent p) in
+    let l9 : List Held = map as_held (needs L9 opening.agent p) in
+    let l10 : List Held = map as_held (needs L10 opening.agent p) in
+    let by_rule : list_any test (l8 ++ (l9 ++ (l10 ++ []))) ≡ (list_any test l8 || (list_any test l9 || (list_any test l10 || false))) =
+    list_any-append test l8 (l9 ++ (l10 ++ []))
+    ∙ ap (λ b. list_any test l8 || b) (list_any-append test l9 (l10 ++ []) ∙ ap (λ b. list_any test l9 || b) (list_any-append test l10 [])) in
+    let memory : b ≡ list_any test l8 = second ∙ sym (any_map test (needs L8 opening.agent p)) in
+    let waits : c ≡ list_any test l9 = third ∙ sym (any_map test (needs L9 opening.agent p)) in
+    let completes : d ≡ (list_any test l10 || false) = fourth ∙ sym (any_map test (needs L10 opening.agent p)) ∙ sym (or_false _) in
+    joined a b c d (is_among on rights (object.Agent opening.agent, Use)) (list_any test l8) (list_any test l9) (list_any test l10 || false) (first ∙ or_false _) memory waits completes
+    ∙ ap (λ rest. is_among on rights (object.Agent opening.agent, Use) || rest) (sym by_rule)

@@ -1,98 +1,54 @@
 //! What a packet in flight holds: the rights that can't be taken back until it is released.
 
-ghost use Rattle.std.specs.Prelude.{◌≡◌, []};
-ghost use Rattle.std.specs.List.{list_any};
+ghost use Rattle.std.specs.Prelude.{◌≡◌, option_to_list};
+ghost use Rattle.std.specs.List.{flat_map, list_any};
 ghost use Rattle.aql_packet.specs.declared.ids.ClientId.{ClientId};
-ghost use Rattle.core_model.specs.History.{Start};
-ghost use Rattle.core_model.specs.LaunchRules as rules;
-ghost use Rattle.core_model.specs.Holds.{held_at_launch, held_by_kind, held_signal};
-ghost use Rattle.packet_processor.specs.Holding.{is_among, range_is_among};
+ghost use Rattle.core_model.specs.Holds.{as_held, held_at_launch};
+ghost use Rattle.packet_processor.specs.Holding.{is_among};
 
-use crate::functions::{ADD64, COPY, FILL};
-use crate::packets::completion;
-use aql_packet::{AgentDispatch, AgentHandle, Barrier, Packet, RegionHandle, SignalHandle};
-use policy::{Object, Right, Rights};
+use crate::judging::object_of;
+use crate::need_table::{Needs, needs};
+use aql_packet::{AgentHandle, Packet};
+use core_model::Need;
+use policy::{Object, Rights};
+use queue_error::Rule;
 
-// Whether a right that is held on an object is one of some rights on an object.
-fn is_among(held: Object, needed: Right, object: Object, rights: Rights) -> bool
-    ensures { result ≡ is_among object rights (held, needed) }
+// Whether a right that is needed is one of some rights on an object.
+fn is_among(need: &Need, object: Object, rights: Rights) -> bool
+    ensures { result ≡ is_among object rights (as_held need.now) }
 {
-    held.kind() == object.kind() && held.number() == object.number() && rights.has(needed)
+    let on = object_of(&need.subject);
+    on.kind() == object.kind() && on.number() == object.number() && rights.has(need.right)
 }
 
-// Whether a right on a signal that isn't null is one of some rights on an object.
-fn signal_is_among(signal: SignalHandle, needed: Right, object: Object, rights: Rights) -> bool
-    ensures { result ≡ list_any (is_among object rights) (held_signal needed signal) }
+// Whether one of a rule's needs is one of some rights on an object.
+fn are_among(needs: &Needs, object: Object, rights: Rights) -> bool
+    ensures { result ≡ list_any (λ need. is_among object rights (as_held need)) (flat_map option_to_list needs.now) }
 {
-    signal.0 != 0 && is_among(Object::Signal(signal), needed, object, rights)
+    needs
+        .iter()
+        .any(|need| is_among_or_none(need, object, rights))
 }
 
-// Whether a right on the region of a range that isn't empty is one of some rights on an object.
-fn range_is_among(address: u64, size: u64, needed: Right, object: Object, rights: Rights) -> bool
-    ensures { result ≡ range_is_among object rights (record { address = address; size = size; right = needed }) }
+// Whether a right is one of some rights on an object, if there is one.
+fn is_among_or_none(need: &Option<Need>, object: Object, rights: Rights) -> bool
+    ensures { result ≡ list_any (λ need. is_among object rights (as_held need)) (option_to_list need.now) }
 {
-    let region = RegionHandle((address >> 32) as u32);
-    size != 0 && is_among(Object::Region(region), needed, object, rights)
-}
-
-// Whether a dispatch's function needs one of some rights on an object.
-fn function_holds(dispatch: &AgentDispatch, object: Object, rights: Rights) -> bool
-    ensures { result ≡ list_any (range_is_among object rights) (rules.function_ranges dispatch.now) }
-{
-    let [first, second, third, _] = dispatch.arguments;
-    match dispatch.function {
-        FILL => range_is_among(first, second, Right::Write, object, rights),
-        COPY => {
-            range_is_among(first, third, Right::Read, object, rights)
-                || range_is_among(second, third, Right::Write, object, rights)
-        }
-        ADD64 => {
-            range_is_among(first, 8, Right::Read, object, rights)
-                || range_is_among(first, 8, Right::Write, object, rights)
-        }
-        _ => false,
+    match need {
+        Some(need) => is_among(need, object, rights),
+        None => false,
     }
 }
 
-// Whether the place of a dispatch's result needs one of some rights on an object.
-fn result_holds(dispatch: &AgentDispatch, object: Object, rights: Rights) -> bool
-    ensures { result ≡ list_any (range_is_among object rights) (rules.result_range dispatch.now) }
-{
-    let address = dispatch.return_address.0;
-    address != 0 && range_is_among(address, 8, Right::Write, object, rights)
-}
-
-// Whether one of a barrier packet's dependencies needs one of some rights on an object.
-fn barrier_holds(barrier: &Barrier, object: Object, rights: Rights) -> bool
-    ensures { result ≡ list_any
-        (λ signal. list_any (is_among object rights) (held_signal Right.Wait signal)) barrier.now.dependencies }
-{
-    barrier.dependencies.iter().any(|signal| signal_is_among(*signal, Right::Wait, object, rights))
-}
-
-// Whether a packet's kind has it hold one of some rights on an object.
-#[tactic(auto, using(crate::proofs::HeldByKind::any_held_signals, crate::proofs::HeldByKind::any_held_by_dispatch))]
-fn kind_holds(packet: &Packet, object: Object, rights: Rights) -> bool
-    ensures { result ≡ list_any (is_among object rights) (held_by_kind packet.now) }
-{
-    match packet {
-        Packet::Kernel(_) => false,
-        Packet::Agent(dispatch) => {
-            function_holds(dispatch, object, rights) || result_holds(dispatch, object, rights)
-        }
-        Packet::BarrierAnd(barrier) | Packet::BarrierOr(barrier) => {
-            barrier_holds(barrier, object, rights)
-        }
-    }
-}
-
-/// Whether a packet that was launched on an agent holds one of some rights on an object: its
-/// agent's USE, CHANGE on its completion signal, and what its kind needs.
+/// Whether a packet that was launched on an agent holds one of some rights on an object: it holds all
+/// that it needs.
 pub fn holds(packet: &Packet, agent: AgentHandle, object: Object, rights: Rights) -> bool
-    ensures { (start : Start) (client : ClientId) → result ≡ list_any (is_among object rights)
-        (held_at_launch start [] (record { client = client; agent = agent }) packet.now) }
+    ensures { (client : ClientId) → result ≡ list_any (is_among object rights)
+        (held_at_launch (record { client = client; agent = agent }) packet.now) }
 {
-    is_among(Object::Agent(agent), Right::Use, object, rights)
-        || signal_is_among(completion(packet), Right::Change, object, rights)
-        || kind_holds(packet, object, rights)
+    let agent_is = are_among(&needs(Rule::L4, agent, packet), object, rights);
+    let memory_is = are_among(&needs(Rule::L8, agent, packet), object, rights);
+    let dependency_is = are_among(&needs(Rule::L9, agent, packet), object, rights);
+    let completion_is = are_among(&needs(Rule::L10, agent, packet), object, rights);
+    agent_is | (memory_is | (dependency_is | completion_is))
 }

@@ -5,15 +5,15 @@
 #![tactic(auto)]
 
 mod facts;
-mod functions;
 mod holding;
 mod judging;
+mod need_table;
 mod packets;
 mod queue_state;
 
 pub use facts::{Facts, TAKES_NOTHING, Verdict};
-pub use functions::{ADD64, COPY, FILL};
 pub use holding::holds;
 pub use judging::verdict;
+pub use need_table::{Needs, function_of, needs, result_range};
 pub use packets::{completion, is_barrier, is_ready};
 pub use queue_state::{MayLaunch, QueueState, State};

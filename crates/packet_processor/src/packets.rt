@@ -1,7 +1,8 @@
 //! What a packet's kind says of its completion.
 
 ghost use Rattle.std.specs.Prelude.{◌≡◌};
-ghost use Rattle.core_model.specs.LaunchRules.{completion, is_barrier};
+ghost use Rattle.core_model.specs.LaunchRules.{is_barrier};
+ghost use Rattle.core_model.specs.Needs.{completion};
 ghost use Rattle.core_model.specs.Work.{is_ready};
 
 use aql_packet::{Packet, SignalHandle};

@@ -7,11 +7,8 @@ ghost use Rattle.packet_processor.specs.Queueing.{flying, launching, state_of};
 
 use crate::packets::is_barrier;
 use aql_packet::{QueueId, RawHeader};
-use core_model::{Cause, InFlight};
+use core_model::{Cause, InFlight, SLOTS};
 use queue_error::QueueError;
-
-// How many packets of one queue are in flight at the most.
-const SLOTS: usize = 8;
 
 /// Whether a queue's packets are launched.
 #[derive(Clone, Copy, Debug, PartialEq, Eq)]

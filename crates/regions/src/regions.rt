@@ -1,8 +1,8 @@
 //! All regions, found by address.
-ghost use Rattle.std.specs.Prelude.{◌≡◌, IfOk, OnOk, OnErr, IsTrue, length, replicate};
+ghost use Rattle.std.specs.Prelude.{◌≡◌, IfOk, OnOk, OnErr, IsTrue, true, length, replicate};
 ghost use Rattle.std.specs.List.{list_all};
 ghost use Rattle.std.specs.Result.{result_err};
-ghost use Rattle.regions.specs.Memory.{are_region_lengths, bytes_from, is_region_length, IsMemory, IsWritten, lengths_of, region_length, zeros};
+ghost use Rattle.regions.specs.Memory.{are_region_lengths, bytes_from, is_region_length, is_within, IsMemory, IsWritten, lengths_of, region_length, zeros};
 ghost use Rattle.regions.specs.Faults.{range_fault, copy_fault};
 ghost use Rattle.regions.specs.Place.{IsPlaceOf, LiesInside, handle_at, laid_at, length_of_region, part_at};
 
@@ -125,6 +125,38 @@ impl Regions {
         let place = self.locate(address, bytes.len() as u64)?;
         self.regions[place.index].put(place.offset, bytes);
         Ok(())
+    }
+
+    /// Whether a range lies whole in one region, so that `bytes` and `lay` can't fail there.
+    pub fn contains(&self, address: Address, length: u64) -> bool
+        ensures { result ≡ is_within (lengths_of self.now) address.0 length }
+    {
+        self.locate(address, length).is_ok()
+    }
+
+    /// The bytes of a range that lies whole in one region.
+    pub fn bytes(&self, address: Address, length: u64) -> &[u8]
+        requires { is_within (lengths_of self.now) address.0 length ≡ true }
+        ensures bytes { result.now ≡ bytes_from self.now address.0 length }
+        ensures memory { IsMemory self.now }
+    {
+        match self.read(address, length) {
+            Ok(bytes) => bytes,
+            Err(_) => unreachable!(),
+        }
+    }
+
+    /// Lays bytes over a range that lies whole in one region.
+    pub fn lay(&mut self, address: Address, bytes: &[u8])
+        requires { is_within (lengths_of self.old) address.0 (length bytes.now) ≡ true }
+        ensures bytes { IsWritten self.old address.0 bytes.now self.new }
+        ensures lengths { lengths_of self.new ≡ lengths_of self.old }
+        ensures memory { IsMemory self.new }
+    {
+        match self.write(address, bytes) {
+            Ok(()) => {}
+            Err(_) => unreachable!(),
+        }
     }
 
     /// Makes each of `length` bytes from an address on the byte `byte`. Refused as a read of that

@@ -1,7 +1,7 @@
 //! What clients do from outside their queues: they write memory and change signals.
 
 ghost use Rattle.std.specs.Prelude.{◌≡◌, ◌-◌, ◌∷◌, [], OnOk, IfOk, IfErr, Some, true, length, slice_set};
-ghost use Rattle.regions.specs.Memory.{IsWritten, is_within, lengths_of};
+ghost use Rattle.regions.specs.Memory.{is_within, lengths_of};
 ghost use Rattle.signals.specs.Values.{applied, value_of};
 ghost use Rattle.core_model.specs.Owed.{enters, old_if_asked, refuses};
 ghost use Rattle.core_model.specs.Legal.{Meets, MeetsOrLacks};
@@ -9,21 +9,16 @@ ghost use Rattle.access_core.specs.Told.{accepted};
 ghost use Rattle.access_core.specs.ToldHost.{changed};
 ghost use Rattle.access_core.specs.OwingHost.{ChangeOwed, WriteOwed};
 
+use crate::access::lookups::region_at;
 use crate::access::{AccessCore, enter, lacks_room};
-use aql_packet::{Address, ClientId, RegionHandle, SignalHandle};
-use core_model::{Effect, Effects, Event, Outcome, Refusal};
+use aql_packet::{Address, ClientId, SignalHandle};
+use core_model::{Effect, Effects, Event, MOST_HOST_BYTES, Outcome, Refusal};
 use grants::RightsTable;
 use policy::{Object, Policy, Right};
 use regions::Regions;
 use sequences::Sequence;
 use signals::{SignalOp, Signals};
 use std::alloc::Global;
-
-/// How many addresses lie between the first of one region and the first of the next.
-const SPAN: u64 = 1 << 32;
-
-/// How many bytes a client may write in one call.
-const MOST_BYTES: usize = 65_536;
 
 impl AccessCore {
     /// Changes a signal, and answers its old value for an exchange or a compare-and-swap, else 0.
@@ -82,7 +77,7 @@ impl AccessCore {
             return Err(Refusal::AuditFull);
         }
         let written = bytes.copy(alloc)?;
-        lay(&mut self.memory, address, bytes.as_slice());
+        self.memory.lay(address, bytes.as_slice());
         let event = Event::HostWrite {
             client,
             address,
@@ -116,10 +111,10 @@ fn may_write(
     if !policy.declares_client(client) {
         return Err(Refusal::UnknownClient);
     }
-    if bytes.is_empty() || bytes.len() > MOST_BYTES {
+    if bytes.is_empty() || bytes.len() as u64 > MOST_HOST_BYTES {
         return Err(Refusal::BadSize);
     }
-    let region = Object::Region(RegionHandle((address.0 / SPAN) as u32));
+    let region = Object::Region(region_at(address));
     if !lies_within(memory, address, bytes.len()) || !granted.has(client, region, Right::Write) {
         return Err(Refusal::Denied(Right::Write));
     }
@@ -130,16 +125,7 @@ fn may_write(
 fn lies_within(memory: &Regions, address: Address, size: usize) -> bool
     ensures { result ≡ is_within (lengths_of memory.now) address.0 size }
 {
-    memory.read(address, size as u64).is_ok()
-}
-
-// Lays bytes over the memory, where they lie whole in one region.
-fn lay(memory: &mut Regions, address: Address, bytes: &[u8])
-    requires { is_within (lengths_of memory.old) address.0 (length bytes.now) ≡ true }
-    ensures bytes { IsWritten memory.old address.0 bytes.now memory.new }
-    ensures lengths { lengths_of memory.new ≡ lengths_of memory.old }
-{
-    let _ = memory.write(address, bytes);
+    memory.contains(address, size as u64)
 }
 
 // Whether a client may change a signal, and the signal's value.

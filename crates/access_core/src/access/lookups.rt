@@ -3,12 +3,12 @@
 ghost use Rattle.std.specs.Prelude.{◌≡◌, option_map};
 ghost use Rattle.std.specs.Option.{option_copied};
 ghost use Rattle.policy.specs.Policy.{numbered};
-ghost use Rattle.regions.specs.Memory.{is_within, region_of};
+ghost use Rattle.regions.specs.Memory.{region_of};
 ghost use Rattle.signals.specs.Values.{value_of};
 ghost use Rattle.core_model.specs.Grants.{in_force};
-ghost use Rattle.core_model.specs.Memory.{region_lengths, signals};
+ghost use Rattle.core_model.specs.Memory.{signals};
 ghost use Rattle.core_model.specs.Queues.{owner};
-ghost use Rattle.access_core.specs.Lookups.{IsQueue, bytes_within, may_reach, opening_from};
+ghost use Rattle.access_core.specs.Lookups.{IsQueue, bytes_within, opening_from};
 
 use crate::access::AccessCore;
 use crate::queue::Queue;
@@ -21,27 +21,6 @@ impl AccessCore {
         ensures { result ≡ in_force self.now.start self.now.entries client object right }
     {
         self.granted.has(client, object, right)
-    }
-
-    // Whether a range of addresses lies whole in one region.
-    pub(crate) fn is_within(&self, address: Address, length: u64) -> bool
-        ensures { result ≡ is_within (region_lengths self.now.start) address.0 length }
-    {
-        self.memory.read(address, length).is_ok()
-    }
-
-    // Whether a range of addresses lies whole in one region on which a client's right is in force.
-    pub(crate) fn may_reach(
-        &self,
-        client: ClientId,
-        address: Address,
-        length: u64,
-        right: Right,
-    ) -> bool
-        ensures { result ≡ may_reach self.now client address length right }
-    {
-        self.is_within(address, length)
-            && self.is_in_force(client, Object::Region(region_at(address)), right)
     }
 
     // The bytes of a range of addresses, if it lies whole in one region.

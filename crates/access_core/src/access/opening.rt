@@ -8,16 +8,13 @@ ghost use Rattle.access_core.specs.Opening.{is_capacity, IsUntouched, lengths_of
 
 use crate::access::{AccessCore, OpenFault};
 use aql_packet::{RegionHandle, SignalHandle};
-use core_model::Entry;
+use core_model::{Entry, MOST_ENTRIES};
 use grants::RightsTable;
 use policy::{Kind, Policy};
 use regions::Regions;
 use sequences::{Reserved, Sequence};
 use signals::Signals;
 use std::alloc::{AllocError, Global};
-
-// How many entries an audit can have at the most.
-const MOST_ENTRIES: usize = 1 << 20;
 
 /// What a core gets memory for when it is opened.
 #[derive(Drop)]

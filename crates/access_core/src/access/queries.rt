@@ -7,15 +7,12 @@ ghost use Rattle.access_core.specs.ToldQueries.{bytes_told, errors_told, listing
 use crate::access::AccessCore;
 use crate::access::lookups::region_at;
 use aql_packet::{Address, ClientId, QueueId, SignalHandle};
-use core_model::{Entry, Query, Refusal};
+use core_model::{Entry, MOST_HOST_BYTES, Query, Refusal};
 use policy::{Kind, Object, Policy, Right, Rights};
 use queue_error::QueueError;
 use sequences::Sequence;
 use signals::Condition;
 use std::alloc::Global;
-
-/// How many bytes a client reads at most in one call (own).
-const MOST_BYTES: u64 = 65_536;
 
 impl AccessCore {
     /// The policy that the core was opened with.
@@ -49,7 +46,7 @@ impl AccessCore {
         if !self.policy().declares_client(client) {
             return Err(Refusal::UnknownClient);
         }
-        if length == 0 || length > MOST_BYTES {
+        if length == 0 || length > MOST_HOST_BYTES {
             return Err(Refusal::BadSize);
         }
         let Some(bytes) = self.bytes_at(address, length) else {

@@ -7,14 +7,12 @@ ghost use Rattle.core_model.specs.Legal.{MeetsOrLacks};
 ghost use Rattle.access_core.specs.Told.{opened};
 
 use crate::access::{AccessCore, enter, lacks_room};
-use crate::queue::{Queue, SLOTS};
+use crate::queue::Queue;
 use aql_packet::{AgentHandle, ClientId, QueueId};
-use core_model::{Effects, Event, Outcome, Refusal};
+use core_model::{Effects, Event, Outcome, QUEUES, Refusal, SLOTS};
 use policy::{Object, Right};
 use sequences::Reserved;
 use std::alloc::Global;
-
-const QUEUES: usize = 64;
 
 // Whether a ring may have so many slots: a power of two from 2 to 4,096.
 fn is_ring_size(size: u64) -> bool

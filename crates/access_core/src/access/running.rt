@@ -7,15 +7,18 @@ ghost use Rattle.aql_packet.specs.declared.packet.Packet.TheVariants as kind;
 ghost use Rattle.regions.specs.Memory.{is_within, lengths_of};
 ghost use Rattle.core_model.specs.Memory.{memory_from, region_lengths};
 ghost use Rattle.core_model.specs.Flight.{group_ran};
-ghost use Rattle.core_model.specs.Work.{function_writes, number_in_memory, result_writes, write_of};
+ghost use Rattle.core_model.specs.Needs.{function_of};
+ghost use Rattle.core_model.specs.Work.{function_result, function_writes, number_in_memory, result_writes, write_of};
 ghost use Rattle.core_model.specs.Owed.{refuses};
 ghost use Rattle.core_model.specs.Legal.{MeetsOrLacks};
 ghost use Rattle.access_core.specs.ToldWork.{GroupOwed, IsChanged, IsOwed, IsPlaced, is_placed, Reaches, run_owed, worked};
 
 use crate::access::{AccessCore, enter, lacks_room};
 use aql_packet::{Address, AgentDispatch, Packet, PacketId, QueueId};
-use core_model::{Effect, Effects, Event, InFlight, Outcome, Refusal, Worked};
-use packet_processor::{ADD64, COPY, FILL};
+use core_model::{
+    AgentFunction, Effect, Effects, Event, InFlight, Outcome, Range, Refusal, Worked,
+};
+use packet_processor::function_of;
 use regions::Regions;
 use sequences::Sequence;
 use std::alloc::{AllocError, Global};
@@ -68,25 +71,24 @@ impl AccessCore {
     // What an agent's function writes, and where.
     fn function_piece(&self, alloc: Global, dispatch: &AgentDispatch) -> Result<Piece, AllocError>
         requires { Reaches self.now (kind.Agent dispatch.now) }
-        ensures written { IfOk result (λ piece.
-            write_of piece.address.0 piece.bytes ≡ function_writes self.now.start self.now.entries dispatch.now) }
+        ensures written { IfOk result (λ piece. write_of piece.address.0 piece.bytes
+            ≡ function_writes self.now.start self.now.entries (function_of dispatch.now)) }
         ensures placed { IfOk result (λ piece. IsPlaced self.now piece.address.0 (length piece.bytes)) }
     {
-        let [first, second, third, _] = dispatch.arguments;
-        match dispatch.function {
-            FILL => Ok(Piece {
-                address: Address(first),
-                bytes: filled(alloc, second, (third % 256) as u8)?,
+        match function_of(dispatch) {
+            Some(AgentFunction::Fill { target, byte }) => Ok(Piece {
+                address: target.address,
+                bytes: filled(alloc, target.size, byte)?,
             }),
-            COPY => Ok(Piece {
-                address: Address(second),
-                bytes: self.copied(alloc, Address(first), third)?,
+            Some(AgentFunction::Copy { source, target }) => Ok(Piece {
+                address: target.address,
+                bytes: self.copied(alloc, source)?,
             }),
-            ADD64 => Ok(Piece {
-                address: Address(first),
-                bytes: number_bytes(alloc, self.number(Address(first)).wrapping_add(second))?,
+            Some(AgentFunction::Add64 { number, addend }) => Ok(Piece {
+                address: number.address,
+                bytes: number_bytes(alloc, self.number(number.address).wrapping_add(addend))?,
             }),
-            _ => Ok(Piece {
+            None => Ok(Piece {
                 address: Address(0),
                 bytes: Sequence::new(alloc),
             }),
@@ -107,30 +109,34 @@ impl AccessCore {
                 bytes: Sequence::new(alloc),
             });
         }
-        let number = if dispatch.function == ADD64 {
-            self.number(Address(dispatch.arguments[0]))
-        } else {
-            0
-        };
         Ok(Piece {
             address,
-            bytes: number_bytes(alloc, number)?,
+            bytes: number_bytes(alloc, self.result_number(dispatch))?,
         })
     }
 
-    // The bytes from an address on, as a list of its own.
-    fn copied(&self, alloc: Global, address: Address, size: u64) -> Result<Sequence<u8>, AllocError>
-        requires { IsPlaced self.now address.0 size }
-        ensures { IfOk result (λ bytes.
-            bytes ≡ memory_from self.now.start self.now.entries address.0 size) }
+    // The result of an agent's function: the old number of an addition, else 0.
+    fn result_number(&self, dispatch: &AgentDispatch) -> u64
+        requires { Reaches self.now (kind.Agent dispatch.now) }
+        ensures { result ≡ function_result self.now.start self.now.entries (function_of dispatch.now) }
     {
-        if size == 0 {
+        match function_of(dispatch) {
+            Some(AgentFunction::Add64 { number, .. }) => self.number(number.address),
+            _ => 0,
+        }
+    }
+
+    // The bytes of a range, as a list of its own.
+    fn copied(&self, alloc: Global, range: Range) -> Result<Sequence<u8>, AllocError>
+        requires { IsPlaced self.now range.address.0 range.size }
+        ensures { IfOk result (λ bytes.
+            bytes ≡ memory_from self.now.start self.now.entries range.address.0 range.size) }
+    {
+        if range.size == 0 {
             return Ok(Sequence::new(alloc));
         }
-        match self.memory.read(address, size) {
-            Ok(bytes) => Ok(Sequence::from_vec(Vec::from_slice(alloc, bytes)?)),
-            Err(_) => unreachable!(),
-        }
+        let bytes = self.memory.bytes(range.address, range.size);
+        Ok(Sequence::from_vec(Vec::from_slice(alloc, bytes)?))
     }
 
     // The 64-bit number at an address.
@@ -138,14 +144,9 @@ impl AccessCore {
         requires { is_within (region_lengths self.now.start) address.0 8 ≡ true }
         ensures { result ≡ number_in_memory self.now.start self.now.entries address.0 }
     {
-        match self.memory.read(address, 8) {
-            Ok(bytes) => {
-                let mut number = [0; 8];
-                number.copy_from_slice(bytes);
-                u64::from_le_bytes(number)
-            }
-            Err(_) => unreachable!(),
-        }
+        let mut number = [0; 8];
+        number.copy_from_slice(self.memory.bytes(address, 8));
+        u64::from_le_bytes(number)
     }
 }
 
@@ -209,10 +210,7 @@ fn lay(memory: &mut Regions, piece: &Piece)
     if piece.bytes.is_empty() {
         return;
     }
-    match memory.write(piece.address, piece.bytes.as_slice()) {
-        Ok(()) => {}
-        Err(_) => unreachable!(),
-    }
+    memory.lay(piece.address, piece.bytes.as_slice());
 }
 
 // The change that a piece makes: none where it has no bytes.

@@ -5,6 +5,6 @@ use Rattle.access_core.proofs.access.AccessCore.copied.Goals as goal
 
 pub returns : goal.returns
 returns c =
-    c.from_vec.ensures ∙ c.in_ok-from_slice-in-Ok.ensures.items ∙ c.in-Ok.ensures.bytes
-    ∙ read-inside c.self.inside c.self.invariant _ c.self.view_is c.in-Ok.ensures.memory c.args.address.0 c.args.size
-    (placed-within _ c.args.address.0 c.args.size c.requires c.if-size-eq0.false)
+    c.from_vec.ensures ∙ c.in_ok-from_slice.ensures.items ∙ c.bytes-bytes.ensures.bytes
+    ∙ read-inside c.self.inside c.self.invariant _ c.self.view_is c.bytes-bytes.ensures.memory c.args.range.address.0 c.args.range.size
+    (placed-within _ c.args.range.address.0 c.args.range.size c.requires c.if-range-eq0.false)

@@ -12,7 +12,7 @@ use Rattle.core_model.specs.Flight.{is_packet}
 use Rattle.core_model.specs.Memory.{region_lengths}
 use Rattle.core_model.specs.Owed.{error_at}
 use Rattle.access_core.specs.Kept.{start_of}
-use Rattle.access_core.specs.Reachable.{is_reachable}
+use Rattle.access_core.specs.LiesInRegions.{lies_in_regions}
 use Rattle.access_core.proofs.KeptMore.{IsKept-more}
 use Rattle.access_core.proofs.Calls.{entered, owed-inside}
 use Rattle.access_core.proofs.ErrorRooms.{ErrorRoom-failed, HasPlace-flying}
@@ -50,7 +50,7 @@ invariant_of-self c =
       stops = failed.stops;
       few_queues = omega (arith, failed.count, c.self.invariant.few_queues);
       flight = c.release.ensures;
-      reachable = rw c.release.ensures (All-filter (λ g. not (is_packet f.queue f.id g)) (λ g. is_reachable (region_lengths (start_of a)) g.packet ≡ true) a.flight c.self.invariant.reachable);
+      reachable = rw c.release.ensures (All-filter (λ g. not (is_packet f.queue f.id g)) (λ g. lies_in_regions (region_lengths (start_of a)) g.packet ≡ true) a.flight c.self.invariant.reachable);
       error_room = rw c.release.ensures (ErrorRoom-failed a.queues.items _ a.flight c.self.invariant.error_room _ _ f (found-inside a c.self.invariant _ c.self.view_is _ _ _ c.requires.found) _ refl failed);
     })
     (owed-inside _ a _ c.self.view_is _ c.requires.may)

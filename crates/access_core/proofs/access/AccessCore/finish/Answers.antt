@@ -8,10 +8,10 @@ use Rattle.core_model.specs.declared.outcome.Outcome.TheVariants as outcome
 use Rattle.core_model.specs.declared.entry.Effect.TheVariants as effect
 use Rattle.core_model.specs.Flight.{is_packet}
 use Rattle.core_model.specs.Memory.{region_lengths}
-use Rattle.core_model.specs.LaunchRules.{completion}
+use Rattle.core_model.specs.Needs.{completion}
 use Rattle.core_model.specs.Owed.{completed}
 use Rattle.access_core.specs.Kept.{start_of}
-use Rattle.access_core.specs.Reachable.{is_reachable}
+use Rattle.access_core.specs.LiesInRegions.{lies_in_regions}
 use Rattle.access_core.specs.ErrorRoom.{HasErrorRoom}
 use Rattle.access_core.proofs.KeptMore.{IsKept-more}
 use Rattle.access_core.proofs.Calls.{entered}
@@ -41,7 +41,7 @@ invariant_of-self c =
       stops = λ queue. refl;
       few_queues = c.self.invariant.few_queues;
       flight = c.release.ensures ∙ sym quiet;
-      reachable = rw c.release.ensures (All-filter (λ g. not (is_packet f.queue f.id g)) (λ g. is_reachable (region_lengths (start_of a)) g.packet ≡ true) a.flight c.self.invariant.reachable);
+      reachable = rw c.release.ensures (All-filter (λ g. not (is_packet f.queue f.id g)) (λ g. lies_in_regions (region_lengths (start_of a)) g.packet ≡ true) a.flight c.self.invariant.reachable);
       error_room = rw c.release.ensures (subst (HasErrorRoom a.queues.items) quiet (ErrorRoom-released a.queues.items a.flight c.self.invariant.error_room (completed a.signals (completion f.packet) ++ effect.Release f.queue f.id ∷ [])));
     })
     (finish-inside a c.self.invariant _ c.self.view_is _ (completion f.packet) f.queue f.id c.in_ok-flying.ensures.may)

@@ -7,7 +7,7 @@ use Rattle.core_model.specs.declared.outcome.Outcome.TheVariants as outcome
 use Rattle.core_model.specs.declared.outcome.Taken.TheVariants.{Launched}
 use Rattle.access_core.specs.Deciding.{TakesNext}
 use Rattle.core_model.specs.Memory.{region_lengths}
-use Rattle.access_core.specs.Reachable.{is_reachable}
+use Rattle.access_core.specs.LiesInRegions.{lies_in_regions}
 use Rattle.access_core.specs.Kept.{history_of, start_of}
 use Rattle.access_core.proofs.KeptMore.{IsKept-more}
 use Rattle.access_core.proofs.TakeLemmas.{few-flying, kept-next, reachable-more}
@@ -30,7 +30,7 @@ invariant_of-self-2 c =
     let flying = c.in_ok-push.ensures.items in
     let over = c.advance.ensures in
     let takes : TakesNext (history_of c.self.inside) c.args.queue = subst (λ h. TakesNext h c.args.queue) (sym c.self.view_is) c.requires.3 in
-    let reaches : is_reachable (region_lengths (start_of c.self.inside)) c.args.laid_out ≡ true = subst (λ h. is_reachable (region_lengths h.start) c.args.laid_out ≡ true) (sym c.self.view_is) c.requires.2 in
+    let reaches : lies_in_regions (region_lengths (start_of c.self.inside)) c.args.laid_out ≡ true = subst (λ h. lies_in_regions (region_lengths h.start) c.args.laid_out ≡ true) (sym c.self.view_is) c.requires.2 in
     IsKept-more c.self.inside _ (Take c.args.queue c.args.packet c.args.bytes.now) (outcome.Taken Launched) [] c.self.invariant
     (record { policy = refl; capacity = refl; entries = rw c.none.ensures at c.enter.ensures.entries; place = c.enter.ensures.place; room = rw (flying, length-append) (ltb-false _ _ room) })
     (record {

@@ -8,5 +8,5 @@ pub returns : goal.returns
 returns c =
     c.from_le_bytes.ensures
     ∙ ap (from_le_bytes w64)
-    (c.copy_from_slice.ensures.after ∙ c.in-Ok.ensures.bytes
-    ∙ read-inside c.self.inside c.self.invariant _ c.self.view_is c.in-Ok.ensures.memory c.args.address.0 8 c.requires)
+    (c.copy_from_slice.ensures.after ∙ c.bytes.ensures.bytes
+    ∙ read-inside c.self.inside c.self.invariant _ c.self.view_is c.bytes.ensures.memory c.args.address.0 8 c.requires)

@@ -5,7 +5,7 @@ use Rattle.core_model.specs.declared.outcome.Outcome.TheVariants as outcome
 use Rattle.core_model.specs.Memory.{region_lengths}
 use Rattle.core_model.specs.Owed.{release_of}
 use Rattle.access_core.specs.Kept.{history_of, start_of}
-use Rattle.access_core.specs.Reachable.{is_reachable}
+use Rattle.access_core.specs.LiesInRegions.{lies_in_regions}
 use Rattle.access_core.specs.Stopping.{MayStop}
 use Rattle.access_core.proofs.KeptMore.{IsKept-more}
 use Rattle.access_core.proofs.ErrorRooms.{ErrorRoom-halted}
@@ -51,7 +51,7 @@ invariant_of-self c =
       stops = halted.stops;
       few_queues = omega (arith, halted.count, c.self.invariant.few_queues);
       flight = c.let_go-effects.ensures.flight;
-      reachable = rw c.let_go-effects.ensures.flight (all-released (λ g. is_reachable (region_lengths (start_of a)) g.packet ≡ true) barrier a.flight c.self.invariant.reachable);
+      reachable = rw c.let_go-effects.ensures.flight (all-released (λ g. lies_in_regions (region_lengths (start_of a)) g.packet ≡ true) barrier a.flight c.self.invariant.reachable);
       error_room = rw c.let_go-effects.ensures.flight (ErrorRoom-halted a.queues.items _ a.flight c.self.invariant.error_room _ (release_of barrier) halted);
     })
     may.owing

@@ -6,4 +6,4 @@ use Rattle.access_core.proofs.access.running.lay.Goals as goal
 pub returns-clause-changed : goal.returns-clause-changed
 returns-clause-changed c =
     let some : (length c.args.piece.now.bytes ≢ 0) = grind arith in
-    written-changed c.args.memory.now c.args.piece.now.address.0 c.args.piece.now.bytes c.write.new.self some (rw c.as_slice.ensures at c.in-Ok.ensures.bytes)
+    written-changed c.args.memory.now c.args.piece.now.address.0 c.args.piece.now.bytes c.lay.new.self some (rw c.as_slice.ensures at c.lay.ensures.bytes)

@@ -1,0 +1,14 @@
+//! The limits of the core (own).
+
+/// How many packets of one queue are in flight at the most. So many errors a queue can have, too: it
+/// launches nothing more after the first, and each packet in flight leaves one at the most.
+pub const SLOTS: usize = 8;
+
+/// How many queues are opened at the most.
+pub const QUEUES: usize = 64;
+
+/// How many bytes a client reads or writes in one call at the most.
+pub const MOST_HOST_BYTES: u64 = 65_536;
+
+/// How many entries an audit has place for at the most.
+pub const MOST_ENTRIES: usize = 1 << 20;

@@ -1,0 +1,161 @@
+//! What a packet needs, rule by rule: the one table by which it is judged, holds its rights, and runs.
+
+ghost use Rattle.std.specs.Prelude.{◌≡◌, ◌∷◌, [], option_to_list};
+ghost use Rattle.std.specs.List.{flat_map};
+ghost use Rattle.core_model.specs.Needs as model;
+
+use crate::packets::completion;
+use aql_packet::{Address, AgentDispatch, AgentHandle, Packet, SignalHandle};
+use core_model::{ADD64, AgentFunction, COPY, FILL, Need, Range, Subject};
+use policy::{Object, Right};
+use queue_error::Rule;
+
+/// The needs of a rule: none has more than five.
+pub type Needs = [Option<Need>; 5];
+
+/// The function that a dispatch names, and what it is to work on; none where agents have no function
+/// of its number (own).
+pub fn function_of(dispatch: &AgentDispatch) -> Option<AgentFunction>
+    ensures { result ≡ model.function_of dispatch.now }
+{
+    let [first, second, third, _] = dispatch.arguments;
+    match dispatch.function {
+        FILL => Some(AgentFunction::Fill {
+            target: bytes_at(first, second),
+            byte: (third % 256) as u8,
+        }),
+        COPY => Some(AgentFunction::Copy {
+            source: bytes_at(first, third),
+            target: bytes_at(second, third),
+        }),
+        ADD64 => Some(AgentFunction::Add64 {
+            number: bytes_at(first, 8),
+            addend: second,
+        }),
+        _ => None,
+    }
+}
+
+/// Where a dispatch's result goes: 8 bytes at its return address, none where that is 0 (own).
+pub fn result_range(dispatch: &AgentDispatch) -> Range
+    ensures { result ≡ model.result_range dispatch.now }
+{
+    let address = dispatch.return_address.0;
+    bytes_at(address, if address == 0 { 0 } else { 8 })
+}
+
+/// The rights that a launch rule asks of a packet for an agent, and on what: L4 the use of the agent,
+/// L8 ranges of memory, L9 to wait on dependencies, L10 to change the completion signal (own).
+pub fn needs(rule: Rule, agent: AgentHandle, packet: &Packet) -> Needs
+    ensures { flat_map option_to_list result ≡ model.needs rule agent packet.now }
+{
+    match rule {
+        Rule::L4 => one(on_object(Object::Agent(agent), Right::Use)),
+        Rule::L8 => memory_needs(packet),
+        Rule::L9 => wait_needs(packet),
+        Rule::L10 => one(on_signal(completion(packet), Right::Change)),
+        _ => [None; 5],
+    }
+}
+
+// At most one need.
+fn one(need: Option<Need>) -> Needs
+    ensures { flat_map option_to_list result ≡ option_to_list need }
+{
+    [need, None, None, None, None]
+}
+
+// What a packet needs of memory.
+fn memory_needs(packet: &Packet) -> Needs
+    ensures { flat_map option_to_list result ≡ model.memory_needs packet.now }
+{
+    match packet {
+        Packet::Agent(dispatch) => {
+            let [first, second] = function_needs(function_of(dispatch));
+            let third = on_range(result_range(dispatch), Right::Write);
+            [first, second, third, None, None]
+        }
+        _ => [None; 5],
+    }
+}
+
+// What a function needs of memory.
+fn function_needs(function: Option<AgentFunction>) -> [Option<Need>; 2]
+    ensures { flat_map option_to_list result ≡ model.function_needs function }
+{
+    match function {
+        None => [None, None],
+        Some(AgentFunction::Fill { target, .. }) => [on_range(target, Right::Write), None],
+        Some(AgentFunction::Copy { source, target }) => [
+            on_range(source, Right::Read),
+            on_range(target, Right::Write),
+        ],
+        Some(AgentFunction::Add64 { number, .. }) => [
+            on_range(number, Right::Read),
+            on_range(number, Right::Write),
+        ],
+    }
+}
+
+// What a packet needs of the signals that it depends on.
+fn wait_needs(packet: &Packet) -> Needs
+    ensures { flat_map option_to_list result
+        ≡ flat_map (model.signal_need Right.Wait) (model.dependencies packet.now) }
+{
+    match packet {
+        Packet::BarrierAnd(barrier) | Packet::BarrierOr(barrier) => [
+            on_signal(barrier.dependencies[0], Right::Wait),
+            on_signal(barrier.dependencies[1], Right::Wait),
+            on_signal(barrier.dependencies[2], Right::Wait),
+            on_signal(barrier.dependencies[3], Right::Wait),
+            on_signal(barrier.dependencies[4], Right::Wait),
+        ],
+        _ => [None; 5],
+    }
+}
+
+// So many bytes from an address on.
+fn bytes_at(address: u64, size: u64) -> Range
+    ensures { result ≡ model.bytes_at address size }
+{
+    Range {
+        address: Address(address),
+        size,
+    }
+}
+
+// A right on an object.
+fn on_object(object: Object, right: Right) -> Option<Need>
+    ensures { option_to_list result
+        ≡ record { subject = Subject.Object object; right = right } ∷ [] }
+{
+    Some(Need {
+        subject: Subject::Object(object),
+        right,
+    })
+}
+
+// A right on a signal; the null signal needs none.
+fn on_signal(signal: SignalHandle, right: Right) -> Option<Need>
+    ensures { option_to_list result ≡ model.signal_need right signal }
+{
+    if signal.0 == 0 {
+        None
+    } else {
+        on_object(Object::Signal(signal), right)
+    }
+}
+
+// A right on a range; an empty one needs none.
+fn on_range(range: Range, right: Right) -> Option<Need>
+    ensures { option_to_list result ≡ model.range_need right range }
+{
+    if range.size == 0 {
+        None
+    } else {
+        Some(Need {
+            subject: Subject::Range(range),
+            right,
+        })
+    }
+}
