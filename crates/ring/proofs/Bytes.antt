@@ -1,5 +1,5 @@
 -- A packet's words, written as bytes, are read again.
-use Rattle.std.proofs.Common.{◌≡◌, ℕ, zero, suc, ◌^◌, ◌<◌, List, [], ◌∷◌, length, get_or, replicate, refl, ap, ◌∙◌, sym, arith}
+use Rattle.std.proofs.Common.{◌≡◌, ℕ, ◌^◌, ◌<◌, List, [], ◌∷◌, length, get_or, replicate, refl, ap, ◌∙◌, arith}
 use Rattle.aql_packet.specs.Numbers.{number_at, written}
 use Rattle.aql_packet.proofs.WritingLemmas.{Put, put, after, AllFit, reads_back}
 use Rattle.ring.specs.Bytes.{words_of}
@@ -42,4 +42,4 @@ module _ (a b c d e f g h : ℕ) (b1 b2 b3 b4 b5 b6 b7 b8 : List ℕ)
   words_back =
       let r : (place number : ℕ) → number_at (after puts) place 8 ≡ number → number_at b8 place 8 ≡ number = λ place number q. ap (λ x. number_at x place 8) bytes_are ∙ q in
       λ i. r 0 a (reads_back puts 0 8 a all refl refl) i ∷ r 8 b (reads_back puts 8 8 b all refl refl) i ∷ r 16 c (reads_back puts 16 8 c all refl refl) i ∷ r 24 d (reads_back puts 24 8 d all refl refl) i
-          ∷ r 32 e (reads_back puts 32 8 e all refl refl) i ∷ r 40 f (reads_back puts 40 8 f all refl refl) i ∷ r 48 g (reads_back puts 48 8 g all refl refl) i ∷ r 56 h (reads_back puts 56 8 h all refl refl) i ∷ []
+      ∷ r 32 e (reads_back puts 32 8 e all refl refl) i ∷ r 40 f (reads_back puts 40 8 f all refl refl) i ∷ r 48 g (reads_back puts 48 8 g all refl refl) i ∷ r 56 h (reads_back puts 56 8 h all refl refl) i ∷ []

@@ -1,8 +1,7 @@
 -- How the passes of a ring that opens are cut off one seat.
-use Rattle.std.proofs.Common.{◌≡◌, ℕ, zero, suc, ◌+◌, ◌-◌, ◌<◌, ◌≤◌, List, [], ◌∷◌, ◌++◌, length, take, drop, replicate, refl, ap, ◌∙◌, sym, subst, arith}
-use Rattle.std.specs.Prelude.{⊤}
+use Rattle.std.proofs.Common.{◌≡◌, ℕ, zero, suc, length, get_or, ◌+◌, ◌-◌, ◌<◌, List, [], ◌∷◌, ◌++◌, take, drop, replicate, refl, ap, ◌∙◌, sym, subst, arith}
+use Rattle.std.specs.Prelude.{All, ⊤}
 use Rattle.atomic_table.specs.Seated.{TableId}
-use Rattle.ring_core.specs.declared.part.Part.{Part}
 use Rattle.ring_core.specs.declared.part.Part.TheVariants.{Producer}
 use Rattle.ring_core.specs.Parts.{new_producer}
 use Rattle.ring.specs.declared.share.Numbered.{Numbered}
@@ -41,3 +40,14 @@ pub dealt_more : (table : TableId) (n : ℕ) → dealt table (n + 1) ≡ dealt t
 dealt_more table n =
     let e : suc n ≡ n + 1 = omega arith in
     subst (λ (k : ℕ). dealt table k ≡ dealt table n ++ new_producer_pass table k ∷ []) e refl
+
+-- all passes that are dealt are for the table
+all_push : (table : TableId) (xs : List ProducerSeen) (y : ProducerSeen) → All (λ (pass : ProducerSeen). pass.table ≡ table) xs → y.table ≡ table → (k : ℕ) (d : ProducerSeen) → k < length (xs ++ y ∷ []) → (get_or (xs ++ y ∷ []) k d).table ≡ table
+all_push table [] y h p zero d lt = p
+all_push table [] y h p (suc k) d lt = absurd (omega (arith, lt))
+all_push table (x ∷ xs) y h p zero d lt = h 0 d (omega arith)
+all_push table (x ∷ xs) y h p (suc k) d lt = all_push table xs y (λ i e l. h (suc i) e (omega (arith, l))) p k d (omega (arith, lt))
+
+pub dealt_all : (table : TableId) (n : ℕ) → All (λ (pass : ProducerSeen). pass.table ≡ table) (dealt table n)
+dealt_all table zero = λ k d lt. absurd (omega (arith, lt))
+dealt_all table (suc n) = all_push table (dealt table n) (new_producer_pass table (suc n)) (dealt_all table n) refl

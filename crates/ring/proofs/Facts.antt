@@ -1,14 +1,13 @@
 -- What the ring rule tells a seat that makes a step.
-use Rattle.std.proofs.Common.{◌≡◌, ◌≢◌, ℕ, zero, suc, ◌+◌, ◌-◌, ◌*◌, ◌%◌, ◌^◌, ◌<◌, ◌≤◌, Bool, true, false, List, [], ◌∷◌, ◌++◌, length, get_or, refl, ap, ◌∙◌, sym, subst, arith, inl, inr, ◌⊎◌}
+use Rattle.std.proofs.Common.{◌≡◌, ℕ, zero, suc, ◌+◌, ◌*◌, ◌%◌, ◌^◌, ◌<◌, ◌≤◌, true, List, [], ◌∷◌, length, get_or, refl, ap, ◌∙◌, sym, subst, arith, inl, inr, ◌⊎◌}
 use Rattle.std.proofs.lemmas.Bool.Decides.{nat_tests}
 use Rattle.ring_core.specs.declared.access.Access.{Access}
 use Rattle.ring_core.specs.declared.access.Access.TheVariants.{Reserve, RaiseReadIndex}
-use Rattle.ring_core.specs.declared.access.Step.{Step}
 use Rattle.ring_core.specs.declared.part.Part.{Part}
 use Rattle.ring_core.specs.declared.part.Part.TheVariants.{Producer, Processor}
 use Rattle.ring_core.specs.declared.part.ProcessorPart.{ProcessorPart}
 use Rattle.ring_core.specs.Parts.{may_make, nobody}
-use Rattle.ring_core.specs.Machine.{Machine, part_at, touched, found, place_of, word_after, read_index, is_allowed, is_ring_size, producers_of, Fits64}
+use Rattle.ring_core.specs.Machine.{Machine, part_at, found, place_of, word_after, read_index, is_allowed, is_ring_size, producers_of}
 use Rattle.ring_core.specs.Rule.{AreSeats, IsRule, IsRing, processor_of}
 use Rattle.ring_core.proofs.Kept.{producer_of, producers_all}
 use Rattle.ring_core.proofs.States.{ring_size_bounds, names_word, within, raises, fits_by}

@@ -1,16 +1,16 @@
 -- What a producer knows while it fills the slot of a ticket.
-use Rattle.std.proofs.Common.{◌≡◌, ◌≢◌, ℕ, zero, suc, ◌+◌, ◌*◌, ◌%◌, ◌<◌, ◌≤◌, Bool, true, false, List, [], ◌∷◌, ◌++◌, length, get_or, set, refl, ap, ◌∙◌, sym, subst, arith, get_or-set_same, get_or-set_other, length-set}
-use Rattle.std.specs.Prelude.{Option, Some, None, is_some, slice_index, ◌&&◌, not, nat_lt}
+use Rattle.std.proofs.Common.{◌≡◌, ◌≢◌, ℕ, zero, suc, ◌+◌, ◌<◌, Bool, true, false, List, [], ◌∷◌, ◌++◌, length, set, refl, ap, ◌∙◌, sym, arith, get_or-set_other}
+use Rattle.std.specs.Prelude.{Option, Some, None, is_some, slice_index, ◌&&◌, not}
 use Rattle.std.proofs.lemmas.Bool.Decides.{nat_tests}
 use Rattle.ring_core.specs.declared.ticket.Ticket.{Ticket}
 use Rattle.ring_core.specs.declared.ticket.Reserved.{Reserved}
-use Rattle.ring_core.specs.declared.access.Access.TheVariants.{Reserve, LoadReadIndex, StoreBody, StoreHeader}
+use Rattle.ring_core.specs.declared.access.Access.TheVariants.{StoreBody, StoreHeader}
 use Rattle.ring_core.specs.declared.access.Made.{Made}
 use Rattle.ring_core.specs.declared.part.Part.{Part}
-use Rattle.ring_core.specs.declared.part.Part.TheVariants.{Producer, Processor}
+use Rattle.ring_core.specs.declared.part.Part.TheVariants.{Producer}
 use Rattle.ring_core.specs.declared.part.ProducerPart.{ProducerPart}
-use Rattle.ring_core.specs.Words.{word, is_body, has_body, is_invalid}
-use Rattle.ring_core.specs.Tickets.{held, changed, only_open, open_ticket, is_published, seeing, writing, shows_room}
+use Rattle.ring_core.specs.Words.{is_body, has_body, is_invalid}
+use Rattle.ring_core.specs.Tickets.{held, changed, only_open, open_ticket, is_published, writing, shows_room}
 use Rattle.ring_core.specs.Parts.{may_make, after_producing, passes}
 use Rattle.ring_core.specs.Machine.{word_place}
 use Rattle.ring_core.proofs.Seats.{held_changed_same, held_changed_other}

@@ -1,13 +1,12 @@
 -- Steps of a seat, one after the other.
-use Rattle.std.proofs.Common.{◌≡◌, ◌≢◌, ℕ, zero, suc, ◌+◌, ◌*◌, ◌<◌, ◌≤◌, Bool, true, false, List, [], ◌∷◌, ◌++◌, length, get_or, refl, ap, ◌∙◌, sym, subst, arith}
+use Rattle.std.proofs.Common.{◌≡◌, ℕ, suc, ◌+◌, ◌<◌, true, false, List, [], ◌∷◌, ◌++◌, refl, ap, ◌∙◌, sym, subst, arith}
 use Rattle.std.specs.Prelude.{Some, slice_index}
 use Rattle.atomic_table.specs.Table.{Me}
 use Rattle.ring_core.specs.declared.access.Access.{Access}
 use Rattle.ring_core.specs.declared.access.Access.TheVariants.{StoreBody, StoreHeader}
 use Rattle.ring_core.specs.declared.access.Made.{Made}
 use Rattle.ring_core.specs.declared.part.Part.{Part}
-use Rattle.ring_core.specs.declared.part.Part.TheVariants.{Producer, Processor}
-use Rattle.ring_core.specs.declared.part.ProducerPart.{ProducerPart}
+use Rattle.ring_core.specs.declared.part.Part.TheVariants.{Producer}
 use Rattle.ring_core.specs.Words.{is_invalid}
 use Rattle.ring_core.specs.Tickets.{open_ticket, shows_room}
 use Rattle.ring_core.specs.Parts.{may_make}
@@ -15,7 +14,7 @@ use Rattle.ring_core.specs.Machine.{word_place, place_of}
 use Rattle.ring.specs.declared.share.Numbered.{Numbered}
 use Rattle.ring.specs.Shares.{alone}
 use Rattle.ring.specs.Passes.{RingSeen, only_part}
-use Rattle.ring.specs.Made.{WereMade, knowing_all, body_stored, packet_stored, stored}
+use Rattle.ring.specs.Made.{WereMade, knowing_all, body_stored, stored}
 use Rattle.ring.specs.Steps.{only_number, KnowsIndex, IsReady, HasGained}
 use Rattle.ring.specs.Publishing.{IsFillable}
 use Rattle.ring.proofs.Filling.{knowing_append, were_append, Filled, filling, filled, filled_saw, body_whole, may_store_body, may_store_header, place_from}

@@ -1,19 +1,16 @@
 -- The table's fact holds as a ring opens, and each step, cut and join keeps it.
-use Rattle.std.proofs.Common.{◌≡◌, ◌≢◌, ℕ, zero, suc, ◌+◌, ◌%◌, ◌^◌, ◌<◌, ◌≤◌, Bool, true, false, List, [], ◌∷◌, ◌++◌, length, get_or, set, take, drop, refl, ap, ◌∙◌, sym, subst, arith}
-use Rattle.std.specs.Prelude.{slice_index, slice_set}
-use mathlib.Core.Option.{some}
-use lib.ListN.{get_elem?}
-use Rattle.atomic_table.specs.Table.{State, Me, Allows, Splits, Joins, opening, keeps}
+use Rattle.std.proofs.Common.{◌≡◌, ℕ, ◌+◌, ◌%◌, ◌^◌, ◌<◌, true, List, [], ◌∷◌, ◌++◌, get_or, set, take, drop, refl, ap, ◌∙◌, sym, subst}
+use Rattle.std.specs.Prelude.{slice_index}
+use Rattle.atomic_table.specs.Table.{Me, Allows, Splits, Joins, opening, keeps}
 use Rattle.ring_core.specs.declared.access.Access.{Access}
 use Rattle.ring_core.specs.declared.access.Access.TheVariants.{Reserve, LoadReadIndex, StoreBody, StoreHeader, LoadHeader, LoadBody, ClearHeader, RaiseReadIndex}
 use Rattle.ring_core.specs.declared.access.Made.{Made}
 use Rattle.ring_core.specs.declared.access.Seen.TheVariants.{Stored}
 use Rattle.ring_core.specs.declared.part.Part.TheVariants.{Producer, Processor}
 use Rattle.ring_core.specs.declared.access.Step.{Step}
-use Rattle.ring_core.specs.declared.access.Seen.{Seen}
 use Rattle.ring_core.specs.declared.part.Part.{Part}
 use Rattle.ring_core.specs.Parts.{may_make, part_after, seen_by, nobody}
-use Rattle.ring_core.specs.Machine.{Machine, Makes, Replays, machine_of, part_at, touched, found, made, opened, word_after, place_of, read_index, is_allowed, is_ring_size}
+use Rattle.ring_core.specs.Machine.{Machine, Makes, machine_of, part_at, touched, found, made, opened, word_after, place_of, read_index, is_allowed, is_ring_size}
 use Rattle.ring_core.specs.Rule.{IsRule, IsRing}
 use Rattle.ring_core.proofs.States.{ring_size_bounds}
 use Rattle.ring.specs.Opening.{is_producer_count}
@@ -23,7 +20,7 @@ use Rattle.ring_core.proofs.Kept.{replays_keep, seated}
 use Rattle.ring_core.proofs.States.{replays_push}
 use Rattle.ring.specs.declared.share.Numbered.{Numbered}
 use Rattle.ring.specs.declared.share.Shape.{Shape}
-use Rattle.ring.specs.Shares.{alone, first_share, shape_of, Unite, IsKept}
+use Rattle.ring.specs.Shares.{alone, first_share, shape_of, IsKept}
 use Rattle.ring.specs.Made.{WasMade, knowing}
 use Rattle.ring.specs.Steps.{made_of, only_number, IsReady, IsTold, IsLoad, IsStore, IsAdd}
 use Rattle.ring.proofs.Shares.{unite_step, unite_cut, unite_join, unite_first}
@@ -65,11 +62,18 @@ steps {S} size producers id number slots place part access f then pos may where_
     let knows : part' ≡ part_after (get_or parts number nobody) access (found machine step) = (λ i. part_after (sym has i) access (is i)) in
     let next : Machine = machine_of size (set s.words place (f n)) (set parts number part') in
     let leads : next ≡ made machine step = (λ i. machine_of size (set s.words (here i) (becomes i)) (set parts number (knows i))) in
-    let makes : Makes machine step (seen_by access n) next = record { allowed = may'; told = ap (seen_by access) is; leads = leads } in
-    (alone number part', keeps, tt,
-      (h.0 ++ step ∷ [], set parts number part', replays_push size producers h.0 machine next step (seen_by access n) h.2 makes,
-        unite_step parts s.views id number part part' at (seated size parts number access may') h.3),
-      tells n (record { steps = h.0; machine = machine; next = next; replays = h.2; had = has; makes = makes }))
+    let makes : Makes machine step (seen_by access n) next = record { allowed = may'; told = ap (seen_by access) is; leads = leads } in (
+      alone number part',
+      keeps,
+      tt,
+      (
+        h.0 ++ step ∷ [],
+        set parts number part',
+        replays_push size producers h.0 machine next step (seen_by access n) h.2 makes,
+        unite_step parts s.views id number part part' at (seated size parts number access may') h.3,
+      ),
+      tells n (record { steps = h.0; machine = machine; next = next; replays = h.2; had = has; makes = makes }),
+    )
 
 -- a store leaves its seat the same whatever it found
 same_after : (part : Part) (access : Access) (n m : ℕ) → seen_by access n ≡ Stored → seen_by access m ≡ Stored → part_after part access n ≡ part_after part access m
@@ -111,11 +115,11 @@ module _ {S : Type 0} (ring : RingSeen) (me : Me S (List Numbered)) (access : Ac
       subst (λ (s : Shape). Allows (IsKept s) slots id me place f then) (sym is)
       (subst (λ (m : Me S (List Numbered)). Allows (IsKept (shape_of ring.size ring.producers)) slots id m place f then) (sym ready.one)
       (steps ring.size ring.producers id (only_number me.0) slots place (only_part me.0) access f then (ring_size_bounds ring.size fits).0 ready.may
-          (λ machine rule sized had.
-          let r : IsRing machine = ring_of ring.producers ring.size machine rule sized fits count in
-          let may : is_allowed machine (step_of (only_number me.0) access) ≡ true = (λ i. may_make (sized i) (had i) access) ∙ ready.may in
-          (ready.lies (read_index machine) (index_of ring.producers machine (only_number me.0) (only_part me.0) rule had) ∙ (λ i. place_of (sym sized i) (read_index machine) access), leaves machine r may))
-          (λ n was. tells n (tells_of n was))))
+      (λ machine rule sized had.
+      let r : IsRing machine = ring_of ring.producers ring.size machine rule sized fits count in
+      let may : is_allowed machine (step_of (only_number me.0) access) ≡ true = (λ i. may_make (sized i) (had i) access) ∙ ready.may in
+      (ready.lies (read_index machine) (index_of ring.producers machine (only_number me.0) (only_part me.0) rule had) ∙ (λ i. place_of (sym sized i) (read_index machine) access), leaves machine r may))
+      (λ n was. tells n (tells_of n was))))
 
   pub loads : IsLoad access → Allows (IsKept shape) slots id me place (λ n. n) (λ n after. IsTold ring.size ring.producers access me n after)
   loads kind = goes (λ n. n) (λ n after. IsTold ring.size ring.producers access me n after) (λ machine r may. sym (kind (found machine (step_of (only_number me.0) access)))) (λ n t. t)

@@ -8,3 +8,4 @@ pub mod Passes
 pub mod Loading
 pub mod Processing
 pub mod Dealing
+pub mod Settling

@@ -1,27 +1,27 @@
 -- What the processor knows while it loads a packet.
-use Rattle.std.proofs.Common.{◌≡◌, ◌≢◌, ℕ, zero, suc, ◌+◌, ◌*◌, ◌%◌, ◌<◌, ◌≤◌, Bool, true, false, List, [], ◌∷◌, ◌++◌, length, get_or, set, map, refl, ap, ◌∙◌, sym, subst, arith, get_or-set_same, get_or-set_other, length-set}
-use Rattle.std.specs.Prelude.{Option, Some, None, is_some, slice_index, ◌&&◌, not}
+use Rattle.std.proofs.Common.{◌≡◌, ◌≢◌, ℕ, zero, suc, ◌+◌, ◌<◌, Bool, true, false, List, [], ◌∷◌, ◌++◌, length, get_or, set, map, refl, ap, ◌∙◌, sym, subst, arith, get_or-set_same, get_or-set_other}
+use Rattle.std.specs.Prelude.{Option, Some, None, is_some, slice_index, ◌&&◌}
 use Rattle.std.proofs.lemmas.Bool.Decides.{nat_tests}
 use Rattle.atomic_table.specs.Table.{Me}
 use Rattle.ring_core.specs.declared.access.Access.TheVariants.{LoadHeader, LoadBody}
 use Rattle.ring_core.specs.declared.access.Made.{Made}
 use Rattle.ring_core.specs.declared.part.Part.{Part}
-use Rattle.ring_core.specs.declared.part.Part.TheVariants.{Producer, Processor}
+use Rattle.ring_core.specs.declared.part.Part.TheVariants.{Processor}
 use Rattle.ring_core.specs.declared.part.ProcessorPart.{ProcessorPart}
 use Rattle.ring_core.specs.Words.{word, is_body, is_invalid}
-use Rattle.ring_core.specs.Parts.{may_make, after_processing, collected_packet}
+use Rattle.ring_core.specs.Parts.{after_processing}
 use Rattle.ring_core.specs.Machine.{word_place}
 use Rattle.ring_core.specs.Rule.{IsRule}
 use Rattle.ring_core.proofs.Kept.{replays_keep}
 use Rattle.ring.specs.declared.share.Numbered.{Numbered}
 use Rattle.ring.specs.Shares.{alone}
 use Rattle.ring.specs.Passes.{RingSeen, only_part}
-use Rattle.ring.specs.Made.{WasMade, knowing, knowing_all, body_read, read, showing}
+use Rattle.ring.specs.Made.{WasMade, knowing, knowing_all, body_read, read}
 use Rattle.ring.specs.Steps.{only_number, IsReady, HasGained}
 use Rattle.ring.specs.Showing.{IsLoadable}
 use Rattle.ring.proofs.Facts.{processor_at}
 use Rattle.ring.proofs.Filling.{knowing_append, place_from}
-use Rattle.ring.proofs.Gains.{ready_of, gained_more}
+use Rattle.ring.proofs.Gains.{ready_of}
 
 -- the processor has places for eight words
 pub eight_places : (size producers number : ℕ) (q : ProcessorPart) (made : Made) → 0 < size → WasMade size producers number (Processor q) made → length q.collected ≡ 8

@@ -1,20 +1,18 @@
 -- What steps do to a pass.
-use Rattle.std.proofs.Common.{◌≡◌, ◌≢◌, ℕ, zero, suc, ◌+◌, ◌-◌, ◌*◌, ◌<◌, ◌≤◌, Bool, true, false, List, [], ◌∷◌, ◌++◌, length, get_or, refl, ap, ◌∙◌, sym, subst, arith, cond, eqb}
-use Rattle.std.specs.Prelude.{Option, Some, None, is_some, nat_lt, unwrap_or, slice_index, ⊤}
+use Rattle.std.proofs.Common.{◌≡◌, ◌≢◌, ℕ, ◌+◌, ◌<◌, ◌≤◌, Bool, true, false, List, [], ◌∷◌, length, refl, ap, ◌∙◌, sym, subst, arith, cond, eqb}
+use Rattle.std.specs.Prelude.{Some, None, is_some, nat_lt, unwrap_or, slice_index, ⊤}
 use Rattle.std.proofs.lemmas.Bool.Decides.{nat_tests}
-use Rattle.atomic_table.specs.Table.{Me}
 use Rattle.ring_core.specs.declared.ticket.Ticket.{Ticket}
-use Rattle.ring_core.specs.declared.ticket.Reserved.{Reserved}
 use Rattle.ring_core.specs.declared.access.Access.{Access}
 use Rattle.ring_core.specs.declared.access.Access.TheVariants.{Reserve, LoadReadIndex, StoreHeader}
 use Rattle.ring_core.specs.declared.access.Seen.TheVariants.{Read}
 use Rattle.ring_core.specs.declared.access.Made.{Made}
 use Rattle.ring_core.specs.declared.part.Part.{Part}
-use Rattle.ring_core.specs.declared.part.Part.TheVariants.{Producer, Processor}
+use Rattle.ring_core.specs.declared.part.Part.TheVariants.{Producer}
 use Rattle.ring_core.specs.declared.part.ProducerPart.{ProducerPart}
-use Rattle.ring_core.specs.Tickets.{blank, held, only_open, open_ticket, is_published, seeing, writing, IsAbove, unnamed}
-use Rattle.ring_core.specs.Parts.{may_make, after_producing, nobody}
-use Rattle.ring_core.specs.Machine.{Machine, found, write_index, part_at, place_of}
+use Rattle.ring_core.specs.Tickets.{blank, held, only_open, open_ticket, seeing, writing, IsAbove}
+use Rattle.ring_core.specs.Parts.{may_make, after_producing}
+use Rattle.ring_core.specs.Machine.{write_index, part_at, place_of}
 use Rattle.ring_core.specs.Rule.{IsRule, tickets_of, all_tickets, ticket_of, times}
 use Rattle.ring_core.proofs.Entries.{held_none}
 use Rattle.ring_core.proofs.Seats.{held_append, all_below, seat_held}
@@ -85,10 +83,11 @@ module _ (size producers number id : ℕ) (p : ProducerPart) (pos : 0 < size) (h
   pub keeps_open : (j : ℕ) → is_some (open_ticket j p.tickets) ≡ true → (j ≢ id) × (is_some (open_ticket j (after_producing p Reserve id).tickets) ≡ true)
   keeps_open j is_open =
       let t = some_ticket (open_ticket j p.tickets) is_open in
-      let u = open_held (held j p.tickets) t.0 t.1 in
-      ((λ same. let a : held j p.tickets ≡ None = ap (λ n. held n p.tickets) same ∙ absent in cc),
-       (let e : held j (after_producing p Reserve id).tickets ≡ held j p.tickets = held_append j p.tickets (record { id = record { 0 = id }; ticket = blank } ∷ []) ∙ rw u.0 refl in
-        ap (λ o. is_some (only_open o)) e ∙ is_open))
+      let u = open_held (held j p.tickets) t.0 t.1 in (
+        (λ same. let a : held j p.tickets ≡ None = ap (λ n. held n p.tickets) same ∙ absent in cc),
+        (let e : held j (after_producing p Reserve id).tickets ≡ held j p.tickets = held_append j p.tickets (record { id = record { 0 = id }; ticket = blank } ∷ []) ∙ rw u.0 refl in
+            ap (λ o. is_some (only_open o)) e ∙ is_open),
+      )
 
 -- ---- a ticket of a seat has eight words
 

@@ -1,18 +1,17 @@
 -- What steps do to the processor's pass.
-use Rattle.std.proofs.Common.{◌≡◌, ◌≢◌, ℕ, zero, suc, ◌+◌, ◌*◌, ◌^◌, ◌<◌, ◌≤◌, Bool, true, false, List, [], ◌∷◌, ◌++◌, length, get_or, set, map, refl, ap, ◌∙◌, sym, subst, arith}
-use Rattle.std.specs.Prelude.{Option, Some, None, is_some, slice_index, ◌&&◌, unwrap_or, ⊤, if◌then◌else◌}
+use Rattle.std.proofs.Common.{◌≡◌, ℕ, ◌+◌, ◌^◌, ◌<◌, true, false, List, [], ◌∷◌, length, get_or, set, map, refl, ap, ◌∙◌, sym, subst, arith}
+use Rattle.std.specs.Prelude.{Option, Some, None, is_some, ⊤, if◌then◌else◌}
 use Rattle.std.specs.List.{list_all}
 use Rattle.std.proofs.lemmas.List.{length_push}
 use Rattle.ring_core.specs.declared.access.Access.TheVariants.{LoadHeader, ClearHeader, RaiseReadIndex}
 use Rattle.ring_core.specs.declared.access.Seen.TheVariants.{Read}
 use Rattle.ring_core.specs.declared.access.Step.{Step}
 use Rattle.ring_core.specs.declared.access.Made.{Made}
-use Rattle.ring_core.specs.declared.part.Part.{Part}
-use Rattle.ring_core.specs.declared.part.Part.TheVariants.{Producer, Processor}
+use Rattle.ring_core.specs.declared.part.Part.TheVariants.{Processor}
 use Rattle.ring_core.specs.declared.part.ProcessorPart.{ProcessorPart}
 use Rattle.ring_core.specs.Words.{is_invalid, packet_of}
-use Rattle.ring_core.specs.Parts.{may_make, after_processing, collected_packet}
-use Rattle.ring_core.specs.Machine.{Machine, Leads, made, opened, read_index, is_allowed, part_at, is_ring_size, producers_of}
+use Rattle.ring_core.specs.Parts.{after_processing, collected_packet}
+use Rattle.ring_core.specs.Machine.{Machine, Leads, made, opened, read_index, is_ring_size, producers_of}
 use Rattle.ring_core.specs.Rule.{IsRule, IsRing}
 use Rattle.ring_core.proofs.Kept.{replays_keep}
 use Rattle.ring_core.proofs.States.{ring_size_bounds, raises, fits_by}

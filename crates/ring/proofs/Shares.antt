@@ -156,7 +156,6 @@ are_numbered before (part ∷ parts) = (here before part parts, subst2 before pa
     subst2 : (before : List Part) (part : Part) (parts : List Part) → AreOf ((before ++ part ∷ []) ++ parts) (numbered (length (before ++ part ∷ [])) parts) → AreOf (before ++ part ∷ parts) (numbered (suc (length before)) parts)
     subst2 before part parts h = subst (λ (n : ℕ). AreOf (before ++ part ∷ parts) (numbered n parts)) (longer before part) (subst (λ (xs : List Part). AreOf xs (numbered (length (before ++ part ∷ [])) parts)) (assoc before part parts) h)
 
-
 times_numbered : (k first : ℕ) (parts : List Part) → (k < first → times_in k (numbered first parts) ≡ 0) × (first ≤ k → k < first + length parts → times_in k (numbered first parts) ≡ 1) × (first + length parts ≤ k → times_in k (numbered first parts) ≡ 0)
 times_numbered k first [] = ((λ _. refl), (λ a b. absurd (omega (arith, a, b))), (λ _. refl))
 times_numbered k first (part ∷ parts) =
@@ -170,10 +169,11 @@ times_numbered k first (part ∷ parts) =
           let none : times_in k (numbered (suc first) parts) ≡ 0 = a (omega (arith, g.1)) in
           ((λ lt. absurd (omega (arith, g.1, lt))), (λ lo hi. omega (arith, one, none)), (λ le. absurd (omega (arith, g.1, le))))
       | inr g ↦
-          let zero_ : cond {A = ℕ} (eqb first k) 1 0 ≡ 0 = ap (λ b. cond {A = ℕ} b 1 0) (eqb_no first k g.1) in
-          ((λ lt. let r = a (omega (arith, lt)) in omega (arith, zero_, r)),
-           (λ lo hi. let r = b (omega (arith, g.1, lo)) (omega (arith, hi)) in omega (arith, zero_, r)),
-           (λ le. let r = c (omega (arith, le)) in omega (arith, zero_, r)))
+          let zero_ : cond {A = ℕ} (eqb first k) 1 0 ≡ 0 = ap (λ b. cond {A = ℕ} b 1 0) (eqb_no first k g.1) in (
+            (λ lt. let r = a (omega (arith, lt)) in omega (arith, zero_, r)),
+            (λ lo hi. let r = b (omega (arith, g.1, lo)) (omega (arith, hi)) in omega (arith, zero_, r)),
+            (λ le. let r = c (omega (arith, le)) in omega (arith, zero_, r)),
+          )
     ]
   where
     eqb_no : (a b : ℕ) → a ≢ b → eqb a b ≡ false

@@ -1,5 +1,5 @@
 -- The passes of a ring that opens (own).
-use Rattle.std.specs.Prelude.{◌≡◌, ℕ, zero, suc, List, [], ◌∷◌, ◌++◌}
+use Rattle.std.specs.Prelude.{ℕ, zero, suc, List, [], ◌∷◌, ◌++◌}
 use Rattle.atomic_table.specs.Seated.{TableId}
 use Rattle.ring_core.specs.Parts.{new_producer, new_processor}
 use Rattle.ring.specs.Passes.{ProducerSeen, ProcessorSeen, as_producer, as_processor}

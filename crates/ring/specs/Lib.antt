@@ -7,3 +7,4 @@ pub mod Opening
 pub mod Publishing
 pub mod Showing
 pub mod Dealt
+pub mod Settling

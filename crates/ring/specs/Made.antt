@@ -1,14 +1,13 @@
 -- Which steps a pass made, and what it knows after them (own).
-use Rattle.std.specs.Prelude.{◌≡◌, ℕ, ◌+◌, zero, suc, List, [], ◌∷◌, ◌++◌, slice_index, ⊤}
-use Rattle.aql_packet.specs.declared.ids.PacketId.{PacketId}
+use Rattle.std.specs.Prelude.{◌≡◌, ℕ, zero, suc, List, [], ◌∷◌, ◌++◌, slice_index, ⊤}
 use Rattle.ring_core.specs.declared.access.Access.{Access}
-use Rattle.ring_core.specs.declared.access.Access.TheVariants.{Reserve, LoadReadIndex, StoreBody, StoreHeader, LoadHeader, LoadBody, ClearHeader, RaiseReadIndex}
+use Rattle.ring_core.specs.declared.access.Access.TheVariants.{LoadReadIndex, StoreBody, StoreHeader, LoadHeader, LoadBody, ClearHeader, RaiseReadIndex}
 use Rattle.ring_core.specs.declared.access.Step.{Step}
 use Rattle.ring_core.specs.declared.access.Seen.{Seen}
 use Rattle.ring_core.specs.declared.access.Seen.TheVariants.{Read, Stored}
 use Rattle.ring_core.specs.declared.access.Made.{Made}
 use Rattle.ring_core.specs.declared.part.Part.{Part}
-use Rattle.ring_core.specs.Parts.{part_after, seen_by}
+use Rattle.ring_core.specs.Parts.{part_after}
 use Rattle.ring_core.specs.Machine.{Machine, Makes, Replays, part_at}
 
 -- an access that read a word, and one that stored

@@ -23,6 +23,7 @@ pub record RingSeen : Type 0 where
 pub record IsRing (table : TableId) (shape : Shape) (size producers : ℕ) : Type 0 where
   pub made_for : shape ≡ shape_of size producers
   pub words : table.words ≡ 2 + 8 * size
+  pub no_slots : table.slots ≡ 0
   pub fits : is_ring_size size ≡ true
   pub few : is_producer_count producers ≡ true
 

@@ -1,5 +1,5 @@
 -- What the processor's calls say of its pass (own).
-use Rattle.std.specs.Prelude.{◌≡◌, ℕ, Bool, true, false, List, [], ◌∷◌, length, get_or, Option, Some, None}
+use Rattle.std.specs.Prelude.{◌≡◌, ℕ, true, false, List, [], ◌∷◌, length, get_or, Option, Some, None}
 use Rattle.atomic_table.specs.Table.{Me}
 use Rattle.ring_core.specs.declared.access.Access.TheVariants.{LoadHeader}
 use Rattle.ring_core.specs.declared.access.Made.{Made}

@@ -2,6 +2,7 @@
 //! their own, with no lock, and each call says which of the ring's steps it made.
 #![tactic(auto)]
 
+mod closing;
 mod processor;
 mod producer;
 mod ring;
@@ -9,6 +10,7 @@ mod share;
 mod step;
 mod words;
 
+pub use closing::{SettleFault, Settled, Unsettled, settle};
 pub use processor::{Peeked, ProcessorPass, Shown};
 pub use producer::{ProducerPass, Publication, Spent, Ticket};
 pub use ring::{Ring, RingFault};

@@ -100,6 +100,13 @@ impl Ring {
 }
 
 impl ProducerPass {
+    /// The number of its producer, from 1.
+    pub fn number(&self) -> u64
+        ensures { result ≡ self.now.number }
+    {
+        self.number
+    }
+
     /// Reserves the next id, or answers that 2^40 are reserved and changes nothing. One addition to the
     /// write index.
     pub fn reserve(&mut self, ring: &Ring) -> Result<Ticket, Spent>

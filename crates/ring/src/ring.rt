@@ -1,6 +1,6 @@
 //! The ring: its words, and how its passes are cut from one seat.
 
-ghost use Rattle.std.specs.Prelude.{◌≡◌, ◌≤◌, ℕ, [], IfOk, IfErr, true, take, drop, replicate};
+ghost use Rattle.std.specs.Prelude.{◌≡◌, ◌≤◌, ℕ, [], IfOk, IfErr, true, take, drop, replicate, All};
 ghost use Rattle.ring_core.specs.Machine.{is_ring_size};
 ghost use Rattle.ring_core.specs.Parts.{new_producer};
 ghost use Rattle.ring.specs.Dealt.{dealt, new_processor_pass};
@@ -93,6 +93,7 @@ impl Ring {
         ensures ring { IfOk result (λ o. (o.0.size ≡ size) × (o.0.producers ≡ producers)) }
         ensures producers { IfOk result (λ o. o.1.items ≡ dealt o.0.table producers) }
         ensures processor { IfOk result (λ o. o.2 ≡ new_processor_pass o.0.table) }
+        ensures belong { IfOk result (λ o. All (λ pass. pass.table ≡ o.0.table) o.1.items) }
         ensures refused { IfErr result (λ fault. IsRingFault size producers fault) }
     {
         if !is_ring_size(size) {

@@ -61,7 +61,9 @@ impl Join<Share> for Together {
 /// The step that a call makes, picked where it makes it.
 pub trait Call {
     ghost size: { ℕ };
+
     ghost producers: { ℕ };
+
     ghost access: { Access };
 }
 

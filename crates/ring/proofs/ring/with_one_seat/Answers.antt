@@ -1,4 +1,4 @@
-use Rattle.std.proofs.Common.{rules, arith, sym, ap, refl, ◌∙◌, ◌≡◌, ◌+◌, ◌*◌, ℕ, suc, List, [], length}
+use Rattle.std.proofs.Common.{arith, ap, ◌∙◌, ◌≡◌, ◌*◌, suc, [], length}
 use Rattle.ring.specs.Shares.{shape_of}
 use Rattle.ring_core.specs.Machine.{free_slots, opened}
 use Rattle.ring_core.proofs.Places.{free_length}
@@ -17,4 +17,4 @@ invariant_of-ring c =
     let l : length c.as_slice.result.now ≡ suc (suc (length (free_slots c.args.size))) = ap length e in
     let got = c.in_ok-table.ensures in
     let w : c.in_ok-table.table.shared.table_id.words ≡ length c.as_slice.result.now = got.0 in
-    record { made_for = got.5; words = omega (arith, w, l, n); fits = c.requires.size; few = c.requires.producers }
+    record { made_for = got.5; words = omega (arith, w, l, n); no_slots = got.1; fits = c.requires.size; few = c.requires.producers }

@@ -1,8 +1,7 @@
-use Rattle.std.proofs.Common.{rules, ◌≡◌, ◌<◌, ◌∙◌, ℕ, List, false, true, sym, ap, subst}
+use Rattle.std.proofs.Common.{◌≡◌, ◌<◌, ◌∙◌, ℕ, List, sym, ap, subst}
 use Rattle.std.specs.Prelude.{get_or, length, Some}
 use Rattle.ring_core.specs.declared.part.Part.TheVariants.{Processor}
 use Rattle.ring_core.specs.Words.{is_invalid}
-use Rattle.ring_core.specs.Parts.{collected_packet}
 use Rattle.ring_core.proofs.States.{ring_size_bounds}
 use Rattle.ring.specs.Bytes.{words_of}
 use Rattle.ring.specs.Made.{Gained, showing}

@@ -1,4 +1,4 @@
-use Rattle.std.proofs.Common.{rules, ◌≡◌, ◌≢◌, ◌+◌, ◌<◌, ◌∙◌, ℕ, List, [], ◌∷◌, true, false, arith, refl, sym, ap, subst}
+use Rattle.std.proofs.Common.{rules, ◌≡◌, ◌+◌, ◌<◌, ◌∙◌, ℕ, List, true, false, arith, refl, sym, ap, subst}
 use Rattle.std.specs.Prelude.{is_some, nat_lt, get_or}
 use Rattle.std.proofs.lemmas.Bool.Decides.{nat_tests}
 use Rattle.ring_core.specs.declared.part.Part.TheVariants.{Producer}
@@ -28,7 +28,7 @@ returns-then-not-shows_room-clause-others c =
     let was : is_some (open_ticket id (as_producer (only_part c.self.inside.seat.me.0)).tickets) ≡ true = ap (λ v. is_some (open_ticket id v.part.tickets)) c.self.view_is ∙ c.requires.opened in
     λ j ne is_open.
     looked_others ring.size ring.producers c.self.inside.number c.self.inside.allowance id c.load-read_index.result c.self.inside.seat.me c.load-read_index.new.seat.me pos c.self.invariant was c.load-read_index.ensures.told
-        j ne (ap (λ v. is_some (open_ticket j v.part.tickets)) c.self.view_is ∙ is_open)
+    j ne (ap (λ v. is_some (open_ticket j v.part.tickets)) c.self.view_is ∙ is_open)
 
 pub store_packet-requires-clause-fillable : goal.store_packet-requires-clause-fillable
 store_packet-requires-clause-fillable c =
@@ -51,13 +51,20 @@ returns-clause-published c =
     let words : c.words_of-words.result ≡ words_of c.args.bytes.now = c.words_of-words.ensures in
     let valid : is_invalid (get_or (words_of c.args.bytes.now) 0 0) ≡ false = search rules in
     let steps = published ring.size ring.producers c.self.inside.number c.self.inside.allowance id seen c.self.inside.seat.me c.load-read_index.new.seat.me pos c.self.invariant was c.load-read_index.ensures.told c.words_of-words.result c.store_packet.new.seat.me c.store_packet.ensures.gained in
-    let after = as_producer (only_part c.store_packet.new.seat.me.0) in
-    (refl, valid, (seen, less, (
-      c.store_packet.ensures.seat ∙ c.load-read_index.ensures.seat ∙ ap (λ v. v.table) c.self.view_is,
-      ap (λ v. v.number) c.self.view_is,
-      subst (λ (v : ProducerSeen). Gained ring.size ring.producers v.number (Producer v.part) (publication id seen (words_of c.args.bytes.now)) (Producer after)) c.self.view_is
-          (subst (λ (ws : List ℕ). Gained ring.size ring.producers c.self.inside.number (Producer (as_producer (only_part c.self.inside.seat.me.0))) (publication id seen ws) (Producer after)) words steps.gained),
-    )))
+    let after = as_producer (only_part c.store_packet.new.seat.me.0) in (
+      refl,
+      valid,
+      (
+        seen,
+        less,
+        (
+          c.store_packet.ensures.seat ∙ c.load-read_index.ensures.seat ∙ ap (λ v. v.table) c.self.view_is,
+          ap (λ v. v.number) c.self.view_is,
+          subst (λ (v : ProducerSeen). Gained ring.size ring.producers v.number (Producer v.part) (publication id seen (words_of c.args.bytes.now)) (Producer after)) c.self.view_is
+              (subst (λ (ws : List ℕ). Gained ring.size ring.producers c.self.inside.number (Producer (as_producer (only_part c.self.inside.seat.me.0))) (publication id seen ws) (Producer after)) words steps.gained),
+        ),
+      ),
+    )
 
 pub returns-clause-others : goal.returns-clause-others
 returns-clause-others c =
@@ -67,5 +74,5 @@ returns-clause-others c =
     let was : is_some (open_ticket id (as_producer (only_part c.self.inside.seat.me.0)).tickets) ≡ true = ap (λ v. is_some (open_ticket id v.part.tickets)) c.self.view_is ∙ c.requires.opened in
     λ j ne is_open.
     published_others ring.size ring.producers c.self.inside.number c.self.inside.allowance id c.load-read_index.result c.self.inside.seat.me c.load-read_index.new.seat.me pos c.self.invariant was c.load-read_index.ensures.told
-        c.words_of-words.result c.store_packet.new.seat.me c.store_packet.ensures.gained
-        j ne (ap (λ v. is_some (open_ticket j v.part.tickets)) c.self.view_is ∙ is_open)
+    c.words_of-words.result c.store_packet.new.seat.me c.store_packet.ensures.gained
+    j ne (ap (λ v. is_some (open_ticket j v.part.tickets)) c.self.view_is ∙ is_open)

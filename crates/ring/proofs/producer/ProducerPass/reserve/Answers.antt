@@ -1,5 +1,5 @@
-use Rattle.std.proofs.Common.{rules, ◌≡◌, ◌≢◌, ◌<◌, ◌-◌, ◌∙◌, ℕ, [], ◌∷◌, true, arith, refl, sym, ap, subst, inl}
-use Rattle.std.specs.Prelude.{is_some, nat_lt}
+use Rattle.std.proofs.Common.{◌≡◌, ◌≢◌, ◌∙◌, ℕ, [], ◌∷◌, true, refl, ap}
+use Rattle.std.specs.Prelude.{is_some}
 use Rattle.ring_core.specs.declared.access.Access.TheVariants.{Reserve}
 use Rattle.ring_core.specs.declared.part.ProducerPart.{ProducerPart}
 use Rattle.ring_core.specs.Tickets.{open_ticket}

@@ -1,4 +1,4 @@
-use Rattle.std.proofs.Common.{rules, arith, sym, ap}
+use Rattle.std.proofs.Common.{rules, arith}
 use Rattle.ring.proofs.Kept.{cuts}
 use Rattle.ring.proofs.ring.Ring.cut.Goals as goal
 

@@ -1,4 +1,4 @@
-use Rattle.std.proofs.Common.{rules, ◌≡◌, ◌+◌, ◌*◌, ◌<◌, ◌≤◌, ◌∙◌, ℕ, List, [], ◌∷◌, ◌++◌, length, get_or, set, false, true, refl, arith, sym, ap, subst, get_or-set_other, length-set}
+use Rattle.std.proofs.Common.{rules, ◌≡◌, ◌+◌, ◌*◌, ◌<◌, ◌≤◌, ◌∙◌, ℕ, List, ◌∷◌, length, get_or, set, false, refl, arith, sym, ap, subst, get_or-set_other, length-set}
 use Rattle.ring_core.specs.declared.access.Access.TheVariants.{LoadHeader}
 use Rattle.ring_core.specs.declared.access.Made.{Made}
 use Rattle.ring_core.specs.Words.{is_invalid}
@@ -8,7 +8,7 @@ use Rattle.ring_core.proofs.States.{ring_size_bounds}
 use Rattle.ring.specs.Made.{body_read, read}
 use Rattle.ring.specs.Steps.{HasGained}
 use Rattle.ring.proofs.Gains.{gained_none, gained_more, one_after}
-use Rattle.ring.proofs.Loading.{me1_is, ready_load, read_more}
+use Rattle.ring.proofs.Loading.{ready_load, read_more}
 use Rattle.ring.proofs.ring.Ring.load_packet.Goals as goal
 
 pub loop-before-init : goal.loop-before-init
@@ -40,7 +40,7 @@ loop-before-preserved c =
     let n : length c.loop-before.words ≡ 8 = c.loop-before.invariant.1 in
     let more : HasGained size producers c.load-header.new.seat.me (body_read (set c.loop-before.words (k + 1) c.load.result) (k + 1)) c.load.new.seat.me =
     subst (λ (made : List Made). HasGained size producers c.load-header.new.seat.me made c.load.new.seat.me) (sym (read_more c.loop-before.words c.load.result k (omega (arith, n, t))))
-        (gained_more size producers c.load-header.new.seat.me c.loop-before.seat.me c.load.new.seat.me _ _ c.loop-before.invariant.3 c.load.ensures.told) in (
+    (gained_more size producers c.load-header.new.seat.me c.loop-before.seat.me c.load.new.seat.me _ _ c.loop-before.invariant.3 c.load.ensures.told) in (
       c.load.ensures.seat ∙ c.loop-before.invariant.0,
       length-set c.loop-before.words (k + 1) c.load.result ∙ n,
       get_or-set_other c.loop-before.words (k + 1) 0 c.load.result 0 (λ e. absurd (omega (arith, e))) ∙ c.loop-before.invariant.2,

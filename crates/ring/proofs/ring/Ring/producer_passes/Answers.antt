@@ -1,7 +1,6 @@
-use Rattle.std.proofs.Common.{rules, ◌≡◌, ◌+◌, ◌-◌, ◌<◌, ◌∙◌, ℕ, List, [], ◌∷◌, ◌++◌, replicate, arith, sym, ap, subst}
+use Rattle.std.proofs.Common.{◌≡◌, ◌+◌, ◌<◌, ◌∙◌, ℕ, [], ◌∷◌, ◌++◌, arith, sym, ap}
 use Rattle.ring_core.specs.Parts.{new_producer}
 use Rattle.ring.specs.Shares.{alone}
-use Rattle.ring.specs.Dealt.{dealt}
 use Rattle.ring.proofs.Dealing.{first_me, rest_me, new_pass, new_value, dealt_more}
 use Rattle.ring.proofs.ring.Ring.producer_passes.Goals as goal
 
@@ -20,6 +19,6 @@ loop-before-preserved c =
       c.cut-one.ensures.rest.0 ∙ c.loop-before.invariant.0,
       rest_me ring.producers before c.loop-before.seat.me c.cut-one.new.seat.me lt c.loop-before.invariant.1 c.cut-one.ensures.rest.1,
       c.in_ok-push.ensures.items
-      ∙ (λ i. c.loop-before.invariant.2 i ++ new_value ring.table c.cut-one.result.table_id (before + 1) c.cut-one.result.me one table i ∷ [])
-      ∙ sym (dealt_more ring.table before),
+          ∙ (λ i. c.loop-before.invariant.2 i ++ new_value ring.table c.cut-one.result.table_id (before + 1) c.cut-one.result.me one table i ∷ [])
+          ∙ sym (dealt_more ring.table before),
     )

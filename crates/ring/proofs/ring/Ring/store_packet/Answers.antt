@@ -1,10 +1,9 @@
-use Rattle.std.proofs.Common.{rules, ◌≡◌, ◌+◌, ◌*◌, ◌<◌, ◌≤◌, ◌∙◌, ℕ, List, [], ◌∷◌, ◌++◌, arith, sym, ap, subst}
-use Rattle.atomic_table.specs.Table.{Me}
+use Rattle.std.proofs.Common.{◌≡◌, ◌+◌, ◌*◌, ◌<◌, ◌≤◌, ◌∙◌, ℕ, List, arith, sym, ap, subst}
 use Rattle.ring_core.specs.declared.access.Made.{Made}
 use Rattle.ring_core.specs.Machine.{word_place}
 use Rattle.ring_core.proofs.Places.{place_in}
 use Rattle.ring_core.proofs.States.{ring_size_bounds}
-use Rattle.ring.specs.Made.{body_stored, stored}
+use Rattle.ring.specs.Made.{body_stored}
 use Rattle.ring.specs.Steps.{HasGained}
 use Rattle.ring.proofs.Gains.{ready_body, ready_header, body_more, gained_more}
 use Rattle.ring.proofs.ring.Ring.store_packet.Goals as goal
