@@ -44,7 +44,7 @@ ring_steps machine step h may =
     }
 
 -- an access that is allowed names one of the eight words, if it names one
-names_word : (size : ℕ) (part : Part) (access : Access) → may_make size part access ≡ true → NamesWord access
+pub names_word : (size : ℕ) (part : Part) (access : Access) → may_make size part access ≡ true → NamesWord access
 names_word size part Reserve may = tt
 names_word size part (LoadReadIndex ticket) may = tt
 names_word size (Producer p) (StoreBody ticket place word) may = let b = (both (is_body place) _ may).0 in grind (arith, nat_tests)
@@ -56,7 +56,7 @@ names_word size (Processor q) (LoadBody place) may = let b = (both (is_body plac
 names_word size part ClearHeader may = tt
 names_word size part RaiseReadIndex may = tt
 
-within : (size r : ℕ) (access : Access) → 0 < size → NamesWord access → place_of size r access < 2 + 8 * size
+pub within : (size r : ℕ) (access : Access) → 0 < size → NamesWord access → place_of size r access < 2 + 8 * size
 within size r Reserve pos named = omega arith
 within size r (LoadReadIndex ticket) pos named = omega arith
 within size r (StoreBody ticket place word) pos named = place_in size ticket.0 place pos named
@@ -92,7 +92,7 @@ few_reserved machine h =
     omega arith
 
 -- only the processor raises the read index, and only between clearing and raising
-raises : (n size : ℕ) (parts : List Part) (seat : ℕ) → AreSeats n parts → may_make size (get_or parts seat nobody) RaiseReadIndex ≡ true → (processor_of parts).raising ≡ true
+pub raises : (n size : ℕ) (parts : List Part) (seat : ℕ) → AreSeats n parts → may_make size (get_or parts seat nobody) RaiseReadIndex ≡ true → (processor_of parts).raising ≡ true
 raises n size [] seat seats may = absurd seats
 raises n size (Producer p ∷ rest) seat seats may = absurd seats
 raises n size (Processor q ∷ rest) zero seats may = may
@@ -102,7 +102,7 @@ raises n size (Processor q ∷ rest) (suc seat) seats may =
     absurd (cc)
 
 -- an allowed step that adds to a word leaves it within 64 bits
-fits_by : (machine : Machine) (access : Access) → IsRing machine → (access ≡ RaiseReadIndex → (processor_of machine.parts).raising ≡ true) → Fits64 access (get_or machine.words (place_of machine.size (read_index machine) access) 0)
+pub fits_by : (machine : Machine) (access : Access) → IsRing machine → (access ≡ RaiseReadIndex → (processor_of machine.parts).raising ≡ true) → Fits64 access (get_or machine.words (place_of machine.size (read_index machine) access) 0)
 fits_by machine Reserve h raising = let f : write_index machine ≤ 16 * 2 ^ 40 = few_reserved machine h in omega (arith, f)
 fits_by machine RaiseReadIndex h raising =
     let q = processor_of machine.parts in

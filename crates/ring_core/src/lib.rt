@@ -13,7 +13,9 @@ mod tickets;
 pub use access::{Access, Made, READ_PLACE, Seen, Step, WRITE_PLACE, word_place};
 pub use laws::{each_step_keeps_the_rule, every_run_meets_the_rule};
 pub use part::{ALLOWANCE, Part, ProcessorPart, ProducerPart};
-pub use state::{RING_SIZES, ReplayFault, RingState, StepFault, is_ring_size, replay};
+pub use state::{
+    RING_SIZES, ReplayFault, RingState, StepFault, is_ring_size, opening_words, replay,
+};
 pub use steps::Steps;
 pub use ticket::{INVALID, Reserved, Ticket, is_invalid};
 pub use tickets::Tickets;

@@ -196,9 +196,9 @@ pub fn replay(
     Ok(ring)
 }
 
-/// The words of a ring as it opens.
+/// The words of a ring as it opens: both indices 0, and each slot free.
 #[tactic(auto, using(crate::proofs::Places::free_more))]
-fn opening_words(alloc: Global, size: u64) -> Result<Vec<u64>, AllocError>
+pub fn opening_words(alloc: Global, size: u64) -> Result<Vec<u64>, AllocError>
     ensures { IfOk result (λ words. words.items ≡ (opened size 0).words) }
 {
     let mut words = Vec::new(alloc);

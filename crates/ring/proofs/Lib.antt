@@ -1,0 +1,11 @@
+pub mod Shares
+pub mod Kept
+pub mod Facts
+pub mod Bytes
+pub mod Filling
+pub mod Gains
+pub mod Passes
+pub mod Loading
+pub mod Processing
+pub mod Dealing
+pub mod Settling

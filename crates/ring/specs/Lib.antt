@@ -1,0 +1,10 @@
+pub mod Bytes
+pub mod Shares
+pub mod Made
+pub mod Passes
+pub mod Steps
+pub mod Opening
+pub mod Publishing
+pub mod Showing
+pub mod Dealt
+pub mod Settling

@@ -1,0 +1,51 @@
+-- What the seats of a shared ring know together, and the fact that its table keeps (own).
+use Rattle.std.specs.Prelude.{◌≡◌, ℕ, ◌+◌, suc, List, [], ◌∷◌, length, get_or, sum_by, nat_lt, ◌==◌, ⊤, if◌then◌else◌}
+use mathlib.Core.Option.{some}
+use lib.ListN.{get_elem?}
+use Rattle.atomic_table.specs.Table.{State}
+use Rattle.ring_core.specs.declared.access.Step.{Step}
+use Rattle.ring_core.specs.declared.part.Part.{Part}
+use Rattle.ring_core.specs.Parts.{nobody}
+use Rattle.ring_core.specs.Machine.{machine_of, opened, Replays}
+use Rattle.ring.specs.declared.share.Numbered.{Numbered}
+use Rattle.ring.specs.declared.share.Shape.{Shape}
+
+abbrev pub shape_of : ℕ → ℕ → Shape
+shape_of size producers = record { size = size; producers = producers }
+
+-- a share of one part
+abbrev pub alone : ℕ → Part → List Numbered
+alone number part = record { number = number; part = part } ∷ []
+
+-- parts under their numbers, from a number on
+abbrev pub numbered : ℕ → List Part → List Numbered
+numbered number [] = []
+numbered number (part ∷ parts) = record { number = number; part = part } ∷ numbered (suc number) parts
+
+-- the share of the first seat: all parts of a ring that opens
+abbrev pub first_share : Shape → List Numbered
+first_share shape = numbered 0 (opened shape.size shape.producers).parts
+
+-- each part of a share is the one that a machine has under its number
+abbrev pub AreOf : List Part → List Numbered → Type 0
+AreOf parts [] = ⊤
+AreOf parts (entry ∷ share) = (get_or parts entry.number nobody ≡ entry.part) × AreOf parts share
+
+-- how often a number is in a share
+abbrev pub times_in : ℕ → List Numbered → ℕ
+times_in number [] = 0
+times_in number (entry ∷ share) = (if entry.number == number then 1 else 0) + times_in number share
+
+-- the shares of all seats unite to the parts of a machine: each share has parts of it, and each number is
+-- in one share, once. A spent share is empty
+pub record Unite (parts : List Part) (shares : List (List Numbered)) : Type 0 where
+  pub own : (seat : ℕ) (share : List Numbered) → get_elem? shares seat ≡ some share → AreOf parts share
+  pub once : (number : ℕ) → sum_by (times_in number) shares ≡ (if nat_lt number (length parts) then 1 else 0)
+
+-- the fact that the table keeps between any two steps: some list of steps leads from the opening to a
+-- machine with these words and with the parts to which the shares of all seats unite
+abbrev pub IsKept : {S : Type 0} → Shape → State S (List Numbered) → Type 0
+IsKept shape state =
+    (steps : List Step) × (parts : List Part)
+    × Replays shape.size shape.producers steps (machine_of shape.size state.words parts)
+    × Unite parts state.views

@@ -1,0 +1,136 @@
+//! The end of a ring: once its passes have come back, what its words are.
+
+ghost use Rattle.std.specs.Prelude.{◌≡◌, ◌↔◌, ◌+◌, ◌*◌, ◌<◌, ℕ, [], ◌++◌, IfOk, IfErr, All, true, false, length, map, ◌∷◌};
+ghost use Rattle.ring.specs.Settling.{has_pass, has_passes, IsSettled, IsClosed, share_of};
+ghost use Rattle.ring.specs.declared.closing.SettleFault.{SettleFault};
+ghost use Rattle.ring.specs.Shares.{alone};
+
+use crate::processor::ProcessorPass;
+use crate::producer::ProducerPass;
+use crate::ring::Ring;
+use crate::share::{RingSeat, Together};
+use ring_core::{READ_PLACE, WRITE_PLACE};
+use sequences::Sequence;
+use std::alloc::Global;
+
+/// What a ring came to.
+#[derive(Drop, Debug)]
+pub struct Settled {
+    /// How many ids were reserved.
+    pub write_index: u64,
+    /// How many packets were retired.
+    pub read_index: u64,
+    /// The words of the slots, eight a slot, in order.
+    pub slots: Sequence<u64>,
+}
+
+/// Why a ring was not settled.
+#[derive(Clone, Copy, Debug, PartialEq, Eq)]
+pub enum SettleFault {
+    /// There was no memory for the words of the slots.
+    OutOfMemory,
+    /// The pass of one of the producers is not there.
+    MissingPass,
+}
+
+/// A ring that was not settled, with all that was handed in.
+#[derive(Drop)]
+pub struct Unsettled {
+    pub fault: SettleFault,
+    pub ring: Ring,
+    pub producers: Vec<ProducerPass>,
+    pub processor: ProcessorPass,
+}
+
+/// Whether the pass of the producer with this number is among these.
+fn has_pass(passes: &[ProducerPass], number: u64) -> bool
+    ensures { result ≡ has_pass number passes.now }
+{
+    passes.iter().any(|pass| pass.number == number)
+}
+
+/// Whether the passes of all producers from 1 to this number are among these.
+fn has_passes(passes: &[ProducerPass], producers: u64) -> bool
+    ensures { result ≡ has_passes producers passes.now }
+{
+    for before in 0..producers {
+        if !has_pass(passes, before + 1) {
+            return false;
+        }
+    }
+    true
+}
+
+impl Ring {
+    /// Joins the seats of the producers' passes, in order, into one seat.
+    fn join(&self, seat: &mut RingSeat, passes: Vec<ProducerPass>)
+        requires table { seat.old.table_id ≡ self.now.table }
+        requires no_slot { seat.old.me.1 ≡ [] }
+        requires passes { All (λ pass. pass.table ≡ self.now.table) passes.items }
+        ensures seat { (seat.new.table_id ≡ self.now.table) × (seat.new.me ≡ (seat.old.me.0 ++ map share_of passes.items, [])) }
+    {
+        for pass in passes {
+            let ProducerPass { seat: other, .. } = pass;
+            self.table.shared.join_seat::<Together>(seat, other);
+        }
+    }
+
+    /// Takes the ring apart, and reads its words: those of the slots into a list that has room for them.
+    fn close(self, seat: RingSeat, slots: Vec<u64>) -> Settled
+        requires table { seat.table_id ≡ self.table }
+        requires room { length slots.items ≡ 8 * self.size }
+        ensures { IsClosed self seat.me.0 (result.write_index ∷ result.read_index ∷ result.slots) }
+    {
+        let Ring { table, .. } = self;
+        let mut slots = slots;
+        let closed = table.close_with(seat);
+        let write_index = closed.word(WRITE_PLACE);
+        let read_index = closed.word(READ_PLACE);
+        for index in 0..slots.len() {
+            slots[index] = closed.word(2 + index);
+        }
+        closed.free();
+        Settled {
+            write_index,
+            read_index,
+            slots: Sequence::from_vec(slots),
+        }
+    }
+}
+
+/// Settles a ring once all its passes have come back: its indices and its slots. Where the pass of a
+/// producer is missing, or there is no memory, all comes back as it was.
+pub fn settle(
+    alloc: Global,
+    ring: Ring,
+    producers: Vec<ProducerPass>,
+    processor: ProcessorPass,
+) -> Result<Settled, Unsettled>
+    requires producers { All (λ pass. pass.table ≡ ring.table) producers.items }
+    requires processor { processor.table ≡ ring.table }
+    ensures settled { IfOk result (λ s. IsSettled ring producers.items processor s.write_index s.read_index s.slots) }
+    ensures all { IfOk result (λ s. has_passes ring.producers producers.items ≡ true) }
+    ensures fault { IfErr result (λ u. u.fault ≡ SettleFault.MissingPass ↔ has_passes ring.producers producers.items ≡ false) }
+    ensures back { IfErr result (λ u. (u.ring ≡ ring) × (u.producers.items ≡ producers.items) × (u.processor ≡ processor)) }
+{
+    if !has_passes(producers.as_slice(), ring.producers) {
+        return Err(Unsettled {
+            fault: SettleFault::MissingPass,
+            ring,
+            producers,
+            processor,
+        });
+    }
+    let Ok(slots) = Vec::from_elem(alloc, 0, 8 * ring.size as usize) else {
+        return Err(Unsettled {
+            fault: SettleFault::OutOfMemory,
+            ring,
+            producers,
+            processor,
+        });
+    };
+    let ProcessorPass { seat, .. } = processor;
+    let mut seat = seat;
+    ring.join(&mut seat, producers);
+    Ok(ring.close(seat, slots))
+}
