@@ -2,4 +2,3 @@ pub mod PairLemmas
 pub mod HoldLemmas
 pub mod SetLemmas
 pub mod TableLemmas
-pub mod LedgerLemmas

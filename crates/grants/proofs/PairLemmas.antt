@@ -5,7 +5,7 @@ use Rattle.aql_packet.specs.declared.ids.ClientId.{ClientId}
 use Rattle.policy.specs.declared.object.Object.{Object}
 use Rattle.policy.specs.declared.object.Object.TheVariants.{Agent, Region, Signal, Kernel}
 use Rattle.policy.specs.Object.{same_object}
-use Rattle.grants.specs.Table.{same_pair}
+use Rattle.grants.specs.Pairs.{same_pair}
 
 pub both : (a b : Bool) → (a && b) ≡ true → (a ≡ true) × (b ≡ true)
 both true b h = (refl, h)

@@ -3,8 +3,12 @@
 // The check tries its tactics on what is left of each proof.
 #![tactic(auto)]
 
+mod cell;
+mod cells;
+mod counting;
 mod grants;
 mod hold;
+mod laws;
 mod refusal;
 mod rules;
 mod table;
@@ -12,5 +16,6 @@ mod table;
 mod tests;
 
 pub use grants::Grants;
-pub use refusal::{GrantError, Refusal};
+pub use laws::what_calls_leave;
+pub use refusal::Refusal;
 pub use table::{RightsRow, RightsTable};
