@@ -63,28 +63,50 @@ abbrev pub item_at : List Cell → Option ℕ → Option Cell
 item_at cells (Some place) = slice_get cells place
 item_at cells None = None
 
+-- a cell in the place of another, if there is one
+abbrev pub replaced : Cell → Option Cell → Option Cell
+replaced new (Some cell) = Some new
+replaced new None = None
+
 -- ---- the table as the rest of the crate sees it
 
--- The rules, and the cell of each declared client and object.
+-- The rules, and the cells of the declared clients and objects, by place.
 pub record Table : Type 0 where
   pub rules : Rules
-  pub cell : ClientId → Object → Option Cell
+  pub cells : List Cell
+
+-- the cell of a client and an object, if both are declared
+abbrev pub cell_of : Table → ClientId → Object → Option Cell
+cell_of table client object = item_at table.cells (place_of table.rules client object)
 
 -- a cell's right is in force
-abbrev pub has_right : Option Cell → Right → Bool
-has_right (Some cell) right = has cell.rights right
-has_right None right = false
+abbrev pub has_right : Right → Option Cell → Bool
+has_right right (Some cell) = has cell.rights right
+has_right right None = false
+
+-- how many holds of a right a cell counts
+abbrev pub count_in : Right → Option Cell → ℕ
+count_in right (Some cell) = count_of cell.held right
+count_in right None = 0
+
+-- whether the client's right on the object is in force
+abbrev pub in_table : Table → ClientId → Object → Right → Bool
+in_table table client object right = has_right right (cell_of table client object)
+
+-- how many holds of the client's right on the object are counted
+abbrev pub counted : Table → ClientId → Object → Right → ℕ
+counted table client object right = count_in right (cell_of table client object)
 
 -- each count is the number of listed holds of its right
-pub record IsCounted (table : Table) (holds : List Hold) : Type 0 where
-  pub counted : (client : ClientId) (object : Object) (right : Right) (cell : Cell)
-      → table.cell client object ≡ Some cell → count_of cell.held right ≡ holds_of holds client object right
+abbrev pub IsCounted : Table → List Hold → Type 0
+IsCounted table holds = (client : ClientId) (object : Object) (right : Right) → counted table client object right ≡ holds_of holds client object right
 
--- the counts of a hold's rights are not 0
-abbrev pub IsHoldCounted : Table → Hold → Type 0
-IsHoldCounted table hold = (cell : Cell) (right : Right) → table.cell hold.client hold.object ≡ Some cell → once hold.rights right ≤ count_of cell.held right
-
--- two tables have the same rights in force
+-- the rights in force, and the rules, are as before
 pub record SameRights (old new : Table) : Type 0 where
   pub same_rules : new.rules ≡ old.rules
-  pub same_rights : (client : ClientId) (object : Object) (right : Right) → has_right (new.cell client object) right ≡ has_right (old.cell client object) right
+  pub same_rights : (client : ClientId) (object : Object) (right : Right) → in_table new client object right ≡ in_table old client object right
+
+-- the counts, and the rules, are as before
+pub record SameCounts (old new : Table) : Type 0 where
+  pub same_rules : new.rules ≡ old.rules
+  pub same_counts : (client : ClientId) (object : Object) (right : Right) → counted new client object right ≡ counted old client object right

@@ -28,9 +28,13 @@ is_hold queue packet client object right hold = is_on queue packet client object
 abbrev pub held : List Hold → QueueId → PacketId → ClientId → Object → Right → Bool
 held holds queue packet client object right = list_any (is_hold queue packet client object right) holds
 
+-- the hold has the client's right on the object
+abbrev pub is_hold_of : ClientId → Object → Right → Hold → Bool
+is_hold_of client object right hold = is_one_of client object right hold.client hold.object hold.rights
+
 -- how many holds there are of the client's right on the object
 abbrev pub holds_of : List Hold → ClientId → Object → Right → ℕ
-holds_of holds client object right = count_by (λ hold. is_one_of client object right hold.client hold.object hold.rights) holds
+holds_of holds client object right = count_by (is_hold_of client object right) holds
 
 -- the hold of a packet on an object
 abbrev pub hold_of : QueueId → PacketId → ClientId → Object × Rights → Hold

@@ -8,7 +8,7 @@ use Rattle.policy.specs.declared.rights.Right.{Right}
 use Rattle.policy.specs.declared.rights.Rights.{Rights}
 use Rattle.grants.specs.Pairs.{is_one_of, names}
 use Rattle.grants.specs.Holders.{same_packet}
-use Rattle.grants.specs.Ledger.{Ledger, IsNew, Gives, Takes, Holds, Releases, grant_due, RevokeAnswers, are_in_force}
+use Rattle.grants.specs.Ledger.{Ledger, rules_in, in_force, holds, IsNew, Gives, Takes, Holds, Releases, grant_due, RevokeAnswers, are_in_force}
 
 -- a call that was made; one that is refused leaves all as it was, and stands in no list
 pub data Call : Type 0 where
@@ -52,15 +52,15 @@ came_to_hold queue packet client object right before (Release queue' packet') = 
 -- After any list of calls from the beginning:
 pub record IsLeft (first last : Ledger) (calls : List Call) : Type 0 where
   -- in force is what was granted and not revoked since
-  pub in_force : (client : ClientId) (object : Object) (right : Right) → last.in_force client object right ≡ fold (was_given client object right) false calls
+  pub given : (client : ClientId) (object : Object) (right : Right) → in_force last client object right ≡ fold (was_given client object right) false calls
   -- a packet holds what it came to hold, until it is released
-  pub holds : (queue : QueueId) (packet : PacketId) (client : ClientId) (object : Object) (right : Right)
-      → last.holds queue packet client object right ≡ fold (came_to_hold queue packet client object right) false calls
+  pub held : (queue : QueueId) (packet : PacketId) (client : ClientId) (object : Object) (right : Right)
+      → holds last queue packet client object right ≡ fold (came_to_hold queue packet client object right) false calls
   -- a right that a packet holds is in force
   pub held_is_in_force : (queue : QueueId) (packet : PacketId) (client : ClientId) (object : Object) (right : Right)
-      → last.holds queue packet client object right ≡ true → last.in_force client object right ≡ true
+      → holds last queue packet client object right ≡ true → in_force last client object right ≡ true
   -- the rules, by which grants and unknown names are refused, are those of the beginning
-  pub same_rules : last.rules ≡ first.rules
+  pub same_rules : rules_in last ≡ rules_in first
 
 abbrev pub CallsLeave : Type 0
 CallsLeave = (first : Ledger) (steps : List (Call × Ledger)) → IsNew first → AreMade first steps → IsLeft first (left_by first steps) (map (λ step. step.0) steps)

@@ -1,11 +1,12 @@
 //! One cell of the table: a client's rights on an object, and how many holds there are of each.
 
-ghost use Rattle.std.specs.Prelude.{◌≡◌, ◌+◌, ◌<◌, ◌≤◌, ◌^◌, ◌&&◌, ◌||◌, not, nat_lt};
+ghost use Rattle.std.specs.Prelude.{◌≡◌, ◌+◌, ◌-◌, ◌<◌, ◌≤◌, ◌^◌, ◌&&◌, ◌||◌, not, nat_lt};
 ghost use Rattle.std.specs.List.{list_any};
 ghost use Rattle.policy.specs.declared.rights.Right.{Right};
 ghost use Rattle.policy.specs.Rights.{has, all_rights};
+ghost use Rattle.grants.specs.Cells.{count_of, once};
 
-use bitflags::Flags;
+use crate::sets::{both, left};
 use policy::{Right, Rights};
 
 /// How many holds there are of each right.
@@ -20,8 +21,6 @@ pub struct Counts {
 }
 
 impl Counts {
-    ghost use Rattle.grants.specs.Cells.{count_of, once};
-
     /// No hold.
     pub const NONE: Counts = Counts {
         use_agent: 0,
@@ -94,8 +93,6 @@ pub struct Cell {
 }
 
 impl Cell {
-    ghost use Rattle.grants.specs.Cells.{count_of, once};
-
     /// No right, and no hold.
     pub const EMPTY: Cell = Cell {
         rights: Rights::NONE,
@@ -108,7 +105,7 @@ impl Cell {
         ensures held { result.held ≡ self.held }
     {
         Cell {
-            rights: self.rights.union(rights),
+            rights: both(self.rights, rights),
             held: self.held,
         }
     }
@@ -119,7 +116,7 @@ impl Cell {
         ensures held { result.held ≡ self.held }
     {
         Cell {
-            rights: self.rights.difference(rights),
+            rights: left(self.rights, rights),
             held: self.held,
         }
     }

@@ -1,41 +1,45 @@
 //! Holds put into the list and taken out of it, with the table's counts of them.
 
-ghost use Rattle.std.specs.Prelude.{◌≡◌, ◌+◌, ◌<◌, ◌≤◌, ◌++◌, ◌∷◌, [], List, not, filter, vec_len, vec_capacity, length};
-ghost use Rattle.grants.specs.Cells.{IsCounted, IsHoldCounted, SameRights};
-ghost use Rattle.grants.specs.declared.hold.Hold.{Hold};
-ghost use Rattle.grants.specs.Holds.{is_of};
+ghost use Rattle.std.specs.Prelude.{◌≡◌, ◌+◌, ◌≤◌, ◌++◌, true, not, filter, map, vec_len, vec_capacity, length};
+ghost use Rattle.std.specs.List.{list_all};
+ghost use Rattle.policy.specs.Rights.{each_right};
+ghost use Rattle.grants.specs.Cells.{IsCounted, SameRights, in_table};
+ghost use Rattle.grants.specs.Holds.{hold_of, is_of};
 
 use crate::cells::Cells;
 use crate::hold::Hold;
-use aql_packet::{PacketId, QueueId};
+use aql_packet::{ClientId, PacketId, QueueId};
+use policy::{Object, Rights};
 
-/// Puts a hold behind the others, in room that was got before.
-pub fn put_hold(table: &mut Cells, holds: &mut Vec<Hold>, hold: Hold)
-    requires room { vec_len holds.old < vec_capacity holds.old }
+/// Puts a packet's holds of rights that are in force behind the others, in room that was got before,
+/// and counts them.
+pub fn put_holds(
+    table: &mut Cells,
+    holds: &mut Vec<Hold>,
+    client: ClientId,
+    queue: QueueId,
+    packet: PacketId,
+    rights: &[(Object, Rights)],
+)
+    requires room { vec_len holds.old + length rights.now ≤ vec_capacity holds.old }
+    requires in_force { list_all (λ named. each_right named.1 (in_table table.old client named.0)) rights.now ≡ true }
     requires counted { IsCounted table.old holds.old.items }
+    ensures items { holds.new.items ≡ holds.old.items ++ map (hold_of queue packet client) rights.now }
     ensures counted { IsCounted table.new holds.new.items }
     ensures rights { SameRights table.old table.new }
-    ensures items { holds.new.items ≡ holds.old.items ++ hold ∷ [] }
-    ensures len { vec_len holds.new ≡ vec_len holds.old + 1 }
+    ensures len { vec_len holds.new ≡ vec_len holds.old + length rights.now }
     ensures capacity { vec_capacity holds.new ≡ vec_capacity holds.old }
 {
-    count(table, holds.as_slice(), &hold);
-    holds.push_reserved(hold);
-}
-
-// Counts one hold more than those of a list.
-fn count(table: &mut Cells, holds: &[Hold], hold: &Hold)
-    requires { IsCounted table.old holds.now }
-    ensures counted { IsCounted table.new (holds.now ++ hold.now ∷ []) }
-    ensures rights { SameRights table.old table.new }
-{
-    let listed = holds.len();
-    if let Some(cell) = table.get(hold.client, hold.object) {
-        table.set(
-            hold.client,
-            hold.object,
-            cell.held_once_more(hold.rights),
-        );
+    for (object, rights) in rights {
+        let hold = Hold {
+            queue,
+            packet,
+            client,
+            object: *object,
+            rights: *rights,
+        };
+        table.count(&hold);
+        holds.push_reserved(hold);
     }
 }
 
@@ -47,22 +51,7 @@ pub fn uncount_packet(table: &mut Cells, holds: &[Hold], queue: QueueId, packet:
 {
     for hold in holds {
         if hold.is_of(queue, packet) {
-            uncount(table, hold);
+            table.uncount(hold);
         }
-    }
-}
-
-// Counts a hold no more, which may stand anywhere among the others.
-fn uncount(table: &mut Cells, hold: &Hold)
-    requires { IsHoldCounted table.old hold.now }
-    ensures counted { (before behind : List Hold) → IsCounted table.old (before ++ hold.now ∷ behind) → IsCounted table.new (before ++ behind) }
-    ensures rights { SameRights table.old table.new }
-{
-    if let Some(cell) = table.get(hold.client, hold.object) {
-        table.set(
-            hold.client,
-            hold.object,
-            cell.held_once_less(hold.rights),
-        );
     }
 }

@@ -4,7 +4,7 @@ ghost use Rattle.std.specs.Prelude.{◌≡◌, ◌+◌, ◌<◌, ◌≤◌, ◌+
 ghost use Rattle.grants.specs.Rules.{rules_of, objects_of};
 
 use crate::cells::Cells;
-use crate::counting::{put_hold, uncount_packet};
+use crate::counting::{put_holds, uncount_packet};
 use crate::hold::{Hold, drop_holds, first_holder};
 use crate::refusal::Refusal;
 use aql_packet::{ClientId, PacketId, QueueId};
@@ -25,16 +25,14 @@ pub struct Grants {
 
 impl Model for Grants {
     ghost use Rattle.std.specs.Prelude.{◌-◌, vec_len, vec_capacity};
-    ghost use Rattle.grants.specs.Holds.{held};
-    ghost use Rattle.grants.specs.Cells.{IsCounted, has_right};
+    ghost use Rattle.grants.specs.Cells.{IsCounted};
     ghost use Rattle.grants.specs.Ledger.{Ledger};
 
     ghost Value = { Ledger };
 
     ghost view = { λ grants. record {
-      rules = grants.table.rules;
-      in_force = λ client object right. has_right (grants.table.cell client object) right;
-      holds = held grants.holds.items;
+      table = grants.table;
+      list = grants.holds.items;
       room = vec_capacity grants.holds - vec_len grants.holds;
     } };
 
@@ -42,11 +40,11 @@ impl Model for Grants {
 }
 
 impl Grants {
-    ghost use Rattle.grants.specs.Ledger.{IsNew, Gives, Takes, Holds, Releases, RevokeAnswers, grant_due, rights_on, are_in_force, listed, listing};
+    ghost use Rattle.grants.specs.Ledger.{IsNew, Gives, Takes, Holds, Releases, RevokeAnswers, rules_in, in_force, grant_due, rights_on, are_in_force, listed, listing};
 
     /// No right is in force yet, and no packet holds one.
     pub fn new(alloc: Global, policy: &Policy) -> Result<Grants, AllocError>
-        ensures rules { IfOk result (λ grants. grants.rules ≡ rules_of policy.now) }
+        ensures rules { IfOk result (λ grants. rules_in grants ≡ rules_of policy.now) }
         ensures none { IfOk result IsNew }
     {
         Ok(Grants {
@@ -95,9 +93,7 @@ impl Grants {
         requires { grant_due self.old client object rights ≡ Ok tt }
         ensures { Gives self.old self.new client object rights }
     {
-        if let Some(cell) = self.table.get(client, object) {
-            self.table.set(client, object, cell.with(rights));
-        }
+        self.table.give(client, object, rights);
     }
 
     /// Takes rights on an object from a client. It is refused as `may_revoke` says. A right that
@@ -150,9 +146,7 @@ impl Grants {
         requires { RevokeAnswers self.old client object rights (Ok tt) }
         ensures { Takes self.old self.new client object rights }
     {
-        if let Some(cell) = self.table.get(client, object) {
-            self.table.set(client, object, cell.without(rights));
-        }
+        self.table.take(client, object, rights);
     }
 
     /// The rights of a client on an object.
@@ -171,7 +165,7 @@ impl Grants {
 
     /// Whether a client's right on an object is in force.
     pub fn is_in_force(&self, client: ClientId, object: Object, right: Right) -> bool
-        ensures { result ≡ self.now.in_force client object right }
+        ensures { result ≡ in_force self.now client object right }
     {
         match self.table.get(client, object) {
             Some(cell) => cell.rights.has(right),
@@ -233,19 +227,7 @@ impl Grants {
         ensures holds { Holds self.old self.new client queue packet rights.now }
         ensures room { self.new.room + length rights.now ≡ self.old.room }
     {
-        for (object, rights) in rights {
-            put_hold(
-                &mut self.table,
-                &mut self.holds,
-                Hold {
-                    queue,
-                    packet,
-                    client,
-                    object: *object,
-                    rights: *rights,
-                },
-            );
-        }
+        put_holds(&mut self.table, &mut self.holds, client, queue, packet, rights);
     }
 
     /// Has a packet hold nothing any more; a packet that holds nothing changes nothing. It takes no
@@ -281,7 +263,7 @@ impl Grants {
         client: ClientId,
         kind: Kind,
     ) -> Result<(), AllocError>
-        ensures { OnOk result (rows.new ≡ rows.old ++ listed self.now client (objects_of self.now.rules kind)) }
+        ensures { OnOk result (rows.new ≡ rows.old ++ listed self.now client (objects_of (rules_in self.now) kind)) }
     {
         for before in 0..self.table.rules().count(kind) {
             self.list_object(rows, client, Object::of(kind, before as u64 + 1))?;

@@ -11,6 +11,7 @@ mod hold;
 mod laws;
 mod refusal;
 mod rules;
+mod sets;
 mod table;
 #[cfg(test)]
 mod tests;
