@@ -1,6 +1,8 @@
 -- Counts right by right, and what one changed cell leaves in the table.
-use Rattle.std.proofs.Common.{◌≡◌, ℕ, ◌+◌, ◌≤◌, Bool, true, false, not, ◌&&◌, ◌||◌, Option, Some, None, refl, sym, ap, subst, ◌∙◌, arith, true≢false}
+use Rattle.std.proofs.Common.{◌≡◌, ℕ, ◌+◌, ◌<◌, ◌≤◌, List, length, get_or, Bool, true, false, not, ◌&&◌, ◌||◌, Option, Some, None, refl, sym, ap, subst, ◌∙◌, arith, true≢false}
 use Rattle.std.specs.Prelude.{if◌then◌else◌}
+use Rattle.std.specs.List.{list_all}
+use Rattle.std.proofs.lemmas.List.Folds.{list_all_at}
 use Rattle.aql_packet.specs.declared.ids.ClientId.{ClientId}
 use Rattle.policy.specs.declared.object.Object.{Object}
 use Rattle.policy.specs.declared.rights.Right.{Right}
@@ -9,7 +11,7 @@ use Rattle.policy.specs.declared.rights.Rights.{Rights}
 use Rattle.policy.specs.Rights.{has, each_right}
 use Rattle.grants.specs.declared.cell.Cell.{Cell}
 use Rattle.grants.specs.Pairs.{same_pair}
-use Rattle.grants.specs.Cells.{Table, cell_of, replaced, once}
+use Rattle.grants.specs.Cells.{Table, SameRights, cell_of, replaced, once}
 use Rattle.grants.proofs.PairLemmas.{both, same_pair_is}
 
 -- what is so of each of the six is so of every right
@@ -64,3 +66,20 @@ module _ (old : Table) (c : ClientId) (o : Object) (before : Option Cell) (is : 
           let was : cell_of old c' o' ≡ before = (λ i. cell_of old (these.0 i) (these.1 i)) ∙ is in
           subst (λ s. P true s s) (sym was) here
       by_test false same = others (cell_of old c' o')
+
+-- rights that are in force are so where the same are in force
+pub each_right-same : (rights : Rights) (f g : Right → Bool) → ((right : Right) → g right ≡ f right) → each_right rights f ≡ true → each_right rights g ≡ true
+each_right-same rights f g same h = let all : g ≡ f = λ i. λ right. same right i in ap (each_right rights) all ∙ h
+
+pub all_at : {X : Type 0} (p : X → Bool) (xs : List X) (i : ℕ) (d : X) → i < length xs → list_all p xs ≡ true → p (get_or xs i d) ≡ true
+all_at p xs i d within all = by_test (p (get_or xs i d)) refl
+  where
+    by_test : (b : Bool) → p (get_or xs i d) ≡ b → b ≡ true
+    by_test true e = refl
+    by_test false e = absurd (true≢false (sym all ∙ list_all_at p xs i d within e))
+
+pub SameRights-then : (a b c : Table) → SameRights a b → SameRights b c → SameRights a c
+SameRights-then a b c first then_ = record {
+  same_rules = then_.same_rules ∙ first.same_rules;
+  same_rights = λ client object right. then_.same_rights client object right ∙ first.same_rights client object right;
+}

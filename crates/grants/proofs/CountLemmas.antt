@@ -1,8 +1,8 @@
 -- How many holds there are of a right, as holds come and go.
-use Rattle.std.proofs.Common.{◌≡◌, ℕ, ◌+◌, ◌<◌, ◌≤◌, Bool, true, false, not, ◌&&◌, ◌||◌, List, [], ◌∷◌, ◌++◌, filter, take, drop, get_or, length, Some, None, refl, sym, ap, ◌∙◌, arith, true≢false, append_assoc, append-nil, cond}
+use Rattle.std.proofs.Common.{◌≡◌, ℕ, zero, suc, ◌+◌, ◌<◌, ◌≤◌, Bool, true, false, not, ◌&&◌, ◌||◌, List, [], ◌∷◌, ◌++◌, filter, map, take, drop, get_or, length, Some, None, refl, sym, ap, ◌∙◌, arith, true≢false, append_assoc, append-nil, cond}
 use Rattle.std.specs.Prelude.{nat_lt, if◌then◌else◌}
 use Rattle.std.specs.List.{list_any}
-use Rattle.std.proofs.lemmas.List.{take_more, drop_more}
+use Rattle.std.proofs.lemmas.List.{take_all, take_more, drop_more, map-append}
 use Rattle.std.proofs.lemmas.List.Elements.{filter-append}
 use Rattle.std.proofs.lemmas.List.Sums.{sum_by-append, count_by-le-length}
 use Rattle.aql_packet.specs.declared.ids.ClientId.{ClientId}
@@ -16,17 +16,22 @@ use Rattle.grants.specs.declared.hold.Hold.{Hold}
 use Rattle.grants.specs.Pairs.{same_pair}
 use Rattle.grants.specs.Holders.{same_packet}
 use Rattle.grants.specs.Holds.{is_hold_of, is_hold, held, holds_of}
-use Rattle.grants.specs.Cells.{Table, IsCounted, counted, once}
+use Rattle.grants.specs.declared.cell.Cell.{Cell}
+use Rattle.grants.specs.Cells.{Table, IsCounted, cell_of, counted, count_in, count_of, once}
+use Rattle.std.proofs.lemmas.Bool.{lt-ltb}
 use Rattle.grants.proofs.PairLemmas.{same_pair_itself}
+
+abbrev one_if : Bool → ℕ
+one_if b = if b then 1 else 0
 
 -- one for a hold of the right
 abbrev pub one_for : ClientId → Object → Right → Hold → ℕ
-one_for c o right h = if is_hold_of c o right h then 1 else 0
+one_for c o right h = one_if (is_hold_of c o right h)
 
 pub holds_of-one : (h : Hold) (c : ClientId) (o : Object) (right : Right) → holds_of (h ∷ []) c o right ≡ one_for c o right h
 holds_of-one h c o right = by_test (is_hold_of c o right h)
   where
-    by_test : (b : Bool) → cond b 1 0 + 0 ≡ (if b then 1 else 0)
+    by_test : (b : Bool) → 0 + cond b 1 0 ≡ one_if b
     by_test true = refl
     by_test false = refl
 
@@ -99,16 +104,32 @@ module _ (keep : Hold → Bool) (holds : List Hold) where
       ∙ append_assoc (filter keep (take i holds)) (filter keep (get_or holds i d ∷ [])) (drop (i + 1) holds)
 
   pub kept_to-kept : (i : ℕ) (d : Hold) → i < length holds → keep (get_or holds i d) ≡ true → kept_to (i + 1) ≡ kept_to i
-  kept_to-kept i d within yes =
-      kept_to-next i d within ∙ ap (λ xs. filter keep (take i holds) ++ (xs ++ drop (i + 1) holds)) (filter-one (get_or holds i d) true yes) ∙ sym (kept_to-here i d within)
+  kept_to-kept i d within keeps =
+      kept_to-next i d within ∙ ap (λ xs. filter keep (take i holds) ++ (xs ++ drop (i + 1) holds)) (filter-one (get_or holds i d) true keeps) ∙ sym (kept_to-here i d within)
 
   pub kept_to-dropped : (i : ℕ) (d : Hold) → i < length holds → keep (get_or holds i d) ≡ false → kept_to (i + 1) ≡ filter keep (take i holds) ++ drop (i + 1) holds
-  kept_to-dropped i d within no =
-      kept_to-next i d within ∙ ap (λ xs. filter keep (take i holds) ++ (xs ++ drop (i + 1) holds)) (filter-one (get_or holds i d) false no)
+  kept_to-dropped i d within drops =
+      kept_to-next i d within ∙ ap (λ xs. filter keep (take i holds) ++ (xs ++ drop (i + 1) holds)) (filter-one (get_or holds i d) false drops)
+
+  pub kept_to-all : (i : ℕ) → length holds ≤ i → kept_to i ≡ filter keep holds
+  kept_to-all i past = ap (λ xs. filter keep xs ++ drop i holds) (take_all i holds past) ∙ ap (λ xs. filter keep holds ++ xs) (drop_past i holds past) ∙ append-nil (filter keep holds)
+    where
+      drop_past : (i : ℕ) (xs : List Hold) → length xs ≤ i → drop i xs ≡ []
+      drop_past zero [] h = refl
+      drop_past (suc i) [] h = refl
+      drop_past zero (x ∷ xs) h = absurd (omega arith)
+      drop_past (suc i) (x ∷ xs) h = drop_past i xs (omega arith)
+
+-- a list with one more of what the items of another give
+pub put-more : {X Y : Type 0} (f : X → Y) (first so_far more : List Y) (xs : List X) (i : ℕ) (d : X) → i < length xs → so_far ≡ first ++ map f (take i xs) → more ≡ so_far ++ f (get_or xs i d) ∷ []
+    → more ≡ first ++ map f (take (i + 1) xs)
+put-more f first so_far more xs i d within e put =
+    put ∙ ap (λ ys. ys ++ f (get_or xs i d) ∷ []) e ∙ append_assoc first (map f (take i xs)) (f (get_or xs i d) ∷ [])
+    ∙ ap (λ ys. first ++ ys) (sym (ap (map f) (take_more xs i d within) ∙ map-append f (take i xs) (get_or xs i d ∷ [])))
 
 -- ---- no hold
 
-none_of : (packet pair right : Bool) → cond (pair && right) 1 0 ≡ 0 → ((packet && pair) && right) ≡ false
+none_of : (packet pair right : Bool) → one_if (pair && right) ≡ 0 → ((packet && pair) && right) ≡ false
 none_of true true true h = absurd (omega (arith, h))
 none_of true true false h = refl
 none_of true false right h = refl
@@ -121,20 +142,28 @@ held-uncounted (x ∷ xs) q p c o right h =
     let parts = holds_of-append (x ∷ []) xs c o right in
     let one = holds_of-one x c o right in
     let rest : holds_of xs c o right ≡ 0 = omega arith in
-    let here : cond (is_hold_of c o right x) 1 0 ≡ 0 = omega arith in
+    let here : one_for c o right x ≡ 0 = omega arith in
     rw (none_of (same_packet q p x.queue x.packet) (same_pair c o x.client x.object) (has x.rights right) here) (held-uncounted xs q p c o right rest)
 
 uncounted_and : (a : Bool) (n : ℕ) (b : Bool) → (n ≡ 0 → b ≡ false) → (a && nat_lt 0 n) ≡ false → (a && b) ≡ false
 uncounted_and false n b none h = refl
-uncounted_and true n b none h = none (omega (arith, ltb_false n h))
-  where
-    ltb_false : (n : ℕ) → nat_lt 0 n ≡ false → n ≤ 0
-    ltb_false n h = ?
+uncounted_and true zero b none h = none refl
+uncounted_and true (suc n) b none h = absurd (true≢false (sym (lt-ltb 0 (suc n) (omega arith)) ∙ h))
 
-any_less : (f g : Right → Bool) (xs : List Right) → ((r : Right) → f r ≡ false → g r ≡ false) → list_any f xs ≡ false → list_any g xs ≡ false
-any_less f g [] less h = refl
-any_less f g (x ∷ xs) less h = by_test (f x) refl h
+any_less : (f g : Right → Bool) → ((r : Right) → f r ≡ false → g r ≡ false) → (xs : List Right) → list_any f xs ≡ false → list_any g xs ≡ false
+any_less f g less [] h = refl
+any_less f g less (x ∷ xs) h = by_test (f x) refl h (any_less f g less xs)
   where
-    by_test : (b : Bool) → f x ≡ b → (b || list_any f xs) ≡ false → list_any g (x ∷ xs) ≡ false
-    by_test true e h = absurd (true≢false h)
-    by_test false e h = rw (less x e) (any_less f g xs less h)
+    by_test : (b : Bool) → f x ≡ b → (b || list_any f xs) ≡ false → (list_any f xs ≡ false → list_any g xs ≡ false) → (g x || list_any g xs) ≡ false
+    by_test true e h rest = absurd (true≢false h)
+    by_test false e h rest = rw (less x e) (rest h)
+
+-- where no hold of any of some rights is counted, no packet holds one of them
+pub unheld : (table : Table) (holds : List Hold) → IsCounted table holds → (c : ClientId) (o : Object) (rights : Rights) (cell : Cell) → cell_of table c o ≡ Some cell
+    → list_any (λ right. has rights right && nat_lt 0 (count_of cell.held right)) all_rights ≡ false
+    → (q : QueueId) (p : PacketId) → list_any (λ right. has rights right && held holds q p c o right) all_rights ≡ false
+unheld table holds is c o rights cell at none q p =
+    any_less (λ right. has rights right && nat_lt 0 (count_of cell.held right)) (λ right. has rights right && held holds q p c o right)
+    (λ right. uncounted_and (has rights right) (count_of cell.held right) (held holds q p c o right)
+    (λ zero_is. held-uncounted holds q p c o right (sym (is c o right) ∙ ap (count_in right) at ∙ zero_is)))
+    all_rights none

@@ -1,5 +1,6 @@
 -- The places of cells: each lies in the table, and no two are the same.
 use Rattle.std.proofs.Common.{◌≡◌, ℕ, zero, suc, ◌+◌, ◌-◌, ◌*◌, ◌/◌, ◌<◌, ◌≤◌, Bool, true, false, ◌&&◌, List, [], ◌∷◌, length, Option, Some, None, refl, sym, ap, ◌∙◌, arith, true≢false}
+use Rattle.std.specs.Option.{is_some}
 use Rattle.std.specs.Prelude.{nat_lt, nat_le, slice_get, slice_set, if◌then◌else◌}
 use Rattle.std.proofs.Math.Nat.{mul-le-mul_right}
 use Rattle.std.proofs.lemmas.Nat.{div-mul-add}
@@ -142,3 +143,25 @@ module _ (rules : Rules) (cells : List Cell) (long : length cells ≡ rules.clie
           let these = same_pair_is c' o' c o same in
           let none : place_of rules c' o' ≡ None = (λ i. place_of rules (these.0 i) (these.1 i)) ∙ at in
           rw none refl
+
+module _ (rules : Rules) (cells : List Cell) (long : length cells ≡ rules.clients * object_count rules) (c : ClientId) (o : Object) where
+  -- there is a cell just for a declared client and object
+  pub cell-declared : is_some (item_at cells (place_of rules c o)) ≡ (knows_client rules c && knows rules o)
+  cell-declared = by_test (place_of rules c o) refl
+    where
+      some_within : (xs : List Cell) (i : ℕ) → i < length xs → is_some (slice_get xs i) ≡ true
+      some_within [] i h = absurd (omega arith)
+      some_within (x ∷ xs) zero h = refl
+      some_within (x ∷ xs) (suc i) h = some_within xs i (omega arith)
+
+      none_for : (a b : Bool) (n : ℕ) → (if a && b then Some n else None) ≡ None → (a && b) ≡ false
+      none_for true true n h = cc
+      none_for true false n h = refl
+      none_for false b n h = refl
+
+      by_test : (at : Option ℕ) → place_of rules c o ≡ at → is_some (item_at cells (place_of rules c o)) ≡ (knows_client rules c && knows rules o)
+      by_test None is = ap (λ at. is_some (item_at cells at)) is ∙ sym (none_for (knows_client rules c) (knows rules o) _ is)
+      by_test (Some place) is =
+          let p = place-Some rules c o place is in
+          let w = place-within rules c o place is in
+          ap (λ at. is_some (item_at cells at)) is ∙ some_within cells place (omega arith) ∙ sym (rw (p.client, p.object) refl)

@@ -78,7 +78,8 @@ impl Counts {
 
 // One, for a right of the set.
 fn once(rights: Rights, right: Right) -> usize
-    ensures { result ≡ once rights right }
+    ensures value { result ≡ once rights right }
+    ensures bound { result ≤ 1 }
 {
     if rights.has(right) { 1 } else { 0 }
 }

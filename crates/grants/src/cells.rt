@@ -16,6 +16,7 @@ use crate::hold::Hold;
 use crate::rules::Rules;
 use aql_packet::ClientId;
 use policy::{Object, Policy, Rights};
+use sequences::Sequence;
 use std::alloc::{AllocError, Global};
 use std::marker::Model;
 
@@ -24,7 +25,7 @@ use std::marker::Model;
 #[derive(Drop)]
 pub struct Cells {
     rules: Rules,
-    cells: Vec<Cell>,
+    cells: Sequence<Cell>,
 }
 
 impl Model for Cells {
@@ -33,16 +34,16 @@ impl Model for Cells {
 
     ghost Value = { Table };
 
-    ghost view = { λ table. record { rules = table.rules; cells = table.cells.items } };
+    ghost view = { λ table. record { rules = table.rules; cells = table.cells } };
 
-    ghost invariant = { λ table. length table.cells.items ≡ table.rules.clients * object_count table.rules };
+    ghost invariant = { λ table. length table.cells ≡ table.rules.clients * object_count table.rules };
 }
 
 // This many empty cells.
-fn empty_cells(alloc: Global, count: usize) -> Result<Vec<Cell>, AllocError>
-    ensures { IfOk result (λ cells. cells.items ≡ replicate count empty_cell) }
+fn empty_cells(alloc: Global, count: usize) -> Result<Sequence<Cell>, AllocError>
+    ensures { IfOk result (λ cells. cells ≡ replicate count empty_cell) }
 {
-    vec![in alloc; Cell::EMPTY; count]
+    Ok(Sequence::from_vec(vec![in alloc; Cell::EMPTY; count]?))
 }
 
 impl Cells {
@@ -80,7 +81,7 @@ impl Cells {
         ensures rules { self.new.rules ≡ self.old.rules }
     {
         if let Some(place) = self.rules.place_of(client, object) {
-            self.cells[place] = cell;
+            self.cells.set(place, cell);
         }
     }
 
