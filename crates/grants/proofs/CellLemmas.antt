@@ -11,7 +11,7 @@ use Rattle.policy.specs.declared.rights.Rights.{Rights}
 use Rattle.policy.specs.Rights.{has, each_right}
 use Rattle.grants.specs.declared.cell.Cell.{Cell}
 use Rattle.grants.specs.Pairs.{same_pair}
-use Rattle.grants.specs.Cells.{Table, SameRights, cell_of, replaced, once}
+use Rattle.grants.specs.Cells.{Table, SameRights, cell_of, replacement, one_for_right}
 use Rattle.grants.proofs.PairLemmas.{both, same_pair_is}
 
 -- what is so of each of the six is so of every right
@@ -23,7 +23,7 @@ by_right P a b c d e f Wait = d
 by_right P a b c d e f Change = e
 by_right P a b c d e f Launch = f
 
-pub once-le : (rights : Rights) (right : Right) → once rights right ≤ 1
+pub once-le : (rights : Rights) (right : Right) → one_for_right rights right ≤ 1
 once-le rights right = by_test (has rights right)
   where
     by_test : (b : Bool) → (if b then 1 else 0) ≤ 1
@@ -44,16 +44,16 @@ each_right-has rights test h right =
 
 module _ (old : Table) (c : ClientId) (o : Object) (before : Option Cell) (is : cell_of old c o ≡ before) (P : Bool → Option Cell → Option Cell → Type 0) (others : (s : Option Cell) → P false s s) where
   -- what is so of the changed cell, and of all that didn't change, is so everywhere
-  pub at_each : (new : Table) (cell : Cell) → ((c' : ClientId) (o' : Object) → cell_of new c' o' ≡ (if same_pair c' o' c o then replaced cell (cell_of old c' o') else cell_of old c' o'))
-      → P true before (replaced cell before) → (c' : ClientId) (o' : Object) → P (same_pair c' o' c o) (cell_of old c' o') (cell_of new c' o')
+  pub at_each : (new : Table) (cell : Cell) → ((c' : ClientId) (o' : Object) → cell_of new c' o' ≡ (if same_pair c' o' c o then replacement cell (cell_of old c' o') else cell_of old c' o'))
+      → P true before (replacement cell before) → (c' : ClientId) (o' : Object) → P (same_pair c' o' c o) (cell_of old c' o') (cell_of new c' o')
   at_each new cell change here c' o' = by_test (same_pair c' o' c o) refl (change c' o')
     where
-      by_test : (same : Bool) → same_pair c' o' c o ≡ same → cell_of new c' o' ≡ (if same then replaced cell (cell_of old c' o') else cell_of old c' o')
+      by_test : (same : Bool) → same_pair c' o' c o ≡ same → cell_of new c' o' ≡ (if same then replacement cell (cell_of old c' o') else cell_of old c' o')
           → P same (cell_of old c' o') (cell_of new c' o')
       by_test true same e =
           let these = same_pair_is c' o' c o same in
           let was : cell_of old c' o' ≡ before = (λ i. cell_of old (these.0 i) (these.1 i)) ∙ is in
-          subst (λ s. P true s (cell_of new c' o')) (sym was) (subst (λ s. P true before s) (sym (e ∙ ap (replaced cell) was)) here)
+          subst (λ s. P true s (cell_of new c' o')) (sym was) (subst (λ s. P true before s) (sym (e ∙ ap (replacement cell) was)) here)
       by_test false same e = subst (λ s. P false (cell_of old c' o') s) (sym e) (others (cell_of old c' o'))
 
   -- the same where nothing changed

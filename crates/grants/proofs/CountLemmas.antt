@@ -17,7 +17,7 @@ use Rattle.grants.specs.Pairs.{same_pair}
 use Rattle.grants.specs.Holders.{same_packet}
 use Rattle.grants.specs.Holds.{is_hold_of, is_hold, held, holds_of}
 use Rattle.grants.specs.declared.cell.Cell.{Cell}
-use Rattle.grants.specs.Cells.{Table, IsCounted, cell_of, counted, count_in, count_of, once}
+use Rattle.grants.specs.Cells.{Table, IsCounted, cell_of, hold_count, count_in, count_of, one_for_right}
 use Rattle.std.proofs.lemmas.Bool.{lt-ltb}
 use Rattle.grants.proofs.PairLemmas.{same_pair_itself}
 
@@ -50,7 +50,7 @@ holds_of-among before behind h c o right =
 module _ (old new : Table) (h : Hold) where
   -- one more hold is counted
   pub counted_more : (holds : List Hold) → IsCounted old holds
-      → ((c : ClientId) (o : Object) (right : Right) → counted new c o right ≡ counted old c o right + one_for c o right h) → IsCounted new (holds ++ h ∷ [])
+      → ((c : ClientId) (o : Object) (right : Right) → hold_count new c o right ≡ hold_count old c o right + one_for c o right h) → IsCounted new (holds ++ h ∷ [])
   counted_more holds is more c o right =
       let a = holds_of-append holds (h ∷ []) c o right in
       let b = holds_of-one h c o right in
@@ -60,7 +60,7 @@ module _ (old new : Table) (h : Hold) where
 
   -- one hold is counted no more
   pub counted_fewer : (before behind : List Hold) → IsCounted old (before ++ h ∷ behind)
-      → ((c : ClientId) (o : Object) (right : Right) → counted old c o right ≡ counted new c o right + one_for c o right h) → IsCounted new (before ++ behind)
+      → ((c : ClientId) (o : Object) (right : Right) → hold_count old c o right ≡ hold_count new c o right + one_for c o right h) → IsCounted new (before ++ behind)
   counted_fewer before behind is fewer c o right =
       let a = holds_of-among before behind h c o right in
       let d = is c o right in
@@ -69,15 +69,15 @@ module _ (old new : Table) (h : Hold) where
 
 -- a hold among others is counted
 pub once-counted : (table : Table) (before behind : List Hold) (h : Hold) → IsCounted table (before ++ h ∷ behind)
-    → (right : Right) → once h.rights right ≤ counted table h.client h.object right
+    → (right : Right) → one_for_right h.rights right ≤ hold_count table h.client h.object right
 once-counted table before behind h is right =
     let a = holds_of-among before behind h h.client h.object right in
     let d = is h.client h.object right in
-    let e : one_for h.client h.object right h ≡ once h.rights right = ap (λ (b : Bool). if b && has h.rights right then 1 else 0) (same_pair_itself h.client h.object) in
+    let e : one_for h.client h.object right h ≡ one_for_right h.rights right = ap (λ (b : Bool). if b && has h.rights right then 1 else 0) (same_pair_itself h.client h.object) in
     omega arith
 
 -- there are no more holds of a right than there are holds
-pub counted-le : (table : Table) (holds : List Hold) → IsCounted table holds → (c : ClientId) (o : Object) (right : Right) → counted table c o right ≤ length holds
+pub counted-le : (table : Table) (holds : List Hold) → IsCounted table holds → (c : ClientId) (o : Object) (right : Right) → hold_count table c o right ≤ length holds
 counted-le table holds is c o right =
     let a = is c o right in
     let b = count_by-le-length (is_hold_of c o right) holds in

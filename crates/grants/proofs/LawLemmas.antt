@@ -10,30 +10,31 @@ use Rattle.policy.specs.declared.rights.Right.{Right}
 use Rattle.policy.specs.declared.rights.Right.TheVariants.{Use, Read, Write, Wait, Change, Launch}
 use Rattle.policy.specs.declared.rights.Rights.{Rights}
 use Rattle.policy.specs.Rights.{has, all_rights, each_right}
+use Rattle.grants.specs.Rules.{all_objects}
 use Rattle.grants.specs.Pairs.{same_pair, is_one_of, names}
 use Rattle.grants.specs.Holders.{same_packet}
-use Rattle.grants.specs.Ledger.{Ledger, rules_in, in_force, holds, is_holder, are_in_force}
-use Rattle.grants.specs.Laws.{Call, Leads, AreMade, left_by, was_given, came_to_hold, IsLeft, CallsLeave}
+use Rattle.grants.specs.Ledger.{Ledger, rules_in, in_force, holds, is_holder, are_in_force, listing_by}
+use Rattle.grants.specs.Laws.{Call, LeadsTo, AreMade, last_ledger, in_force_after, holds_after, IsAfterCalls, LawOfCalls}
 use Rattle.grants.specs.Laws.Call.{Grant, Revoke, Hold, Release}
 use Rattle.grants.proofs.PairLemmas.{both, same_pair_is}
 use Rattle.grants.proofs.CellLemmas.{by_right, each_right-has}
 
 -- ---- one call
 
-step-given : (call : Call) (old new : Ledger) → Leads old call new → (c : ClientId) (o : Object) (right : Right) → in_force new c o right ≡ was_given c o right (in_force old c o right) call
+step-given : (call : Call) (old new : Ledger) → LeadsTo old call new → (c : ClientId) (o : Object) (right : Right) → in_force new c o right ≡ in_force_after c o right (in_force old c o right) call
 step-given (Grant client object rights) old new l c o right = l.1.given c o right
 step-given (Revoke client object rights) old new l c o right = l.1.taken c o right
 step-given (Hold client queue packet rights) old new l c o right = l.1.same_rights c o right
 step-given (Release queue packet) old new l c o right = l.same_rights c o right
 
-step-held : (call : Call) (old new : Ledger) → Leads old call new → (q : QueueId) (p : PacketId) (c : ClientId) (o : Object) (right : Right)
-    → holds new q p c o right ≡ came_to_hold q p c o right (holds old q p c o right) call
+step-held : (call : Call) (old new : Ledger) → LeadsTo old call new → (q : QueueId) (p : PacketId) (c : ClientId) (o : Object) (right : Right)
+    → holds new q p c o right ≡ holds_after q p c o right (holds old q p c o right) call
 step-held (Grant client object rights) old new l q p c o right = l.1.same_holds q p c o right
 step-held (Revoke client object rights) old new l q p c o right = l.1.same_holds q p c o right
 step-held (Hold client queue packet rights) old new l q p c o right = l.1.held q p c o right
 step-held (Release queue packet) old new l q p c o right = l.released q p c o right
 
-step-rules : (call : Call) (old new : Ledger) → Leads old call new → rules_in new ≡ rules_in old
+step-rules : (call : Call) (old new : Ledger) → LeadsTo old call new → rules_in new ≡ rules_in old
 step-rules (Grant client object rights) old new l = l.1.same_rules
 step-rules (Revoke client object rights) old new l = l.1.same_rules
 step-rules (Hold client queue packet rights) old new l = l.1.same_rules
@@ -77,7 +78,7 @@ named-in_force f (n ∷ rights) client c o right all named =
         let these = same_pair_is c o client n.0 both_are.0 in
         (these.0, ap (λ x. f x right) these.1 ∙ each_right-has n.1 (f n.0) here right both_are.1)
 
-step-sound : (call : Call) (old new : Ledger) → Leads old call new → AreHeldInForce old → AreHeldInForce new
+step-sound : (call : Call) (old new : Ledger) → LeadsTo old call new → AreHeldInForce old → AreHeldInForce new
 step-sound (Grant client object rights) old new l sound q p c o right h =
     l.1.given c o right ∙ or_left (in_force old c o right) _ (sound q p c o right (sym (l.1.same_holds q p c o right) ∙ h))
 step-sound (Revoke client object rights) old new l sound q p c o right h =
@@ -111,29 +112,33 @@ abbrev calls_of : List (Call × Ledger) → List Call
 calls_of steps = map (λ step. step.0) steps
 
 given-by : (steps : List (Call × Ledger)) (old : Ledger) → AreMade old steps → (c : ClientId) (o : Object) (right : Right)
-    → in_force (left_by old steps) c o right ≡ fold (was_given c o right) (in_force old c o right) (calls_of steps)
+    → in_force (last_ledger old steps) c o right ≡ fold (in_force_after c o right) (in_force old c o right) (calls_of steps)
 given-by [] old made c o right = refl
 given-by (step ∷ steps) old made c o right =
-    given-by steps step.1 made.1 c o right ∙ ap (λ b. fold (was_given c o right) b (calls_of steps)) (step-given step.0 old step.1 made.0 c o right)
+    given-by steps step.1 made.1 c o right ∙ ap (λ b. fold (in_force_after c o right) b (calls_of steps)) (step-given step.0 old step.1 made.0 c o right)
 
 held-by : (steps : List (Call × Ledger)) (old : Ledger) → AreMade old steps → (q : QueueId) (p : PacketId) (c : ClientId) (o : Object) (right : Right)
-    → holds (left_by old steps) q p c o right ≡ fold (came_to_hold q p c o right) (holds old q p c o right) (calls_of steps)
+    → holds (last_ledger old steps) q p c o right ≡ fold (holds_after q p c o right) (holds old q p c o right) (calls_of steps)
 held-by [] old made q p c o right = refl
 held-by (step ∷ steps) old made q p c o right =
-    held-by steps step.1 made.1 q p c o right ∙ ap (λ b. fold (came_to_hold q p c o right) b (calls_of steps)) (step-held step.0 old step.1 made.0 q p c o right)
+    held-by steps step.1 made.1 q p c o right ∙ ap (λ b. fold (holds_after q p c o right) b (calls_of steps)) (step-held step.0 old step.1 made.0 q p c o right)
 
-rules-by : (steps : List (Call × Ledger)) (old : Ledger) → AreMade old steps → rules_in (left_by old steps) ≡ rules_in old
+rules-by : (steps : List (Call × Ledger)) (old : Ledger) → AreMade old steps → rules_in (last_ledger old steps) ≡ rules_in old
 rules-by [] old made = refl
 rules-by (step ∷ steps) old made = rules-by steps step.1 made.1 ∙ step-rules step.0 old step.1 made.0
 
-sound-by : (steps : List (Call × Ledger)) (old : Ledger) → AreMade old steps → AreHeldInForce old → AreHeldInForce (left_by old steps)
+sound-by : (steps : List (Call × Ledger)) (old : Ledger) → AreMade old steps → AreHeldInForce old → AreHeldInForce (last_ledger old steps)
 sound-by [] old made sound = sound
 sound-by (step ∷ steps) old made sound = sound-by steps step.1 made.1 (step-sound step.0 old step.1 made.0 sound)
 
-pub calls_leave : CallsLeave
-calls_leave first steps new made = record {
-  given = λ c o right. given-by steps first made c o right ∙ ap (λ b. fold (was_given c o right) b (calls_of steps)) (new.none_in_force c o right);
-  held = λ q p c o right. held-by steps first made q p c o right ∙ ap (λ b. fold (came_to_hold q p c o right) b (calls_of steps)) (new.none_held q p c o right);
-  held_is_in_force = sound-by steps first made (λ q p c o right h. absurd (true≢false (sym h ∙ new.none_held q p c o right)));
-  same_rules = rules-by steps first made;
-}
+pub law_of_calls : LawOfCalls
+law_of_calls first steps new made =
+    let given : (c : ClientId) (o : Object) (right : Right) → in_force (last_ledger first steps) c o right ≡ fold (in_force_after c o right) false (calls_of steps) = λ c o right.
+        given-by steps first made c o right ∙ ap (λ b. fold (in_force_after c o right) b (calls_of steps)) (new.none_in_force c o right) in
+    record {
+      given = given;
+      listed = λ c. λ i. listing_by (λ o right. given c o right i) (all_objects (rules-by steps first made i));
+      held = λ q p c o right. held-by steps first made q p c o right ∙ ap (λ b. fold (holds_after q p c o right) b (calls_of steps)) (new.none_held q p c o right);
+      held_is_in_force = sound-by steps first made (λ q p c o right h. absurd (true≢false (sym h ∙ new.none_held q p c o right)));
+      same_rules = rules-by steps first made;
+    }

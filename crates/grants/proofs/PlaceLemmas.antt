@@ -12,7 +12,7 @@ use Rattle.policy.specs.Object.{kind_of, number_of}
 use Rattle.grants.specs.declared.cell.Cell.{Cell}
 use Rattle.grants.specs.Pairs.{same_pair}
 use Rattle.grants.specs.Rules.{Rules, count, knows_client, knows}
-use Rattle.grants.specs.Cells.{object_count, object_place, place_of, item_at, replaced}
+use Rattle.grants.specs.Cells.{object_count, object_place, place_of, item_at, replacement}
 use Rattle.grants.proofs.PairLemmas.{both, same_pair_is, same_pair_itself}
 
 from_one : (n m : ℕ) → (nat_lt 0 n && nat_le n m) ≡ true → (0 < n) × (n ≤ m)
@@ -103,7 +103,7 @@ get-set_other (x ∷ xs) zero (suc j) cell other = refl
 get-set_other (x ∷ xs) (suc i) zero cell other = refl
 get-set_other (x ∷ xs) (suc i) (suc j) cell other = get-set_other xs i j cell (λ e. other (ap suc e))
 
-get-within : (cells : List Cell) (i : ℕ) (new : Cell) → i < length cells → replaced new (slice_get cells i) ≡ Some new
+get-within : (cells : List Cell) (i : ℕ) (new : Cell) → i < length cells → replacement new (slice_get cells i) ≡ Some new
 get-within [] i new h = absurd (omega arith)
 get-within (x ∷ xs) zero new h = refl
 get-within (x ∷ xs) (suc i) new h = get-within xs i new (omega arith)
@@ -111,14 +111,14 @@ get-within (x ∷ xs) (suc i) new h = get-within xs i new (omega arith)
 module _ (rules : Rules) (cells : List Cell) (long : length cells ≡ rules.clients * object_count rules) (c : ClientId) (o : Object) (new : Cell) where
   -- what a changed cell leaves at every client and object
   pub cell-set : (place : ℕ) → place_of rules c o ≡ Some place → (c' : ClientId) (o' : Object)
-      → item_at (slice_set cells place new) (place_of rules c' o') ≡ (if same_pair c' o' c o then replaced new (item_at cells (place_of rules c' o')) else item_at cells (place_of rules c' o'))
+      → item_at (slice_set cells place new) (place_of rules c' o') ≡ (if same_pair c' o' c o then replacement new (item_at cells (place_of rules c' o')) else item_at cells (place_of rules c' o'))
   cell-set place at c' o' = by_test (same_pair c' o' c o) refl (place_of rules c' o') refl
     where
       within : place < length cells
       within = let w = place-within rules c o place at in omega arith
 
       by_test : (same : Bool) → same_pair c' o' c o ≡ same → (at' : Option ℕ) → place_of rules c' o' ≡ at'
-          → item_at (slice_set cells place new) at' ≡ (if same then replaced new (item_at cells at') else item_at cells at')
+          → item_at (slice_set cells place new) at' ≡ (if same then replacement new (item_at cells at') else item_at cells at')
       by_test true same None is = refl
       by_test false same None is = refl
       by_test true same (Some place') is =
@@ -133,11 +133,11 @@ module _ (rules : Rules) (cells : List Cell) (long : length cells ≡ rules.clie
 
   -- nothing is changed where there is no place
   pub cell-unset : place_of rules c o ≡ None → (c' : ClientId) (o' : Object)
-      → item_at cells (place_of rules c' o') ≡ (if same_pair c' o' c o then replaced new (item_at cells (place_of rules c' o')) else item_at cells (place_of rules c' o'))
+      → item_at cells (place_of rules c' o') ≡ (if same_pair c' o' c o then replacement new (item_at cells (place_of rules c' o')) else item_at cells (place_of rules c' o'))
   cell-unset at c' o' = by_test (same_pair c' o' c o) refl
     where
       by_test : (same : Bool) → same_pair c' o' c o ≡ same
-          → item_at cells (place_of rules c' o') ≡ (if same then replaced new (item_at cells (place_of rules c' o')) else item_at cells (place_of rules c' o'))
+          → item_at cells (place_of rules c' o') ≡ (if same then replacement new (item_at cells (place_of rules c' o')) else item_at cells (place_of rules c' o'))
       by_test false same = refl
       by_test true same =
           let these = same_pair_is c' o' c o same in

@@ -1,4 +1,4 @@
--- What rows of rights give once rights are put to a row, or taken from each.
+-- What rows of rights give one_for_right rights are put to a row, or taken from each.
 use Rattle.std.proofs.Common.{◌≡◌, ℕ, zero, suc, ◌+◌, ◌<◌, ◌≤◌, Bool, true, false, not, ◌&&◌, ◌||◌, List, [], ◌∷◌, ◌++◌, length, get_or, take, drop, refl, sym, ap, ◌∙◌, arith, Some, None, true≢false}
 use Rattle.std.specs.Prelude.{slice_set, nat_lt, position}
 use Rattle.std.specs.List.{list_any, position_or_len}

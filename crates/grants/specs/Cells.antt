@@ -33,8 +33,8 @@ empty_cell = record {
 }
 
 -- one, for a right of the set
-abbrev pub once : Rights → Right → ℕ
-once rights right = if has rights right then 1 else 0
+abbrev pub one_for_right : Rights → Right → ℕ
+one_for_right rights right = if has rights right then 1 else 0
 
 -- ---- places
 
@@ -64,9 +64,9 @@ item_at cells (Some place) = slice_get cells place
 item_at cells None = None
 
 -- a cell in the place of another, if there is one
-abbrev pub replaced : Cell → Option Cell → Option Cell
-replaced new (Some cell) = Some new
-replaced new None = None
+abbrev pub replacement : Cell → Option Cell → Option Cell
+replacement new (Some cell) = Some new
+replacement new None = None
 
 -- ---- the table as the rest of the crate sees it
 
@@ -94,12 +94,12 @@ abbrev pub in_table : Table → ClientId → Object → Right → Bool
 in_table table client object right = has_right right (cell_of table client object)
 
 -- how many holds of the client's right on the object are counted
-abbrev pub counted : Table → ClientId → Object → Right → ℕ
-counted table client object right = count_in right (cell_of table client object)
+abbrev pub hold_count : Table → ClientId → Object → Right → ℕ
+hold_count table client object right = count_in right (cell_of table client object)
 
 -- each count is the number of listed holds of its right
 abbrev pub IsCounted : Table → List Hold → Type 0
-IsCounted table holds = (client : ClientId) (object : Object) (right : Right) → counted table client object right ≡ holds_of holds client object right
+IsCounted table holds = (client : ClientId) (object : Object) (right : Right) → hold_count table client object right ≡ holds_of holds client object right
 
 -- the rights in force, and the rules, are as before
 pub record SameRights (old new : Table) : Type 0 where
@@ -109,4 +109,4 @@ pub record SameRights (old new : Table) : Type 0 where
 -- the counts, and the rules, are as before
 pub record SameCounts (old new : Table) : Type 0 where
   pub same_rules : new.rules ≡ old.rules
-  pub same_counts : (client : ClientId) (object : Object) (right : Right) → counted new client object right ≡ counted old client object right
+  pub same_counts : (client : ClientId) (object : Object) (right : Right) → hold_count new client object right ≡ hold_count old client object right

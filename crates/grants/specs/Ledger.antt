@@ -121,10 +121,10 @@ RevokeAnswers grants client object rights (Ok x) =
 
 -- ---- listing
 
--- of these objects, those on which the client has a right in force, with its rights
-unfoldable pub listed : Ledger → ClientId → List Object → List (Object × Rights)
-listed grants client objects = map (λ on. (on, rights_on grants client on)) (filter (λ on. list_any (in_force grants client on) all_rights) objects)
+-- of these objects, those on which there is a right, with these rights
+unfoldable pub listing_by : (Object → Right → Bool) → List Object → List (Object × Rights)
+listing_by has_right objects = map (λ on. (on, rights_that (has_right on))) (filter (λ on. list_any (has_right on) all_rights) objects)
 
 -- the objects on which the client has a right in force, with its rights: agents, regions, signals, kernels, each by number
 abbrev pub listing : Ledger → ClientId → List (Object × Rights)
-listing grants client = listed grants client (all_objects (rules_in grants))
+listing grants client = listing_by (in_force grants client) (all_objects (rules_in grants))

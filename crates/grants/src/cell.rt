@@ -4,9 +4,9 @@ ghost use Rattle.std.specs.Prelude.{◌≡◌, ◌+◌, ◌-◌, ◌<◌, ◌≤
 ghost use Rattle.std.specs.List.{list_any};
 ghost use Rattle.policy.specs.declared.rights.Right.{Right};
 ghost use Rattle.policy.specs.Rights.{has, all_rights};
-ghost use Rattle.grants.specs.Cells.{count_of, once};
+ghost use Rattle.grants.specs.Cells.{count_of, one_for_right};
 
-use crate::sets::{both, left};
+use crate::sets::{difference, union};
 use policy::{Right, Rights};
 
 /// How many holds there are of each right.
@@ -32,32 +32,32 @@ impl Counts {
     };
 
     // The counts with one more hold of each of some rights.
-    fn raised(self, rights: Rights) -> Counts
+    fn with(self, rights: Rights) -> Counts
         requires { (right : Right) → count_of self right < 2 ^ 64 - 1 }
-        ensures { (right : Right) → count_of result right ≡ count_of self right + once rights right }
+        ensures { (right : Right) → count_of result right ≡ count_of self right + one_for_right rights right }
     {
         Counts {
-            use_agent: self.use_agent + once(rights, Right::Use),
-            read: self.read + once(rights, Right::Read),
-            write: self.write + once(rights, Right::Write),
-            wait: self.wait + once(rights, Right::Wait),
-            change: self.change + once(rights, Right::Change),
-            launch: self.launch + once(rights, Right::Launch),
+            use_agent: self.use_agent + one_for_right(rights, Right::Use),
+            read: self.read + one_for_right(rights, Right::Read),
+            write: self.write + one_for_right(rights, Right::Write),
+            wait: self.wait + one_for_right(rights, Right::Wait),
+            change: self.change + one_for_right(rights, Right::Change),
+            launch: self.launch + one_for_right(rights, Right::Launch),
         }
     }
 
     // The counts with one hold less of each of some rights.
-    fn lowered(self, rights: Rights) -> Counts
-        requires { (right : Right) → once rights right ≤ count_of self right }
-        ensures { (right : Right) → count_of result right + once rights right ≡ count_of self right }
+    fn without(self, rights: Rights) -> Counts
+        requires { (right : Right) → one_for_right rights right ≤ count_of self right }
+        ensures { (right : Right) → count_of result right + one_for_right rights right ≡ count_of self right }
     {
         Counts {
-            use_agent: self.use_agent - once(rights, Right::Use),
-            read: self.read - once(rights, Right::Read),
-            write: self.write - once(rights, Right::Write),
-            wait: self.wait - once(rights, Right::Wait),
-            change: self.change - once(rights, Right::Change),
-            launch: self.launch - once(rights, Right::Launch),
+            use_agent: self.use_agent - one_for_right(rights, Right::Use),
+            read: self.read - one_for_right(rights, Right::Read),
+            write: self.write - one_for_right(rights, Right::Write),
+            wait: self.wait - one_for_right(rights, Right::Wait),
+            change: self.change - one_for_right(rights, Right::Change),
+            launch: self.launch - one_for_right(rights, Right::Launch),
         }
     }
 
@@ -77,8 +77,8 @@ impl Counts {
 }
 
 // One, for a right of the set.
-fn once(rights: Rights, right: Right) -> usize
-    ensures value { result ≡ once rights right }
+fn one_for_right(rights: Rights, right: Right) -> usize
+    ensures value { result ≡ one_for_right rights right }
     ensures bound { result ≤ 1 }
 {
     if rights.has(right) { 1 } else { 0 }
@@ -106,7 +106,7 @@ impl Cell {
         ensures held { result.held ≡ self.held }
     {
         Cell {
-            rights: both(self.rights, rights),
+            rights: union(self.rights, rights),
             held: self.held,
         }
     }
@@ -117,32 +117,32 @@ impl Cell {
         ensures held { result.held ≡ self.held }
     {
         Cell {
-            rights: left(self.rights, rights),
+            rights: difference(self.rights, rights),
             held: self.held,
         }
     }
 
     /// The cell with one more hold of each of some rights.
-    pub fn held_once_more(self, rights: Rights) -> Cell
+    pub fn with_hold(self, rights: Rights) -> Cell
         requires { (right : Right) → count_of self.held right < 2 ^ 64 - 1 }
         ensures rights { result.rights ≡ self.rights }
-        ensures held { (right : Right) → count_of result.held right ≡ count_of self.held right + once rights right }
+        ensures held { (right : Right) → count_of result.held right ≡ count_of self.held right + one_for_right rights right }
     {
         Cell {
             rights: self.rights,
-            held: self.held.raised(rights),
+            held: self.held.with(rights),
         }
     }
 
     /// The cell with one hold less of each of some rights.
-    pub fn held_once_less(self, rights: Rights) -> Cell
-        requires { (right : Right) → once rights right ≤ count_of self.held right }
+    pub fn without_hold(self, rights: Rights) -> Cell
+        requires { (right : Right) → one_for_right rights right ≤ count_of self.held right }
         ensures rights { result.rights ≡ self.rights }
-        ensures held { (right : Right) → count_of result.held right + once rights right ≡ count_of self.held right }
+        ensures held { (right : Right) → count_of result.held right + one_for_right rights right ≡ count_of self.held right }
     {
         Cell {
             rights: self.rights,
-            held: self.held.lowered(rights),
+            held: self.held.without(rights),
         }
     }
 

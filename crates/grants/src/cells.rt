@@ -9,7 +9,7 @@ ghost use Rattle.policy.specs.Rights.{each_right};
 ghost use Rattle.grants.specs.Pairs.{same_pair, is_one_of};
 ghost use Rattle.grants.specs.Rules.{rules_of, knows_client, knows};
 ghost use Rattle.grants.specs.Holds.{is_hold_of};
-ghost use Rattle.grants.specs.Cells.{SameRights, SameCounts, cell_of, counted, empty_cell, in_table, once, replaced};
+ghost use Rattle.grants.specs.Cells.{SameRights, SameCounts, cell_of, hold_count, empty_cell, in_table, one_for_right, replacement};
 
 use crate::cell::Cell;
 use crate::hold::Hold;
@@ -51,7 +51,7 @@ impl Cells {
     pub fn new(alloc: Global, policy: &Policy) -> Result<Cells, AllocError>
         ensures rules { IfOk result (λ table. table.rules ≡ rules_of policy.now) }
         ensures empty { IfOk result (λ table. (client : ClientId) (object : Object) (right : Right)
-            → (in_table table client object right ≡ false) × (counted table client object right ≡ 0)) }
+            → (in_table table client object right ≡ false) × (hold_count table client object right ≡ 0)) }
     {
         let rules = Rules::of(alloc, policy)?;
         let cells = empty_cells(alloc, rules.cell_count())?;
@@ -77,7 +77,7 @@ impl Cells {
     // Puts a cell in the place of that of a client and an object, if both are declared.
     fn set(&mut self, client: ClientId, object: Object, cell: Cell)
         ensures cells { (client' : ClientId) (object' : Object) → cell_of self.new client' object'
-            ≡ (if same_pair client' object' client object then replaced cell (cell_of self.old client' object') else cell_of self.old client' object') }
+            ≡ (if same_pair client' object' client object then replacement cell (cell_of self.old client' object') else cell_of self.old client' object') }
         ensures rules { self.new.rules ≡ self.old.rules }
     {
         if let Some(place) = self.rules.place_of(client, object) {
@@ -86,7 +86,7 @@ impl Cells {
     }
 
     /// Puts rights of a declared client on a declared object in force.
-    pub fn give(&mut self, client: ClientId, object: Object, rights: Rights)
+    pub fn put_in_force(&mut self, client: ClientId, object: Object, rights: Rights)
         requires { (knows_client self.old.rules client && knows self.old.rules object) ≡ true }
         ensures in_force { (client' : ClientId) (object' : Object) (right : Right) → in_table self.new client' object' right
             ≡ (in_table self.old client' object' right || is_one_of client' object' right client object rights) }
@@ -98,7 +98,7 @@ impl Cells {
     }
 
     /// Takes rights of a client on an object out of force.
-    pub fn take(&mut self, client: ClientId, object: Object, rights: Rights)
+    pub fn take_out_of_force(&mut self, client: ClientId, object: Object, rights: Rights)
         ensures in_force { (client' : ClientId) (object' : Object) (right : Right) → in_table self.new client' object' right
             ≡ (in_table self.old client' object' right && not (is_one_of client' object' right client object rights)) }
         ensures counts { SameCounts self.old self.new }
@@ -109,28 +109,28 @@ impl Cells {
     }
 
     /// Counts one hold more, of rights that are in force.
-    pub fn count(&mut self, hold: &Hold)
+    pub fn count_hold(&mut self, hold: &Hold)
         requires in_force { each_right hold.now.rights (in_table self.old hold.now.client hold.now.object) ≡ true }
-        requires fits { (right : Right) → counted self.old hold.now.client hold.now.object right < 2 ^ 64 - 1 }
-        ensures counts { (client : ClientId) (object : Object) (right : Right) → counted self.new client object right
-            ≡ counted self.old client object right + (if is_hold_of client object right hold.now then 1 else 0) }
+        requires fits { (right : Right) → hold_count self.old hold.now.client hold.now.object right < 2 ^ 64 - 1 }
+        ensures counts { (client : ClientId) (object : Object) (right : Right) → hold_count self.new client object right
+            ≡ hold_count self.old client object right + (if is_hold_of client object right hold.now then 1 else 0) }
         ensures rights { SameRights self.old self.new }
     {
         if let Some(cell) = self.get(hold.client, hold.object) {
-            let more = cell.held_once_more(hold.rights);
+            let more = cell.with_hold(hold.rights);
             self.set(hold.client, hold.object, more);
         }
     }
 
     /// Counts one hold less, of rights that are counted.
-    pub fn uncount(&mut self, hold: &Hold)
-        requires { (right : Right) → once hold.now.rights right ≤ counted self.old hold.now.client hold.now.object right }
-        ensures counts { (client : ClientId) (object : Object) (right : Right) → counted self.old client object right
-            ≡ counted self.new client object right + (if is_hold_of client object right hold.now then 1 else 0) }
+    pub fn uncount_hold(&mut self, hold: &Hold)
+        requires { (right : Right) → one_for_right hold.now.rights right ≤ hold_count self.old hold.now.client hold.now.object right }
+        ensures counts { (client : ClientId) (object : Object) (right : Right) → hold_count self.old client object right
+            ≡ hold_count self.new client object right + (if is_hold_of client object right hold.now then 1 else 0) }
         ensures rights { SameRights self.old self.new }
     {
         if let Some(cell) = self.get(hold.client, hold.object) {
-            let fewer = cell.held_once_less(hold.rights);
+            let fewer = cell.without_hold(hold.rights);
             self.set(hold.client, hold.object, fewer);
         }
     }

@@ -38,7 +38,7 @@ pub fn put_holds(
             object: *object,
             rights: *rights,
         };
-        table.count(&hold);
+        table.count_hold(&hold);
         holds.push_reserved(hold);
     }
 }
@@ -51,7 +51,7 @@ pub fn uncount_packet(table: &mut Cells, holds: &[Hold], queue: QueueId, packet:
 {
     for hold in holds {
         if hold.is_of(queue, packet) {
-            table.uncount(hold);
+            table.uncount_hold(hold);
         }
     }
 }

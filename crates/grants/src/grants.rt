@@ -42,7 +42,7 @@ impl Model for Grants {
 }
 
 impl Grants {
-    ghost use Rattle.grants.specs.Ledger.{IsNew, Gives, Takes, Holds, Releases, RevokeAnswers, rules_in, in_force, grant_due, rights_on, are_in_force, listed, listing};
+    ghost use Rattle.grants.specs.Ledger.{IsNew, Gives, Takes, Holds, Releases, RevokeAnswers, rules_in, in_force, grant_due, rights_on, are_in_force, listing, listing_by};
 
     /// No right is in force yet, and no packet holds one.
     pub fn new(alloc: Global, policy: &Policy) -> Result<Grants, AllocError>
@@ -95,7 +95,7 @@ impl Grants {
         requires { grant_due self.old client object rights ≡ Ok tt }
         ensures { Gives self.old self.new client object rights }
     {
-        self.table.give(client, object, rights);
+        self.table.put_in_force(client, object, rights);
     }
 
     /// Takes rights on an object from a client. It is refused as `may_revoke` says. A right that
@@ -148,7 +148,7 @@ impl Grants {
         requires { RevokeAnswers self.old client object rights (Ok tt) }
         ensures { Takes self.old self.new client object rights }
     {
-        self.table.take(client, object, rights);
+        self.table.take_out_of_force(client, object, rights);
     }
 
     /// The rights of a client on an object.
@@ -273,7 +273,7 @@ impl Grants {
         client: ClientId,
         kind: Kind,
     ) -> Result<(), AllocError>
-        ensures { OnOk result (rows.new ≡ rows.old ++ listed self.now client (objects_of (rules_in self.now) kind)) }
+        ensures { OnOk result (rows.new ≡ rows.old ++ listing_by (in_force self.now client) (objects_of (rules_in self.now) kind)) }
     {
         for before in 0..self.table.rules().count(kind) {
             self.list_object(rows, client, Object::of(kind, before as u64 + 1))?;
@@ -282,14 +282,14 @@ impl Grants {
     }
 
     // Puts an object on which the client has a right behind the others.
-    #[tactic(auto, unfolding(crate::specs::Ledger::listed))]
+    #[tactic(auto, unfolding(crate::specs::Ledger::listing_by))]
     fn list_object(
         &self,
         rows: &mut Sequence<(Object, Rights)>,
         client: ClientId,
         object: Object,
     ) -> Result<(), AllocError>
-        ensures { OnOk result (rows.new ≡ rows.old ++ listed self.now client (object ∷ [])) }
+        ensures { OnOk result (rows.new ≡ rows.old ++ listing_by (in_force self.now client) (object ∷ [])) }
     {
         let rights = self.in_force(client, object);
         if !rights.is_empty() {

@@ -17,6 +17,6 @@ mod table;
 mod tests;
 
 pub use grants::Grants;
-pub use laws::what_calls_leave;
+pub use laws::law_of_calls;
 pub use refusal::Refusal;
 pub use table::{RightsRow, RightsTable};

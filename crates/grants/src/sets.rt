@@ -8,14 +8,14 @@ use bitflags::Flags;
 use policy::Rights;
 
 /// The rights of two sets.
-pub fn both(rights: Rights, more: Rights) -> Rights
+pub fn union(rights: Rights, more: Rights) -> Rights
     ensures { (right : Right) → has result right ≡ (has rights right || has more right) }
 {
     rights.union(more)
 }
 
 /// What is left of a set of rights without those of another.
-pub fn left(rights: Rights, taken: Rights) -> Rights
+pub fn difference(rights: Rights, taken: Rights) -> Rights
     ensures { (right : Right) → has result right ≡ (has rights right && not (has taken right)) }
 {
     rights.difference(taken)

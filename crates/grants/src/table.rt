@@ -9,7 +9,7 @@ ghost use Rattle.grants.specs.declared.table.RightsRow.{RightsRow};
 ghost use Rattle.grants.specs.Pairs.{is_one_of};
 ghost use Rattle.grants.specs.Table.{IsWith, IsWithout, gives, has_granted, has_row, is_row_of};
 
-use crate::sets::{both, left};
+use crate::sets::{difference, union};
 use aql_packet::ClientId;
 use policy::{Object, Right, Rights};
 use sequences::Sequence;
@@ -54,7 +54,7 @@ impl RightsRow {
         RightsRow {
             client: self.client,
             object: self.object,
-            rights: both(self.rights, rights),
+            rights: union(self.rights, rights),
         }
     }
 
@@ -68,7 +68,7 @@ impl RightsRow {
         RightsRow {
             client: self.client,
             object: self.object,
-            rights: left(self.rights, rights),
+            rights: difference(self.rights, rights),
         }
     }
 }

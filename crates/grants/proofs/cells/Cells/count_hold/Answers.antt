@@ -5,17 +5,17 @@ use Rattle.std.proofs.lemmas.Bool.{false_from_ne_true}
 use Rattle.policy.specs.Rights.{has}
 use Rattle.grants.specs.Cells.{has_right, count_in, cell_of, in_table}
 use Rattle.grants.proofs.CellLemmas.{at_each, at_each_same, each_right-has}
-use Rattle.grants.proofs.cells.Cells.count.Goals as goal
+use Rattle.grants.proofs.cells.Cells.count_hold.Goals as goal
 
-pub held_once_more-more-requires : goal.held_once_more-more-requires
-held_once_more-more-requires c = λ right.
+pub with_hold-more-requires : goal.with_hold-more-requires
+with_hold-more-requires c = λ right.
     subst (λ s. count_in right s < 18446744073709551615) (sym c.get.ensures.cell ∙ c.in-Some.is) (c.requires.fits right)
 
 pub returns-in-Some-clause-counts : goal.returns-in-Some-clause-counts
 returns-in-Some-clause-counts c = λ client object right.
     at_each c.args.self.now c.args.hold.now.client c.args.hold.now.object (Some c.in-Some.cell) (sym c.get.ensures.cell ∙ c.in-Some.is)
     (λ same s t. count_in right t ≡ count_in right s + (if same && has c.args.hold.now.rights right then 1 else 0)) (λ s. omega arith)
-    c.set.new.self c.held_once_more-more.result c.set.ensures.cells (c.held_once_more-more.ensures.held right) client object
+    c.set.new.self c.with_hold-more.result c.set.ensures.cells (c.with_hold-more.ensures.held right) client object
 
 pub returns-in-Some-clause-rights : goal.returns-in-Some-clause-rights
 returns-in-Some-clause-rights c = record {
@@ -23,7 +23,7 @@ returns-in-Some-clause-rights c = record {
   same_rights = λ client object right.
       at_each c.args.self.now c.args.hold.now.client c.args.hold.now.object (Some c.in-Some.cell) (sym c.get.ensures.cell ∙ c.in-Some.is)
       (λ same s t. has_right right t ≡ has_right right s) (λ s. refl)
-      c.set.new.self c.held_once_more-more.result c.set.ensures.cells (ap (λ rights. has rights right) c.held_once_more-more.ensures.rights) client object;
+      c.set.new.self c.with_hold-more.result c.set.ensures.cells (ap (λ rights. has rights right) c.with_hold-more.ensures.rights) client object;
 }
 
 pub returns-in_default-clause-counts : goal.returns-in_default-clause-counts

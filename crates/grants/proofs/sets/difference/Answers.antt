@@ -3,7 +3,7 @@ use Rattle.std.proofs.Common.{◌≡◌, ap, ◌∙◌, ◌<◌, ◌^◌, rules}
 use Rattle.bitflags.specs.Sets.{without}
 use Rattle.policy.specs.Rights.{has}
 use Rattle.grants.proofs.SetLemmas.{has-without}
-use Rattle.grants.proofs.sets.left.Goals as goal
+use Rattle.grants.proofs.sets.difference.Goals as goal
 
 pub returns : goal.returns
 returns c = λ right.

@@ -2,7 +2,7 @@
 use Rattle.std.proofs.Common.{◌≡◌, ap, ◌∙◌, bit_or}
 use Rattle.policy.specs.Rights.{has}
 use Rattle.grants.proofs.SetLemmas.{has-union}
-use Rattle.grants.proofs.sets.both.Goals as goal
+use Rattle.grants.proofs.sets.union.Goals as goal
 
 pub returns : goal.returns
 returns c = λ right.

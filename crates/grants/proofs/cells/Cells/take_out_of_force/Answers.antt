@@ -4,7 +4,7 @@ use Rattle.policy.specs.Rights.{has}
 use Rattle.grants.specs.Cells.{has_right}
 use Rattle.grants.proofs.HoldLemmas.{and-true}
 use Rattle.grants.proofs.CellLemmas.{at_each, at_each_same}
-use Rattle.grants.proofs.cells.Cells.take.Goals as goal
+use Rattle.grants.proofs.cells.Cells.take_out_of_force.Goals as goal
 
 pub returns-in-Some-clause-in_force : goal.returns-in-Some-clause-in_force
 returns-in-Some-clause-in_force c = λ client object right.

@@ -4,7 +4,7 @@ use Rattle.policy.specs.Rights.{has}
 use Rattle.grants.specs.Cells.{has_right}
 use Rattle.grants.proofs.HoldLemmas.{or-false}
 use Rattle.grants.proofs.CellLemmas.{at_each}
-use Rattle.grants.proofs.cells.Cells.give.Goals as goal
+use Rattle.grants.proofs.cells.Cells.put_in_force.Goals as goal
 
 pub returns-in-Some-clause-in_force : goal.returns-in-Some-clause-in_force
 returns-in-Some-clause-in_force c = λ client object right.

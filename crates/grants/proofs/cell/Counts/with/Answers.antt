@@ -1,7 +1,7 @@
 -- A count that isn't the greatest can be raised by one.
 use Rattle.std.proofs.Common.{arith}
 use Rattle.policy.specs.declared.rights.Right.TheVariants.{Use, Read, Write, Wait, Change, Launch}
-use Rattle.grants.proofs.cell.Counts.raised.Goals as goal
+use Rattle.grants.proofs.cell.Counts.with.Goals as goal
 
 pub overflow_add-result : goal.overflow_add-result
 overflow_add-result c = omega (arith, c.requires Use)
