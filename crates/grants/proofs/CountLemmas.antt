@@ -1,5 +1,5 @@
 -- How many holds there are of a right, as holds come and go.
-use Rattle.std.proofs.Common.{◌≡◌, ℕ, zero, suc, ◌+◌, ◌<◌, ◌≤◌, Bool, true, false, not, ◌&&◌, ◌||◌, List, [], ◌∷◌, ◌++◌, filter, map, take, drop, get_or, length, Some, None, refl, sym, ap, ◌∙◌, arith, true≢false, append_assoc, append-nil, cond}
+use Rattle.std.proofs.Common.{◌≡◌, ℕ, zero, suc, ◌+◌, ◌<◌, ◌≤◌, Bool, true, false, ◌&&◌, ◌||◌, List, [], ◌∷◌, ◌++◌, filter, map, take, drop, get_or, length, Some, refl, sym, ap, ◌∙◌, arith, true≢false, append_assoc, append-nil, cond}
 use Rattle.std.specs.Prelude.{nat_lt, if◌then◌else◌}
 use Rattle.std.specs.List.{list_any}
 use Rattle.std.proofs.lemmas.List.{take_all, take_more, drop_more, map-append}
@@ -15,7 +15,7 @@ use Rattle.policy.specs.Rights.{has, all_rights}
 use Rattle.grants.specs.declared.hold.Hold.{Hold}
 use Rattle.grants.specs.Pairs.{same_pair}
 use Rattle.grants.specs.Holders.{same_packet}
-use Rattle.grants.specs.Holds.{is_hold_of, is_hold, held, holds_of}
+use Rattle.grants.specs.Holds.{is_hold_of, held, holds_of}
 use Rattle.grants.specs.declared.cell.Cell.{Cell}
 use Rattle.grants.specs.Cells.{Table, IsCounted, cell_of, hold_count, count_in, count_of, one_for_right}
 use Rattle.std.proofs.lemmas.Bool.{lt-ltb}

@@ -12,7 +12,7 @@ use Rattle.policy.specs.declared.rights.Right.{Right}
 use Rattle.policy.specs.declared.rights.Rights.{Rights}
 use Rattle.policy.specs.Rights.{has, all_rights}
 use Rattle.grants.specs.declared.hold.Hold.{Hold}
-use Rattle.grants.specs.Pairs.{same_pair, is_one_of}
+use Rattle.grants.specs.Pairs.{same_pair}
 use Rattle.grants.specs.Holders.{same_packet, IsUpTo, IsFirstTo}
 use Rattle.grants.specs.Holds.{is_of, is_on, is_hold, held, hold_of, meet, holds_one}
 use Rattle.grants.proofs.PairLemmas.{both, same_number, itself}

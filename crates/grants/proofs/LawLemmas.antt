@@ -1,5 +1,5 @@
 -- What a call leads to, and what a list of calls leads to.
-use Rattle.std.proofs.Common.{◌≡◌, Bool, true, false, not, ◌&&◌, ◌||◌, List, [], ◌∷◌, map, fold, None, Ok, refl, sym, ap, subst, ◌∙◌, true≢false}
+use Rattle.std.proofs.Common.{◌≡◌, Bool, true, false, not, ◌&&◌, ◌||◌, List, [], ◌∷◌, map, fold, refl, sym, ap, ◌∙◌, true≢false}
 use Rattle.std.specs.List.{list_any, list_all}
 use Rattle.std.proofs.lemmas.Bool.{false_from_ne_true}
 use Rattle.aql_packet.specs.declared.ids.ClientId.{ClientId}
@@ -7,14 +7,13 @@ use Rattle.aql_packet.specs.declared.ids.QueueId.{QueueId}
 use Rattle.aql_packet.specs.declared.ids.PacketId.{PacketId}
 use Rattle.policy.specs.declared.object.Object.{Object}
 use Rattle.policy.specs.declared.rights.Right.{Right}
-use Rattle.policy.specs.declared.rights.Right.TheVariants.{Use, Read, Write, Wait, Change, Launch}
 use Rattle.policy.specs.declared.rights.Rights.{Rights}
 use Rattle.policy.specs.Rights.{has, all_rights, each_right}
 use Rattle.grants.specs.Rules.{all_objects}
 use Rattle.grants.specs.Pairs.{same_pair, is_one_of, names}
 use Rattle.grants.specs.Holders.{same_packet}
-use Rattle.grants.specs.Ledger.{Ledger, rules_in, in_force, holds, is_holder, are_in_force, listing_by}
-use Rattle.grants.specs.Laws.{Call, LeadsTo, AreMade, last_ledger, in_force_after, holds_after, IsAfterCalls, LawOfCalls}
+use Rattle.grants.specs.Ledger.{Ledger, rules_in, in_force, holds, listing_by}
+use Rattle.grants.specs.Laws.{Call, LeadsTo, AreMade, last_ledger, in_force_after, holds_after, LawOfCalls}
 use Rattle.grants.specs.Laws.Call.{Grant, Revoke, Hold, Release}
 use Rattle.grants.proofs.PairLemmas.{both, same_pair_is}
 use Rattle.grants.proofs.CellLemmas.{by_right, each_right-has}
@@ -134,7 +133,7 @@ sound-by (step ∷ steps) old made sound = sound-by steps step.1 made.1 (step-so
 pub law_of_calls : LawOfCalls
 law_of_calls first steps new made =
     let given : (c : ClientId) (o : Object) (right : Right) → in_force (last_ledger first steps) c o right ≡ fold (in_force_after c o right) false (calls_of steps) = λ c o right.
-        given-by steps first made c o right ∙ ap (λ b. fold (in_force_after c o right) b (calls_of steps)) (new.none_in_force c o right) in
+    given-by steps first made c o right ∙ ap (λ b. fold (in_force_after c o right) b (calls_of steps)) (new.none_in_force c o right) in
     record {
       given = given;
       listed = λ c. λ i. listing_by (λ o right. given c o right i) (all_objects (rules-by steps first made i));

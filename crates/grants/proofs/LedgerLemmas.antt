@@ -1,5 +1,5 @@
 -- What the calls of grants leave, by the table and the list of holds.
-use Rattle.std.proofs.Common.{◌≡◌, ℕ, ◌+◌, ◌≤◌, Bool, true, false, List, ◌++◌, ◌&&◌, ◌||◌, map, filter, not, Option, Some, None, refl, sym, ap, subst, ◌∙◌}
+use Rattle.std.proofs.Common.{◌≡◌, ℕ, ◌≤◌, Bool, true, false, List, ◌++◌, ◌&&◌, map, filter, not, Option, Some, None, refl, sym, ap, subst, ◌∙◌}
 use Rattle.std.specs.Option.{is_some}
 use Rattle.std.specs.Prelude.{nat_lt}
 use Rattle.std.specs.List.{list_any}
@@ -15,7 +15,7 @@ use Rattle.grants.specs.Rules.{knows_client, knows}
 use Rattle.grants.specs.Holders.{same_packet, IsFirstTo}
 use Rattle.grants.specs.Holds.{is_of, held, hold_of, holds_one}
 use Rattle.grants.specs.Cells.{Table, SameRights, IsCounted, cell_of, count_of}
-use Rattle.grants.specs.Ledger.{Ledger, Holds, Releases, rules_in, holds, is_holder}
+use Rattle.grants.specs.Ledger.{Ledger, Holds, Releases, rules_in, is_holder}
 use Rattle.grants.proofs.PairLemmas.{both}
 use Rattle.grants.proofs.HoldLemmas.{held-pushed, held-dropped, holder, first_same}
 use Rattle.grants.proofs.CountLemmas.{unheld}

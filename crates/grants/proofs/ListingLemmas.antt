@@ -1,21 +1,16 @@
 -- A listing is the rows of its kinds, object by object.
-use Rattle.std.proofs.Common.{◌≡◌, ℕ, ◌+◌, Bool, true, false, not, ◌==◌, List, [], ◌∷◌, ◌++◌, map, filter, refl, sym, ap, ◌∙◌, arith, append_assoc, append-nil, true≢false}
+use Rattle.std.proofs.Common.{◌≡◌, ℕ, ◌+◌, Bool, List, [], ◌∷◌, ◌++◌, map, filter, sym, ap, ◌∙◌, arith, append_assoc, append-nil}
 use Rattle.std.specs.List.{list_any, range_with_len}
 use Rattle.std.proofs.lemmas.List.{map-append}
 use Rattle.std.proofs.lemmas.List.Elements.{filter-append}
 use Rattle.std.proofs.lemmas.List.FromFn.{map-range_with_len_more}
-use Rattle.std.proofs.lemmas.Bool.Decides.{Decides-eqb}
-use Rattle.aql_packet.specs.declared.ids.ClientId.{ClientId}
 use Rattle.policy.specs.declared.object.Kind.{Kind}
 use Rattle.policy.specs.declared.object.Object.{Object}
 use Rattle.policy.specs.declared.rights.Right.{Right}
-use Rattle.policy.specs.declared.rights.Right.TheVariants.{Use, Read, Write, Wait, Change, Launch}
 use Rattle.policy.specs.declared.rights.Rights.{Rights}
 use Rattle.policy.specs.Object.{object_of}
-use Rattle.policy.specs.Rights.{has, all_rights, rights_that}
-use Rattle.policy.proofs.RightsLemmas.{has-none, has-rights_that}
+use Rattle.policy.specs.Rights.{all_rights, rights_that}
 use Rattle.grants.specs.Ledger.{listing_by}
-use Rattle.grants.proofs.CellLemmas.{by_right}
 
 module _ (has_right : Object → Right → Bool) where
   listed-append : (xs ys : List Object) → listing_by has_right (xs ++ ys) ≡ listing_by has_right xs ++ listing_by has_right ys

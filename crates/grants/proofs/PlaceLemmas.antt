@@ -8,10 +8,9 @@ use Rattle.std.proofs.lemmas.Bool.{ltb-true, leb-true}
 use Rattle.aql_packet.specs.declared.ids.ClientId.{ClientId}
 use Rattle.policy.specs.declared.object.Object.{Object}
 use Rattle.policy.specs.declared.object.Object.TheVariants.{Agent, Region, Signal, Kernel}
-use Rattle.policy.specs.Object.{kind_of, number_of}
 use Rattle.grants.specs.declared.cell.Cell.{Cell}
 use Rattle.grants.specs.Pairs.{same_pair}
-use Rattle.grants.specs.Rules.{Rules, count, knows_client, knows}
+use Rattle.grants.specs.Rules.{Rules, knows_client, knows}
 use Rattle.grants.specs.Cells.{object_count, object_place, place_of, item_at, replacement}
 use Rattle.grants.proofs.PairLemmas.{both, same_pair_is, same_pair_itself}
 

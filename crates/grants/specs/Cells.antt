@@ -1,5 +1,5 @@
 -- The table: a cell for each client and object, with the rights in force and, for each right, how many holds there are of it.
-use Rattle.std.specs.Prelude.{◌≡◌, ℕ, ◌+◌, ◌-◌, ◌*◌, ◌≤◌, Bool, false, ◌&&◌, List, Option, Some, None, if◌then◌else◌}
+use Rattle.std.specs.Prelude.{◌≡◌, ℕ, ◌+◌, ◌-◌, ◌*◌, Bool, false, ◌&&◌, List, Option, Some, None, if◌then◌else◌}
 use Rattle.std.specs.List.{slice_get}
 use Rattle.aql_packet.specs.declared.ids.ClientId.{ClientId}
 use Rattle.policy.specs.declared.object.Kind.{Kind}

@@ -57,12 +57,7 @@ impl Grants {
 
     /// Gives a client rights on an object. It is refused as `may_grant` says. A right in force stays
     /// so. It takes no memory.
-    pub fn grant(
-        &mut self,
-        client: ClientId,
-        object: Object,
-        rights: Rights,
-    ) -> Result<(), Refusal>
+    pub fn grant(&mut self, client: ClientId, object: Object, rights: Rights) -> Result<(), Refusal>
         ensures answer { result ≡ grant_due self.old client object rights }
         ensures ok { OnOk result (Gives self.old self.new client object rights) }
         ensures err { OnErr result (self.new ≡ self.old) }
@@ -237,7 +232,14 @@ impl Grants {
         ensures holds { Holds self.old self.new client queue packet rights.now }
         ensures room { self.new.room + length rights.now ≡ self.old.room }
     {
-        put_holds(&mut self.table, &mut self.holds, client, queue, packet, rights);
+        put_holds(
+            &mut self.table,
+            &mut self.holds,
+            client,
+            queue,
+            packet,
+            rights,
+        );
     }
 
     /// Has a packet hold nothing any more; a packet that holds nothing changes nothing. It takes no

@@ -1,10 +1,10 @@
 -- One hold more stands behind the others and is counted.
-use Rattle.std.proofs.Common.{◌≡◌, ◌∙◌, ◌+◌, ◌<◌, ◌≤◌, arith, ap, sym, subst, length, get_or}
+use Rattle.std.proofs.Common.{◌∙◌, ◌+◌, arith, ap, sym, subst, get_or}
 use Rattle.policy.specs.declared.object.Object.{Object}
 use Rattle.policy.specs.declared.object.Object.TheVariants.{Agent}
 use Rattle.policy.specs.declared.rights.Rights.{Rights}
 use Rattle.policy.specs.Rights.{each_right}
-use Rattle.grants.specs.Cells.{IsCounted, in_table, hold_count}
+use Rattle.grants.specs.Cells.{IsCounted, in_table}
 use Rattle.grants.specs.Holds.{hold_of}
 use Rattle.grants.proofs.CellLemmas.{all_at, each_right-same, SameRights-then}
 use Rattle.grants.proofs.CountLemmas.{counted-le, counted_more, put-more}

@@ -1,5 +1,5 @@
 -- There is a cell just for a declared client and object.
-use Rattle.std.proofs.Common.{◌≡◌, ◌∙◌, ap, sym, ◌&&◌}
+use Rattle.std.proofs.Common.{◌∙◌, ap, sym, ◌&&◌}
 use Rattle.std.specs.Option.{is_some}
 use Rattle.grants.specs.Rules.{knows_client, knows}
 use Rattle.grants.specs.Cells.{item_at}

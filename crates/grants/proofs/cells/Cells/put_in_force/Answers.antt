@@ -1,5 +1,5 @@
 -- The rights come into force in the cell of the client and the object, and nowhere else.
-use Rattle.std.proofs.Common.{◌≡◌, ◌∙◌, ◌&&◌, ◌||◌, sym, refl, Some}
+use Rattle.std.proofs.Common.{◌≡◌, ◌∙◌, ◌&&◌, ◌||◌, sym, Some}
 use Rattle.policy.specs.Rights.{has}
 use Rattle.grants.specs.Cells.{has_right}
 use Rattle.grants.proofs.HoldLemmas.{or-false}

@@ -1,8 +1,8 @@
 -- One hold less of each of its rights is counted in the cell of its client and object, and nowhere else.
-use Rattle.std.proofs.Common.{◌≡◌, ℕ, ◌∙◌, ◌+◌, ◌≤◌, ◌&&◌, Bool, true, false, sym, refl, ap, subst, Some, None, arith}
+use Rattle.std.proofs.Common.{◌≡◌, ◌∙◌, ◌+◌, ◌≤◌, ◌&&◌, sym, subst, Some, None, arith}
 use Rattle.std.specs.Prelude.{if◌then◌else◌}
 use Rattle.policy.specs.Rights.{has}
-use Rattle.grants.specs.Cells.{has_right, count_in, cell_of, one_for_right}
+use Rattle.grants.specs.Cells.{count_in, cell_of, one_for_right}
 use Rattle.grants.proofs.CellLemmas.{at_each, at_each_same}
 use Rattle.grants.proofs.cells.Cells.uncount_hold.Goals as goal
 

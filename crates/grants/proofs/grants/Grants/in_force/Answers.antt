@@ -1,6 +1,6 @@
 -- The set has the rights that are in force, and no other.
 use Rattle.std.proofs.Common.{◌≡◌, ◌∙◌, ap, rules}
-use Rattle.policy.specs.Rights.{has, rights_that}
+use Rattle.policy.specs.Rights.{has}
 use Rattle.policy.proofs.RightsLemmas.{has-rights_that}
 use Rattle.grants.specs.Ledger.{in_force, rights_on}
 use Rattle.grants.proofs.grants.Grants.in_force.Goals as goal

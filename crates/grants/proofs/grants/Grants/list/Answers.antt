@@ -1,5 +1,5 @@
 -- The rows of the four kinds are the listing.
-use Rattle.std.proofs.Common.{◌≡◌, ◌∙◌, ◌++◌, ap}
+use Rattle.std.proofs.Common.{◌∙◌, ◌++◌, ap}
 use Rattle.policy.specs.declared.object.Kind.TheVariants as kind
 use Rattle.grants.specs.Rules.{objects_of}
 use Rattle.grants.specs.Ledger.{in_force, listing_by, rules_in}

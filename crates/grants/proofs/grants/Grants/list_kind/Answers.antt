@@ -1,5 +1,5 @@
 -- Each object puts its row behind those of the objects before.
-use Rattle.std.proofs.Common.{◌≡◌, ◌∙◌, ◌++◌, ap, map, arith, ℕ}
+use Rattle.std.proofs.Common.{◌≡◌, ◌∙◌, ◌++◌, ap, map, arith}
 use Rattle.std.specs.List.{range_with_len}
 use Rattle.policy.specs.Object.{object_of}
 use Rattle.grants.specs.Rules.{count}

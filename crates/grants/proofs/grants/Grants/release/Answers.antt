@@ -1,5 +1,5 @@
 -- The packet's holds are gone, and the others stand.
-use Rattle.std.proofs.Common.{arith, ◌≤◌, ◌-◌, vec_len, vec_capacity}
+use Rattle.std.proofs.Common.{arith, ◌-◌, vec_len, vec_capacity}
 use Rattle.grants.proofs.LedgerLemmas.{released}
 use Rattle.grants.proofs.grants.Grants.release.Goals as goal
 
