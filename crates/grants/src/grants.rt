@@ -9,6 +9,7 @@ use crate::cells::Cells;
 use crate::counting::{put_holds, uncount_packet};
 use crate::hold::{Hold, drop_holds, first_holder};
 use crate::refusal::Refusal;
+use crate::sets::known;
 use aql_packet::{ClientId, PacketId, QueueId};
 use bitflags::Flags;
 use policy::{Kind, Object, Policy, Right, Rights};
@@ -151,14 +152,10 @@ impl Grants {
         ensures set { result ≡ rights_on self.now client object }
         ensures each { (right : Right) → has result right ≡ in_force self.now client object right }
     {
-        Rights::from_each(
-            self.is_in_force(client, object, Right::Use),
-            self.is_in_force(client, object, Right::Read),
-            self.is_in_force(client, object, Right::Write),
-            self.is_in_force(client, object, Right::Wait),
-            self.is_in_force(client, object, Right::Change),
-            self.is_in_force(client, object, Right::Launch),
-        )
+        match self.table.get(client, object) {
+            Some(cell) => known(cell.rights),
+            None => Rights::NONE,
+        }
     }
 
     /// Whether a client's right on an object is in force.
@@ -211,10 +208,10 @@ impl Grants {
     /// hold them. Room is never lost.
     pub fn reserve(&mut self, further: usize) -> Result<(), AllocError>
         ensures ok { OnOk result (further ≤ self.new.room) }
-        ensures err { OnErr result (self.old.room < further) }
+        ensures err { OnErr result (self.new ≡ self.old) }
+        ensures full { OnErr result (self.old.room < further) }
         ensures same { self.new ≡ record self.old { room = self.new.room } }
         ensures room { self.old.room ≤ self.new.room }
-        ensures unchanged { OnErr result (self.new ≡ self.old) }
     {
         self.holds.reserve(further)
     }

@@ -2,10 +2,10 @@
 
 ghost use Rattle.std.specs.Prelude.{◌≡◌, ◌&&◌, ◌||◌, not};
 ghost use Rattle.policy.specs.declared.rights.Right.{Right};
-ghost use Rattle.policy.specs.Rights.{has};
+ghost use Rattle.policy.specs.Rights.{has, rights_that};
 
 use bitflags::Flags;
-use policy::Rights;
+use policy::{Right, Rights};
 
 /// The rights of two sets.
 pub fn union(rights: Rights, more: Rights) -> Rights
@@ -19,4 +19,18 @@ pub fn difference(rights: Rights, taken: Rights) -> Rights
     ensures { (right : Right) → has result right ≡ (has rights right && not (has taken right)) }
 {
     rights.difference(taken)
+}
+
+/// The rights of a set, without bits that mean nothing.
+pub fn known(rights: Rights) -> Rights
+    ensures { result ≡ rights_that (has rights) }
+{
+    Rights::from_each(
+        rights.has(Right::Use),
+        rights.has(Right::Read),
+        rights.has(Right::Write),
+        rights.has(Right::Wait),
+        rights.has(Right::Change),
+        rights.has(Right::Launch),
+    )
 }
