@@ -1,4 +1,4 @@
--- What rows of rights give once rights are put to a row, or taken from each.
+-- What rows of rights give one_for_right rights are put to a row, or taken from each.
 use Rattle.std.proofs.Common.{◌≡◌, ℕ, zero, suc, ◌+◌, ◌<◌, ◌≤◌, Bool, true, false, not, ◌&&◌, ◌||◌, List, [], ◌∷◌, ◌++◌, length, get_or, take, drop, refl, sym, ap, ◌∙◌, arith, Some, None, true≢false}
 use Rattle.std.specs.Prelude.{slice_set, nat_lt, position}
 use Rattle.std.specs.List.{list_any, position_or_len}
@@ -11,7 +11,8 @@ use Rattle.policy.specs.declared.rights.Right.{Right}
 use Rattle.policy.specs.declared.rights.Rights.{Rights}
 use Rattle.policy.specs.Rights.{has}
 use Rattle.grants.specs.declared.table.RightsRow.{RightsRow}
-use Rattle.grants.specs.Table.{same_pair, is_one_of, gives, has_granted, is_row_of, IsWith, IsWithout}
+use Rattle.grants.specs.Pairs.{same_pair, is_one_of}
+use Rattle.grants.specs.Table.{gives, has_granted, is_row_of, IsWith, IsWithout}
 use Rattle.grants.proofs.PairLemmas.{same_pair_is}
 
 -- ---- one row

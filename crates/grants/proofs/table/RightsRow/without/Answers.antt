@@ -12,4 +12,4 @@ returns-then-not-is_for c =
 pub returns : goal.returns
 returns c =
     let test : is_row_of c.args.client c.args.object c.args.self ≡ true = sym c.is_for.ensures ∙ c.if-not-is_for.false in
-    IsWithout-these c.args.client c.args.object c.args.rights c.args.self c.left.result test c.left.ensures
+    IsWithout-these c.args.client c.args.object c.args.rights c.args.self c.difference.result test c.difference.ensures

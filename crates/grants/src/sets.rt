@@ -1,0 +1,36 @@
+//! Sets of rights that two sets make.
+
+ghost use Rattle.std.specs.Prelude.{◌≡◌, ◌&&◌, ◌||◌, not};
+ghost use Rattle.policy.specs.declared.rights.Right.{Right};
+ghost use Rattle.policy.specs.Rights.{has, rights_that};
+
+use bitflags::Flags;
+use policy::{Right, Rights};
+
+/// The rights of two sets.
+pub fn union(rights: Rights, more: Rights) -> Rights
+    ensures { (right : Right) → has result right ≡ (has rights right || has more right) }
+{
+    rights.union(more)
+}
+
+/// What is left of a set of rights without those of another.
+pub fn difference(rights: Rights, taken: Rights) -> Rights
+    ensures { (right : Right) → has result right ≡ (has rights right && not (has taken right)) }
+{
+    rights.difference(taken)
+}
+
+/// The rights of a set, without bits that mean nothing.
+pub fn known(rights: Rights) -> Rights
+    ensures { result ≡ rights_that (has rights) }
+{
+    Rights::from_each(
+        rights.has(Right::Use),
+        rights.has(Right::Read),
+        rights.has(Right::Write),
+        rights.has(Right::Wait),
+        rights.has(Right::Change),
+        rights.has(Right::Launch),
+    )
+}
