@@ -2,4 +2,6 @@ pub mod PairLemmas
 pub mod HoldLemmas
 pub mod SetLemmas
 pub mod TableLemmas
-pub mod LedgerLemmas
+pub mod PlaceLemmas
+pub mod CellLemmas
+pub mod CountLemmas
