@@ -10,11 +10,10 @@ pub mod Kept
 pub mod Opening
 pub mod Lookups
 pub mod ToldQueries
-pub mod Listed
 pub mod ToldWork
 pub mod ToldHost
 pub mod Polling
 pub mod Stopping
 pub mod OwingHost
 pub mod Held
-pub mod OwingRevoke
+pub mod Granting

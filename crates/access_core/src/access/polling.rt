@@ -81,6 +81,7 @@ impl AccessCore {
         };
         add_error(&mut self.queues, error);
         release(&mut self.flight, flying.queue, flying.id);
+        self.grants.release(flying.queue, flying.id);
         let told = Polled::Failed(error);
         let event = Event::Poll { queue, packet };
         let effects = Effects::one(Effect::Release {

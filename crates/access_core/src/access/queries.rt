@@ -8,7 +8,7 @@ use crate::access::AccessCore;
 use crate::access::lookups::region_at;
 use aql_packet::{Address, ClientId, QueueId, SignalHandle};
 use core_model::{Entry, MOST_HOST_BYTES, Query, Refusal};
-use policy::{Kind, Object, Policy, Right, Rights};
+use policy::{Object, Policy, Right, Rights};
 use queue_error::QueueError;
 use sequences::Sequence;
 use signals::Condition;
@@ -105,12 +105,7 @@ impl AccessCore {
         if !self.policy().declares_client(client) {
             return Err(Refusal::UnknownClient);
         }
-        let mut rows = Sequence::new(alloc);
-        self.list_kind(client, Kind::Agent, &mut rows)?;
-        self.list_kind(client, Kind::Region, &mut rows)?;
-        self.list_kind(client, Kind::Signal, &mut rows)?;
-        self.list_kind(client, Kind::Kernel, &mut rows)?;
-        Ok(rows)
+        Ok(self.grants.list(alloc, client)?)
     }
 
     /// The errors of a queue, in order. Refused where no queue has the number.

@@ -13,10 +13,10 @@ ghost use Rattle.access_core.specs.Told.{taken};
 use crate::access::lookups::queue_of;
 use crate::access::{AccessCore, enter, lacks_room};
 use crate::queue::Queue;
-use aql_packet::{Packet, PacketId, QueueId, RawHeader, header_of};
+use aql_packet::{AgentHandle, ClientId, Packet, PacketId, QueueId, RawHeader, header_of};
 use core_model::{Cause, Effects, Event, InFlight, Outcome, Refusal, Seen, Taken};
-use grants::RightsTable;
-use packet_processor::{Facts, MayLaunch, QueueState, TAKES_NOTHING, Verdict, verdict};
+use grants::Grants;
+use packet_processor::{Facts, MayLaunch, QueueState, TAKES_NOTHING, Verdict, held, verdict};
 use policy::Policy;
 use queue_error::{QueueError, Rule};
 use regions::Regions;
@@ -34,24 +34,32 @@ fn header(bytes: &[u8; 64]) -> RawHeader
 enum Decision {
     Wait(Cause),
     Deny(Rule),
-    Launch(Packet),
+    Launch(Launching),
+}
+
+// A packet that is launched, and whose queue it is.
+#[derive(Drop)]
+struct Launching {
+    client: ClientId,
+    agent: AgentHandle,
+    packet: Packet,
 }
 
 // Judges a packet of a queue.
 fn judged(
     policy: &Policy,
-    granted: &RightsTable,
+    grants: &Grants,
     regions: &Regions,
     kept: &Queue,
     bytes: &[u8; 64],
 ) -> Verdict
-    ensures { Judges (facts_lent policy.now granted.now regions.now kept.now.client kept.now.agent) bytes.now result }
+    ensures { Judges (facts_lent policy.now grants.now regions.now kept.now.client kept.now.agent) bytes.now result }
 {
     let facts = Facts {
         client: kept.client,
         agent: kept.agent,
         takes: policy.takes(kept.agent).unwrap_or(TAKES_NOTHING),
-        granted,
+        grants,
         regions,
     };
     verdict(bytes, &facts)
@@ -110,8 +118,12 @@ impl AccessCore {
         match state.may_launch(&header(bytes)) {
             MayLaunch::Waiting(cause) => Ok(Decision::Wait(cause)),
             MayLaunch::Go => {
-                match judged(&self.policy, &self.granted, &self.memory, kept, bytes) {
-                    Verdict::Launch(packet) => Ok(Decision::Launch(packet)),
+                match judged(&self.policy, &self.grants, &self.memory, kept, bytes) {
+                    Verdict::Launch(packet) => Ok(Decision::Launch(Launching {
+                        client: kept.client,
+                        agent: kept.agent,
+                        packet,
+                    })),
                     Verdict::Deny(rule) => Ok(Decision::Deny(rule)),
                 }
             }
@@ -132,7 +144,7 @@ impl AccessCore {
         match self.may_take(queue, packet, bytes)? {
             Decision::Wait(cause) => Ok(Taken::Waiting(cause)),
             Decision::Deny(rule) => self.deny(queue, packet, bytes, rule),
-            Decision::Launch(laid_out) => self.launch(queue, packet, bytes, laid_out),
+            Decision::Launch(launching) => self.launch(alloc, queue, packet, bytes, launching),
         }
     }
 
@@ -172,27 +184,33 @@ impl AccessCore {
         Ok(became)
     }
 
-    // Launches the next packet of a queue.
+    // Launches the next packet of a queue: it holds its rights from then on.
     fn launch(
         &mut self,
+        alloc: Global,
         queue: QueueId,
         packet: PacketId,
         bytes: &[u8; 64],
-        laid_out: Packet,
+        launching: Launching,
     ) -> Result<Taken, Refusal>
-        requires { Decides self.old queue packet bytes.now (Decision.Launch laid_out) }
+        requires { Decides self.old queue packet bytes.now (Decision.Launch launching) }
         ensures { MeetsOrLacks (Event.Take queue packet bytes.now) self.old self.new (taken result) }
     {
         if lacks_room(self.capacity, self.audit.len(), self.flight.len() + 1) {
             return Err(Refusal::AuditFull);
         }
+        let rights = held(alloc, launching.agent, &launching.packet)?;
+        self.grants.reserve(rights.len())?;
         self.flight.push(InFlight {
             queue,
             id: packet,
-            packet: laid_out,
+            packet: launching.packet,
             groups_run: 0,
             seen: Seen([false; 5]),
         })?;
+        let client = launching.client;
+        self.grants
+            .hold_reserved(client, queue, packet, rights.as_slice());
         advance(&mut self.queues, queue);
         let event = Event::Take {
             queue,

@@ -26,6 +26,7 @@ impl AccessCore {
         let flying = self.may_finish(queue, packet)?;
         let effects = complete(&mut self.signals, flying);
         release(&mut self.flight, flying.queue, flying.id);
+        self.grants.release(flying.queue, flying.id);
         let event = Event::Finish { queue, packet };
         enter(&mut self.audit, event, Outcome::Accepted, effects);
         Ok(())
