@@ -5,3 +5,6 @@ pub mod TableLemmas
 pub mod PlaceLemmas
 pub mod CellLemmas
 pub mod CountLemmas
+pub mod ListingLemmas
+pub mod LedgerLemmas
+pub mod LawLemmas

@@ -1,6 +1,8 @@
 //! Grants and holds.
 
 ghost use Rattle.std.specs.Prelude.{◌≡◌, ◌+◌, ◌<◌, ◌≤◌, ◌++◌, ◌∷◌, [], true, IfOk, OnOk, OnErr, Ok, length};
+ghost use Rattle.policy.specs.declared.rights.Right.{Right};
+ghost use Rattle.policy.specs.Rights.{has, each_right};
 ghost use Rattle.grants.specs.Rules.{rules_of, objects_of};
 
 use crate::cells::Cells;
@@ -151,7 +153,8 @@ impl Grants {
 
     /// The rights of a client on an object.
     pub fn in_force(&self, client: ClientId, object: Object) -> Rights
-        ensures { result ≡ rights_on self.now client object }
+        ensures set { result ≡ rights_on self.now client object }
+        ensures each { (right : Right) → has result right ≡ in_force self.now client object right }
     {
         Rights::from_each(
             self.is_in_force(client, object, Right::Use),
@@ -179,7 +182,14 @@ impl Grants {
     {
         rights
             .iter()
-            .all(|named| self.in_force(client, named.0).includes(named.1))
+            .all(|named| self.has_all(client, named.0, named.1))
+    }
+
+    // Whether each of some rights on an object is in force for a client.
+    fn has_all(&self, client: ClientId, object: Object, rights: Rights) -> bool
+        ensures { result ≡ each_right rights (in_force self.now client object) }
+    {
+        self.in_force(client, object).includes(rights)
     }
 
     /// Has a packet of a queue of a client hold rights on objects, each of which is in force for the
