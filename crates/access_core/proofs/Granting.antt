@@ -27,19 +27,24 @@ use Rattle.access_core.proofs.HeldMore.{AreHeld-legal}
 use Rattle.access_core.proofs.HeldRights.{is_holder-history}
 use Rattle.access_core.proofs.Least.{passes, least-none, least-first}
 
+-- what is due to a grant, by whether the client and the object are declared, and the rights allowed
+abbrev due_of : Bool → Bool → Bool → Result (Unit {0}) Why
+due_of client object rights =
+    if not client then Err why.UnknownClient else if not object then Err why.UnknownObject else if not rights then Err why.NotAllowed else Ok tt
+
 module _ (a : Inside) (kept : IsKept a) (client : ClientId) (on : Object) (rights : Rights) where
   rules_is : rules_in a.grants ≡ rules_of a.policy
   rules_is = kept.rules
 
+  due-is : grant_due a.grants client on rights ≡ due_of (declares_client a.policy client) (declares a.policy on) (allows a.policy client on rights)
+  due-is = ap (λ (rules : Rules). due_of (knows_client rules client) (knows rules on) (rules_kept.allows rules client on rights)) rules_is
+
   -- what grants say is due is what is owed
   pub grant-refused : (r : Why) → Err r ≡ grant_due a.grants client on rights → owed (start_of a) a.audit.items (Grant client on rights) ≡ refuses (refusal_of r)
   unfolding owed
-  grant-refused r due =
-      by_tests (declares_client a.policy client) (declares a.policy on) (allows a.policy client on rights)
-      (due ∙ ap (λ (rules : Rules). if not (knows_client rules client) then Err why.UnknownClient else if not (knows rules on) then Err why.UnknownObject
-          else if not (rules_kept.allows rules client on rights) then Err why.NotAllowed else Ok tt) rules_is)
+  grant-refused r due = by_tests (declares_client a.policy client) (declares a.policy on) (allows a.policy client on rights) (due ∙ due-is)
     where
-      by_tests : (c o s : Bool) → Err r ≡ (if not c then Err why.UnknownClient else if not o then Err why.UnknownObject else if not s then Err why.NotAllowed else Ok tt)
+      by_tests : (c o s : Bool) → Err r ≡ due_of c o s
           → refuse_unless c refusal.UnknownClient (refuse_unless o refusal.UnknownObject (refuse_unless s refusal.NotAllowed (enters outcome.Accepted []))) ≡ refuses (refusal_of r)
       by_tests false o s e = let is : r ≡ why.UnknownClient = cc in rw is refl
       by_tests true false s e = let is : r ≡ why.UnknownObject = cc in rw is refl
@@ -48,14 +53,8 @@ module _ (a : Inside) (kept : IsKept a) (client : ClientId) (on : Object) (right
 
   pub grant-owed : Ok tt ≡ grant_due a.grants client on rights → owed (start_of a) a.audit.items (Grant client on rights) ≡ enters outcome.Accepted []
   unfolding owed
-  grant-owed due =
-      by_tests (declares_client a.policy client) (declares a.policy on) (allows a.policy client on rights)
-      (due ∙ ap (λ (rules : Rules). if not (knows_client rules client) then Err why.UnknownClient else if not (knows rules on) then Err why.UnknownObject
-          else if not (rules_kept.allows rules client on rights) then Err why.NotAllowed else Ok tt) rules_is)
+  grant-owed due = by_tests (declares_client a.policy client) (declares a.policy on) (allows a.policy client on rights) (due ∙ due-is)
     where
-      due_of : Bool → Bool → Bool → Result (Unit {0}) Why
-      due_of c o s = if not c then Err why.UnknownClient else if not o then Err why.UnknownObject else if not s then Err why.NotAllowed else Ok tt
-
       by_tests : (c o s : Bool) → Ok tt ≡ due_of c o s
           → refuse_unless c refusal.UnknownClient (refuse_unless o refusal.UnknownObject (refuse_unless s refusal.NotAllowed (enters outcome.Accepted []))) ≡ enters outcome.Accepted []
       by_tests false o s e = absurd cc
@@ -64,7 +63,7 @@ module _ (a : Inside) (kept : IsKept a) (client : ClientId) (on : Object) (right
       by_tests true true true e = refl
 
   -- whether a packet in flight holds, by the history
-  holding : InFlight → Bool
+  abbrev holding : InFlight → Bool
   holding f = is_owned (start_of a) a.audit.items client f.queue && holds_one_of (start_of a) a.audit.items on rights f
 
   same_test : (queue : QueueId) (id : PacketId) → is_holder a.grants client on rights queue id ≡ passes holding a.flight queue id

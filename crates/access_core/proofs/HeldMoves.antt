@@ -23,7 +23,7 @@ use Rattle.core_model.specs.declared.entry.Effect.{Effect}
 use Rattle.core_model.specs.declared.entry.Entry.{Entry}
 use Rattle.core_model.specs.History.{Start}
 use Rattle.core_model.specs.Grants.{in_force}
-use Rattle.std.specs.Option.{IfSome, IfNone}
+use Rattle.std.specs.Prelude.{IfSome, IfNone}
 use Rattle.core_model.specs.declared.event.Event.TheVariants.{Stop}
 use Rattle.core_model.specs.declared.entry.Effect.TheVariants as effect
 use Rattle.core_model.specs.Flight.{flight_after_effect}
@@ -41,7 +41,7 @@ use Rattle.core_model.proofs.More.{openings-more, with_some}
 use Rattle.access_core.specs.declared.access.AccessCore.TheInside.{Inside}
 use Rattle.access_core.specs.Kept.{IsKept, start_of}
 use Rattle.access_core.specs.Held.{IsHeld, holds_by, packet_holds}
-use Rattle.access_core.proofs.HeldMore.{IsHeld-more}
+use Rattle.access_core.proofs.HeldMore.{owner-more}
 use Rattle.packet_processor.specs.Holding.{as_rights}
 use Rattle.access_core.proofs.HeldRights.{any-before, or-false}
 
@@ -64,7 +64,7 @@ any-map p g [] same = refl
 any-map p g (x ∷ xs) same = ap (λ b. b || list_any p (map g xs)) (same x) ∙ ap (λ b. p x || b) (any-map p g xs same)
 
 module _ (owners : QueueId → Option Opening) (fs : List InFlight) (queue : QueueId) (id : PacketId) (client : ClientId) (on : Object) (right : Right) where
-  test : InFlight → Bool
+  abbrev test : InFlight → Bool
   test f = is_packet queue id f && holds_by (owners f.queue) client on right f.packet
 
   pub held-ran : (q : QueueId) (i : PacketId) → packet_holds owners (map (group_ran q i) fs) queue id client on right ≡ packet_holds owners fs queue id client on right
@@ -173,8 +173,7 @@ pub held-opened : (start : Start) (es : List Entry) (e : Entry) (queue : QueueId
 held-opened start es e queue id client on right [] all = refl
 held-opened start es e queue id client on right (f ∷ fs) all =
     let before = All-head (IsHeld start es) f fs all in
-    let after = IsHeld-more start es e f before in
-    let same : owner start es f.queue ≡ owner start (es ++ e ∷ []) f.queue = before.owner_is ∙ sym after.owner_is in
+    let same : owner start es f.queue ≡ owner start (es ++ e ∷ []) f.queue = before.owner_is ∙ sym (owner-more start es e f.queue before.opening before.owner_is) in
     ap (λ (o : Option Opening). (is_packet queue id f && holds_by o client on right f.packet) || packet_holds (owner start es) fs queue id client on right) same
     ∙ ap (λ rest. (is_packet queue id f && holds_by (owner start (es ++ e ∷ []) f.queue) client on right f.packet) || rest) (held-opened start es e queue id client on right fs (All-tail (IsHeld start es) f fs all))
 

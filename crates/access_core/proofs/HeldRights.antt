@@ -27,11 +27,11 @@ use Rattle.access_core.specs.Held.{as_rights, holds_by, packet_holds, IsHeld}
 
 any-none : {X : Type 0} (a : X → Bool) (xs : List X) → list_any (λ x. a x && false) xs ≡ false
 any-none a [] = refl
-any-none a (x ∷ xs) = either (a x)
+any-none a (x ∷ xs) = either (a x) (any-none a xs)
   where
-    either : (b : Bool) → ((b && false) || list_any (λ y. a y && false) xs) ≡ false
-    either true = any-none a xs
-    either false = any-none a xs
+    either : (b : Bool) → list_any (λ y. a y && false) xs ≡ false → ((b && false) || list_any (λ y. a y && false) xs) ≡ false
+    either true none = none
+    either false none = none
 
 -- what doesn't look at the item stands before the test
 any-constant : {X : Type 0} (a d : X → Bool) (c : Bool) (xs : List X) → list_any (λ x. a x && (c && d x)) xs ≡ (c && list_any (λ x. a x && d x) xs)
@@ -39,9 +39,9 @@ any-constant a d true xs = refl
 any-constant a d false xs = any-none a xs
 
 pub any-before : {X : Type 0} (d : X → Bool) (c : Bool) (xs : List X) → list_any (λ x. c && d x) xs ≡ (c && list_any d xs)
-pub any-before d true xs = refl
-pub any-before d false [] = refl
-pub any-before d false (x ∷ xs) = any-before d false xs
+any-before d true xs = refl
+any-before d false [] = refl
+any-before d false (x ∷ xs) = any-before d false xs
 
 or-spread : (a b c : Bool) → (a && (b || c)) ≡ ((a && b) || (a && c))
 or-spread true b c = refl
@@ -67,26 +67,26 @@ any-swap a b (x ∷ xs) ys =
 
 -- ---- one right as a set
 
-and-true : (b : Bool) → (b && true) ≡ b
-and-true true = refl
-and-true false = refl
-
-and-false : (b : Bool) → (b && false) ≡ false
-and-false true = refl
-and-false false = refl
-
 pub or-false : (b : Bool) → (b || false) ≡ b
 or-false true = refl
 or-false false = refl
 
+passed : (b rest : Bool) → ((b && false) || rest) ≡ rest
+passed true rest = refl
+passed false rest = refl
+
+picked : (b rest : Bool) → rest ≡ false → ((b && true) || rest) ≡ b
+picked true rest none = refl
+picked false rest none = none
+
 -- a set and the set of one right meet where that right is in it
 pub one-right : (test : Right → Bool) (one : Right) → list_any (λ r. test r && has (as_rights one) r) all_rights ≡ test one
-one-right test right.Use = simp (and-true, and-false, or-false)
-one-right test right.Read = simp (and-true, and-false, or-false)
-one-right test right.Write = simp (and-true, and-false, or-false)
-one-right test right.Wait = simp (and-true, and-false, or-false)
-one-right test right.Change = simp (and-true, and-false, or-false)
-one-right test right.Launch = simp (and-true, and-false, or-false)
+one-right test right.Use = picked (test right.Use) _ (passed (test right.Read) _ ∙ passed (test right.Write) _ ∙ passed (test right.Wait) _ ∙ passed (test right.Change) _ ∙ passed (test right.Launch) _)
+one-right test right.Read = passed (test right.Use) _ ∙ picked (test right.Read) _ (passed (test right.Write) _ ∙ passed (test right.Wait) _ ∙ passed (test right.Change) _ ∙ passed (test right.Launch) _)
+one-right test right.Write = passed (test right.Use) _ ∙ passed (test right.Read) _ ∙ picked (test right.Write) _ (passed (test right.Wait) _ ∙ passed (test right.Change) _ ∙ passed (test right.Launch) _)
+one-right test right.Wait = passed (test right.Use) _ ∙ passed (test right.Read) _ ∙ passed (test right.Write) _ ∙ picked (test right.Wait) _ (passed (test right.Change) _ ∙ passed (test right.Launch) _)
+one-right test right.Change = passed (test right.Use) _ ∙ passed (test right.Read) _ ∙ passed (test right.Write) _ ∙ passed (test right.Wait) _ ∙ picked (test right.Change) _ (passed (test right.Launch) _)
+one-right test right.Launch = passed (test right.Use) _ ∙ passed (test right.Read) _ ∙ passed (test right.Write) _ ∙ passed (test right.Wait) _ ∙ passed (test right.Change) _ ∙ picked (test right.Launch) _ refl
 
 -- ---- what packets hold, of one of some rights
 

@@ -1,5 +1,5 @@
 -- The least of the packets that pass a test is the first to pass it by queue and id.
-use Rattle.std.proofs.Common.{◌≡◌, ◌<◌, ◌≤◌, ◌⊎◌, inl, inr, List, [], ◌∷◌, refl, sym, ◌∙◌, ap, subst, Bool, true, false, Option, Some, None, arith, grind}
+use Rattle.std.proofs.Common.{◌≡◌, ◌<◌, ◌≤◌, ◌⊎◌, inl, inr, List, [], ◌∷◌, refl, sym, ◌∙◌, ap, subst, Bool, true, false, Option, Some, None, arith}
 use Rattle.std.specs.Prelude.{All, ◌&&◌, ◌||◌, ◌==◌, nat_lt, nat_le, filter, find, if◌then◌else◌}
 use Rattle.std.specs.List.{list_all, list_any}
 use Rattle.std.proofs.lemmas.Bool.{and_parts, or_parts, eqb-true, eq-eqb, ltb-true, leb-true, lt-ltb, le-leb}
@@ -38,11 +38,11 @@ pub record IsFound {X : Type 0} (test : X → Bool) (xs : List X) : Type 0 where
 
 any-found : {X : Type 0} (test : X → Bool) (xs : List X) → list_any test xs ≡ true → IsFound test xs
 any-found test [] any = absurd cc
-any-found test (x ∷ xs) any = first (test x) refl any
+any-found test (x ∷ xs) any = first (test x) refl any (any-found test xs)
   where
-    first : (b : Bool) → test x ≡ b → (b || list_any test xs) ≡ true → IsFound test (x ∷ xs)
-    first true is any = record { one = x; is = rw is refl }
-    first false is any = let later = any-found test xs any in record { one = later.one; is = rw is later.is }
+    first : (b : Bool) → test x ≡ b → (b || list_any test xs) ≡ true → (list_any test xs ≡ true → IsFound test xs) → IsFound test (x ∷ xs)
+    first true is any more = record { one = x; is = rw is refl }
+    first false is any more = let later = more any in record { one = later.one; is = rw is later.is }
 
 -- one that is found by one test, and passes another, is one that passes
 found-any : {X : Type 0} (sought test : X → Bool) (xs : List X) (f : X) → find sought xs ≡ Some f → test f ≡ true → list_any test xs ≡ true
@@ -96,37 +96,31 @@ module _ (test : InFlight → Bool) where
   -- what holds of all that pass by queue and id holds of each of the list that passes
   all-passing : (P : QueueId → PacketId → Type 0) (fs : List InFlight) → ((queue : QueueId) (id : PacketId) → passes fs queue id ≡ true → P queue id) → All (λ f. P f.queue f.id) (filter test fs)
   all-passing P [] step = All-nil (λ f. P f.queue f.id)
-  all-passing P (f ∷ fs) step = either (test f) refl
+  all-passing P (f ∷ fs) step = either (test f) refl (all-passing P fs (λ queue id is. step queue id (later-passes f fs queue id is)))
     where
-      rest : All (λ g. P g.queue g.id) (filter test fs)
-      rest = all-passing P fs (λ queue id is. step queue id (later-passes f fs queue id is))
-
-      either : (b : Bool) → test f ≡ b → All (λ g. P g.queue g.id) (if b then f ∷ filter test fs else filter test fs)
-      either true is = All-cons (λ g. P g.queue g.id) f (filter test fs) (step f.queue f.id (itself-passes f fs is)) rest
-      either false is = rest
+      either : (b : Bool) → test f ≡ b → All (λ g. P g.queue g.id) (filter test fs) → All (λ g. P g.queue g.id) (if b then f ∷ filter test fs else filter test fs)
+      either true is rest = All-cons (λ g. P g.queue g.id) f (filter test fs) (step f.queue f.id (itself-passes f fs is)) rest
+      either false is rest = rest
 
   -- none passes
   none-passing : (fs : List InFlight) → ((queue : QueueId) (id : PacketId) → passes fs queue id ≡ false) → filter test fs ≡ []
   none-passing [] none = refl
-  none-passing (f ∷ fs) none = either (test f) refl
+  none-passing (f ∷ fs) none = either (test f) refl (none-passing fs (λ queue id. (or_parts (is_packet queue id f && test f) (passes fs queue id) (none queue id)).1))
     where
-      either : (b : Bool) → test f ≡ b → (if b then f ∷ filter test fs else filter test fs) ≡ []
-      either true is = absurd (true_false (sym (itself-passes f fs is) ∙ none f.queue f.id))
-        where
-          true_false : true ≡ false → ⊥
-          true_false e = cc
-      either false is = none-passing fs (λ queue id. (or_parts (is_packet queue id f && test f) (passes fs queue id) (none queue id)).1)
+      either : (b : Bool) → test f ≡ b → filter test fs ≡ [] → (if b then f ∷ filter test fs else filter test fs) ≡ []
+      either true is rest = let e : true ≡ false = sym (itself-passes f fs is) ∙ none f.queue f.id in absurd cc
+      either false is rest = rest
 
   -- one that passes by its queue and id is found among those that pass
   passing-found : (fs : List InFlight) (queue : QueueId) (id : PacketId) → passes fs queue id ≡ true → list_any (is_packet queue id) (filter test fs) ≡ true
   passing-found [] queue id is = absurd cc
-  passing-found (f ∷ fs) queue id is = either (test f) (is_packet queue id f) refl is
+  passing-found (f ∷ fs) queue id is = either (test f) (is_packet queue id f) refl is (passing-found fs queue id)
     where
-      either : (t p : Bool) → is_packet queue id f ≡ p → ((p && t) || passes fs queue id) ≡ true → list_any (is_packet queue id) (if t then f ∷ filter test fs else filter test fs) ≡ true
-      either true true same is = rw same refl
-      either true false same is = rw same (passing-found fs queue id is)
-      either false true same is = passing-found fs queue id is
-      either false false same is = passing-found fs queue id is
+      either : (t p : Bool) → is_packet queue id f ≡ p → ((p && t) || passes fs queue id) ≡ true → (passes fs queue id ≡ true → list_any (is_packet queue id) (filter test fs) ≡ true) → list_any (is_packet queue id) (if t then f ∷ filter test fs else filter test fs) ≡ true
+      either true true same is more = rw same refl
+      either true false same is more = rw same (more is)
+      either false true same is more = more is
+      either false false same is more = more is
 
 -- a packet's name
 abbrev pub name_of : InFlight → QueueId × PacketId

@@ -18,6 +18,7 @@ pub mod HeldMore
 pub mod HeldRights
 pub mod HeldMoves
 pub mod Granting
+pub mod Listing
 pub mod Least
 pub mod Opened
 pub mod Serving

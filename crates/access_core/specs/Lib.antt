@@ -1,5 +1,3 @@
-pub mod Told
-pub mod Owing
 pub mod Judged
 pub mod QueueShown
 pub mod Moves
@@ -9,9 +7,7 @@ pub mod Deciding
 pub mod Kept
 pub mod Opening
 pub mod Lookups
-pub mod ToldQueries
 pub mod ToldWork
-pub mod ToldHost
 pub mod Polling
 pub mod Stopping
 pub mod OwingHost

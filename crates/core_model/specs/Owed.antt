@@ -165,12 +165,7 @@ stop_releases flying = release_of (find (λ f. is_barrier f.packet) flying)
 abbrev pub old_if_asked : SignalOp → ℤ → ℤ
 old_if_asked (op.Exchange _) old = old
 old_if_asked (op.Cas _ _) old = old
-old_if_asked (op.Store _) old = pos 0
-old_if_asked (op.Add _) old = pos 0
-old_if_asked (op.Subtract _) old = pos 0
-old_if_asked (op.And _) old = pos 0
-old_if_asked (op.Or _) old = pos 0
-old_if_asked (op.Xor _) old = pos 0
+old_if_asked _ old = pos 0
 
 -- the refusal of a revocation by the packet that holds a right
 abbrev pub refuse_if_held : Option InFlight → Owed → Owed

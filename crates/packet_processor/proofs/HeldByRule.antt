@@ -20,7 +20,6 @@ pub all-options : {X : Type 0} (p : X → Bool) (os : List (Option X)) → list_
 all-options p [] = refl
 all-options p (o ∷ os) = list_all-append p (option_to_list o) (flat_map option_to_list os) ∙ ap (λ b. list_all p (option_to_list o) && b) (all-options p os)
 
-
 -- what some needs have a packet hold
 abbrev pub rights_of : List Need → List (Object × Rights)
 rights_of ns = map (λ need. as_rights (as_held need)) ns
@@ -30,11 +29,11 @@ rights_map [] rest = refl
 rights_map (n ∷ ns) rest = ap (λ xs. as_rights (as_held n) ∷ xs) (rights_map ns rest)
 
 -- what the four rules that ask for rights have a packet hold, put behind each other, is all that it holds
-pub held-by_rule : (opening : Opening) (p : Packet) (none a b c d : List (Object × Rights)) → none ≡ []
+pub held_by_rule : (opening : Opening) (p : Packet) (none a b c d : List (Object × Rights)) → none ≡ []
     → a ≡ none ++ rights_of (needs L4 opening.agent p) → b ≡ a ++ rights_of (needs L8 opening.agent p)
     → c ≡ b ++ rights_of (needs L9 opening.agent p) → d ≡ c ++ rights_of (needs L10 opening.agent p)
     → d ≡ map as_rights (held_at_launch opening p)
-held-by_rule opening p none a b c d empty first second third fourth =
+held_by_rule opening p none a b c d empty first second third fourth =
     let l8 : List Need = needs L8 opening.agent p in
     let l9 : List Need = needs L9 opening.agent p in
     let l10 : List Need = needs L10 opening.agent p in

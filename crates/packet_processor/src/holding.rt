@@ -19,7 +19,6 @@ use std::alloc::{AllocError, Global};
 type Held = (Object, Rights);
 
 /// What a packet holds from its launch on an agent on: all that it needs, rule by rule.
-#[tactic(auto, using(crate::proofs::HeldByRule::held-by_rule))]
 pub fn held(
     alloc: Global,
     agent: AgentHandle,

@@ -10,8 +10,6 @@ mod judging;
 mod need_table;
 mod packets;
 mod queue_state;
-#[cfg(test)]
-mod tests;
 
 pub use facts::{Facts, TAKES_NOTHING, Verdict};
 pub use holding::held;

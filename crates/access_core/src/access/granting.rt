@@ -1,8 +1,7 @@
 //! Grants and revocations.
 
 ghost use Rattle.std.specs.Prelude.{◌≡◌};
-ghost use Rattle.core_model.specs.Legal.{Meets, MeetsOrLacks};
-ghost use Rattle.access_core.specs.Told.{accepted};
+ghost use Rattle.core_model.specs.Legal.{Meets, MeetsOrLacks, accepted};
 ghost use Rattle.access_core.specs.Granting.{refusal_of};
 
 use crate::access::{AccessCore, enter, lacks_room};

@@ -4,9 +4,7 @@ ghost use Rattle.std.specs.Prelude.{◌≡◌, ◌-◌, ◌∷◌, [], OnOk, IfO
 ghost use Rattle.regions.specs.Memory.{is_within, lengths_of};
 ghost use Rattle.signals.specs.Values.{applied, value_of};
 ghost use Rattle.core_model.specs.Owed.{enters, old_if_asked, refuses};
-ghost use Rattle.core_model.specs.Legal.{Meets, MeetsOrLacks};
-ghost use Rattle.access_core.specs.Told.{accepted};
-ghost use Rattle.access_core.specs.ToldHost.{changed};
+ghost use Rattle.core_model.specs.Legal.{Meets, MeetsOrLacks, accepted, wrapped};
 ghost use Rattle.access_core.specs.OwingHost.{ChangeOwed, WriteOwed};
 
 use crate::access::lookups::region_at;
@@ -29,7 +27,7 @@ impl AccessCore {
         signal: SignalHandle,
         operation: SignalOp,
     ) -> Result<i64, Refusal>
-        ensures { Meets (Event.ChangeSignal client signal operation) self.old self.new (changed result) }
+        ensures { Meets (Event.ChangeSignal client signal operation) self.old self.new (wrapped Outcome.Changed result) }
     {
         let old = may_change(
             &self.policy,
@@ -115,7 +113,9 @@ fn may_write(
         return Err(Refusal::BadSize);
     }
     let region = Object::Region(region_at(address));
-    if !lies_within(memory, address, bytes.len()) || !grants.is_in_force(client, region, Right::Write) {
+    if !lies_within(memory, address, bytes.len())
+        || !grants.is_in_force(client, region, Right::Write)
+    {
         return Err(Refusal::Denied(Right::Write));
     }
     Ok(())

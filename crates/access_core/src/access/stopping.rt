@@ -1,13 +1,13 @@
 //! Queues are stopped.
 
-ghost use Rattle.std.specs.Prelude.{◌≡◌, ◌==◌, ◌&&◌, IfErr, IfOk, Err, find, fold};
+ghost use Rattle.std.specs.Prelude.{◌≡◌, ◌==◌, ◌&&◌, IfErr, IfNone, IfOk, IfSome, Err, find, fold};
+ghost use Rattle.grants.specs.Ledger.{Releases};
 ghost use Rattle.core_model.specs.Flight.{flight_after_effect};
 ghost use Rattle.core_model.specs.LaunchRules.{is_barrier};
 ghost use Rattle.core_model.specs.Owed.{refuses, release_of};
-ghost use Rattle.core_model.specs.Legal.{Meets};
+ghost use Rattle.core_model.specs.Legal.{Meets, accepted};
 ghost use Rattle.access_core.specs.Moves.{IsHalted, IsThere};
 ghost use Rattle.access_core.specs.Stopping.{MayStop};
-ghost use Rattle.access_core.specs.Told.{accepted};
 
 use crate::access::lookups::queue_of;
 use crate::access::working::release;

@@ -7,8 +7,7 @@ ghost use Rattle.packet_processor.specs.Judged.{Judges};
 ghost use Rattle.access_core.specs.Judged.{facts_lent};
 ghost use Rattle.access_core.specs.Deciding.{Decides};
 ghost use Rattle.access_core.specs.Moves.{HandsOver, CanHandOver, HasPlace};
-ghost use Rattle.core_model.specs.Legal.{MeetsOrLacks};
-ghost use Rattle.access_core.specs.Told.{taken};
+ghost use Rattle.core_model.specs.Legal.{MeetsOrLacks, wrapped};
 
 use crate::access::lookups::queue_of;
 use crate::access::{AccessCore, enter, lacks_room};
@@ -139,7 +138,7 @@ impl AccessCore {
         packet: PacketId,
         bytes: &[u8; 64],
     ) -> Result<Taken, Refusal>
-        ensures { MeetsOrLacks (Event.Take queue packet bytes.now) self.old self.new (taken result) }
+        ensures { MeetsOrLacks (Event.Take queue packet bytes.now) self.old self.new (wrapped Outcome.Taken result) }
     {
         match self.may_take(queue, packet, bytes)? {
             Decision::Wait(cause) => Ok(Taken::Waiting(cause)),
@@ -157,7 +156,7 @@ impl AccessCore {
         rule: Rule,
     ) -> Result<Taken, Refusal>
         requires { Decides self.old queue packet bytes.now (Decision.Deny rule) }
-        ensures { MeetsOrLacks (Event.Take queue packet bytes.now) self.old self.new (taken result) }
+        ensures { MeetsOrLacks (Event.Take queue packet bytes.now) self.old self.new (wrapped Outcome.Taken result) }
     {
         if lacks_room(self.capacity, self.audit.len(), self.flight.len()) {
             return Err(Refusal::AuditFull);
@@ -194,7 +193,7 @@ impl AccessCore {
         launching: Launching,
     ) -> Result<Taken, Refusal>
         requires { Decides self.old queue packet bytes.now (Decision.Launch launching) }
-        ensures { MeetsOrLacks (Event.Take queue packet bytes.now) self.old self.new (taken result) }
+        ensures { MeetsOrLacks (Event.Take queue packet bytes.now) self.old self.new (wrapped Outcome.Taken result) }
     {
         if lacks_room(self.capacity, self.audit.len(), self.flight.len() + 1) {
             return Err(Refusal::AuditFull);

@@ -5,8 +5,7 @@ ghost use Rattle.core_model.specs.Memory.{signals_after};
 ghost use Rattle.core_model.specs.Queues.{owner};
 ghost use Rattle.core_model.specs.Flight.{is_packet};
 ghost use Rattle.core_model.specs.Owed.{refuses, is_finished};
-ghost use Rattle.core_model.specs.Legal.{Meets};
-ghost use Rattle.access_core.specs.Told.{accepted};
+ghost use Rattle.core_model.specs.Legal.{Meets, accepted};
 ghost use Rattle.access_core.specs.ToldWork.{completion_of, finish_owed, IsFlying, IsOwed, OwedBy, Reaches, RefusedAt, without};
 
 use crate::access::{AccessCore, enter};

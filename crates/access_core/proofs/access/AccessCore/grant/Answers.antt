@@ -12,13 +12,13 @@ use Rattle.access_core.proofs.access.AccessCore.grant.Goals as goal
 
 pub returns-in-Err : goal.returns-in-Err
 returns-in-Err c =
-    let owing = grant-refused c.self.inside c.self.invariant c.args.client c.args.object c.args.rights c.in-Err.why c.may_grant.ensures in
+    let owing = grant-refused c.self.inside c.self.invariant c.args.client c.args.object c.args.rights c.in-Err.why (sym c.in-Err.is ∙ c.may_grant.ensures) in
     inl (rw c.refusal_of.ensures (refused _ c.self.inside _ c.self.view_is _ owing))
 
 pub returns-then-lacks_room : goal.returns-then-lacks_room
 returns-then-lacks_room c =
     let lacks : nat_lt c.self.inside.capacity (length c.self.inside.audit.items + 1 + length c.self.inside.flight) ≡ true = cc in
-    inl (full _ c.self.inside _ c.self.view_is outcome.Accepted [] c.self.invariant (grant-owed c.self.inside c.self.invariant c.args.client c.args.object c.args.rights c.may_grant.ensures) lacks)
+    inl (full _ c.self.inside _ c.self.view_is outcome.Accepted [] c.self.invariant (grant-owed c.self.inside c.self.invariant c.args.client c.args.object c.args.rights (sym c.in_default.is ∙ c.may_grant.ensures)) lacks)
 
 pub invariant_of-self : goal.invariant_of-self
 invariant_of-self c =
@@ -43,10 +43,10 @@ invariant_of-self c =
       reachable = c.self.invariant.reachable;
       error_room = c.self.invariant.error_room;
     })
-    (grant-owed a c.self.invariant c.args.client c.args.object c.args.rights c.may_grant.ensures)
+    (grant-owed a c.self.invariant c.args.client c.args.object c.args.rights (sym c.in_default.is ∙ c.may_grant.ensures))
 
 pub returns : goal.returns
 returns c =
     let room : nat_lt c.self.inside.capacity (length c.self.inside.audit.items + 1 + length c.self.inside.flight) ≡ false = cc in
     inl (entered _ c.self.inside _ c.self.view_is _ outcome.Accepted [] c.self.invariant (rw c.none.ensures at c.enter.ensures.entries)
-    (grant-owed c.self.inside c.self.invariant c.args.client c.args.object c.args.rights c.may_grant.ensures) room)
+    (grant-owed c.self.inside c.self.invariant c.args.client c.args.object c.args.rights (sym c.in_default.is ∙ c.may_grant.ensures)) room)

@@ -1,5 +1,5 @@
 -- The packet is in flight, and the entry tells it.
-use Rattle.std.proofs.Common.{◌≡◌, ◌+◌, refl, sym, subst, inl, true, false, [], length, length-append, arith}
+use Rattle.std.proofs.Common.{◌≡◌, ◌∙◌, ap, Some, ◌+◌, refl, sym, subst, inl, true, false, [], length, length-append, arith}
 use Rattle.std.specs.Prelude.{nat_lt}
 use Rattle.std.proofs.lemmas.Bool.{ltb-false}
 use Rattle.core_model.specs.declared.event.Event.TheVariants.{Take}

@@ -1,5 +1,5 @@
 -- What is kept moves along with the opening, which is entered where there is room.
-use Rattle.std.proofs.Common.{◌≡◌, refl, sym, subst, inl, true, false, [], ◌+◌, ◌<◌, length}
+use Rattle.std.proofs.Common.{◌≡◌, ◌∙◌, refl, sym, subst, inl, true, false, [], ◌+◌, ◌<◌, length}
 use Rattle.std.specs.Prelude.{nat_lt}
 use Rattle.std.proofs.lemmas.Bool.{ltb-false}
 use Rattle.core_model.specs.declared.event.Event.TheVariants.{OpenQueue}

@@ -1,5 +1,7 @@
 -- What is kept moves along with the revocation, which is entered where there is room.
 use Rattle.std.proofs.Common.{◌≡◌, ◌+◌, refl, sym, ◌∙◌, true, false, List, [], length, ap}
+use Rattle.std.proofs.Common.{subst}
+use Rattle.grants.specs.Ledger.{RevokeAnswers}
 use Rattle.std.specs.Prelude.{nat_lt}
 use Rattle.std.proofs.lemmas.Bool.{ltb-false}
 use Rattle.core_model.specs.declared.event.Event.TheVariants.{Revoke}
@@ -12,13 +14,13 @@ use Rattle.access_core.proofs.access.AccessCore.revoke.Goals as goal
 
 pub returns-in-Err : goal.returns-in-Err
 returns-in-Err c =
-    let owing = revoke-refused c.self.inside c.self.invariant c.args.client c.args.object c.args.rights c.in-Err.why c.may_revoke.ensures in
+    let owing = revoke-refused c.self.inside c.self.invariant c.args.client c.args.object c.args.rights c.in-Err.why (subst (RevokeAnswers c.self.inside.grants c.args.client c.args.object c.args.rights) c.in-Err.is c.may_revoke.ensures) in
     rw c.refusal_of.ensures (refused _ c.self.inside _ c.self.view_is _ owing)
 
 pub returns-then-lacks_room : goal.returns-then-lacks_room
 returns-then-lacks_room c =
     let lacks : nat_lt c.self.inside.capacity (length c.self.inside.audit.items + 1 + length c.self.inside.flight) ≡ true = cc in
-    (full _ c.self.inside _ c.self.view_is outcome.Accepted [] c.self.invariant (revoke-owed c.self.inside c.self.invariant c.args.client c.args.object c.args.rights c.may_revoke.ensures) lacks)
+    (full _ c.self.inside _ c.self.view_is outcome.Accepted [] c.self.invariant (revoke-owed c.self.inside c.self.invariant c.args.client c.args.object c.args.rights (subst (RevokeAnswers c.self.inside.grants c.args.client c.args.object c.args.rights) c.in_default.is c.may_revoke.ensures)) lacks)
 
 pub invariant_of-self : goal.invariant_of-self
 invariant_of-self c =
@@ -43,10 +45,10 @@ invariant_of-self c =
       reachable = c.self.invariant.reachable;
       error_room = c.self.invariant.error_room;
     })
-    (revoke-owed a c.self.invariant c.args.client c.args.object c.args.rights c.may_revoke.ensures)
+    (revoke-owed a c.self.invariant c.args.client c.args.object c.args.rights (subst (RevokeAnswers c.self.inside.grants c.args.client c.args.object c.args.rights) c.in_default.is c.may_revoke.ensures))
 
 pub returns : goal.returns
 returns c =
     let room : nat_lt c.self.inside.capacity (length c.self.inside.audit.items + 1 + length c.self.inside.flight) ≡ false = cc in
     (entered _ c.self.inside _ c.self.view_is _ outcome.Accepted [] c.self.invariant (rw c.none.ensures at c.enter.ensures.entries)
-    (revoke-owed c.self.inside c.self.invariant c.args.client c.args.object c.args.rights c.may_revoke.ensures) room)
+    (revoke-owed c.self.inside c.self.invariant c.args.client c.args.object c.args.rights (subst (RevokeAnswers c.self.inside.grants c.args.client c.args.object c.args.rights) c.in_default.is c.may_revoke.ensures)) room)
