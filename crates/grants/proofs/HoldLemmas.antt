@@ -2,7 +2,6 @@
 use Rattle.std.proofs.Common.{◌≡◌, ℕ, ◌+◌, ◌<◌, ◌⊎◌, inl, inr, Bool, true, false, not, ◌&&◌, ◌||◌, ◌==◌, List, [], ◌∷◌, ◌++◌, map, filter, take, get_or, length, Option, Some, None, refl, sym, ap, ◌∙◌, arith, true≢false}
 use Rattle.std.specs.List.{list_any}
 use Rattle.std.proofs.lemmas.Bool.{false_from_ne_true}
-use Rattle.std.proofs.lemmas.Bool.Decides.{Decides-eqb}
 use Rattle.std.proofs.lemmas.List.Folds.{list_any-append, list_any_more}
 use Rattle.std.proofs.lemmas.Map.Views.{any-filter_same}
 use Rattle.aql_packet.specs.declared.ids.ClientId.{ClientId}
@@ -13,34 +12,32 @@ use Rattle.policy.specs.declared.rights.Right.{Right}
 use Rattle.policy.specs.declared.rights.Rights.{Rights}
 use Rattle.policy.specs.Rights.{has, all_rights}
 use Rattle.grants.specs.declared.hold.Hold.{Hold}
-use Rattle.grants.specs.Holds.{same_packet, is_of, is_on, is_hold, held, hold_of, meet, holds_one, IsUpTo, IsFirstTo}
-use Rattle.grants.specs.Table.{same_pair}
-use Rattle.grants.proofs.PairLemmas.{both, same_number}
+use Rattle.grants.specs.Pairs.{same_pair, is_one_of}
+use Rattle.grants.specs.Holders.{same_packet, IsUpTo, IsFirstTo}
+use Rattle.grants.specs.Holds.{is_of, is_on, is_hold, held, hold_of, meet, holds_one}
+use Rattle.grants.proofs.PairLemmas.{both, same_number, itself}
 
 -- ---- tests
 
-and-true : (a : Bool) → (a && true) ≡ a
+pub and-true : (a : Bool) → (a && true) ≡ a
 and-true true = refl
 and-true false = refl
 
-and-false : (a : Bool) → (a && false) ≡ false
+pub and-false : (a : Bool) → (a && false) ≡ false
 and-false true = refl
 and-false false = refl
 
-or-false : (a : Bool) → (a || false) ≡ a
+pub or-false : (a : Bool) → (a || false) ≡ a
 or-false true = refl
 or-false false = refl
 
-or-true : (a : Bool) → (a || true) ≡ true
+pub or-true : (a : Bool) → (a || true) ≡ true
 or-true true = refl
 or-true false = refl
 
-and_assoc : (a b c : Bool) → ((a && b) && c) ≡ (a && (b && c))
+pub and_assoc : (a b c : Bool) → ((a && b) && c) ≡ (a && (b && c))
 and_assoc true b c = refl
 and_assoc false b c = refl
-
-itself : (n : ℕ) → (n == n) ≡ true
-itself n = (Decides-eqb n n).1 refl
 
 same_packet_is : (q : QueueId) (p : PacketId) (q' : QueueId) (p' : PacketId) → same_packet q p q' p' ≡ true → (q ≡ q') × (p ≡ p')
 same_packet_is q p q' p' h =

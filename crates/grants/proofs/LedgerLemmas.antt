@@ -1,93 +1,73 @@
--- What the calls of grants leave.
-use Rattle.std.proofs.Common.{◌≡◌, ℕ, ◌+◌, Bool, true, false, List, ◌++◌, ◌&&◌, ◌||◌, map, filter, not, Option, refl, sym, ap, subst, ◌∙◌, add-one}
+-- What the calls of grants leave, by the table and the list of holds.
+use Rattle.std.proofs.Common.{◌≡◌, ℕ, ◌+◌, ◌≤◌, Bool, true, false, List, ◌++◌, ◌&&◌, ◌||◌, map, filter, not, Option, Some, None, refl, sym, ap, subst, ◌∙◌}
+use Rattle.std.specs.Option.{is_some}
+use Rattle.std.specs.Prelude.{nat_lt}
+use Rattle.std.specs.List.{list_any}
 use Rattle.aql_packet.specs.declared.ids.ClientId.{ClientId}
 use Rattle.aql_packet.specs.declared.ids.QueueId.{QueueId}
 use Rattle.aql_packet.specs.declared.ids.PacketId.{PacketId}
-use Rattle.policy.specs.declared.object.Kind.{Kind}
 use Rattle.policy.specs.declared.object.Object.{Object}
 use Rattle.policy.specs.declared.rights.Rights.{Rights}
-use Rattle.std.specs.List.{list_any}
-use Rattle.policy.specs.declared.rights.Right.{Right}
-use Rattle.policy.specs.Rights.{has}
-use Rattle.policy.proofs.RightsLemmas.{has-rights_that}
-use Rattle.policy.specs.Object.{object_of}
-use Rattle.grants.specs.declared.table.RightsRow.{RightsRow}
+use Rattle.policy.specs.Rights.{has, all_rights}
 use Rattle.grants.specs.declared.hold.Hold.{Hold}
-use Rattle.grants.specs.Rules.{Rules}
-use Rattle.grants.specs.Table.{has_granted, is_one_of}
-use Rattle.grants.specs.Holds.{is_of, held, hold_of, holds_one, IsFirstTo}
-use Rattle.grants.specs.Ledger.{Ledger, Gives, Takes, Holds, Releases, HoldsNothing, in_force, rights_on, is_holder, listed, listed_to}
-use Rattle.grants.proofs.HoldLemmas.{held-pushed, held-dropped, held-none, holder, first_same}
+use Rattle.grants.specs.declared.cell.Cell.{Cell}
+use Rattle.grants.specs.Rules.{knows_client, knows}
+use Rattle.grants.specs.Holders.{same_packet, IsFirstTo}
+use Rattle.grants.specs.Holds.{is_of, held, hold_of, holds_one}
+use Rattle.grants.specs.Cells.{Table, SameRights, IsCounted, cell_of, count_of}
+use Rattle.grants.specs.Ledger.{Ledger, Holds, Releases, rules_in, holds, is_holder}
+use Rattle.grants.proofs.PairLemmas.{both}
+use Rattle.grants.proofs.HoldLemmas.{held-pushed, held-dropped, holder, first_same}
+use Rattle.grants.proofs.CountLemmas.{unheld}
 
 -- a ledger of these parts
-abbrev pub ledger : Rules → List RightsRow → List Hold → Ledger
-ledger rules rows holds = record { rules = rules; rows = rows; holds = holds }
+abbrev pub ledger : Table → List Hold → ℕ → Ledger
+ledger table list room = record { table = table; list = list; room = room }
 
-module _ (rules : Rules) (rows : List RightsRow) (holds : List Hold) where
-  pub gives : (old : Ledger) (c : ClientId) (o : Object) (rights : Rights) (after : List RightsRow) → ledger rules rows holds ≡ old
-      → ((c' : ClientId) (o' : Object) (right : Right) → has_granted after c' o' right ≡ (has_granted rows c' o' right || is_one_of c' o' right c o rights))
-      → Gives old (ledger rules after holds) c o rights
-  gives old c o rights after view a =
-      let moved : Gives (ledger rules rows holds) (ledger rules after holds) c o rights = record {
-        same_rules = refl;
-        given = a;
-        same_holds = λ _ _ _ _ _. refl;
-      } in subst (λ g. Gives g (ledger rules after holds) c o rights) view moved
+and_comm : (a b : Bool) → (a && b) ≡ (b && a)
+and_comm true true = refl
+and_comm true false = refl
+and_comm false true = refl
+and_comm false false = refl
 
-  and_comm : (a b : Bool) → (a && b) ≡ (b && a)
-  and_comm true true = refl
-  and_comm true false = refl
-  and_comm false true = refl
-  and_comm false false = refl
+module _ (table : Table) (list : List Hold) (room : ℕ) (old : Ledger) (view : ledger table list room ≡ old) where
+  -- holds behind the others are what the packet came to hold
+  pub held_more : (c : ClientId) (q : QueueId) (p : PacketId) (rights : List (Object × Rights)) (after : Table) (more : List Hold) (left : ℕ)
+      → SameRights table after → more ≡ list ++ map (hold_of q p c) rights → Holds old (ledger after more left) c q p rights
+  held_more c q p rights after more left same put =
+      let moved : Holds (ledger table list room) (ledger after more left) c q p rights = record {
+        held = λ q' p' c' o' right. ap (λ hs. held hs q' p' c' o' right) put ∙ held-pushed q p c rights q' p' c' o' right list;
+        same_rules = same.same_rules;
+        same_rights = same.same_rights;
+      } in subst (λ g. Holds g (ledger after more left) c q p rights) view moved
 
-  pub takes : (old : Ledger) (c : ClientId) (o : Object) (rights : Rights) (after : List RightsRow) → ledger rules rows holds ≡ old
-      → ((c' : ClientId) (o' : Object) (right : Right) → has_granted after c' o' right ≡ (has_granted rows c' o' right && not (is_one_of c' o' right c o rights)))
-      → Takes old (ledger rules after holds) c o rights
-  takes old c o rights after view a =
-      let moved : Takes (ledger rules rows holds) (ledger rules after holds) c o rights = record {
-        same_rules = refl;
-        taken = λ c' o' right. a c' o' right ∙ and_comm (has_granted rows c' o' right) (not (is_one_of c' o' right c o rights));
-        same_holds = λ _ _ _ _ _. refl;
-      } in subst (λ g. Takes g (ledger rules after holds) c o rights) view moved
+  -- without the packet's holds it holds nothing
+  pub released : (q : QueueId) (p : PacketId) (after : Table) (rest : List Hold) (left : ℕ)
+      → SameRights table after → rest ≡ filter (λ hold. not (is_of q p hold)) list → room ≤ left → Releases old (ledger after rest left) q p
+  released q p after rest left same dropped more =
+      let moved : Releases (ledger table list room) (ledger after rest left) q p = record {
+        released = λ q' p' c' o' right. ap (λ hs. held hs q' p' c' o' right) dropped ∙ held-dropped q p q' p' c' o' right list
+            ∙ and_comm (not (same_packet q' p' q p)) (held list q' p' c' o' right);
+        same_rules = same.same_rules;
+        same_rights = same.same_rights;
+        room = more;
+      } in subst (λ g. Releases g (ledger after rest left) q p) view moved
 
-  pub held_more : (old : Ledger) (c : ClientId) (q : QueueId) (p : PacketId) (rights : List (Object × Rights)) (after : List Hold) → ledger rules rows holds ≡ old
-      → after ≡ holds ++ map (hold_of q p c) rights → Holds old (ledger rules rows after) c q p rights
-  held_more old c q p rights after view a =
-      let moved : Holds (ledger rules rows holds) (ledger rules rows after) c q p rights = record {
-        same_rules = refl;
-        same_rights = λ _ _ _. refl;
-        held = λ q' p' c' o' right. ap (λ hs. held hs q' p' c' o' right) a ∙ held-pushed q p c rights q' p' c' o' right holds;
-      } in subst (λ g. Holds g (ledger rules rows after) c q p rights) view moved
+  -- a client and an object that have a cell are declared
+  pub declared : (c : ClientId) (o : Object) (found : Option Cell) (cell : Cell) → is_some found ≡ (knows_client table.rules c && knows table.rules o) → found ≡ Some cell
+      → (knows_client (rules_in old) c ≡ true) × (knows (rules_in old) o ≡ true)
+  declared c o found cell known is =
+      let parts = both (knows_client table.rules c) (knows table.rules o) (sym known ∙ ap is_some is) in
+      (sym (ap (λ g. knows_client (rules_in g) c) view) ∙ parts.0, sym (ap (λ g. knows (rules_in g) o) view) ∙ parts.1)
 
-  pub releases : (old : Ledger) (q : QueueId) (p : PacketId) (after : List Hold) → ledger rules rows holds ≡ old
-      → after ≡ filter (λ hold. not (is_of q p hold)) holds → Releases old (ledger rules rows after) q p
-  releases old q p after view a =
-      let moved : Releases (ledger rules rows holds) (ledger rules rows after) q p = record {
-        same_rules = refl;
-        same_rights = λ _ _ _. refl;
-        released = λ q' p' c' o' right. ap (λ hs. held hs q' p' c' o' right) a ∙ held-dropped q p q' p' c' o' right holds;
-      } in subst (λ g. Releases g (ledger rules rows after) q p) view moved
-
-  -- the first holder, found in the list
-  pub holder_first : (old : Ledger) (c : ClientId) (o : Object) (rights : Rights) (first : Option (QueueId × PacketId)) → ledger rules rows holds ≡ old
-      → IsFirstTo (holds_one holds c o rights) first → IsFirstTo (is_holder old c o rights) first
-  holder_first old c o rights first view h =
+  -- the first of the packets with a hold of one of the rights is the first that holds one of them
+  pub holder_first : (c : ClientId) (o : Object) (rights : Rights) (first : Option (QueueId × PacketId)) → IsFirstTo (holds_one list c o rights) first → IsFirstTo (is_holder old c o rights) first
+  holder_first c o rights first h =
       subst (λ g. IsFirstTo (is_holder g c o rights) first) view
-      (first_same (holds_one holds c o rights) (is_holder (ledger rules rows holds) c o rights) first (λ q p. holder holds c o rights q p) h)
+      (first_same (holds_one list c o rights) (is_holder (ledger table list room) c o rights) first (λ q p. holder list c o rights q p) h)
 
-pub listed_to-next : (grants : Ledger) (client : ClientId) (on : Kind) (n : ℕ) → listed_to grants client on (n + 1) ≡ listed_to grants client on n ++ listed grants client (object_of on (n + 1))
-listed_to-next grants client on n = rw add-one
-
-no_hold : (b : Bool) → not b ≡ true → b ≡ false
-no_hold true h = sym h
-no_hold false h = refl
-
--- a packet without holds in the list holds nothing
-pub idle : (rules : Rules) (rows : List RightsRow) (holds : List Hold) (grants : Ledger) (q : QueueId) (p : PacketId) (b : Bool) → ledger rules rows holds ≡ grants
-    → b ≡ list_any (is_of q p) holds → not b ≡ true → HoldsNothing grants q p
-idle rules rows holds grants q p b view some none =
-    subst (λ g. HoldsNothing g q p) view (λ c o right. held-none holds q p c o right (sym some ∙ no_hold b none))
-
--- the rights of the client on the object are those in force
-pub rights_on-has : (grants : Ledger) (c : ClientId) (o : Object) (rights : Rights) → rights ≡ rights_on grants c o → (right : Right) → has rights right ≡ in_force grants c o right
-rights_on-has grants c o rights e right = ap (λ r. has r right) e ∙ has-rights_that (in_force grants c o) right
+  -- where no hold of one of the rights is counted, no packet holds one of them
+  pub none_holds : IsCounted table list → (c : ClientId) (o : Object) (rights : Rights) (cell : Cell) → cell_of table c o ≡ Some cell
+      → list_any (λ right. has rights right && nat_lt 0 (count_of cell.held right)) all_rights ≡ false → IsFirstTo (is_holder old c o rights) None
+  none_holds counted c o rights cell at none =
+      subst (λ g. IsFirstTo (is_holder g c o rights) None) view (λ q p. unheld table list counted c o rights cell at none q p)

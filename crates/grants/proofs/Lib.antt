@@ -2,4 +2,9 @@ pub mod PairLemmas
 pub mod HoldLemmas
 pub mod SetLemmas
 pub mod TableLemmas
+pub mod PlaceLemmas
+pub mod CellLemmas
+pub mod CountLemmas
+pub mod ListingLemmas
 pub mod LedgerLemmas
+pub mod LawLemmas

@@ -5,7 +5,7 @@ use Rattle.aql_packet.specs.declared.ids.ClientId.{ClientId}
 use Rattle.policy.specs.declared.object.Object.{Object}
 use Rattle.policy.specs.declared.object.Object.TheVariants.{Agent, Region, Signal, Kernel}
 use Rattle.policy.specs.Object.{same_object}
-use Rattle.grants.specs.Table.{same_pair}
+use Rattle.grants.specs.Pairs.{same_pair}
 
 pub both : (a b : Bool) → (a && b) ≡ true → (a ≡ true) × (b ≡ true)
 both true b h = (refl, h)
@@ -28,3 +28,15 @@ pub same_pair_is : (c : ClientId) (o : Object) (c' : ClientId) (o' : Object) →
 same_pair_is c o c' o' h =
     let parts = both (c.0 == c'.0) (same_object o o') h in
     (same_client c c' parts.0, same_object_is o o' parts.1)
+
+pub itself : (n : ℕ) → (n == n) ≡ true
+itself n = (Decides-eqb n n).1 refl
+
+pub same_object_itself : (o : Object) → same_object o o ≡ true
+same_object_itself (Agent h) = itself h.0
+same_object_itself (Region h) = itself h.0
+same_object_itself (Signal h) = itself h.0
+same_object_itself (Kernel h) = itself h.0
+
+pub same_pair_itself : (c : ClientId) (o : Object) → same_pair c o c o ≡ true
+same_pair_itself c o = rw (itself c.0) (same_object_itself o)

@@ -11,7 +11,8 @@ use Rattle.policy.specs.declared.rights.Right.{Right}
 use Rattle.policy.specs.declared.rights.Rights.{Rights}
 use Rattle.policy.specs.Rights.{has}
 use Rattle.grants.specs.declared.table.RightsRow.{RightsRow}
-use Rattle.grants.specs.Table.{same_pair, is_one_of, gives, has_granted, is_row_of, IsWith, IsWithout}
+use Rattle.grants.specs.Pairs.{same_pair, is_one_of}
+use Rattle.grants.specs.Table.{gives, has_granted, is_row_of, IsWith, IsWithout}
 use Rattle.grants.proofs.PairLemmas.{same_pair_is}
 
 -- ---- one row

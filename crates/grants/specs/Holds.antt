@@ -1,6 +1,6 @@
--- Rights that packets hold.
-use Rattle.std.specs.Prelude.{Bool, true, false, ◌≡◌, ◌<◌, ◌≤◌, ◌⊎◌, ◌&&◌, ◌==◌, List, Option, Some, None}
-use Rattle.std.specs.List.{list_any}
+-- Rights that packets hold, as a list.
+use Rattle.std.specs.Prelude.{Bool, ◌&&◌, ℕ, List}
+use Rattle.std.specs.List.{list_any, count_by}
 use Rattle.aql_packet.specs.declared.ids.ClientId.{ClientId}
 use Rattle.aql_packet.specs.declared.ids.QueueId.{QueueId}
 use Rattle.aql_packet.specs.declared.ids.PacketId.{PacketId}
@@ -9,11 +9,8 @@ use Rattle.policy.specs.declared.rights.Right.{Right}
 use Rattle.policy.specs.declared.rights.Rights.{Rights}
 use Rattle.policy.specs.Rights.{has, all_rights}
 use Rattle.grants.specs.declared.hold.Hold.{Hold}
-use Rattle.grants.specs.Table.{same_pair}
-
--- the packet is this one
-abbrev pub same_packet : QueueId → PacketId → QueueId → PacketId → Bool
-same_packet queue packet queue' packet' = queue.0 == queue'.0 && packet.0 == packet'.0
+use Rattle.grants.specs.Pairs.{same_pair, is_one_of}
+use Rattle.grants.specs.Holders.{same_packet}
 
 -- the hold is of the packet
 abbrev pub is_of : QueueId → PacketId → Hold → Bool
@@ -31,6 +28,14 @@ is_hold queue packet client object right hold = is_on queue packet client object
 abbrev pub held : List Hold → QueueId → PacketId → ClientId → Object → Right → Bool
 held holds queue packet client object right = list_any (is_hold queue packet client object right) holds
 
+-- the hold has the client's right on the object
+abbrev pub is_hold_of : ClientId → Object → Right → Hold → Bool
+is_hold_of client object right hold = is_one_of client object right hold.client hold.object hold.rights
+
+-- how many holds there are of the client's right on the object
+abbrev pub holds_of : List Hold → ClientId → Object → Right → ℕ
+holds_of holds client object right = count_by (is_hold_of client object right) holds
+
 -- the hold of a packet on an object
 abbrev pub hold_of : QueueId → PacketId → ClientId → Object × Rights → Hold
 hold_of queue packet client rights =
@@ -43,13 +48,3 @@ meet a b = list_any (λ right. has a right && has b right) all_rights
 -- the packet holds one of the client's rights on the object
 abbrev pub holds_one : List Hold → ClientId → Object → Rights → QueueId → PacketId → Bool
 holds_one holds client object rights queue packet = list_any (λ hold. is_on queue packet client object hold && meet rights hold.rights) holds
-
--- the packet comes first, or is the other one: by queue, and then by id
-abbrev pub IsUpTo : QueueId → PacketId → QueueId → PacketId → Type 0
-IsUpTo queue packet queue' packet' = (queue.0 < queue'.0) ⊎ ((queue.0 ≡ queue'.0) × (packet.0 ≤ packet'.0))
-
--- the first of the packets that pass a test, if any does
-abbrev pub IsFirstTo : (QueueId → PacketId → Bool) → Option (QueueId × PacketId) → Type 0
-IsFirstTo test None = (queue : QueueId) (packet : PacketId) → test queue packet ≡ false
-IsFirstTo test (Some first) =
-    (test first.0 first.1 ≡ true) × ((queue : QueueId) (packet : PacketId) → test queue packet ≡ true → IsUpTo first.0 first.1 queue packet)

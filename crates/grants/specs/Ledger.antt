@@ -1,144 +1,130 @@
--- Grants as contracts see them: what is in force, and which packet holds what.
-use Rattle.std.specs.Prelude.{◌≡◌, Bool, true, false, not, ◌&&◌, ◌||◌, ◌==◌, ℕ, zero, suc, List, [], ◌++◌, ◌∷◌, Some, None, Result, Ok, Err, if◌then◌else◌}
-use Rattle.std.specs.List.{list_any}
+-- Grants as contracts see them: what is in force, and which packet holds what, by look-ups that hide how they are kept.
+use Rattle.std.specs.Prelude.{◌≡◌, ◌+◌, ◌≤◌, Bool, true, false, not, ◌&&◌, ◌||◌, ℕ, List, map, filter, length, None, Some, Result, Ok, Err, if◌then◌else◌}
+use Rattle.std.specs.List.{list_any, list_all}
 use Rattle.aql_packet.specs.declared.ids.ClientId.{ClientId}
 use Rattle.aql_packet.specs.declared.ids.QueueId.{QueueId}
 use Rattle.aql_packet.specs.declared.ids.PacketId.{PacketId}
-use Rattle.policy.specs.declared.object.Kind.{Kind}
-use Rattle.policy.specs.declared.object.Kind.TheVariants as kind
 use Rattle.policy.specs.declared.object.Object.{Object}
 use Rattle.policy.specs.declared.rights.Right.{Right}
 use Rattle.policy.specs.declared.rights.Rights.{Rights}
-use Rattle.policy.specs.Object.{object_of}
-use Rattle.policy.specs.Rights.{has, all_rights, rights_that}
-use Rattle.grants.specs.declared.table.RightsRow.{RightsRow}
-use Rattle.grants.specs.declared.hold.Hold.{Hold}
+use Rattle.policy.specs.Rights.{has, all_rights, each_right, rights_that}
 use Rattle.grants.specs.declared.refusal.Refusal.{Refusal}
 use Rattle.grants.specs.declared.refusal.Refusal.TheVariants.{NotAllowed, Busy, UnknownObject, UnknownClient}
-use Rattle.grants.specs.declared.refusal.GrantError.{GrantError}
-use Rattle.grants.specs.declared.refusal.GrantError.TheVariants.{OutOfMemory, Refused}
-use Rattle.grants.specs.Rules.{Rules, count, knows_client, knows, allows}
-use Rattle.grants.specs.Table.{same_pair, has_granted}
-use Rattle.grants.specs.Holds.{same_packet, held, IsFirstTo}
+use Rattle.grants.specs.declared.hold.Hold.{Hold}
+use Rattle.grants.specs.Rules.{Rules, knows_client, knows, allows, all_objects}
+use Rattle.grants.specs.Pairs.{is_one_of, names}
+use Rattle.grants.specs.Holders.{same_packet, IsFirstTo}
+use Rattle.grants.specs.Holds.{held}
+use Rattle.grants.specs.Cells.{Table, in_table}
 
--- The policy's rules, what is in force, and what packets hold. Clauses speak of it by the look-ups below alone.
+-- The table of rights, the list of holds, and the room for further ones. Clauses read them by the look-ups below.
 pub record Ledger : Type 0 where
-  pub rules : Rules
-  pub rows : List RightsRow
-  pub holds : List Hold
+  pub table : Table
+  pub list : List Hold
+  -- how many further objects' rights can come to be held without taking memory
+  pub room : ℕ
 
--- the client has the right on the object
+-- what the policy declares and allows
+abbrev pub rules_in : Ledger → Rules
+rules_in grants = grants.table.rules
+
+-- whether a client's right on an object is in force
 abbrev pub in_force : Ledger → ClientId → Object → Right → Bool
-in_force grants client object right = has_granted grants.rows client object right
+in_force grants client object right = in_table grants.table client object right
 
--- the packet, of a queue of the client, holds the right on the object
+-- whether a packet, of a queue of a client, holds a right on an object
 abbrev pub holds : Ledger → QueueId → PacketId → ClientId → Object → Right → Bool
-holds grants queue packet client object right = held grants.holds queue packet client object right
+holds grants queue packet client object right = held grants.list queue packet client object right
 
 -- the rights of the client on the object
 abbrev pub rights_on : Ledger → ClientId → Object → Rights
 rights_on grants client object = rights_that (in_force grants client object)
 
+-- each right that the list names is in force for the client
+abbrev pub are_in_force : Ledger → ClientId → List (Object × Rights) → Bool
+are_in_force grants client rights = list_all (λ named. each_right named.1 (in_force grants client named.0)) rights
+
 -- the packet, of a queue of the client, holds one of the rights on the object
 abbrev pub is_holder : Ledger → ClientId → Object → Rights → QueueId → PacketId → Bool
 is_holder grants client object rights queue packet = list_any (λ right. has rights right && holds grants queue packet client object right) all_rights
 
--- the packet holds nothing
-abbrev pub HoldsNothing : Ledger → QueueId → PacketId → Type 0
-HoldsNothing grants queue packet = (client : ClientId) (object : Object) (right : Right) → holds grants queue packet client object right ≡ false
-
 -- ---- changes
 
--- nothing is in force, and nothing is held
+-- nothing is in force and nothing is held
 pub record IsNew (grants : Ledger) : Type 0 where
   pub none_in_force : (client : ClientId) (object : Object) (right : Right) → in_force grants client object right ≡ false
   pub none_held : (queue : QueueId) (packet : PacketId) (client : ClientId) (object : Object) (right : Right) → holds grants queue packet client object right ≡ false
 
--- what is held is as before
+-- the same rights are in force
+abbrev pub SameRights : Ledger → Ledger → Type 0
+SameRights old new = (client : ClientId) (object : Object) (right : Right) → in_force new client object right ≡ in_force old client object right
+
+-- the same rights are held
 abbrev pub SameHolds : Ledger → Ledger → Type 0
 SameHolds old new = (queue : QueueId) (packet : PacketId) (client : ClientId) (object : Object) (right : Right)
     → holds new queue packet client object right ≡ holds old queue packet client object right
 
--- what is in force is as before
-abbrev pub SameRights : Ledger → Ledger → Type 0
-SameRights old new = (client : ClientId) (object : Object) (right : Right) → in_force new client object right ≡ in_force old client object right
-
 -- the rights of the client on the object came into force, and nothing else changed
 pub record Gives (old new : Ledger) (client : ClientId) (object : Object) (rights : Rights) : Type 0 where
-  pub same_rules : new.rules ≡ old.rules
   pub given : (client' : ClientId) (object' : Object) (right : Right)
-      → in_force new client' object' right ≡ (in_force old client' object' right || (same_pair client' object' client object && has rights right))
+      → in_force new client' object' right ≡ (in_force old client' object' right || is_one_of client' object' right client object rights)
+  pub same_rules : rules_in new ≡ rules_in old
   pub same_holds : SameHolds old new
+  pub same_room : new.room ≡ old.room
 
 -- the rights of the client on the object went out of force, and nothing else changed
 pub record Takes (old new : Ledger) (client : ClientId) (object : Object) (rights : Rights) : Type 0 where
-  pub same_rules : new.rules ≡ old.rules
   pub taken : (client' : ClientId) (object' : Object) (right : Right)
-      → in_force new client' object' right ≡ (not (same_pair client' object' client object && has rights right) && in_force old client' object' right)
+      → in_force new client' object' right ≡ (in_force old client' object' right && not (is_one_of client' object' right client object rights))
+  pub same_rules : rules_in new ≡ rules_in old
   pub same_holds : SameHolds old new
+  pub same_room : new.room ≡ old.room
 
--- the list names the right on the object
-abbrev pub names : List (Object × Rights) → ClientId → ClientId → Object → Right → Bool
-names rights client client' object' right = list_any (λ named. same_pair client' object' client named.0 && has named.1 right) rights
-
--- the packet holds the rights of the list, and nothing else changed
+-- the packet holds, beside what it held, all rights that the list names; nothing else changed
 pub record Holds (old new : Ledger) (client : ClientId) (queue : QueueId) (packet : PacketId) (rights : List (Object × Rights)) : Type 0 where
-  pub same_rules : new.rules ≡ old.rules
-  pub same_rights : SameRights old new
   pub held : (queue' : QueueId) (packet' : PacketId) (client' : ClientId) (object' : Object) (right : Right)
       → holds new queue' packet' client' object' right
       ≡ (holds old queue' packet' client' object' right || (same_packet queue' packet' queue packet && names rights client client' object' right))
-
--- the packet holds nothing, and nothing else changed
-pub record Releases (old new : Ledger) (queue : QueueId) (packet : PacketId) : Type 0 where
-  pub same_rules : new.rules ≡ old.rules
+  pub same_rules : rules_in new ≡ rules_in old
   pub same_rights : SameRights old new
+
+-- the packet holds nothing, and nothing else changed; room is never lost
+pub record Releases (old new : Ledger) (queue : QueueId) (packet : PacketId) : Type 0 where
   pub released : (queue' : QueueId) (packet' : PacketId) (client' : ClientId) (object' : Object) (right : Right)
       → holds new queue' packet' client' object' right
-      ≡ (not (same_packet queue' packet' queue packet) && holds old queue' packet' client' object' right)
+      ≡ (holds old queue' packet' client' object' right && not (same_packet queue' packet' queue packet))
+  pub same_rules : rules_in new ≡ rules_in old
+  pub same_rights : SameRights old new
+  pub room : old.room ≤ new.room
 
 -- ---- answers
 
 -- a grant is refused by the first of these that stands, and made where none does
 abbrev pub grant_due : Ledger → ClientId → Object → Rights → Result (Unit {0}) Refusal
 grant_due grants client object rights =
-    if not (knows_client grants.rules client) then Err UnknownClient
-    else if not (knows grants.rules object) then Err UnknownObject
-    else if not (allows grants.rules client object rights) then Err NotAllowed
+    if not (knows_client (rules_in grants) client) then Err UnknownClient
+    else if not (knows (rules_in grants) object) then Err UnknownObject
+    else if not (allows (rules_in grants) client object rights) then Err NotAllowed
     else Ok tt
 
--- a grant's answer is the one due, unless there was no memory for it
-abbrev pub GrantAnswers : Result (Unit {0}) Refusal → Result (Unit {0}) GrantError → Type 0
-GrantAnswers due (Ok x) = due ≡ Ok x
-GrantAnswers due (Err OutOfMemory) = Unit {0}
-GrantAnswers due (Err (Refused refusal)) = due ≡ Err refusal
-
--- a revocation's answer: the client and the object are declared, and the packet named is the first of the holders
+-- a revocation's answer: a client or an object that isn't declared is told first, then the least of the packets that hold one of the
+-- rights; the revocation is made where none does
 abbrev pub RevokeAnswers : Ledger → ClientId → Object → Rights → Result (Unit {0}) Refusal → Type 0
-RevokeAnswers grants client object rights (Err UnknownClient) = knows_client grants.rules client ≡ false
-RevokeAnswers grants client object rights (Err UnknownObject) = (knows_client grants.rules client ≡ true) × (knows grants.rules object ≡ false)
+RevokeAnswers grants client object rights (Err UnknownClient) = knows_client (rules_in grants) client ≡ false
+RevokeAnswers grants client object rights (Err UnknownObject) = (knows_client (rules_in grants) client ≡ true) × (knows (rules_in grants) object ≡ false)
 RevokeAnswers grants client object rights (Err NotAllowed) = ⊥
 RevokeAnswers grants client object rights (Err (Busy queue packet)) =
-    (knows_client grants.rules client ≡ true) × (knows grants.rules object ≡ true)
+    (knows_client (rules_in grants) client ≡ true) × (knows (rules_in grants) object ≡ true)
     × IsFirstTo (is_holder grants client object rights) (Some (queue, packet))
 RevokeAnswers grants client object rights (Ok x) =
-    (knows_client grants.rules client ≡ true) × (knows grants.rules object ≡ true) × IsFirstTo (is_holder grants client object rights) None
+    (knows_client (rules_in grants) client ≡ true) × (knows (rules_in grants) object ≡ true) × IsFirstTo (is_holder grants client object rights) None
 
 -- ---- listing
 
--- an object with its rights, where there is one
-abbrev pub listed : Ledger → ClientId → Object → List (Object × Rights)
-listed grants client object = if (rights_on grants client object).0 == 0 then [] else (object, rights_on grants client object) ∷ []
+-- of these objects, those on which the client has a right in force, with its rights
+unfoldable pub listed : Ledger → ClientId → List Object → List (Object × Rights)
+listed grants client objects = map (λ on. (on, rights_on grants client on)) (filter (λ on. list_any (in_force grants client on) all_rights) objects)
 
--- the objects 1 to n of a kind, in order
-abbrev pub listed_to : Ledger → ClientId → Kind → ℕ → List (Object × Rights)
-listed_to grants client on zero = []
-listed_to grants client on (suc n) = listed_to grants client on n ++ listed grants client (object_of on (suc n))
-
--- the objects with at least one right of the client: agents, regions, signals, kernels, each by number
+-- the objects on which the client has a right in force, with its rights: agents, regions, signals, kernels, each by number
 abbrev pub listing : Ledger → ClientId → List (Object × Rights)
-listing grants client =
-    listed_to grants client kind.Agent (count grants.rules kind.Agent)
-    ++ listed_to grants client kind.Region (count grants.rules kind.Region)
-    ++ listed_to grants client kind.Signal (count grants.rules kind.Signal)
-    ++ listed_to grants client kind.Kernel (count grants.rules kind.Kernel)
+listing grants client = listed grants client (all_objects (rules_in grants))

@@ -1,4 +1,8 @@
+pub mod Pairs
 pub mod Table
-pub mod Holds
 pub mod Rules
+pub mod Holders
+pub mod Holds
+pub mod Cells
 pub mod Ledger
+pub mod Laws

@@ -1,21 +1,12 @@
 -- Rights in force, as rows of a client, an object and a set of rights.
-use Rattle.std.specs.Prelude.{◌≡◌, Bool, not, ◌&&◌, ◌||◌, ◌==◌, List}
+use Rattle.std.specs.Prelude.{◌≡◌, Bool, not, ◌&&◌, ◌||◌, List}
 use Rattle.std.specs.List.{list_any}
 use Rattle.aql_packet.specs.declared.ids.ClientId.{ClientId}
 use Rattle.policy.specs.declared.object.Object.{Object}
 use Rattle.policy.specs.declared.rights.Right.{Right}
 use Rattle.policy.specs.declared.rights.Rights.{Rights}
-use Rattle.policy.specs.Object.{same_object}
-use Rattle.policy.specs.Rights.{has}
 use Rattle.grants.specs.declared.table.RightsRow.{RightsRow}
-
--- the client and the object are these
-abbrev pub same_pair : ClientId → Object → ClientId → Object → Bool
-same_pair client object client' object' = client.0 == client'.0 && same_object object object'
-
--- the right is one of some rights of a client on an object
-abbrev pub is_one_of : ClientId → Object → Right → ClientId → Object → Rights → Bool
-is_one_of client object right named_client named_object rights = same_pair client object named_client named_object && has rights right
+use Rattle.grants.specs.Pairs.{same_pair, is_one_of}
 
 -- the row gives the right
 abbrev pub gives : ClientId → Object → Right → RightsRow → Bool

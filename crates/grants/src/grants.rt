@@ -1,95 +1,105 @@
 //! Grants and holds.
 
-ghost use Rattle.std.specs.Prelude.{◌≡◌, ◌++◌, true, not, IfOk, OnOk, OnErr};
-ghost use Rattle.std.specs.List.{list_all, list_any};
+ghost use Rattle.std.specs.Prelude.{◌≡◌, ◌+◌, ◌<◌, ◌≤◌, ◌++◌, ◌∷◌, [], true, IfOk, OnOk, OnErr, Ok, length};
+ghost use Rattle.policy.specs.declared.rights.Right.{Right};
 ghost use Rattle.policy.specs.Rights.{has, each_right};
-ghost use Rattle.grants.specs.Rules.{rules_of, count};
-ghost use Rattle.grants.specs.Holds.{is_of};
+ghost use Rattle.grants.specs.Rules.{rules_of, objects_of};
 
-use crate::hold::{Hold, drop_holds, first_holder, has_holds, push_holds};
-use crate::refusal::{GrantError, Refusal};
-use crate::rules::Rules;
-use crate::table::RightsTable;
+use crate::cells::Cells;
+use crate::counting::{put_holds, uncount_packet};
+use crate::hold::{Hold, drop_holds, first_holder};
+use crate::refusal::Refusal;
 use aql_packet::{ClientId, PacketId, QueueId};
 use bitflags::Flags;
-use policy::{Kind, Object, Policy, Rights};
+use policy::{Kind, Object, Policy, Right, Rights};
 use sequences::Sequence;
 use std::alloc::{AllocError, Global};
 use std::marker::Model;
 
 /// Which rights are in force, and which packets hold them: a right that a packet in flight holds is
-/// not taken away.
+/// not taken away. The rights stand in a table of a cell for each client and object, with how many
+/// holds there are of each; the list of the holds names the packet that stands against a revocation.
 #[derive(Drop)]
 pub struct Grants {
-    rules: Rules,
-    table: RightsTable,
+    table: Cells,
     holds: Vec<Hold>,
 }
 
 impl Model for Grants {
+    ghost use Rattle.std.specs.Prelude.{◌-◌, vec_len, vec_capacity};
+    ghost use Rattle.grants.specs.Cells.{IsCounted};
     ghost use Rattle.grants.specs.Ledger.{Ledger};
 
     ghost Value = { Ledger };
 
-    ghost view = { λ grants. record { rules = grants.rules; rows = grants.table; holds = grants.holds.items } };
+    ghost view = { λ grants. record {
+      table = grants.table;
+      list = grants.holds.items;
+      room = vec_capacity grants.holds - vec_len grants.holds;
+    } };
+
+    ghost invariant = { λ grants. IsCounted grants.table grants.holds.items };
 }
 
 impl Grants {
-    ghost use Rattle.grants.specs.Ledger.{IsNew, HoldsNothing, Gives, Takes, Holds, Releases, GrantAnswers, RevokeAnswers, grant_due, in_force, rights_on, listed, listed_to, listing};
-    ghost use Rattle.policy.specs.declared.rights.Right.{Right};
+    ghost use Rattle.grants.specs.Ledger.{IsNew, Gives, Takes, Holds, Releases, RevokeAnswers, rules_in, in_force, grant_due, rights_on, are_in_force, listed, listing};
 
     /// No right is in force yet, and no packet holds one.
     pub fn new(alloc: Global, policy: &Policy) -> Result<Grants, AllocError>
-        ensures rules { IfOk result (λ grants. grants.rules ≡ rules_of policy.now) }
+        ensures rules { IfOk result (λ grants. rules_in grants ≡ rules_of policy.now) }
         ensures none { IfOk result IsNew }
     {
         Ok(Grants {
-            rules: Rules::of(alloc, policy)?,
-            table: RightsTable::new(alloc),
+            table: Cells::new(alloc, policy)?,
             holds: Vec::new(alloc),
         })
     }
 
-    /// Gives a client rights on an object. It is refused, in this order, for a client or an object
-    /// that the policy doesn't declare, or a right that it doesn't allow. A right in force stays so.
+    /// Gives a client rights on an object. It is refused as `may_grant` says. A right in force stays
+    /// so. It takes no memory.
     pub fn grant(
         &mut self,
         client: ClientId,
         object: Object,
         rights: Rights,
-    ) -> Result<(), GrantError>
-        ensures answer { GrantAnswers (grant_due self.old client object rights) result }
+    ) -> Result<(), Refusal>
+        ensures answer { result ≡ grant_due self.old client object rights }
         ensures ok { OnOk result (Gives self.old self.new client object rights) }
         ensures err { OnErr result (self.new ≡ self.old) }
     {
-        if let Err(refusal) = self.may_grant(client, object, rights) {
-            return Err(GrantError::Refused(refusal));
-        }
-        let Ok(()) = self.table.grant(client, object, rights) else {
-            return Err(GrantError::OutOfMemory);
-        };
+        self.may_grant(client, object, rights)?;
+        self.put_in_force(client, object, rights);
         Ok(())
     }
 
-    // Whether a grant is refused.
-    fn may_grant(&self, client: ClientId, object: Object, rights: Rights) -> Result<(), Refusal>
+    /// Whether rights on an object may be granted to a client. It is refused, in this order, for a
+    /// client or an object that the policy doesn't declare, or a right that it doesn't allow.
+    pub fn may_grant(&self, client: ClientId, object: Object, rights: Rights) -> Result<(), Refusal>
         ensures { result ≡ grant_due self.now client object rights }
     {
-        if !self.rules.knows_client(client) {
+        let rules = self.table.rules();
+        if !rules.knows_client(client) {
             return Err(Refusal::UnknownClient);
         }
-        if !self.rules.knows(object) {
+        if !rules.knows(object) {
             return Err(Refusal::UnknownObject);
         }
-        if !self.rules.allows(client, object, rights) {
+        if !rules.allows(client, object, rights) {
             return Err(Refusal::NotAllowed);
         }
         Ok(())
     }
 
-    /// Takes rights on an object from a client. It is refused, in this order, for a client or an
-    /// object that the policy doesn't declare, or while a packet of a queue of the client holds one of
-    /// the rights. A right that isn't in force stays so. It takes no memory.
+    /// Puts a client's rights on an object in force, which `may_grant` allows.
+    pub fn put_in_force(&mut self, client: ClientId, object: Object, rights: Rights)
+        requires { grant_due self.old client object rights ≡ Ok tt }
+        ensures { Gives self.old self.new client object rights }
+    {
+        self.table.give(client, object, rights);
+    }
+
+    /// Takes rights on an object from a client. It is refused as `may_revoke` says. A right that
+    /// isn't in force stays so. It takes no memory.
     pub fn revoke(
         &mut self,
         client: ClientId,
@@ -101,19 +111,31 @@ impl Grants {
         ensures err { OnErr result (self.new ≡ self.old) }
     {
         self.may_revoke(client, object, rights)?;
-        self.table.revoke(client, object, rights);
+        self.take_out_of_force(client, object, rights);
         Ok(())
     }
 
-    // Whether a revocation is refused.
-    fn may_revoke(&self, client: ClientId, object: Object, rights: Rights) -> Result<(), Refusal>
+    /// Whether rights on an object may be taken from a client. It is refused, in this order, for a
+    /// client or an object that the policy doesn't declare, or while a packet of a queue of the client
+    /// holds one of the rights; of these packets the one with the least queue is named, and of that
+    /// queue the one with the least id.
+    pub fn may_revoke(
+        &self,
+        client: ClientId,
+        object: Object,
+        rights: Rights,
+    ) -> Result<(), Refusal>
         ensures { RevokeAnswers self.now client object rights result }
     {
-        if !self.rules.knows_client(client) {
+        let rules = self.table.rules();
+        if !rules.knows_client(client) {
             return Err(Refusal::UnknownClient);
         }
-        if !self.rules.knows(object) {
+        let Some(cell) = self.table.get(client, object) else {
             return Err(Refusal::UnknownObject);
+        };
+        if !cell.is_held(rights) {
+            return Ok(());
         }
         match first_holder(self.holds.as_slice(), client, object, rights) {
             Some((queue, packet)) => Err(Refusal::Busy { queue, packet }),
@@ -121,38 +143,58 @@ impl Grants {
         }
     }
 
+    /// Takes a client's rights on an object out of force, which `may_revoke` allows.
+    pub fn take_out_of_force(&mut self, client: ClientId, object: Object, rights: Rights)
+        requires { RevokeAnswers self.old client object rights (Ok tt) }
+        ensures { Takes self.old self.new client object rights }
+    {
+        self.table.take(client, object, rights);
+    }
+
     /// The rights of a client on an object.
     pub fn in_force(&self, client: ClientId, object: Object) -> Rights
         ensures set { result ≡ rights_on self.now client object }
         ensures each { (right : Right) → has result right ≡ in_force self.now client object right }
     {
-        self.table.rights_on(client, object)
+        Rights::from_each(
+            self.is_in_force(client, object, Right::Use),
+            self.is_in_force(client, object, Right::Read),
+            self.is_in_force(client, object, Right::Write),
+            self.is_in_force(client, object, Right::Wait),
+            self.is_in_force(client, object, Right::Change),
+            self.is_in_force(client, object, Right::Launch),
+        )
+    }
+
+    /// Whether a client's right on an object is in force.
+    pub fn is_in_force(&self, client: ClientId, object: Object, right: Right) -> bool
+        ensures { result ≡ in_force self.now client object right }
+    {
+        match self.table.get(client, object) {
+            Some(cell) => cell.rights.has(right),
+            None => false,
+        }
     }
 
     /// Whether each of some rights on objects is in force for a client.
     pub fn are_in_force(&self, client: ClientId, rights: &[(Object, Rights)]) -> bool
-        ensures { result ≡ list_all (λ named. each_right named.1 (in_force self.now client named.0)) rights.now }
+        ensures { result ≡ are_in_force self.now client rights.now }
     {
         rights
             .iter()
             .all(|named| self.has_all(client, named.0, named.1))
     }
 
+    // Whether each of some rights on an object is in force for a client.
     fn has_all(&self, client: ClientId, object: Object, rights: Rights) -> bool
         ensures { result ≡ each_right rights (in_force self.now client object) }
     {
         self.in_force(client, object).includes(rights)
     }
 
-    /// Whether no hold is a packet's, which then surely holds nothing.
-    pub fn is_idle(&self, queue: QueueId, packet: PacketId) -> bool
-        ensures answer { result ≡ not (list_any (is_of queue packet) self.now.holds) }
-        ensures idle { result ≡ true → HoldsNothing self.now queue packet }
-    {
-        !has_holds(self.holds.as_slice(), queue, packet)
-    }
-
-    /// Has a packet hold rights on objects, each of which is in force for the client of its queue.
+    /// Has a packet of a queue of a client hold rights on objects, each of which is in force for the
+    /// client. Of an object that is named twice the rights of both are held; a packet that holds
+    /// rights already holds these beside them.
     pub fn hold(
         &mut self,
         client: ClientId,
@@ -160,20 +202,50 @@ impl Grants {
         packet: PacketId,
         rights: &[(Object, Rights)],
     ) -> Result<(), AllocError>
-        requires in_force { list_all (λ named. each_right named.1 (in_force self.old client named.0)) rights.now ≡ true }
-        requires nothing { HoldsNothing self.old queue packet }
+        requires { are_in_force self.old client rights.now ≡ true }
         ensures ok { OnOk result (Holds self.old self.new client queue packet rights.now) }
         ensures err { OnErr result (self.new ≡ self.old) }
+        ensures full { OnErr result (self.old.room < length rights.now) }
     {
-        self.holds.reserve(rights.len())?;
-        push_holds(&mut self.holds, queue, packet, client, rights);
+        self.reserve(rights.len())?;
+        self.hold_reserved(client, queue, packet, rights);
         Ok(())
     }
 
-    /// Has a packet hold nothing any more. It takes no memory.
+    /// Gets room for holds on this many further objects, so that `hold_reserved` can have a packet
+    /// hold them. Room is never lost.
+    pub fn reserve(&mut self, further: usize) -> Result<(), AllocError>
+        ensures ok { OnOk result (further ≤ self.new.room) }
+        ensures err { OnErr result (self.old.room < further) }
+        ensures same { self.new ≡ record self.old { room = self.new.room } }
+        ensures room { self.old.room ≤ self.new.room }
+        ensures unchanged { OnErr result (self.new ≡ self.old) }
+    {
+        self.holds.reserve(further)
+    }
+
+    /// Has a packet hold rights as `hold` does, in room that was got before. It takes no memory.
+    pub fn hold_reserved(
+        &mut self,
+        client: ClientId,
+        queue: QueueId,
+        packet: PacketId,
+        rights: &[(Object, Rights)],
+    )
+        requires in_force { are_in_force self.old client rights.now ≡ true }
+        requires room { length rights.now ≤ self.old.room }
+        ensures holds { Holds self.old self.new client queue packet rights.now }
+        ensures room { self.new.room + length rights.now ≡ self.old.room }
+    {
+        put_holds(&mut self.table, &mut self.holds, client, queue, packet, rights);
+    }
+
+    /// Has a packet hold nothing any more; a packet that holds nothing changes nothing. It takes no
+    /// memory.
     pub fn release(&mut self, queue: QueueId, packet: PacketId)
         ensures { Releases self.old self.new queue packet }
     {
+        uncount_packet(&mut self.table, self.holds.as_slice(), queue, packet);
         drop_holds(&mut self.holds, queue, packet);
     }
 
@@ -201,28 +273,28 @@ impl Grants {
         client: ClientId,
         kind: Kind,
     ) -> Result<(), AllocError>
-        ensures { OnOk result (rows.new ≡ rows.old ++ listed_to self.now client kind (count self.now.rules kind)) }
+        ensures { OnOk result (rows.new ≡ rows.old ++ listed self.now client (objects_of (rules_in self.now) kind)) }
     {
-        for index in 0..self.rules.count(kind) {
-            self.list_object(rows, client, Object::of(kind, index as u64 + 1))?;
+        for before in 0..self.table.rules().count(kind) {
+            self.list_object(rows, client, Object::of(kind, before as u64 + 1))?;
         }
         Ok(())
     }
 
     // Puts an object on which the client has a right behind the others.
+    #[tactic(auto, unfolding(crate::specs::Ledger::listed))]
     fn list_object(
         &self,
         rows: &mut Sequence<(Object, Rights)>,
         client: ClientId,
         object: Object,
     ) -> Result<(), AllocError>
-        ensures { OnOk result (rows.new ≡ rows.old ++ listed self.now client object) }
+        ensures { OnOk result (rows.new ≡ rows.old ++ listed self.now client (object ∷ [])) }
     {
         let rights = self.in_force(client, object);
-        if rights.is_empty() {
-            return Ok(());
+        if !rights.is_empty() {
+            rows.push((object, rights))?;
         }
-        rows.push((object, rights))?;
         Ok(())
     }
 }

@@ -1,9 +1,9 @@
 //! Rights that packets hold, kept as a list.
 
-ghost use Rattle.std.specs.Prelude.{◌≡◌, ◌+◌, ◌≤◌, ◌++◌, ◌⊎◌, ◌&&◌, not, filter, map, length, vec_len, vec_capacity};
-ghost use Rattle.std.specs.List.{list_any};
-ghost use Rattle.grants.specs.Table.{same_pair};
-ghost use Rattle.grants.specs.Holds.{is_of, hold_of, meet, holds_one, IsUpTo, IsFirstTo};
+ghost use Rattle.std.specs.Prelude.{◌≡◌, ◌≤◌, ◌⊎◌, ◌&&◌, not, filter, vec_len, vec_capacity};
+ghost use Rattle.grants.specs.Pairs.{same_pair};
+ghost use Rattle.grants.specs.Holders.{IsUpTo, IsFirstTo};
+ghost use Rattle.grants.specs.Holds.{is_of, meet, holds_one};
 
 use aql_packet::{ClientId, PacketId, QueueId};
 use policy::{Object, Right, Rights};
@@ -24,7 +24,8 @@ pub struct Hold {
 }
 
 impl Hold {
-    fn is_of(&self, queue: QueueId, packet: PacketId) -> bool
+    /// Whether it is the packet's.
+    pub fn is_of(&self, queue: QueueId, packet: PacketId) -> bool
         ensures { result ≡ is_of queue packet self.now }
     {
         self.queue == queue && self.packet == packet
@@ -47,38 +48,11 @@ fn meet(a: Rights, b: Rights) -> bool
         .any(|right| a.has(*right) && b.has(*right))
 }
 
-/// Puts a packet's holds behind the others.
-pub fn push_holds(
-    holds: &mut Vec<Hold>,
-    queue: QueueId,
-    packet: PacketId,
-    client: ClientId,
-    rights: &[(Object, Rights)],
-)
-    requires { vec_len holds.old + length rights.now ≤ vec_capacity holds.old }
-    ensures { holds.new.items ≡ holds.old.items ++ map (hold_of queue packet client) rights.now }
-{
-    for (object, rights) in rights {
-        holds.push_reserved(Hold {
-            queue,
-            packet,
-            client,
-            object: *object,
-            rights: *rights,
-        });
-    }
-}
-
-/// Whether some hold is a packet's.
-pub fn has_holds(holds: &[Hold], queue: QueueId, packet: PacketId) -> bool
-    ensures { result ≡ list_any (is_of queue packet) holds.now }
-{
-    holds.iter().any(|hold| hold.is_of(queue, packet))
-}
-
 /// Takes a packet's holds out of the list.
 pub fn drop_holds(holds: &mut Vec<Hold>, queue: QueueId, packet: PacketId)
-    ensures { holds.new.items ≡ filter (λ hold. not (is_of queue packet hold)) holds.old.items }
+    ensures rest { holds.new.items ≡ filter (λ hold. not (is_of queue packet hold)) holds.old.items }
+    ensures len { vec_len holds.new ≤ vec_len holds.old }
+    ensures capacity { vec_capacity holds.new ≡ vec_capacity holds.old }
 {
     holds.retain(|hold| !hold.is_of(queue, packet));
 }

@@ -3,14 +3,20 @@
 // The check tries its tactics on what is left of each proof.
 #![tactic(auto)]
 
+mod cell;
+mod cells;
+mod counting;
 mod grants;
 mod hold;
+mod laws;
 mod refusal;
 mod rules;
+mod sets;
 mod table;
 #[cfg(test)]
 mod tests;
 
 pub use grants::Grants;
-pub use refusal::{GrantError, Refusal};
+pub use laws::what_calls_leave;
+pub use refusal::Refusal;
 pub use table::{RightsRow, RightsTable};

@@ -20,12 +20,3 @@ pub enum Refusal {
     /// The policy doesn't declare the client.
     UnknownClient,
 }
-
-/// Why a grant isn't made.
-#[derive(Clone, Copy, Debug, PartialEq, Eq)]
-pub enum GrantError {
-    /// There was no memory for it.
-    OutOfMemory,
-    /// It is refused.
-    Refused(Refusal),
-}

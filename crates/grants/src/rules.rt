@@ -1,6 +1,6 @@
 //! What grants keep of a policy.
 
-ghost use Rattle.std.specs.Prelude.{◌≡◌, ◌≤◌, IfOk};
+ghost use Rattle.std.specs.Prelude.{◌≡◌, ◌≤◌, ◌*◌, IfOk};
 
 use aql_packet::ClientId;
 use policy::{AllowRow, Kind, Object, Policy, Rights};
@@ -35,11 +35,12 @@ impl Model for Rules {
 
     ghost use Rattle.std.specs.Prelude.{◌≤◌};
 
-    ghost invariant = { λ rules. (((rules.agents ≤ 1024) × (rules.regions ≤ 1024)) × (rules.signals ≤ 1024)) × (rules.kernels ≤ 1024) };
+    ghost invariant = { λ rules. ((((rules.clients ≤ 1024) × (rules.agents ≤ 1024)) × (rules.regions ≤ 1024)) × (rules.signals ≤ 1024)) × (rules.kernels ≤ 1024) };
 }
 
 impl Rules {
     ghost use Rattle.grants.specs.Rules.{rules_of, count, knows_client, knows, allows};
+    ghost use Rattle.grants.specs.Cells.{object_count, objects_before, place_of};
 
     /// The rules of a policy.
     pub fn of(alloc: Global, policy: &Policy) -> Result<Rules, AllocError>
@@ -66,6 +67,45 @@ impl Rules {
             Kind::Signal => self.signals,
             Kind::Kernel => self.kernels,
         }
+    }
+
+    // How many objects there are.
+    fn object_count(&self) -> usize
+        ensures count { result ≡ object_count self.now }
+        ensures bound { result ≤ 4096 }
+    {
+        self.agents + self.regions + self.signals + self.kernels
+    }
+
+    // How many objects come before those of a kind.
+    fn objects_before(&self, kind: Kind) -> usize
+        ensures { result ≡ objects_before self.now kind }
+    {
+        match kind {
+            Kind::Agent => 0,
+            Kind::Region => self.agents,
+            Kind::Signal => self.agents + self.regions,
+            Kind::Kernel => self.agents + self.regions + self.signals,
+        }
+    }
+
+    /// How many cells a table needs: one for each client and object.
+    pub fn cell_count(&self) -> usize
+        ensures { result ≡ self.now.clients * object_count self.now }
+    {
+        self.clients * self.object_count()
+    }
+
+    /// The place of the cell of a client and an object, if both are declared: the clients' rows one
+    /// after another, and in each the objects, kind by kind.
+    pub fn place_of(&self, client: ClientId, object: Object) -> Option<usize>
+        ensures { result ≡ place_of self.now client object }
+    {
+        if !self.knows_client(client) || !self.knows(object) {
+            return None;
+        }
+        let row = (client.0 as usize - 1) * self.object_count();
+        Some(row + self.objects_before(object.kind()) + (object.number() as usize - 1))
     }
 
     /// Whether the client is declared.

@@ -4,12 +4,13 @@ ghost use Rattle.std.specs.Prelude.{◌≡◌, ◌&&◌, ◌||◌, [], not, true
 ghost use Rattle.aql_packet.specs.declared.ids.ClientId.{ClientId};
 ghost use Rattle.policy.specs.declared.object.Object.{Object};
 ghost use Rattle.policy.specs.declared.rights.Right.{Right};
-ghost use Rattle.policy.specs.Rights.{has, rights_that};
+ghost use Rattle.policy.specs.Rights.{rights_that};
 ghost use Rattle.grants.specs.declared.table.RightsRow.{RightsRow};
-ghost use Rattle.grants.specs.Table.{IsWith, IsWithout, gives, has_granted, has_row, is_one_of, is_row_of};
+ghost use Rattle.grants.specs.Pairs.{is_one_of};
+ghost use Rattle.grants.specs.Table.{IsWith, IsWithout, gives, has_granted, has_row, is_row_of};
 
+use crate::sets::{both, left};
 use aql_packet::ClientId;
-use bitflags::Flags;
 use policy::{Object, Right, Rights};
 use sequences::Sequence;
 use std::alloc::{AllocError, Global};
@@ -70,20 +71,6 @@ impl RightsRow {
             rights: left(self.rights, rights),
         }
     }
-}
-
-// The rights of two sets.
-fn both(rights: Rights, more: Rights) -> Rights
-    ensures { (right : Right) → has result right ≡ (has rights right || has more right) }
-{
-    rights.union(more)
-}
-
-// What is left of a set of rights without those of another.
-fn left(rights: Rights, taken: Rights) -> Rights
-    ensures { (right : Right) → has result right ≡ (has rights right && not (has taken right)) }
-{
-    rights.difference(taken)
 }
 
 /// All rights in force. A contract sees rows; a right is in force where some row gives it. Granting

@@ -1,7 +1,5 @@
 use super::*;
-use aql_packet::{
-    AgentHandle, ClientId, KernelObject, PacketId, QueueId, RegionHandle, SignalHandle,
-};
+use aql_packet::{AgentHandle, ClientId, PacketId, QueueId, RegionHandle, SignalHandle};
 use bitflags::Flags;
 use policy::{Object, Policy, ReadPolicyError, Right, Rights, read_policy};
 use sequences::Sequence;
@@ -53,6 +51,8 @@ const ALICE: ClientId = ClientId(1);
 
 const BOB: ClientId = ClientId(2);
 
+const QUEUE: QueueId = QueueId(1);
+
 const GPU: Object = Object::Agent(AgentHandle(1));
 
 const BUF: Object = Object::Region(RegionHandle(1));
@@ -83,34 +83,71 @@ fn opened(alloc: Global) -> Result<Grants, Fail> {
     opened_over(alloc, POLICY)
 }
 
-fn grant(
+fn is_granted(grants: &mut Grants, client: ClientId, object: Object, rights: Rights) -> bool {
+    grants.grant(client, object, rights).is_ok()
+}
+
+fn comes_into_force(grants: &mut Grants, object: Object, rights: Rights) -> bool {
+    match grants.may_grant(ALICE, object, rights) {
+        Ok(()) => {
+            grants.put_in_force(ALICE, object, rights);
+            true
+        }
+        Err(_) => false,
+    }
+}
+
+fn revoke(grants: &mut Grants, object: Object, rights: Rights) -> Result<(), Refusal> {
+    grants.revoke(ALICE, object, rights)
+}
+
+fn goes_out_of_force(grants: &mut Grants, object: Object, rights: Rights) -> bool {
+    match grants.may_revoke(ALICE, object, rights) {
+        Ok(()) => {
+            grants.take_out_of_force(ALICE, object, rights);
+            true
+        }
+        Err(_) => false,
+    }
+}
+
+fn in_force(grants: &Grants, object: Object) -> Rights {
+    grants.in_force(ALICE, object)
+}
+
+fn is_in_force(grants: &Grants, object: Object, right: Right) -> bool {
+    grants.is_in_force(ALICE, object, right)
+}
+
+// Whether rights that are in force come to be held.
+fn comes_to_hold(
     grants: &mut Grants,
-    client: ClientId,
-    object: Object,
-    rights: Rights,
-) -> Result<(), GrantError> {
-    grants.grant(client, object, rights)
+    packet: PacketId,
+    rights: &[(Object, Rights)],
+) -> Result<bool, AllocError> {
+    if !grants.are_in_force(ALICE, rights) {
+        return Ok(false);
+    }
+    grants.hold(ALICE, QUEUE, packet, rights)?;
+    Ok(true)
 }
 
-fn revoke(
+// The same, in room that is got before.
+fn comes_to_hold_reserved(
     grants: &mut Grants,
-    client: ClientId,
-    object: Object,
-    rights: Rights,
-) -> Result<(), Refusal> {
-    grants.revoke(client, object, rights)
+    packet: PacketId,
+    rights: &[(Object, Rights)],
+) -> Result<bool, AllocError> {
+    grants.reserve(rights.len())?;
+    if !grants.are_in_force(ALICE, rights) {
+        return Ok(false);
+    }
+    grants.hold_reserved(ALICE, QUEUE, packet, rights);
+    Ok(true)
 }
 
-fn in_force(grants: &Grants, client: ClientId, object: Object) -> Rights {
-    grants.in_force(client, object)
-}
-
-fn is_idle(grants: &Grants, queue: QueueId, packet: PacketId) -> bool {
-    grants.is_idle(queue, packet)
-}
-
-fn release(grants: &mut Grants, queue: QueueId, packet: PacketId) {
-    grants.release(queue, packet);
+fn release(grants: &mut Grants, packet: PacketId) {
+    grants.release(QUEUE, packet);
 }
 
 fn list(
@@ -121,209 +158,54 @@ fn list(
     grants.list(alloc, client)
 }
 
-/// The rights are granted.
-fn check_granted(
-    rt: &impl Abort,
-    grants: &mut Grants,
-    client: ClientId,
-    object: Object,
-    rights: Rights,
-) {
-    assert!(rt; grant(grants, client, object, rights).is_ok(), "{object:?}");
-}
-
-/// The revocation comes to this.
-fn check_revoked(
-    rt: &impl Abort,
-    grants: &mut Grants,
-    client: ClientId,
-    object: Object,
-    rights: Rights,
-    wanted: Result<(), Refusal>,
-) {
-    assert!(rt;
-        revoke(grants, client, object, rights) == wanted,
-        "{object:?}"
-    );
-}
-
-/// These rights and no other are in force.
-fn check_in_force(
-    rt: &impl Abort,
-    grants: &Grants,
-    client: ClientId,
-    object: Object,
-    rights: Rights,
-) {
-    assert!(rt; in_force(grants, client, object) == rights, "{object:?}");
-}
-
 fn both() -> Rights {
     Rights::READ.union(Rights::WRITE)
 }
 
-/// A name, a client, an object, rights, and what a grant comes to.
-type Row = (&'static str, ClientId, Object, Rights, Result<(), Refusal>);
-
-/// What clients ask for that are declared, on objects that are.
-fn asked_of_allowed() -> [Row; 5] {
-    [
-        ("allowed", ALICE, BUF, both(), Ok(())),
-        ("again", ALICE, BUF, both(), Ok(())),
-        ("one_of_two", BOB, BUF, both(), Err(Refusal::NotAllowed)),
-        ("no_rights", BOB, ARGS, Rights::NONE, Ok(())),
-        (
-            "other_kinds_right",
-            ALICE,
-            BUF,
-            Rights::USE,
-            Err(Refusal::NotAllowed),
-        ),
-    ]
-}
-
-/// What is asked for of clients and objects that are not declared.
-fn asked_of_nothing() -> [Row; 4] {
-    [
-        (
-            "client_zero",
-            ClientId(0),
-            BUF,
-            both(),
-            Err(Refusal::UnknownClient),
-        ),
-        (
-            "past_last_client",
-            ClientId(3),
-            Object::Region(RegionHandle(9)),
-            both(),
-            Err(Refusal::UnknownClient),
-        ),
-        (
-            "past_last_object",
-            ALICE,
-            Object::Region(RegionHandle(3)),
-            both(),
-            Err(Refusal::UnknownObject),
-        ),
-        (
-            "no_kernels",
-            BOB,
-            Object::Kernel(KernelObject(1)),
-            Rights::LAUNCH,
-            Err(Refusal::UnknownObject),
-        ),
-    ]
-}
-
-fn check_grant(rt: &impl Abort, grants: &mut Grants, row: Row) {
-    let (name, client, object, rights, wanted) = row;
-    let wanted = match wanted {
-        Ok(()) => Ok(()),
-        Err(refusal) => Err(GrantError::Refused(refusal)),
-    };
-    assert!(rt; grant(grants, client, object, rights) == wanted, "{name}");
-}
-
-fn check_grants(rt: &impl Abort, grants: &mut Grants, rows: &[Row]) {
-    for row in rows {
-        check_grant(rt, grants, *row);
-    }
-}
-
 // (a test that owns grants is dear to prove, so each hands them on at once)
-fn check_all_grants(rt: &impl Abort, mut grants: Grants) {
-    check_grants(rt, &mut grants, &asked_of_allowed());
-    check_grants(rt, &mut grants, &asked_of_nothing());
-    check_in_force(rt, &grants, ALICE, BUF, both());
-    check_in_force(rt, &grants, BOB, BUF, Rights::NONE);
+fn check_changes(rt: &impl Abort, grants: &mut Grants) {
+    assert!(rt; is_granted(grants, ALICE, BUF, both()));
+    assert!(rt; comes_into_force(grants, DONE, Rights::CHANGE));
+    assert!(rt; in_force(grants, BUF) == both());
+    assert!(rt; is_in_force(grants, DONE, Right::Change));
+    assert!(rt; revoke(grants, BUF, Rights::WRITE) == Ok(()));
+    assert!(rt; goes_out_of_force(grants, DONE, Rights::CHANGE));
+    assert!(rt; in_force(grants, BUF) == Rights::READ);
+    assert!(rt; !is_in_force(grants, DONE, Right::Change));
+}
+
+fn check_all_changes(rt: &impl Abort, mut grants: Grants) {
+    check_changes(rt, &mut grants);
 }
 
 #[test]
-fn a_grant_is_made_where_the_policy_allows_it(rt: HostRuntime) -> Result<(), Fail> {
-    check_all_grants(&rt, opened(rt.alloc())?);
+fn rights_come_into_force_and_go_out_of_it(rt: HostRuntime) -> Result<(), Fail> {
+    check_all_changes(&rt, opened(rt.alloc())?);
     Ok(())
-}
-
-fn check_revocations(rt: &impl Abort, grants: &mut Grants) {
-    check_granted(rt, grants, ALICE, BUF, both());
-    check_granted(rt, grants, ALICE, ARGS, both());
-    check_revoked(rt, grants, ALICE, BUF, Rights::WRITE, Ok(()));
-    check_revoked(rt, grants, ALICE, BUF, Rights::WRITE, Ok(()));
-    check_revoked(rt, grants, BOB, BUF, Rights::LAUNCH, Ok(()));
-    let unknown = Err(Refusal::UnknownClient);
-    check_revoked(rt, grants, ClientId(3), BUF, both(), unknown);
-    let other = Object::Signal(SignalHandle(2));
-    let unknown = Err(Refusal::UnknownObject);
-    check_revoked(rt, grants, BOB, other, both(), unknown);
-    check_in_force(rt, grants, ALICE, BUF, Rights::READ);
-    check_in_force(rt, grants, ALICE, ARGS, both());
-}
-
-fn check_all_revocations(rt: &impl Abort, mut grants: Grants) {
-    check_revocations(rt, &mut grants);
-}
-
-#[test]
-fn a_revocation_takes_the_rights_that_it_names(rt: HostRuntime) -> Result<(), Fail> {
-    check_all_revocations(&rt, opened(rt.alloc())?);
-    Ok(())
-}
-
-/// Whether rights that are in force come to be held by a packet that held none.
-fn comes_to_hold(
-    grants: &mut Grants,
-    queue: QueueId,
-    packet: PacketId,
-    rights: &[(Object, Rights)],
-) -> Result<bool, AllocError> {
-    if grants.are_in_force(ALICE, rights) && grants.is_idle(queue, packet) {
-        grants.hold(ALICE, queue, packet, rights)?;
-        Ok(true)
-    } else {
-        Ok(false)
-    }
 }
 
 fn held() -> [(Object, Rights); 2] {
-    [(BUF, Rights::WRITE), (DONE, Rights::CHANGE)]
+    [(BUF, Rights::WRITE), (BUF, Rights::READ)]
 }
 
-/// The packet comes to hold its rights.
-fn check_hold(
-    rt: &impl Abort,
-    grants: &mut Grants,
-    queue: u64,
-    packet: u64,
-) -> Result<(), AllocError> {
-    let (queue, packet) = (QueueId(queue), PacketId(packet));
-    assert!(rt; comes_to_hold(grants, queue, packet, &held())?);
-    assert!(rt; !is_idle(grants, queue, packet));
-    Ok(())
-}
-
-/// The packet is the one that stands against a revocation, until it is released, however often.
-fn check_holder(rt: &impl Abort, grants: &mut Grants, queue: u64, packet: u64) {
-    let (queue, packet) = (QueueId(queue), PacketId(packet));
-    let busy = Refusal::Busy { queue, packet };
-    check_revoked(rt, grants, ALICE, BUF, both(), Err(busy));
-    check_revoked(rt, grants, BOB, BUF, both(), Ok(()));
-    release(grants, queue, packet);
-    release(grants, queue, packet);
+/// The packet stands against the revocation until it is released, however often.
+fn check_holder(rt: &impl Abort, grants: &mut Grants, packet: PacketId) {
+    let busy = Refusal::Busy {
+        queue: QUEUE,
+        packet,
+    };
+    assert!(rt; revoke(grants, BUF, Rights::READ) == Err(busy));
+    release(grants, packet);
+    release(grants, packet);
 }
 
 fn check_holders(rt: &impl Abort, grants: &mut Grants) -> Result<(), AllocError> {
-    check_granted(rt, grants, ALICE, BUF, both());
-    check_granted(rt, grants, ALICE, DONE, Rights::CHANGE);
-    check_hold(rt, grants, 2, 0)?;
-    check_hold(rt, grants, 1, 7)?;
-    check_hold(rt, grants, 1, 3)?;
-    check_holder(rt, grants, 1, 3);
-    check_holder(rt, grants, 1, 7);
-    check_holder(rt, grants, 2, 0);
-    check_revoked(rt, grants, ALICE, BUF, both(), Ok(()));
-    check_in_force(rt, grants, ALICE, BUF, Rights::NONE);
-    check_in_force(rt, grants, ALICE, DONE, Rights::CHANGE);
+    assert!(rt; is_granted(grants, ALICE, BUF, both()));
+    assert!(rt; comes_to_hold(grants, PacketId(7), &held())?);
+    assert!(rt; comes_to_hold_reserved(grants, PacketId(3), &held())?);
+    check_holder(rt, grants, PacketId(3));
+    check_holder(rt, grants, PacketId(7));
+    assert!(rt; revoke(grants, BUF, Rights::READ) == Ok(()));
     Ok(())
 }
 
@@ -358,15 +240,13 @@ fn listed() -> [(Object, Rights); 4] {
 }
 
 fn check_lists(rt: &(impl Abort + AllocGlobal), grants: &mut Grants) -> Result<(), AllocError> {
-    check_list(rt, grants, BOB, &[])?;
-    check_granted(rt, grants, ALICE, DONE, Rights::WAIT);
-    check_granted(rt, grants, ALICE, ARGS, both());
-    check_granted(rt, grants, ALICE, GPU, Rights::USE);
-    check_granted(rt, grants, ALICE, BUF, Rights::READ);
-    check_granted(rt, grants, BOB, BUF, Rights::READ);
+    assert!(rt; is_granted(grants, ALICE, DONE, Rights::WAIT));
+    assert!(rt; is_granted(grants, ALICE, ARGS, both()));
+    assert!(rt; is_granted(grants, ALICE, GPU, Rights::USE));
+    assert!(rt; is_granted(grants, ALICE, BUF, Rights::READ));
+    assert!(rt; is_granted(grants, BOB, BUF, Rights::READ));
     check_list(rt, grants, ALICE, &listed())?;
-    check_list(rt, grants, BOB, &[(BUF, Rights::READ)])?;
-    check_list(rt, grants, ClientId(3), &[])
+    check_list(rt, grants, BOB, &[(BUF, Rights::READ)])
 }
 
 fn check_all_lists(rt: &(impl Abort + AllocGlobal), mut grants: Grants) -> Result<(), AllocError> {

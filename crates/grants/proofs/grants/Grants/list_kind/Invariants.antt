@@ -1,7 +1,9 @@
-use Rattle.std.proofs.Common.{◌≡◌, ◌++◌}
-use Rattle.grants.specs.Ledger.{listed_to}
+-- The rows of the objects so far stand behind the others.
+use Rattle.std.proofs.Common.{◌≡◌, ◌++◌, map}
+use Rattle.std.specs.List.{range_with_len}
+use Rattle.policy.specs.Object.{object_of}
+use Rattle.grants.specs.Ledger.{listed}
 use Rattle.grants.proofs.grants.Grants.list_kind.Given as goal
 
--- the objects so far stand behind the others
-abbrev pub invariant-loop-index : goal.invariant-loop-index
-invariant-loop-index l = l.rows ≡ l.fn.rows ++ listed_to l.self l.client l.kind l.index
+abbrev pub invariant-loop-before : goal.invariant-loop-before
+invariant-loop-before l = l.rows ≡ l.fn.rows ++ listed l.self l.client (map (object_of l.kind) (range_with_len 1 l.before))

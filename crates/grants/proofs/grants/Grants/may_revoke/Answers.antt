@@ -1,23 +1,29 @@
-use Rattle.std.proofs.Common.{◌∙◌, ap, sym, Some, None, subst}
-use Rattle.grants.specs.Holds.{holds_one, IsFirstTo}
-use Rattle.grants.specs.Rules.{knows_client, knows}
-use Rattle.grants.proofs.LedgerLemmas.{holder_first}
+-- A client and an object that have a cell are declared; where a count isn't 0 the list of holds names the holder.
+use Rattle.std.proofs.Common.{◌≡◌, ◌∙◌, sym, ap, subst, Some, None}
+use Rattle.std.specs.Prelude.{vec_len, vec_capacity, ◌-◌}
+use Rattle.grants.specs.Holders.{IsFirstTo}
+use Rattle.grants.specs.Holds.{holds_one}
+use Rattle.grants.proofs.LedgerLemmas.{declared, holder_first, none_holds}
 use Rattle.grants.proofs.grants.Grants.may_revoke.Goals as goal
 
-pub returns-in-Some : goal.returns-in-Some
-returns-in-Some c = (
-  sym (ap (λ g. knows_client g.rules c.args.client) c.self.view_is) ∙ sym c.knows_client.ensures ∙ c.if-not-knows_client.false,
-  sym (ap (λ g. knows g.rules c.args.object) c.self.view_is) ∙ sym c.knows.ensures ∙ c.if-not-knows.false,
-  holder_first c.self.inside.rules c.self.inside.table c.self.inside.holds.items c.args.self.now c.args.client c.args.object c.args.rights
-      (Some (c.in-Some.queue, c.in-Some.packet)) c.self.view_is
-      (subst (λ hs. IsFirstTo (holds_one hs c.args.client c.args.object c.args.rights) (Some (c.in-Some.queue, c.in-Some.packet))) c.as_slice.ensures.value c.in-Some.ensures),
-)
+pub returns-then-not-is_held : goal.returns-then-not-is_held
+returns-then-not-is_held c =
+    let room = vec_capacity c.self.inside.holds - vec_len c.self.inside.holds in
+    let known = declared c.self.inside.table c.self.inside.holds.items room c.args.self.now c.self.view_is c.args.client c.args.object c.get.result c.in-Some.cell c.get.ensures.declared c.in-Some.is in
+    (known.0, known.1, none_holds c.self.inside.table c.self.inside.holds.items room c.args.self.now c.self.view_is c.self.invariant c.args.client c.args.object c.args.rights c.in-Some.cell
+        (sym c.get.ensures.cell ∙ c.in-Some.is) (sym c.is_held.ensures ∙ c.if-not-is_held.true))
+
+pub returns-in-Some-first_holder : goal.returns-in-Some-first_holder
+returns-in-Some-first_holder c =
+    let room = vec_capacity c.self.inside.holds - vec_len c.self.inside.holds in
+    let first = Some (c.in-Some-first_holder.queue, c.in-Some-first_holder.packet) in
+    let known = declared c.self.inside.table c.self.inside.holds.items room c.args.self.now c.self.view_is c.args.client c.args.object c.get.result c.in-Some.cell c.get.ensures.declared c.in-Some.is in
+    (known.0, known.1, holder_first c.self.inside.table c.self.inside.holds.items room c.args.self.now c.self.view_is c.args.client c.args.object c.args.rights first
+        (subst (λ hs. IsFirstTo (holds_one hs c.args.client c.args.object c.args.rights) first) c.as_slice.ensures.value c.in-Some-first_holder.ensures))
 
 pub returns-in-None : goal.returns-in-None
-returns-in-None c = (
-  sym (ap (λ g. knows_client g.rules c.args.client) c.self.view_is) ∙ sym c.knows_client.ensures ∙ c.if-not-knows_client.false,
-  sym (ap (λ g. knows g.rules c.args.object) c.self.view_is) ∙ sym c.knows.ensures ∙ c.if-not-knows.false,
-  holder_first c.self.inside.rules c.self.inside.table c.self.inside.holds.items c.args.self.now c.args.client c.args.object c.args.rights
-      None c.self.view_is
-      (subst (λ hs. IsFirstTo (holds_one hs c.args.client c.args.object c.args.rights) None) c.as_slice.ensures.value c.in-None.ensures),
-)
+returns-in-None c =
+    let room = vec_capacity c.self.inside.holds - vec_len c.self.inside.holds in
+    let known = declared c.self.inside.table c.self.inside.holds.items room c.args.self.now c.self.view_is c.args.client c.args.object c.get.result c.in-Some.cell c.get.ensures.declared c.in-Some.is in
+    (known.0, known.1, holder_first c.self.inside.table c.self.inside.holds.items room c.args.self.now c.self.view_is c.args.client c.args.object c.args.rights None
+        (subst (λ hs. IsFirstTo (holds_one hs c.args.client c.args.object c.args.rights) None) c.as_slice.ensures.value c.in-None.ensures))

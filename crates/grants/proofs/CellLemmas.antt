@@ -1,0 +1,85 @@
+-- Counts right by right, and what one changed cell leaves in the table.
+use Rattle.std.proofs.Common.{◌≡◌, ℕ, ◌+◌, ◌<◌, ◌≤◌, List, length, get_or, Bool, true, false, not, ◌&&◌, ◌||◌, Option, Some, None, refl, sym, ap, subst, ◌∙◌, arith, true≢false}
+use Rattle.std.specs.Prelude.{if◌then◌else◌}
+use Rattle.std.specs.List.{list_all}
+use Rattle.std.proofs.lemmas.List.Folds.{list_all_at}
+use Rattle.aql_packet.specs.declared.ids.ClientId.{ClientId}
+use Rattle.policy.specs.declared.object.Object.{Object}
+use Rattle.policy.specs.declared.rights.Right.{Right}
+use Rattle.policy.specs.declared.rights.Right.TheVariants.{Use, Read, Write, Wait, Change, Launch}
+use Rattle.policy.specs.declared.rights.Rights.{Rights}
+use Rattle.policy.specs.Rights.{has, each_right}
+use Rattle.grants.specs.declared.cell.Cell.{Cell}
+use Rattle.grants.specs.Pairs.{same_pair}
+use Rattle.grants.specs.Cells.{Table, SameRights, cell_of, replaced, once}
+use Rattle.grants.proofs.PairLemmas.{both, same_pair_is}
+
+-- what is so of each of the six is so of every right
+pub by_right : (P : Right → Type 0) → P Use → P Read → P Write → P Wait → P Change → P Launch → (right : Right) → P right
+by_right P a b c d e f Use = a
+by_right P a b c d e f Read = b
+by_right P a b c d e f Write = c
+by_right P a b c d e f Wait = d
+by_right P a b c d e f Change = e
+by_right P a b c d e f Launch = f
+
+pub once-le : (rights : Rights) (right : Right) → once rights right ≤ 1
+once-le rights right = by_test (has rights right)
+  where
+    by_test : (b : Bool) → (if b then 1 else 0) ≤ 1
+    by_test true = omega arith
+    by_test false = omega arith
+
+implied : (a b : Bool) → (not a || b) ≡ true → a ≡ true → b ≡ true
+implied true b h e = h
+implied false b h e = absurd (true≢false (sym e))
+
+-- each right of the set passes the test
+pub each_right-has : (rights : Rights) (test : Right → Bool) → each_right rights test ≡ true → (right : Right) → has rights right ≡ true → test right ≡ true
+each_right-has rights test h right =
+    let a = both _ _ h in let b = both _ _ a.1 in let c = both _ _ b.1 in let d = both _ _ c.1 in let e = both _ _ d.1 in let f = both _ _ e.1 in
+    by_right (λ r. has rights r ≡ true → test r ≡ true)
+    (implied (has rights Use) (test Use) a.0) (implied (has rights Read) (test Read) b.0) (implied (has rights Write) (test Write) c.0)
+    (implied (has rights Wait) (test Wait) d.0) (implied (has rights Change) (test Change) e.0) (implied (has rights Launch) (test Launch) f.0) right
+
+module _ (old : Table) (c : ClientId) (o : Object) (before : Option Cell) (is : cell_of old c o ≡ before) (P : Bool → Option Cell → Option Cell → Type 0) (others : (s : Option Cell) → P false s s) where
+  -- what is so of the changed cell, and of all that didn't change, is so everywhere
+  pub at_each : (new : Table) (cell : Cell) → ((c' : ClientId) (o' : Object) → cell_of new c' o' ≡ (if same_pair c' o' c o then replaced cell (cell_of old c' o') else cell_of old c' o'))
+      → P true before (replaced cell before) → (c' : ClientId) (o' : Object) → P (same_pair c' o' c o) (cell_of old c' o') (cell_of new c' o')
+  at_each new cell change here c' o' = by_test (same_pair c' o' c o) refl (change c' o')
+    where
+      by_test : (same : Bool) → same_pair c' o' c o ≡ same → cell_of new c' o' ≡ (if same then replaced cell (cell_of old c' o') else cell_of old c' o')
+          → P same (cell_of old c' o') (cell_of new c' o')
+      by_test true same e =
+          let these = same_pair_is c' o' c o same in
+          let was : cell_of old c' o' ≡ before = (λ i. cell_of old (these.0 i) (these.1 i)) ∙ is in
+          subst (λ s. P true s (cell_of new c' o')) (sym was) (subst (λ s. P true before s) (sym (e ∙ ap (replaced cell) was)) here)
+      by_test false same e = subst (λ s. P false (cell_of old c' o') s) (sym e) (others (cell_of old c' o'))
+
+  -- the same where nothing changed
+  pub at_each_same : P true before before → (c' : ClientId) (o' : Object) → P (same_pair c' o' c o) (cell_of old c' o') (cell_of old c' o')
+  at_each_same here c' o' = by_test (same_pair c' o' c o) refl
+    where
+      by_test : (same : Bool) → same_pair c' o' c o ≡ same → P same (cell_of old c' o') (cell_of old c' o')
+      by_test true same =
+          let these = same_pair_is c' o' c o same in
+          let was : cell_of old c' o' ≡ before = (λ i. cell_of old (these.0 i) (these.1 i)) ∙ is in
+          subst (λ s. P true s s) (sym was) here
+      by_test false same = others (cell_of old c' o')
+
+-- rights that are in force are so where the same are in force
+pub each_right-same : (rights : Rights) (f g : Right → Bool) → ((right : Right) → g right ≡ f right) → each_right rights f ≡ true → each_right rights g ≡ true
+each_right-same rights f g same h = let all : g ≡ f = λ i. λ right. same right i in ap (each_right rights) all ∙ h
+
+pub all_at : {X : Type 0} (p : X → Bool) (xs : List X) (i : ℕ) (d : X) → i < length xs → list_all p xs ≡ true → p (get_or xs i d) ≡ true
+all_at p xs i d within all = by_test (p (get_or xs i d)) refl
+  where
+    by_test : (b : Bool) → p (get_or xs i d) ≡ b → b ≡ true
+    by_test true e = refl
+    by_test false e = absurd (true≢false (sym all ∙ list_all_at p xs i d within e))
+
+pub SameRights-then : (a b c : Table) → SameRights a b → SameRights b c → SameRights a c
+SameRights-then a b c first then_ = record {
+  same_rules = then_.same_rules ∙ first.same_rules;
+  same_rights = λ client object right. then_.same_rights client object right ∙ first.same_rights client object right;
+}

@@ -1,0 +1,167 @@
+-- The places of cells: each lies in the table, and no two are the same.
+use Rattle.std.proofs.Common.{◌≡◌, ℕ, zero, suc, ◌+◌, ◌-◌, ◌*◌, ◌/◌, ◌<◌, ◌≤◌, Bool, true, false, ◌&&◌, List, [], ◌∷◌, length, Option, Some, None, refl, sym, ap, ◌∙◌, arith, true≢false}
+use Rattle.std.specs.Option.{is_some}
+use Rattle.std.specs.Prelude.{nat_lt, nat_le, slice_get, slice_set, if◌then◌else◌}
+use Rattle.std.proofs.Math.Nat.{mul-le-mul_right}
+use Rattle.std.proofs.lemmas.Nat.{div-mul-add}
+use Rattle.std.proofs.lemmas.Bool.{ltb-true, leb-true}
+use Rattle.aql_packet.specs.declared.ids.ClientId.{ClientId}
+use Rattle.policy.specs.declared.object.Object.{Object}
+use Rattle.policy.specs.declared.object.Object.TheVariants.{Agent, Region, Signal, Kernel}
+use Rattle.policy.specs.Object.{kind_of, number_of}
+use Rattle.grants.specs.declared.cell.Cell.{Cell}
+use Rattle.grants.specs.Pairs.{same_pair}
+use Rattle.grants.specs.Rules.{Rules, count, knows_client, knows}
+use Rattle.grants.specs.Cells.{object_count, object_place, place_of, item_at, replaced}
+use Rattle.grants.proofs.PairLemmas.{both, same_pair_is, same_pair_itself}
+
+from_one : (n m : ℕ) → (nat_lt 0 n && nat_le n m) ≡ true → (0 < n) × (n ≤ m)
+from_one n m h = let parts = both (nat_lt 0 n) (nat_le n m) h in (ltb-true 0 n parts.0, leb-true n m parts.1)
+
+module _ (rules : Rules) where
+  pub in_row : (o : Object) → knows rules o ≡ true → object_place rules o < object_count rules
+  in_row (Agent h) k = let b = from_one h.0 rules.agents k in let l = b.0 in let u = b.1 in omega arith
+  in_row (Region h) k = let b = from_one h.0 rules.regions k in let l = b.0 in let u = b.1 in omega arith
+  in_row (Signal h) k = let b = from_one h.0 rules.signals k in let l = b.0 in let u = b.1 in omega arith
+  in_row (Kernel h) k = let b = from_one h.0 rules.kernels k in let l = b.0 in let u = b.1 in omega arith
+
+  same_in_row : (o p : Object) → knows rules o ≡ true → knows rules p ≡ true → object_place rules o ≡ object_place rules p → o ≡ p
+  same_in_row (Agent h) (Agent g) k l e = let b = from_one h.0 rules.agents k in let d = from_one g.0 rules.agents l in
+      let n : h.0 ≡ g.0 = omega (arith, b.0, d.0, e) in ap (λ i. Agent (record { 0 = i })) n
+  same_in_row (Region h) (Region g) k l e = let b = from_one h.0 rules.regions k in let d = from_one g.0 rules.regions l in
+      let n : h.0 ≡ g.0 = omega (arith, b.0, d.0, e) in ap (λ i. Region (record { 0 = i })) n
+  same_in_row (Signal h) (Signal g) k l e = let b = from_one h.0 rules.signals k in let d = from_one g.0 rules.signals l in
+      let n : h.0 ≡ g.0 = omega (arith, b.0, d.0, e) in ap (λ i. Signal (record { 0 = i })) n
+  same_in_row (Kernel h) (Kernel g) k l e = let b = from_one h.0 rules.kernels k in let d = from_one g.0 rules.kernels l in
+      let n : h.0 ≡ g.0 = omega (arith, b.0, d.0, e) in ap (λ i. Kernel (record { 0 = i })) n
+  same_in_row (Agent h) (Region g) k l e = let b = from_one h.0 rules.agents k in let d = from_one g.0 rules.regions l in absurd (omega (arith, b.0, b.1, d.0, d.1, e))
+  same_in_row (Agent h) (Signal g) k l e = let b = from_one h.0 rules.agents k in let d = from_one g.0 rules.signals l in absurd (omega (arith, b.0, b.1, d.0, d.1, e))
+  same_in_row (Agent h) (Kernel g) k l e = let b = from_one h.0 rules.agents k in let d = from_one g.0 rules.kernels l in absurd (omega (arith, b.0, b.1, d.0, d.1, e))
+  same_in_row (Region h) (Agent g) k l e = let b = from_one h.0 rules.regions k in let d = from_one g.0 rules.agents l in absurd (omega (arith, b.0, b.1, d.0, d.1, e))
+  same_in_row (Region h) (Signal g) k l e = let b = from_one h.0 rules.regions k in let d = from_one g.0 rules.signals l in absurd (omega (arith, b.0, b.1, d.0, d.1, e))
+  same_in_row (Region h) (Kernel g) k l e = let b = from_one h.0 rules.regions k in let d = from_one g.0 rules.kernels l in absurd (omega (arith, b.0, b.1, d.0, d.1, e))
+  same_in_row (Signal h) (Agent g) k l e = let b = from_one h.0 rules.signals k in let d = from_one g.0 rules.agents l in absurd (omega (arith, b.0, b.1, d.0, d.1, e))
+  same_in_row (Signal h) (Region g) k l e = let b = from_one h.0 rules.signals k in let d = from_one g.0 rules.regions l in absurd (omega (arith, b.0, b.1, d.0, d.1, e))
+  same_in_row (Signal h) (Kernel g) k l e = let b = from_one h.0 rules.signals k in let d = from_one g.0 rules.kernels l in absurd (omega (arith, b.0, b.1, d.0, d.1, e))
+  same_in_row (Kernel h) (Agent g) k l e = let b = from_one h.0 rules.kernels k in let d = from_one g.0 rules.agents l in absurd (omega (arith, b.0, b.1, d.0, d.1, e))
+  same_in_row (Kernel h) (Region g) k l e = let b = from_one h.0 rules.kernels k in let d = from_one g.0 rules.regions l in absurd (omega (arith, b.0, b.1, d.0, d.1, e))
+  same_in_row (Kernel h) (Signal g) k l e = let b = from_one h.0 rules.kernels k in let d = from_one g.0 rules.signals l in absurd (omega (arith, b.0, b.1, d.0, d.1, e))
+
+  -- a place is one only for a declared client and object
+  pub record IsPlace (c : ClientId) (o : Object) (place : ℕ) : Type 0 where
+    pub client : knows_client rules c ≡ true
+    pub object : knows rules o ≡ true
+    pub is : place ≡ (c.0 - 1) * object_count rules + object_place rules o
+
+  pub place-Some : (c : ClientId) (o : Object) (place : ℕ) → place_of rules c o ≡ Some place → IsPlace c o place
+  place-Some c o place h = by_test (knows_client rules c) (knows rules o) refl refl h
+    where
+      by_test : (a b : Bool) → knows_client rules c ≡ a → knows rules o ≡ b
+          → (if a && b then Some ((c.0 - 1) * object_count rules + object_place rules o) else None) ≡ Some place → IsPlace c o place
+      by_test true true client object e = record { client = client; object = object; is = cc }
+      by_test true false client object e = cc
+      by_test false b client object e = cc
+
+  pub place-within : (c : ClientId) (o : Object) (place : ℕ) → place_of rules c o ≡ Some place → place < rules.clients * object_count rules
+  place-within c o place h =
+      let p = place-Some c o place h in
+      let b = from_one c.0 rules.clients p.client in
+      let row : suc (c.0 - 1) ≤ rules.clients = omega (arith, b.0, b.1) in
+      let rows : suc (c.0 - 1) * object_count rules ≤ rules.clients * object_count rules = mul-le-mul_right (object_count rules) row in
+      let here = in_row o p.object in
+      let is = p.is in
+      omega arith
+
+  same_row : (a b i j : ℕ) → i < object_count rules → j < object_count rules → a * object_count rules + i ≡ b * object_count rules + j → a ≡ b
+  same_row a b i j h k e = sym (div-mul-add a (object_count rules) i h) ∙ ap (λ n. n / object_count rules) e ∙ div-mul-add b (object_count rules) j k
+
+  pub place-same : (c : ClientId) (o : Object) (c' : ClientId) (o' : Object) (place : ℕ) → place_of rules c o ≡ Some place → place_of rules c' o' ≡ Some place → (c ≡ c') × (o ≡ o')
+  place-same c o c' o' place h h' =
+      let p = place-Some c o place h in
+      let p' = place-Some c' o' place h' in
+      let i = in_row o p.object in
+      let j = in_row o' p'.object in
+      let row = same_row (c.0 - 1) (c'.0 - 1) (object_place rules o) (object_place rules o') i j (sym p.is ∙ p'.is) in
+      let rows : (c.0 - 1) * object_count rules ≡ (c'.0 - 1) * object_count rules = ap (λ n. n * object_count rules) row in
+      let b = from_one c.0 rules.clients p.client in
+      let b' = from_one c'.0 rules.clients p'.client in
+      let number : c.0 ≡ c'.0 = omega (arith, b.0, b'.0, row) in
+      let column : object_place rules o ≡ object_place rules o' = omega (arith, rows, p.is, p'.is) in
+      (ap (λ n. record { 0 = n }) number, same_in_row o o' p.object p'.object column)
+
+-- ---- a list with one item changed
+
+get-set_here : (cells : List Cell) (i : ℕ) (cell : Cell) → i < length cells → slice_get (slice_set cells i cell) i ≡ Some cell
+get-set_here [] i cell h = absurd (omega arith)
+get-set_here (x ∷ xs) zero cell h = refl
+get-set_here (x ∷ xs) (suc i) cell h = get-set_here xs i cell (omega arith)
+
+get-set_other : (cells : List Cell) (i j : ℕ) (cell : Cell) → (i ≡ j → ⊥) → slice_get (slice_set cells i cell) j ≡ slice_get cells j
+get-set_other [] i j cell other = refl
+get-set_other (x ∷ xs) zero zero cell other = absurd (other refl)
+get-set_other (x ∷ xs) zero (suc j) cell other = refl
+get-set_other (x ∷ xs) (suc i) zero cell other = refl
+get-set_other (x ∷ xs) (suc i) (suc j) cell other = get-set_other xs i j cell (λ e. other (ap suc e))
+
+get-within : (cells : List Cell) (i : ℕ) (new : Cell) → i < length cells → replaced new (slice_get cells i) ≡ Some new
+get-within [] i new h = absurd (omega arith)
+get-within (x ∷ xs) zero new h = refl
+get-within (x ∷ xs) (suc i) new h = get-within xs i new (omega arith)
+
+module _ (rules : Rules) (cells : List Cell) (long : length cells ≡ rules.clients * object_count rules) (c : ClientId) (o : Object) (new : Cell) where
+  -- what a changed cell leaves at every client and object
+  pub cell-set : (place : ℕ) → place_of rules c o ≡ Some place → (c' : ClientId) (o' : Object)
+      → item_at (slice_set cells place new) (place_of rules c' o') ≡ (if same_pair c' o' c o then replaced new (item_at cells (place_of rules c' o')) else item_at cells (place_of rules c' o'))
+  cell-set place at c' o' = by_test (same_pair c' o' c o) refl (place_of rules c' o') refl
+    where
+      within : place < length cells
+      within = let w = place-within rules c o place at in omega arith
+
+      by_test : (same : Bool) → same_pair c' o' c o ≡ same → (at' : Option ℕ) → place_of rules c' o' ≡ at'
+          → item_at (slice_set cells place new) at' ≡ (if same then replaced new (item_at cells at') else item_at cells at')
+      by_test true same None is = refl
+      by_test false same None is = refl
+      by_test true same (Some place') is =
+          let these = same_pair_is c' o' c o same in
+          let there : Some place' ≡ Some place = sym is ∙ (λ i. place_of rules (these.0 i) (these.1 i)) ∙ at in
+          let e : place' ≡ place = cc in
+          rw e (get-set_here cells place new within ∙ sym (get-within cells place new within))
+      by_test false same (Some place') is =
+          get-set_other cells place place' new (λ e.
+          let these = place-same rules c' o' c o place (is ∙ ap Some (sym e)) at in
+          true≢false (sym (same_pair_itself c o) ∙ (λ i. same_pair (sym these.0 i) (sym these.1 i) c o) ∙ same))
+
+  -- nothing is changed where there is no place
+  pub cell-unset : place_of rules c o ≡ None → (c' : ClientId) (o' : Object)
+      → item_at cells (place_of rules c' o') ≡ (if same_pair c' o' c o then replaced new (item_at cells (place_of rules c' o')) else item_at cells (place_of rules c' o'))
+  cell-unset at c' o' = by_test (same_pair c' o' c o) refl
+    where
+      by_test : (same : Bool) → same_pair c' o' c o ≡ same
+          → item_at cells (place_of rules c' o') ≡ (if same then replaced new (item_at cells (place_of rules c' o')) else item_at cells (place_of rules c' o'))
+      by_test false same = refl
+      by_test true same =
+          let these = same_pair_is c' o' c o same in
+          let none : place_of rules c' o' ≡ None = (λ i. place_of rules (these.0 i) (these.1 i)) ∙ at in
+          rw none refl
+
+module _ (rules : Rules) (cells : List Cell) (long : length cells ≡ rules.clients * object_count rules) (c : ClientId) (o : Object) where
+  -- there is a cell just for a declared client and object
+  pub cell-declared : is_some (item_at cells (place_of rules c o)) ≡ (knows_client rules c && knows rules o)
+  cell-declared = by_test (place_of rules c o) refl
+    where
+      some_within : (xs : List Cell) (i : ℕ) → i < length xs → is_some (slice_get xs i) ≡ true
+      some_within [] i h = absurd (omega arith)
+      some_within (x ∷ xs) zero h = refl
+      some_within (x ∷ xs) (suc i) h = some_within xs i (omega arith)
+
+      none_for : (a b : Bool) (n : ℕ) → (if a && b then Some n else None) ≡ None → (a && b) ≡ false
+      none_for true true n h = cc
+      none_for true false n h = refl
+      none_for false b n h = refl
+
+      by_test : (at : Option ℕ) → place_of rules c o ≡ at → is_some (item_at cells (place_of rules c o)) ≡ (knows_client rules c && knows rules o)
+      by_test None is = ap (λ at. is_some (item_at cells at)) is ∙ sym (none_for (knows_client rules c) (knows rules o) _ is)
+      by_test (Some place) is =
+          let p = place-Some rules c o place is in
+          let w = place-within rules c o place is in
+          ap (λ at. is_some (item_at cells at)) is ∙ some_within cells place (omega arith) ∙ sym (rw (p.client, p.object) refl)

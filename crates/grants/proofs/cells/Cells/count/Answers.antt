@@ -1,0 +1,36 @@
+-- One more hold of each of its rights is counted in the cell of its client and object, and nowhere else.
+use Rattle.std.proofs.Common.{◌≡◌, ℕ, ◌∙◌, ◌+◌, ◌<◌, ◌&&◌, Bool, true, false, sym, refl, ap, subst, Some, None, arith, true≢false}
+use Rattle.std.specs.Prelude.{if◌then◌else◌}
+use Rattle.std.proofs.lemmas.Bool.{false_from_ne_true}
+use Rattle.policy.specs.Rights.{has}
+use Rattle.grants.specs.Cells.{has_right, count_in, cell_of, in_table}
+use Rattle.grants.proofs.CellLemmas.{at_each, at_each_same, each_right-has}
+use Rattle.grants.proofs.cells.Cells.count.Goals as goal
+
+pub held_once_more-more-requires : goal.held_once_more-more-requires
+held_once_more-more-requires c = λ right.
+    subst (λ s. count_in right s < 18446744073709551615) (sym c.get.ensures.cell ∙ c.in-Some.is) (c.requires.fits right)
+
+pub returns-in-Some-clause-counts : goal.returns-in-Some-clause-counts
+returns-in-Some-clause-counts c = λ client object right.
+    at_each c.args.self.now c.args.hold.now.client c.args.hold.now.object (Some c.in-Some.cell) (sym c.get.ensures.cell ∙ c.in-Some.is)
+    (λ same s t. count_in right t ≡ count_in right s + (if same && has c.args.hold.now.rights right then 1 else 0)) (λ s. omega arith)
+    c.set.new.self c.held_once_more-more.result c.set.ensures.cells (c.held_once_more-more.ensures.held right) client object
+
+pub returns-in-Some-clause-rights : goal.returns-in-Some-clause-rights
+returns-in-Some-clause-rights c = record {
+  same_rules = c.set.ensures.rules;
+  same_rights = λ client object right.
+      at_each c.args.self.now c.args.hold.now.client c.args.hold.now.object (Some c.in-Some.cell) (sym c.get.ensures.cell ∙ c.in-Some.is)
+      (λ same s t. has_right right t ≡ has_right right s) (λ s. refl)
+      c.set.new.self c.held_once_more-more.result c.set.ensures.cells (ap (λ rights. has rights right) c.held_once_more-more.ensures.rights) client object;
+}
+
+pub returns-in_default-clause-counts : goal.returns-in_default-clause-counts
+returns-in_default-clause-counts c = λ client object right.
+    let none : cell_of c.args.self.now c.args.hold.now.client c.args.hold.now.object ≡ None = sym c.get.ensures.cell ∙ c.in_default.is in
+    let not_named : has c.args.hold.now.rights right ≡ false = false_from_ne_true (has c.args.hold.now.rights right) (λ named.
+        true≢false (sym (each_right-has c.args.hold.now.rights (in_table c.args.self.now c.args.hold.now.client c.args.hold.now.object) c.requires.in_force right named) ∙ ap (has_right right) none)) in
+    at_each_same c.args.self.now c.args.hold.now.client c.args.hold.now.object None none
+    (λ same s t. count_in right t ≡ count_in right s + (if same && has c.args.hold.now.rights right then 1 else 0)) (λ s. omega arith)
+    (ap (λ (b : Bool). 0 + (if b then 1 else 0)) (sym not_named)) client object

@@ -1,0 +1,13 @@
+-- There is a cell just for a declared client and object.
+use Rattle.std.proofs.Common.{◌≡◌, ◌∙◌, ap, sym, ◌&&◌}
+use Rattle.std.specs.Option.{is_some}
+use Rattle.grants.specs.Rules.{knows_client, knows}
+use Rattle.grants.specs.Cells.{item_at}
+use Rattle.grants.proofs.PlaceLemmas.{cell-declared}
+use Rattle.grants.proofs.cells.Cells.get.Goals as goal
+
+pub returns-clause-declared : goal.returns-clause-declared
+returns-clause-declared c =
+    ap is_some (c.copied.ensures ∙ c.get.ensures ∙ ap (item_at c.self.inside.cells) (sym c.in_ok-place.was ∙ c.place_of.ensures))
+    ∙ cell-declared c.self.inside.rules c.self.inside.cells c.self.invariant c.args.client c.args.object
+    ∙ ap (λ t. knows_client t.rules c.args.client && knows t.rules c.args.object) c.self.view_is

@@ -1,0 +1,42 @@
+-- One hold more stands behind the others and is counted.
+use Rattle.std.proofs.Common.{◌≡◌, ◌∙◌, ◌+◌, ◌<◌, ◌≤◌, arith, ap, sym, subst, length, get_or}
+use Rattle.policy.specs.declared.object.Object.{Object}
+use Rattle.policy.specs.declared.object.Object.TheVariants.{Agent}
+use Rattle.policy.specs.declared.rights.Rights.{Rights}
+use Rattle.policy.specs.Rights.{each_right}
+use Rattle.grants.specs.Cells.{IsCounted, in_table, counted}
+use Rattle.grants.specs.Holds.{hold_of}
+use Rattle.grants.proofs.CellLemmas.{all_at, each_right-same, SameRights-then}
+use Rattle.grants.proofs.CountLemmas.{counted-le, counted_more, put-more}
+use Rattle.grants.proofs.counting.put_holds.Goals as goal
+
+abbrev none : Object × Rights
+none = (Agent (record { 0 = 0 }), record { 0 = 0 })
+
+pub count-requires-clause-in_force : goal.count-requires-clause-in_force
+count-requires-clause-in_force c =
+    let named = get_or c.args.rights.now c.loop-object.object-index none in
+    each_right-same named.1 (in_table c.args.table.now c.args.client named.0) (in_table c.loop-object.table c.args.client named.0)
+    (λ right. c.loop-object.invariant.rights.same_rights c.args.client named.0 right)
+    (all_at (λ n. each_right n.1 (in_table c.args.table.now c.args.client n.0)) c.args.rights.now c.loop-object.object-index none c.loop-object-test.true c.requires.in_force)
+
+pub count-requires-clause-fits : goal.count-requires-clause-fits
+count-requires-clause-fits c = λ right.
+    let few = counted-le c.loop-object.table c.loop-object.holds.items c.loop-object.invariant.counted c.args.client (get_or c.args.rights.now c.loop-object.object-index none).0 right in
+    let long = c.loop-object.holds.ok.0 in
+    let within = c.loop-object.holds.ok.1 in
+    let small = c.loop-object.holds.small in
+    omega arith
+
+pub loop-object-preserved : goal.loop-object-preserved
+loop-object-preserved c =
+    let hold = hold_of c.args.queue c.args.packet c.args.client (get_or c.args.rights.now c.loop-object.object-index none) in
+    record {
+      counted = subst (λ holds. IsCounted c.count.new.self holds) (sym c.push_reserved.ensures.items)
+          (counted_more c.loop-object.table c.count.new.self hold c.loop-object.holds.items c.loop-object.invariant.counted c.count.ensures.counts);
+      rights = SameRights-then c.args.table.now c.loop-object.table c.count.new.self c.loop-object.invariant.rights c.count.ensures.rights;
+      items = put-more (hold_of c.args.queue c.args.packet c.args.client) c.args.holds.now.items c.loop-object.holds.items c.push_reserved.new.self.items
+          c.args.rights.now c.loop-object.object-index none c.loop-object-test.true c.loop-object.invariant.items c.push_reserved.ensures.items;
+      len = c.push_reserved.ensures.len ∙ ap (λ n. n + 1) c.loop-object.invariant.len ∙ omega arith;
+      capacity = c.push_reserved.ensures.capacity ∙ c.loop-object.invariant.capacity;
+    }

@@ -1,0 +1,17 @@
+-- The rows of the four kinds are the listing.
+use Rattle.std.proofs.Common.{◌≡◌, ◌∙◌, ◌++◌, ap}
+use Rattle.policy.specs.declared.object.Kind.TheVariants as kind
+use Rattle.grants.specs.Rules.{objects_of}
+use Rattle.grants.specs.Ledger.{listed, rules_in}
+use Rattle.grants.proofs.ListingLemmas.{listed-kinds}
+use Rattle.grants.proofs.grants.Grants.list.Goals as goal
+
+pub returns : goal.returns
+returns c =
+    let rules = rules_in c.args.self.now in
+    c.in_ok-list_kind-4.ensures
+    ∙ ap (λ rows. rows ++ listed c.args.self.now c.args.client (objects_of rules kind.Kernel)) (c.in_ok-list_kind-3.ensures
+    ∙ ap (λ rows. rows ++ listed c.args.self.now c.args.client (objects_of rules kind.Signal)) (c.in_ok-list_kind-2.ensures
+    ∙ ap (λ rows. rows ++ listed c.args.self.now c.args.client (objects_of rules kind.Region)) (c.in_ok-list_kind.ensures
+    ∙ ap (λ rows. rows ++ listed c.args.self.now c.args.client (objects_of rules kind.Agent)) c.new-rows.ensures)))
+    ∙ listed-kinds c.args.self.now c.args.client (objects_of rules kind.Agent) (objects_of rules kind.Region) (objects_of rules kind.Signal) (objects_of rules kind.Kernel)

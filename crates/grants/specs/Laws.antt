@@ -1,0 +1,66 @@
+-- What any list of calls leaves: the rights that were granted and not revoked since, and the holds that weren't released since.
+use Rattle.std.specs.Prelude.{◌≡◌, Bool, true, false, not, ◌&&◌, ◌||◌, List, [], ◌∷◌, map, fold, Ok}
+use Rattle.aql_packet.specs.declared.ids.ClientId.{ClientId}
+use Rattle.aql_packet.specs.declared.ids.QueueId.{QueueId}
+use Rattle.aql_packet.specs.declared.ids.PacketId.{PacketId}
+use Rattle.policy.specs.declared.object.Object.{Object}
+use Rattle.policy.specs.declared.rights.Right.{Right}
+use Rattle.policy.specs.declared.rights.Rights.{Rights}
+use Rattle.grants.specs.Pairs.{is_one_of, names}
+use Rattle.grants.specs.Holders.{same_packet}
+use Rattle.grants.specs.Ledger.{Ledger, rules_in, in_force, holds, IsNew, Gives, Takes, Holds, Releases, grant_due, RevokeAnswers, are_in_force}
+
+-- a call that was made; one that is refused leaves all as it was, and stands in no list
+pub data Call : Type 0 where
+  Grant : ClientId → Object → Rights → Call
+  Revoke : ClientId → Object → Rights → Call
+  Hold : ClientId → QueueId → PacketId → List (Object × Rights) → Call
+  Release : QueueId → PacketId → Call
+
+-- a call may be made, and leads from the one to the other
+abbrev pub Leads : Ledger → Call → Ledger → Type 0
+Leads old (Grant client object rights) new = (grant_due old client object rights ≡ Ok tt) × Gives old new client object rights
+Leads old (Revoke client object rights) new = RevokeAnswers old client object rights (Ok tt) × Takes old new client object rights
+Leads old (Hold client queue packet rights) new = (are_in_force old client rights ≡ true) × Holds old new client queue packet rights
+Leads old (Release queue packet) new = Releases old new queue packet
+
+-- calls that are made one after another, each with what it leads to
+abbrev pub AreMade : Ledger → List (Call × Ledger) → Type 0
+AreMade old [] = Unit {0}
+AreMade old (step ∷ steps) = Leads old step.0 step.1 × AreMade step.1 steps
+
+-- what they lead to
+abbrev pub left_by : Ledger → List (Call × Ledger) → Ledger
+left_by old [] = old
+left_by old (step ∷ steps) = left_by step.1 steps
+
+-- the client's right on the object was granted and not revoked since
+abbrev pub was_given : ClientId → Object → Right → Bool → Call → Bool
+was_given client object right before (Grant client' object' rights) = before || is_one_of client object right client' object' rights
+was_given client object right before (Revoke client' object' rights) = before && not (is_one_of client object right client' object' rights)
+was_given client object right before (Hold _ _ _ _) = before
+was_given client object right before (Release _ _) = before
+
+-- the packet came to hold the right and wasn't released since
+abbrev pub came_to_hold : QueueId → PacketId → ClientId → Object → Right → Bool → Call → Bool
+came_to_hold queue packet client object right before (Grant _ _ _) = before
+came_to_hold queue packet client object right before (Revoke _ _ _) = before
+came_to_hold queue packet client object right before (Hold client' queue' packet' rights) =
+    before || (same_packet queue packet queue' packet' && names rights client' client object right)
+came_to_hold queue packet client object right before (Release queue' packet') = before && not (same_packet queue packet queue' packet')
+
+-- After any list of calls from the beginning:
+pub record IsLeft (first last : Ledger) (calls : List Call) : Type 0 where
+  -- in force is what was granted and not revoked since
+  pub given : (client : ClientId) (object : Object) (right : Right) → in_force last client object right ≡ fold (was_given client object right) false calls
+  -- a packet holds what it came to hold, until it is released
+  pub held : (queue : QueueId) (packet : PacketId) (client : ClientId) (object : Object) (right : Right)
+      → holds last queue packet client object right ≡ fold (came_to_hold queue packet client object right) false calls
+  -- a right that a packet holds is in force
+  pub held_is_in_force : (queue : QueueId) (packet : PacketId) (client : ClientId) (object : Object) (right : Right)
+      → holds last queue packet client object right ≡ true → in_force last client object right ≡ true
+  -- the rules, by which grants and unknown names are refused, are those of the beginning
+  pub same_rules : rules_in last ≡ rules_in first
+
+abbrev pub CallsLeave : Type 0
+CallsLeave = (first : Ledger) (steps : List (Call × Ledger)) → IsNew first → AreMade first steps → IsLeft first (left_by first steps) (map (λ step. step.0) steps)

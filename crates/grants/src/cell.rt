@@ -1,0 +1,157 @@
+//! One cell of the table: a client's rights on an object, and how many holds there are of each.
+
+ghost use Rattle.std.specs.Prelude.{◌≡◌, ◌+◌, ◌-◌, ◌<◌, ◌≤◌, ◌^◌, ◌&&◌, ◌||◌, not, nat_lt};
+ghost use Rattle.std.specs.List.{list_any};
+ghost use Rattle.policy.specs.declared.rights.Right.{Right};
+ghost use Rattle.policy.specs.Rights.{has, all_rights};
+ghost use Rattle.grants.specs.Cells.{count_of, once};
+
+use crate::sets::{both, left};
+use policy::{Right, Rights};
+
+/// How many holds there are of each right.
+#[derive(Clone, Copy, Debug, PartialEq, Eq)]
+pub struct Counts {
+    pub use_agent: usize,
+    pub read: usize,
+    pub write: usize,
+    pub wait: usize,
+    pub change: usize,
+    pub launch: usize,
+}
+
+impl Counts {
+    /// No hold.
+    pub const NONE: Counts = Counts {
+        use_agent: 0,
+        read: 0,
+        write: 0,
+        wait: 0,
+        change: 0,
+        launch: 0,
+    };
+
+    // The counts with one more hold of each of some rights.
+    fn raised(self, rights: Rights) -> Counts
+        requires { (right : Right) → count_of self right < 2 ^ 64 - 1 }
+        ensures { (right : Right) → count_of result right ≡ count_of self right + once rights right }
+    {
+        Counts {
+            use_agent: self.use_agent + once(rights, Right::Use),
+            read: self.read + once(rights, Right::Read),
+            write: self.write + once(rights, Right::Write),
+            wait: self.wait + once(rights, Right::Wait),
+            change: self.change + once(rights, Right::Change),
+            launch: self.launch + once(rights, Right::Launch),
+        }
+    }
+
+    // The counts with one hold less of each of some rights.
+    fn lowered(self, rights: Rights) -> Counts
+        requires { (right : Right) → once rights right ≤ count_of self right }
+        ensures { (right : Right) → count_of result right + once rights right ≡ count_of self right }
+    {
+        Counts {
+            use_agent: self.use_agent - once(rights, Right::Use),
+            read: self.read - once(rights, Right::Read),
+            write: self.write - once(rights, Right::Write),
+            wait: self.wait - once(rights, Right::Wait),
+            change: self.change - once(rights, Right::Change),
+            launch: self.launch - once(rights, Right::Launch),
+        }
+    }
+
+    // How many holds there are of a right.
+    fn of(self, right: Right) -> usize
+        ensures { result ≡ count_of self right }
+    {
+        match right {
+            Right::Use => self.use_agent,
+            Right::Read => self.read,
+            Right::Write => self.write,
+            Right::Wait => self.wait,
+            Right::Change => self.change,
+            Right::Launch => self.launch,
+        }
+    }
+}
+
+// One, for a right of the set.
+fn once(rights: Rights, right: Right) -> usize
+    ensures value { result ≡ once rights right }
+    ensures bound { result ≤ 1 }
+{
+    if rights.has(right) { 1 } else { 0 }
+}
+
+/// A client's rights on an object, and how many holds there are of each.
+#[derive(Clone, Copy, Debug, PartialEq, Eq)]
+pub struct Cell {
+    /// The rights in force.
+    pub rights: Rights,
+    /// How many holds there are of each.
+    pub held: Counts,
+}
+
+impl Cell {
+    /// No right, and no hold.
+    pub const EMPTY: Cell = Cell {
+        rights: Rights::NONE,
+        held: Counts::NONE,
+    };
+
+    /// The cell with further rights in force.
+    pub fn with(self, rights: Rights) -> Cell
+        ensures rights { (right : Right) → has result.rights right ≡ (has self.rights right || has rights right) }
+        ensures held { result.held ≡ self.held }
+    {
+        Cell {
+            rights: both(self.rights, rights),
+            held: self.held,
+        }
+    }
+
+    /// The cell without some rights.
+    pub fn without(self, rights: Rights) -> Cell
+        ensures rights { (right : Right) → has result.rights right ≡ (has self.rights right && not (has rights right)) }
+        ensures held { result.held ≡ self.held }
+    {
+        Cell {
+            rights: left(self.rights, rights),
+            held: self.held,
+        }
+    }
+
+    /// The cell with one more hold of each of some rights.
+    pub fn held_once_more(self, rights: Rights) -> Cell
+        requires { (right : Right) → count_of self.held right < 2 ^ 64 - 1 }
+        ensures rights { result.rights ≡ self.rights }
+        ensures held { (right : Right) → count_of result.held right ≡ count_of self.held right + once rights right }
+    {
+        Cell {
+            rights: self.rights,
+            held: self.held.raised(rights),
+        }
+    }
+
+    /// The cell with one hold less of each of some rights.
+    pub fn held_once_less(self, rights: Rights) -> Cell
+        requires { (right : Right) → once rights right ≤ count_of self.held right }
+        ensures rights { result.rights ≡ self.rights }
+        ensures held { (right : Right) → count_of result.held right + once rights right ≡ count_of self.held right }
+    {
+        Cell {
+            rights: self.rights,
+            held: self.held.lowered(rights),
+        }
+    }
+
+    /// Whether there is a hold of one of some rights.
+    pub fn is_held(self, rights: Rights) -> bool
+        ensures { result ≡ list_any (λ right. has rights right && nat_lt 0 (count_of self.held right)) all_rights }
+    {
+        Right::ALL
+            .iter()
+            .any(|right| rights.has(*right) && 0 < self.held.of(*right))
+    }
+}

@@ -1,0 +1,137 @@
+//! The table: a cell for each client and object that a policy declares.
+
+ghost use Rattle.std.specs.Prelude.{◌≡◌, ◌+◌, ◌-◌, ◌<◌, ◌≤◌, ◌^◌, IfOk, true, false, if◌then◌else◌, ◌&&◌, ◌||◌, not, replicate};
+ghost use Rattle.std.specs.Option.{is_some};
+ghost use Rattle.aql_packet.specs.declared.ids.ClientId.{ClientId};
+ghost use Rattle.policy.specs.declared.object.Object.{Object};
+ghost use Rattle.policy.specs.declared.rights.Right.{Right};
+ghost use Rattle.policy.specs.Rights.{each_right};
+ghost use Rattle.grants.specs.Pairs.{same_pair, is_one_of};
+ghost use Rattle.grants.specs.Rules.{rules_of, knows_client, knows};
+ghost use Rattle.grants.specs.Holds.{is_hold_of};
+ghost use Rattle.grants.specs.Cells.{SameRights, SameCounts, cell_of, counted, empty_cell, in_table, once, replaced};
+
+use crate::cell::Cell;
+use crate::hold::Hold;
+use crate::rules::Rules;
+use aql_packet::ClientId;
+use policy::{Object, Policy, Rights};
+use sequences::Sequence;
+use std::alloc::{AllocError, Global};
+use std::marker::Model;
+
+/// The rules of a policy, and a cell for each client and object that it declares. A cell is found in
+/// one step, by the numbers of client and object.
+#[derive(Drop)]
+pub struct Cells {
+    rules: Rules,
+    cells: Sequence<Cell>,
+}
+
+impl Model for Cells {
+    ghost use Rattle.std.specs.Prelude.{◌≡◌, ◌*◌, length};
+    ghost use Rattle.grants.specs.Cells.{Table, object_count};
+
+    ghost Value = { Table };
+
+    ghost view = { λ table. record { rules = table.rules; cells = table.cells } };
+
+    ghost invariant = { λ table. length table.cells ≡ table.rules.clients * object_count table.rules };
+}
+
+// This many empty cells.
+fn empty_cells(alloc: Global, count: usize) -> Result<Sequence<Cell>, AllocError>
+    ensures { IfOk result (λ cells. cells ≡ replicate count empty_cell) }
+{
+    Ok(Sequence::from_vec(vec![in alloc; Cell::EMPTY; count]?))
+}
+
+impl Cells {
+    /// An empty cell for each client and object.
+    pub fn new(alloc: Global, policy: &Policy) -> Result<Cells, AllocError>
+        ensures rules { IfOk result (λ table. table.rules ≡ rules_of policy.now) }
+        ensures empty { IfOk result (λ table. (client : ClientId) (object : Object) (right : Right)
+            → (in_table table client object right ≡ false) × (counted table client object right ≡ 0)) }
+    {
+        let rules = Rules::of(alloc, policy)?;
+        let cells = empty_cells(alloc, rules.cell_count())?;
+        Ok(Cells { rules, cells })
+    }
+
+    /// What the policy declares and allows.
+    pub fn rules(&self) -> &Rules
+        ensures { result.now ≡ self.now.rules }
+    {
+        &self.rules
+    }
+
+    /// The cell of a client and an object, if both are declared.
+    pub fn get(&self, client: ClientId, object: Object) -> Option<Cell>
+        ensures cell { result ≡ cell_of self.now client object }
+        ensures declared { is_some result ≡ (knows_client self.now.rules client && knows self.now.rules object) }
+    {
+        let place = self.rules.place_of(client, object)?;
+        self.cells.get(place).copied()
+    }
+
+    // Puts a cell in the place of that of a client and an object, if both are declared.
+    fn set(&mut self, client: ClientId, object: Object, cell: Cell)
+        ensures cells { (client' : ClientId) (object' : Object) → cell_of self.new client' object'
+            ≡ (if same_pair client' object' client object then replaced cell (cell_of self.old client' object') else cell_of self.old client' object') }
+        ensures rules { self.new.rules ≡ self.old.rules }
+    {
+        if let Some(place) = self.rules.place_of(client, object) {
+            self.cells.set(place, cell);
+        }
+    }
+
+    /// Puts rights of a declared client on a declared object in force.
+    pub fn give(&mut self, client: ClientId, object: Object, rights: Rights)
+        requires { (knows_client self.old.rules client && knows self.old.rules object) ≡ true }
+        ensures in_force { (client' : ClientId) (object' : Object) (right : Right) → in_table self.new client' object' right
+            ≡ (in_table self.old client' object' right || is_one_of client' object' right client object rights) }
+        ensures counts { SameCounts self.old self.new }
+    {
+        if let Some(cell) = self.get(client, object) {
+            self.set(client, object, cell.with(rights));
+        }
+    }
+
+    /// Takes rights of a client on an object out of force.
+    pub fn take(&mut self, client: ClientId, object: Object, rights: Rights)
+        ensures in_force { (client' : ClientId) (object' : Object) (right : Right) → in_table self.new client' object' right
+            ≡ (in_table self.old client' object' right && not (is_one_of client' object' right client object rights)) }
+        ensures counts { SameCounts self.old self.new }
+    {
+        if let Some(cell) = self.get(client, object) {
+            self.set(client, object, cell.without(rights));
+        }
+    }
+
+    /// Counts one hold more, of rights that are in force.
+    pub fn count(&mut self, hold: &Hold)
+        requires in_force { each_right hold.now.rights (in_table self.old hold.now.client hold.now.object) ≡ true }
+        requires fits { (right : Right) → counted self.old hold.now.client hold.now.object right < 2 ^ 64 - 1 }
+        ensures counts { (client : ClientId) (object : Object) (right : Right) → counted self.new client object right
+            ≡ counted self.old client object right + (if is_hold_of client object right hold.now then 1 else 0) }
+        ensures rights { SameRights self.old self.new }
+    {
+        if let Some(cell) = self.get(hold.client, hold.object) {
+            let more = cell.held_once_more(hold.rights);
+            self.set(hold.client, hold.object, more);
+        }
+    }
+
+    /// Counts one hold less, of rights that are counted.
+    pub fn uncount(&mut self, hold: &Hold)
+        requires { (right : Right) → once hold.now.rights right ≤ counted self.old hold.now.client hold.now.object right }
+        ensures counts { (client : ClientId) (object : Object) (right : Right) → counted self.old client object right
+            ≡ counted self.new client object right + (if is_hold_of client object right hold.now then 1 else 0) }
+        ensures rights { SameRights self.old self.new }
+    {
+        if let Some(cell) = self.get(hold.client, hold.object) {
+            let fewer = cell.held_once_less(hold.rights);
+            self.set(hold.client, hold.object, fewer);
+        }
+    }
+}
