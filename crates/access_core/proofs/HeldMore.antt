@@ -92,7 +92,7 @@ numbered-more xs (Some y) x n is = by_test (nat_lt 0 n) refl
     by_test true positive = rw positive (slice_get-more xs x y (n - 1) (rw positive at is))
     by_test false positive = let none : numbered xs n ≡ None = rw positive refl in absurd (cc)
 
-owner-more : (start : Start) (es : List Entry) (e : Entry) (queue : QueueId) (opening : Opening) → owner start es queue ≡ Some opening → owner start (es ++ e ∷ []) queue ≡ Some opening
+pub owner-more : (start : Start) (es : List Entry) (e : Entry) (queue : QueueId) (opening : Opening) → owner start es queue ≡ Some opening → owner start (es ++ e ∷ []) queue ≡ Some opening
 owner-more start es e queue opening is = rw openings-more (numbered-more (openings start es) (opening_of e.event) opening queue.0 is)
 
 -- what holds of a packet in flight holds with one entry more

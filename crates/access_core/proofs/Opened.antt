@@ -19,7 +19,12 @@ use Rattle.core_model.specs.Queues.{openings, next_id, errors, is_stopped}
 use Rattle.core_model.specs.Flight.{flight}
 use Rattle.access_core.specs.declared.queue.Queue.{Queue}
 use Rattle.access_core.specs.declared.access.AccessCore.TheInside.{Inside}
-use Rattle.grants.specs.Table.{has_granted}
+use Rattle.aql_packet.specs.declared.ids.PacketId.{PacketId}
+use Rattle.core_model.specs.Queues.{owner}
+use Rattle.grants.specs.Ledger as ledger
+use Rattle.grants.specs.Ledger.{IsNew}
+use Rattle.grants.specs.Rules.{rules_of}
+use Rattle.access_core.specs.Held.{packet_holds}
 use Rattle.access_core.specs.Kept.{IsKept, start_of, kept_opening, kept_next, kept_errors, kept_stopped}
 use Rattle.access_core.specs.QueueShown.{kept_places}
 use Rattle.access_core.specs.ErrorRoom.{HasErrorRoom}
@@ -37,7 +42,7 @@ numbered-none n = either (nat_lt 0 n)
 
 -- what the empty audit says, question by question
 module _ (start : Start) where
-  no_right : (client : ClientId) (on : Object) (right : Right) → has_granted [] client on right ≡ in_force start [] client on right
+  no_right : (client : ClientId) (on : Object) (right : Right) → false ≡ in_force start [] client on right
   unfolding in_force
   no_right client on right = refl
 
@@ -70,12 +75,17 @@ module _ (start : Start) where
   no_flight = refl
 
 -- what is kept where nothing has happened is what the empty audit says
-module _ (a : Inside) (granted : a.granted ≡ []) (memory : a.memory ≡ zeros (lengths_of_rows a.policy)) (values : a.signals ≡ values_of_rows a.policy)
+module _ (a : Inside) (granted : IsNew a.grants) (ruled : ledger.rules_in a.grants ≡ rules_of a.policy) (memory : a.memory ≡ zeros (lengths_of_rows a.policy)) (values : a.signals ≡ values_of_rows a.policy)
     (queues : a.queues.items ≡ []) (flying : a.flight ≡ []) (entries : a.audit.items ≡ []) where
-  granted-opened : (client : ClientId) (on : Object) (right : Right) → has_granted a.granted client on right ≡ in_force (start_of a) a.audit.items client on right
+  granted-opened : (client : ClientId) (on : Object) (right : Right) → ledger.in_force a.grants client on right ≡ in_force (start_of a) a.audit.items client on right
   granted-opened client on right =
-      ap (λ g. has_granted g client on right) granted ∙ no_right (start_of a) client on right
+      granted.none_in_force client on right ∙ no_right (start_of a) client on right
       ∙ sym (ap (λ (es : List Entry). in_force (start_of a) es client on right) entries)
+
+  held-opened : (queue : QueueId) (id : PacketId) (client : ClientId) (on : Object) (right : Right) → ledger.holds a.grants queue id client on right ≡ packet_holds (owner (start_of a) a.audit.items) a.flight queue id client on right
+  held-opened queue id client on right =
+      granted.none_held queue id client on right
+      ∙ sym (ap (λ (fs : List InFlight). packet_holds (owner (start_of a) a.audit.items) fs queue id client on right) flying)
 
   lengths-opened : lengths_of a.memory ≡ region_lengths (start_of a)
   lengths-opened = ap lengths_of memory ∙ lengths_of-zeros (lengths_of_rows a.policy)
@@ -133,6 +143,8 @@ module _ (a : Inside) (granted : a.granted ≡ []) (memory : a.memory ≡ zeros 
   pub IsKept-opened : a.capacity ≤ a.audit.room → a.capacity ≤ 2 ^ 20 → IsKept a
   IsKept-opened places few = record {
     granted = granted-opened;
+    rules = ruled;
+    held = held-opened;
     lengths = lengths-opened;
     memory = memory-opened;
     values = values-opened;

@@ -28,14 +28,17 @@ use Rattle.std.proofs.lemmas.List.Sums.{count_by-le-length}
 use Rattle.std.proofs.lemmas.Bool.{leb-false, lt-ltb}
 use Rattle.access_core.specs.Moves.{CanHandOver}
 use Rattle.core_model.specs.declared.need.Need.{Need}
-use Rattle.core_model.specs.Needs.{memory_needs}
-use Rattle.core_model.specs.LaunchRules.{Facts, is_met, lies_whole, first_failing, is_barrier, may_start}
+use Rattle.core_model.specs.Needs.{memory_needs, needs}
+use Rattle.core_model.specs.Holds.{Held, as_held, held_at_launch}
+use Rattle.aql_packet.specs.declared.ids.ClientId.{ClientId}
+use Rattle.core_model.specs.LaunchRules.{Facts, is_met, is_taken, names_known_function, lies_whole, first_failing, is_barrier, may_start}
+use Rattle.packet_processor.specs.Judged.{later_failing}
 use Rattle.core_model.specs.Owed.{refuses, owed, refuse_if, refuse_unless, decided, facts_of}
 use Rattle.access_core.specs.declared.queue.Queue.{Queue}
 use Rattle.access_core.specs.declared.access.AccessCore.TheInside.{Inside}
 use Rattle.access_core.specs.Judged.{facts_lent}
 use Rattle.access_core.specs.Kept.{IsKept, start_of, kept_opening, kept_next, kept_errors, history_of}
-use Rattle.access_core.specs.Deciding.{TakesNext}
+use Rattle.access_core.specs.Deciding.{TakesNext, MayHold}
 
 numbered-map : (queues : List Queue) (n : ℕ) → numbered (map kept_opening queues) n ≡ option_map kept_opening (numbered queues n)
 numbered-map queues n = either (nat_lt 0 n)
@@ -49,7 +52,7 @@ pub owner-kept : (a : Inside) (queue : QueueId) → IsKept a → owner (start_of
 owner-kept a queue kept = ap (λ (all : List Opening). numbered all queue.0) (sym kept.openings) ∙ numbered-map a.queues.items queue.0
 
 -- the facts by which the packets of a kept queue are judged
-pub facts-kept : (a : Inside) (q : Queue) → IsKept a → facts_of (start_of a) a.audit.items (kept_opening q) ≡ facts_lent a.policy a.granted a.memory q.client q.agent
+pub facts-kept : (a : Inside) (q : Queue) → IsKept a → facts_of (start_of a) a.audit.items (kept_opening q) ≡ facts_lent a.policy a.grants a.memory q.client q.agent
 facts-kept a q kept = λ i. record {
   agent = q.agent;
   takes = (facts_of (start_of a) a.audit.items (kept_opening q)).takes;
@@ -68,7 +71,7 @@ module _ (a : Inside) (kept : IsKept a) (queue : QueueId) (id : PacketId) (bytes
       owed (start_of a) a.audit.items (Take queue id bytes) ≡
       refuse_if (nat_lt 0 (length q.errors.items) || q.stopped) refusal.QueueDown
       (refuse_unless (id.0 == q.next) (refusal.OutOfStep q.next)
-      (decided queue id.0 (may_start (filter (λ (f : InFlight). f.queue.0 == queue.0) a.flight) (barrier_bit bytes)) (first_failing (facts_lent a.policy a.granted a.memory q.client q.agent) bytes)))
+      (decided queue id.0 (may_start (filter (λ (f : InFlight). f.queue.0 == queue.0) a.flight) (barrier_bit bytes)) (first_failing (facts_lent a.policy a.grants a.memory q.client q.agent) bytes)))
   unfolding owed
   take-known q some =
       rw (owner-kept a queue kept, some, kept.errors queue, kept.stops queue, kept.next_ids queue, some, ← kept.flight, facts-kept a q kept) refl
@@ -79,12 +82,44 @@ both_true true true e = (refl, refl)
 both_true true false e = cc
 both_true false b e = cc
 
--- a packet that no rule refuses passes the rule on its ranges
-passed-ranges : (l4 l5 l8 : Bool) (rest : Option Rule) → (if not l4 then Some rule.L4 else if not l5 then Some rule.L5 else if not l8 then Some rule.L8 else rest) ≡ None → l8 ≡ true
-passed-ranges false l5 l8 rest e = cc
-passed-ranges true false l8 rest e = cc
-passed-ranges true true false rest e = cc
-passed-ranges true true true rest e = refl
+-- the rules that ask for rights
+pub record PassesRights (facts : Facts) (p : Packet) : Type 0 where
+  pub agent : list_all (is_met facts) (needs rule.L4 facts.agent p) ≡ true
+  pub memory : list_all (is_met facts) (memory_needs p) ≡ true
+  pub waits : list_all (is_met facts) (needs rule.L9 facts.agent p) ≡ true
+  pub completes : list_all (is_met facts) (needs rule.L10 facts.agent p) ≡ true
+
+-- a packet that no rule refuses passes them
+passed-rights : (facts : Facts) (p : Packet) → later_failing facts p ≡ None → PassesRights facts p
+passed-rights facts p none =
+    by_tests (is_taken facts.takes p) (list_all (is_met facts) (needs rule.L4 facts.agent p)) (names_known_function p && true) (list_all (is_met facts) (memory_needs p))
+    (list_all (is_met facts) (needs rule.L9 facts.agent p)) (list_all (is_met facts) (needs rule.L10 facts.agent p)) none refl refl refl refl
+  where
+    by_tests : (t l4 l5 l8 l9 l10 : Bool) → (if not (t && l4) then Some rule.L4 else if not l5 then Some rule.L5 else if not l8 then Some rule.L8 else if not l9 then Some rule.L9 else if not l10 then Some rule.L10 else None) ≡ None
+        → list_all (is_met facts) (needs rule.L4 facts.agent p) ≡ l4 → list_all (is_met facts) (memory_needs p) ≡ l8 → list_all (is_met facts) (needs rule.L9 facts.agent p) ≡ l9 → list_all (is_met facts) (needs rule.L10 facts.agent p) ≡ l10 → PassesRights facts p
+    by_tests true true true true true true e four eight nine ten = record { agent = four; memory = eight; waits = nine; completes = ten }
+    by_tests false l4 l5 l8 l9 l10 e four eight nine ten = absurd cc
+    by_tests true false l5 l8 l9 l10 e four eight nine ten = absurd cc
+    by_tests true true false l8 l9 l10 e four eight nine ten = absurd cc
+    by_tests true true true false l9 l10 e four eight nine ten = absurd cc
+    by_tests true true true true false l10 e four eight nine ten = absurd cc
+    by_tests true true true true true false e four eight nine ten = absurd cc
+
+-- what is needed and met is in force
+held-met : (facts : Facts) (all : List Need) (rest : List Held) → list_all (is_met facts) all ≡ true → list_all (λ h. facts.in_force h.0 h.1) rest ≡ true → list_all (λ h. facts.in_force h.0 h.1) (map as_held all ++ rest) ≡ true
+held-met facts [] rest met others = others
+held-met facts (need ∷ all) rest met others =
+    let both = both_true (is_met facts need) (list_all (is_met facts) all) met in
+    let forced = both_true (lies_whole facts.lengths need.subject) _ both.0 in
+    rw (forced.1, held-met facts all rest both.1 others) refl
+
+-- so all that a packet will hold is in force
+held-passed : (facts : Facts) (p : Packet) (client : ClientId) → PassesRights facts p → list_all (λ h. facts.in_force h.0 h.1) (held_at_launch (record { client = client; agent = facts.agent }) p) ≡ true
+held-passed facts p client passes =
+    held-met facts (needs rule.L4 facts.agent p) _ passes.agent
+    (held-met facts (memory_needs p) _ passes.memory
+    (held-met facts (needs rule.L9 facts.agent p) _ passes.waits
+    (held-met facts (needs rule.L10 facts.agent p) [] passes.completes refl)))
 
 -- what is needed and met lies whole in regions
 lies-met : (facts : Facts) (all : List Need) → list_all (is_met facts) all ≡ true → list_all (λ need. lies_whole facts.lengths need.subject) all ≡ true
@@ -95,10 +130,17 @@ lies-met facts (need ∷ all) met =
     rw (lies.0, lies-met facts all both.1) refl
 
 -- a packet that is launched reaches only what lies whole in regions
-pub reachable-launched : (a : Inside) (q : Queue) (bytes : List ℕ) (p : Packet) → IsKept a → decoded bytes ≡ Some p → first_failing (facts_lent a.policy a.granted a.memory q.client q.agent) bytes ≡ None → lies_in_regions (region_lengths (start_of a)) p ≡ true
+pub reachable-launched : (a : Inside) (q : Queue) (bytes : List ℕ) (p : Packet) → IsKept a → decoded bytes ≡ Some p → first_failing (facts_lent a.policy a.grants a.memory q.client q.agent) bytes ≡ None → lies_in_regions (region_lengths (start_of a)) p ≡ true
 reachable-launched a q bytes p kept found none =
-    rw (← kept.lengths) (lies-met (facts_lent a.policy a.granted a.memory q.client q.agent) (memory_needs p)
-    (passed-ranges _ _ (list_all (is_met (facts_lent a.policy a.granted a.memory q.client q.agent)) (memory_needs p)) _ (sym (first_failing-decoded _ bytes p found) ∙ none)))
+    rw (← kept.lengths) (lies-met (facts_lent a.policy a.grants a.memory q.client q.agent) (memory_needs p)
+    (passed-rights (facts_lent a.policy a.grants a.memory q.client q.agent) p (sym (first_failing-decoded _ bytes p found) ∙ none)).memory)
+
+-- a packet that is launched may hold what it needs
+pub may-hold : (a : Inside) (q : Queue) (bytes : List ℕ) (p : Packet) → IsKept a → decoded bytes ≡ Some p → first_failing (facts_lent a.policy a.grants a.memory q.client q.agent) bytes ≡ None → MayHold (history_of a) (kept_opening q) p
+may-hold a q bytes p kept found none =
+    (λ i. list_all (λ (h : Held). sym (kept.granted q.client h.0 h.1) i) (held_at_launch (kept_opening q) p))
+    ∙ held-passed (facts_lent a.policy a.grants a.memory q.client q.agent) p q.client
+    (passed-rights (facts_lent a.policy a.grants a.memory q.client q.agent) p (sym (first_failing-decoded _ bytes p found) ∙ none))
 
 -- a packet that may start finds a slot free
 may_start-few : (fs : List InFlight) (barrier : Bool) → may_start fs barrier ≡ None → length fs < 8

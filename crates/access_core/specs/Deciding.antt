@@ -12,6 +12,11 @@ use Rattle.core_model.specs.Queues.{Opening, owner, is_down}
 use Rattle.core_model.specs.Owed.{owed, answers, enters, error_at, flight_of}
 use Rattle.core_model.specs.declared.limits.TheConstants.{SLOTS}
 use Rattle.access_core.specs.LiesInRegions.{lies_in_regions}
+use Rattle.std.specs.List.{list_all}
+use Rattle.aql_packet.specs.declared.packet.Packet.{Packet}
+use Rattle.core_model.specs.Grants.{in_force}
+use Rattle.core_model.specs.Holds.{held_at_launch}
+use Rattle.access_core.specs.declared.access.taking.Launching.{Launching}
 use Rattle.access_core.specs.declared.access.taking.Decision.{Decision}
 use Rattle.access_core.specs.declared.access.taking.Decision.TheVariants.{Wait, Deny, Launch}
 use Rattle.std.specs.Prelude.{true, false}
@@ -22,13 +27,22 @@ TakesNext history queue =
     (opening : Opening) × (owner history.start history.entries queue ≡ Some opening) × (is_down history.start history.entries queue ≡ false)
     × (length (flight_of history.start history.entries queue) < SLOTS)
 
--- what is owed to the packet is what was decided; a packet that is launched is the one that the bytes lay out, and reaches
--- only what lies whole in a region
+-- the opening of the queue whose packet is launched
+abbrev pub opening_of : Launching → Opening
+opening_of launching = record { client = launching.client; agent = launching.agent }
+
+-- all that a packet will hold is in force for the client
+abbrev pub MayHold : History → Opening → Packet → Type 0
+MayHold history opening p = list_all (λ h. in_force history.start history.entries opening.client h.0 h.1) (held_at_launch opening p) ≡ true
+
+-- what is owed to the packet is what was decided; a packet that is launched is the one that the bytes lay out, reaches only
+-- what lies whole in a region, and may hold what it needs
 abbrev pub Decides : History → QueueId → PacketId → List ℕ → Decision → Type 0
 Decides history queue id bytes (Wait cause) = owed history.start history.entries (Take queue id bytes) ≡ answers (outcome.Taken (Waiting cause))
 Decides history queue id bytes (Deny rule) =
     (owed history.start history.entries (Take queue id bytes) ≡ enters (outcome.Taken (Denied (error_at queue id.0 rule))) [])
     × TakesNext history queue
-Decides history queue id bytes (Launch packet) =
+Decides history queue id bytes (Launch launching) =
     (owed history.start history.entries (Take queue id bytes) ≡ enters (outcome.Taken Launched) [])
-    × (decoded bytes ≡ Some packet) × (lies_in_regions (region_lengths history.start) packet ≡ true) × TakesNext history queue
+    × (decoded bytes ≡ Some launching.packet) × (lies_in_regions (region_lengths history.start) launching.packet ≡ true) × TakesNext history queue
+    × (owner history.start history.entries queue ≡ Some (opening_of launching)) × MayHold history (opening_of launching) launching.packet

@@ -1,18 +1,21 @@
--- What packets in flight hold, as each packet and its queue's opening tell it, and which of them holds a right.
-use Rattle.std.specs.Prelude.{◌≡◌, ◌==◌, ◌&&◌, Bool, false, List, [], Option, Some, None, filter, fold}
+-- What packets in flight hold, as their queues' openings and their packets tell it.
+use Rattle.std.specs.Prelude.{◌≡◌, ◌==◌, ◌&&◌, Bool, false, List, Option, Some, None}
 use Rattle.std.specs.List.{list_any}
 use Rattle.aql_packet.specs.declared.ids.ClientId.{ClientId}
+use Rattle.aql_packet.specs.declared.ids.QueueId.{QueueId}
+use Rattle.aql_packet.specs.declared.ids.PacketId.{PacketId}
+use Rattle.aql_packet.specs.declared.packet.Packet.{Packet}
 use Rattle.policy.specs.declared.object.Object.{Object}
+use Rattle.policy.specs.declared.rights.Right.{Right}
 use Rattle.policy.specs.declared.rights.Rights.{Rights}
-use Rattle.policy.specs.Policy.{numbered}
+use Rattle.policy.specs.Object.{same_object}
+use Rattle.policy.specs.Rights.{has, bit_of}
 use Rattle.core_model.specs.declared.entry.Entry.{Entry}
 use Rattle.core_model.specs.declared.flight.InFlight.{InFlight}
 use Rattle.core_model.specs.History.{Start}
 use Rattle.core_model.specs.Queues.{Opening, owner}
-use Rattle.core_model.specs.Holds.{Holder, held, held_at_launch, least_of}
-use Rattle.packet_processor.specs.Holding.{is_among}
-use Rattle.access_core.specs.declared.queue.Queue.{Queue}
-use Rattle.access_core.specs.Kept.{kept_opening}
+use Rattle.core_model.specs.Flight.{is_packet}
+use Rattle.core_model.specs.Holds.{held, held_at_launch}
 
 -- a packet's queue was opened, and the packet holds what its launch gave it (own)
 pub record IsHeld (start : Start) (entries : List Entry) (f : InFlight) : Type 0 where
@@ -20,16 +23,16 @@ pub record IsHeld (start : Start) (entries : List Entry) (f : InFlight) : Type 0
   pub owner_is : owner start entries f.queue ≡ Some opening
   pub held_is : held start entries f.queue f.id ≡ held_at_launch opening f.packet
 
--- whether a queue is there and the client's, and a packet of it holds one of these rights on the object
-abbrev pub queue_holds : Start → Option Queue → ClientId → Object → Rights → InFlight → Bool
-queue_holds start None client on rights f = false
-queue_holds start (Some q) client on rights f =
-    q.client.0 == client.0 && list_any (is_among on rights) (held_at_launch (kept_opening q) f.packet)
+-- the set of one right
+abbrev pub as_rights : Right → Rights
+as_rights right = record { 0 = bit_of right }
 
--- whether a packet in flight is of the client's queues and holds one of these rights on the object, by what is kept of its queue
-abbrev pub kept_holds : Start → List Queue → ClientId → Object → Rights → InFlight → Bool
-kept_holds start queues client on rights f = queue_holds start (numbered queues f.queue.0) client on rights f
+-- whether a packet of a queue with this opening holds a client's right on an object
+abbrev pub holds_by : Option Opening → ClientId → Object → Right → Packet → Bool
+holds_by None client on right p = false
+holds_by (Some opening) client on right p =
+    opening.client.0 == client.0 && list_any (λ h. same_object on h.0 && has (as_rights h.1) right) (held_at_launch opening p)
 
--- of all packets that hold one of these rights, the one with the least queue, then the least id, by what is kept
-abbrev pub kept_holder : Start → List Queue → List InFlight → ClientId → Object → Rights → Option Holder
-kept_holder start queues flight client on rights = fold least_of None (filter (kept_holds start queues client on rights) flight)
+-- whether the packet in flight with this queue and id holds a client's right on an object, by the openings of the queues
+abbrev pub packet_holds : (QueueId → Option Opening) → List InFlight → QueueId → PacketId → ClientId → Object → Right → Bool
+packet_holds owners fs queue id client on right = list_any (λ f. is_packet queue id f && holds_by (owners f.queue) client on right f.packet) fs

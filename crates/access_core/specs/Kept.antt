@@ -2,6 +2,7 @@
 use Rattle.std.specs.Prelude.{◌≡◌, ℕ, ◌+◌, ◌^◌, ◌≤◌, true, map, length, Some, All}
 use Rattle.aql_packet.specs.declared.ids.ClientId.{ClientId}
 use Rattle.aql_packet.specs.declared.ids.QueueId.{QueueId}
+use Rattle.aql_packet.specs.declared.ids.PacketId.{PacketId}
 use Rattle.policy.specs.declared.object.Object.{Object}
 use Rattle.policy.specs.declared.rights.Right.{Right}
 use Rattle.policy.specs.Policy.{numbered}
@@ -9,11 +10,13 @@ use Rattle.regions.specs.Memory.{byte_at, lengths_of, lies_in_region}
 use Rattle.core_model.specs.History.{Start, History}
 use Rattle.core_model.specs.Grants.{in_force}
 use Rattle.core_model.specs.Memory.{memory_at, signals, region_lengths}
-use Rattle.core_model.specs.Queues.{openings, next_id, errors, is_stopped}
+use Rattle.core_model.specs.Queues.{openings, owner, next_id, errors, is_stopped}
 use Rattle.core_model.specs.Flight.{flight}
 use Rattle.core_model.specs.Legal.{IsLegal}
 use Rattle.access_core.specs.declared.access.AccessCore.TheInside.{Inside}
-use Rattle.grants.specs.Table.{has_granted}
+use Rattle.grants.specs.Ledger as ledger
+use Rattle.grants.specs.Rules.{rules_of}
+use Rattle.access_core.specs.Held.{packet_holds}
 pub use Rattle.access_core.specs.QueueShown.{kept_opening, kept_next, kept_errors, kept_stopped}
 use Rattle.access_core.specs.LiesInRegions.{lies_in_regions}
 use Rattle.access_core.specs.ErrorRoom.{HasErrorRoom}
@@ -29,7 +32,12 @@ history_of a = record { start = start_of a; capacity = a.capacity; entries = a.a
 -- The fields are what the history says, question by question.
 pub record IsKept (a : Inside) : Type 0 where
   -- the rights in force
-  pub granted : (client : ClientId) (on : Object) (right : Right) → has_granted a.granted client on right ≡ in_force (start_of a) a.audit.items client on right
+  pub granted : (client : ClientId) (on : Object) (right : Right) → ledger.in_force a.grants client on right ≡ in_force (start_of a) a.audit.items client on right
+  -- what the policy declares and allows
+  pub rules : ledger.rules_in a.grants ≡ rules_of a.policy
+  -- the rights that packets in flight hold
+  pub held : (queue : QueueId) (id : PacketId) (client : ClientId) (on : Object) (right : Right)
+      → ledger.holds a.grants queue id client on right ≡ packet_holds (owner (start_of a) a.audit.items) a.flight queue id client on right
   -- the regions' lengths, and each byte in them
   pub lengths : lengths_of a.memory ≡ region_lengths (start_of a)
   pub memory : (x : ℕ) → lies_in_region (region_lengths (start_of a)) x ≡ true → byte_at a.memory x ≡ Some (memory_at (start_of a) a.audit.items x)

@@ -1,5 +1,3 @@
-pub mod Told
-pub mod Owing
 pub mod Judged
 pub mod QueueShown
 pub mod Moves
@@ -9,12 +7,9 @@ pub mod Deciding
 pub mod Kept
 pub mod Opening
 pub mod Lookups
-pub mod ToldQueries
-pub mod Listed
 pub mod ToldWork
-pub mod ToldHost
 pub mod Polling
 pub mod Stopping
 pub mod OwingHost
 pub mod Held
-pub mod OwingRevoke
+pub mod Granting

@@ -5,6 +5,8 @@ use Rattle.core_model.specs.declared.limits.TheConstants.{MOST_ENTRIES}
 use Rattle.core_model.specs.History.{History}
 use Rattle.core_model.specs.Legal.{opened}
 use Rattle.regions.specs.Memory.{zeros}
+use Rattle.grants.specs.Rules.{rules_of}
+use Rattle.grants.specs.Ledger.{IsNew, rules_in}
 use Rattle.access_core.specs.declared.access.opening.Parts.{Parts}
 use Rattle.access_core.specs.declared.access.OpenFault.{OpenFault}
 use Rattle.access_core.specs.declared.access.OpenFault.TheVariants as fault
@@ -27,8 +29,10 @@ Opens policy capacity (Ok core) = (is_capacity capacity ≡ true) × (core ≡ o
 Opens policy capacity (Err fault.OutOfMemory) = is_capacity capacity ≡ true
 Opens policy capacity (Err fault.BadCapacity) = is_capacity capacity ≡ false
 
--- what a core begins with: memory of zeros, the policy's signal values, and an empty audit with room for its entries
+-- what a core begins with: no right in force or held, memory of zeros, the policy's signal values, and an empty audit with room for its entries
 pub record IsUntouched (policy : Declared) (capacity : ℕ) (parts : Parts) : Type 0 where
+  pub rules : rules_in parts.grants ≡ rules_of policy
+  pub grants : IsNew parts.grants
   pub memory : parts.memory ≡ zeros (lengths_of_rows policy)
   pub signals : parts.signals ≡ values_of_rows policy
   pub empty : parts.audit.items ≡ []

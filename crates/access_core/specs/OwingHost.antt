@@ -14,22 +14,22 @@ use Rattle.core_model.specs.History.{Start}
 use Rattle.core_model.specs.Grants.{in_force}
 use Rattle.core_model.specs.Memory.{signals, region_lengths}
 use Rattle.core_model.specs.Owed.{Owed, owed}
-use Rattle.grants.specs.declared.table.RightsRow.{RightsRow}
-use Rattle.grants.specs.Table.{has_granted}
+use Rattle.grants.specs.Ledger.{Ledger}
+use Rattle.grants.specs.Ledger as ledger
 
--- the rows of granted rights are the rights in force after these entries
-abbrev pub AreInForce : Start → List Entry → List RightsRow → Type 0
-AreInForce start entries rows =
-    (client : ClientId) (on : Object) (right : Right) → has_granted rows client on right ≡ in_force start entries client on right
+-- the rights that are kept are those in force after these entries
+abbrev pub AreInForce : Start → List Entry → Ledger → Type 0
+AreInForce start entries grants =
+    (client : ClientId) (on : Object) (right : Right) → ledger.in_force grants client on right ≡ in_force start entries client on right
 
 -- a change of a signal is owed this, whatever entries there are that give these rights and these values
-abbrev pub ChangeOwed : Declared → List RightsRow → List ℤ → ClientId → SignalHandle → SignalOp → Owed → Type 0
-ChangeOwed policy rows values client signal operation owing =
-    (entries : List Entry) → AreInForce (record { policy = policy }) entries rows → values ≡ signals (record { policy = policy }) entries
+abbrev pub ChangeOwed : Declared → Ledger → List ℤ → ClientId → SignalHandle → SignalOp → Owed → Type 0
+ChangeOwed policy grants values client signal operation owing =
+    (entries : List Entry) → AreInForce (record { policy = policy }) entries grants → values ≡ signals (record { policy = policy }) entries
     → owed (record { policy = policy }) entries (ChangeSignal client signal operation) ≡ owing
 
 -- a client's write is owed this, whatever entries there are that give these rights, in a memory of the policy's lengths
-abbrev pub WriteOwed : Declared → List RightsRow → List (List ℕ) → ClientId → Address → List ℕ → Owed → Type 0
-WriteOwed policy rows memory client address bytes owing =
-    (entries : List Entry) → AreInForce (record { policy = policy }) entries rows → lengths_of memory ≡ region_lengths (record { policy = policy })
+abbrev pub WriteOwed : Declared → Ledger → List (List ℕ) → ClientId → Address → List ℕ → Owed → Type 0
+WriteOwed policy grants memory client address bytes owing =
+    (entries : List Entry) → AreInForce (record { policy = policy }) entries grants → lengths_of memory ≡ region_lengths (record { policy = policy })
     → owed (record { policy = policy }) entries (HostWrite client address bytes) ≡ owing

@@ -16,11 +16,6 @@ use Rattle.core_model.specs.Owed.{Owed, answers, enters, error_at, owed_poll}
 use Rattle.access_core.specs.declared.access.polling.Look.{Look}
 use Rattle.access_core.specs.declared.access.polling.Look.TheVariants.{Still, Fails, Sees}
 
--- what a poll found, or why it was refused
-abbrev pub polled : Result Polled Refusal → Result Outcome Refusal
-polled (Ok what) = Ok (outcome.Polled what)
-polled (Err why) = Err why
-
 -- what is told of positions that are seen as 0 for the first time, with which the barrier is ready or not
 abbrev pub sight : Bool → Seen → Polled
 sight true new = Ready new

@@ -59,11 +59,6 @@ finish_owed history f = enters outcome.Accepted (completion_of (signals history.
 abbrev pub without : QueueId → PacketId → List InFlight → List InFlight
 without queue id flying = filter (λ f. not (is_packet queue id f)) flying
 
--- what became of a packet's next group, or why it was refused
-abbrev pub worked : Result Worked Refusal → Result Outcome Refusal
-worked (Ok what) = Ok (outcome.Worked what)
-worked (Err why) = Err why
-
 -- what the next group is owed: the writes of this agent dispatch, or where there is none, that all groups ran (own)
 abbrev pub run_owed : Start → List Entry → Option AgentDispatch → Owed
 run_owed start entries (Some dispatch) = enters (outcome.Worked (Ran 0 0)) (agent_writes start entries dispatch)

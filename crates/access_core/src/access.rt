@@ -5,13 +5,11 @@ ghost use Rattle.core_model.specs.Legal.{with_entry};
 
 mod granting;
 mod host;
-mod listing;
 mod lookups;
 mod opening;
 mod polling;
 mod queries;
 mod queueing;
-mod revoking;
 mod running;
 mod serving;
 mod stopping;
@@ -21,7 +19,7 @@ mod working;
 
 use crate::queue::Queue;
 use core_model::{Effects, Entry, Event, InFlight, Outcome};
-use grants::RightsTable;
+use grants::Grants;
 use policy::Policy;
 use regions::Regions;
 use sequences::{Reserved, Sequence};
@@ -53,7 +51,7 @@ impl From<AllocError> for OpenFault {
 #[derive(Drop)]
 pub struct AccessCore {
     policy: Policy,
-    granted: RightsTable,
+    grants: Grants,
     memory: Regions,
     signals: Signals,
     queues: Vec<Queue>,

@@ -5,7 +5,6 @@
 #![tactic(auto)]
 
 mod access;
-mod holding;
 mod queue;
 
 pub use access::{AccessCore, OpenFault};

@@ -58,9 +58,8 @@ flight_moved before _ _ = before
 
 -- the packets in flight after a change: without the one that it releases
 abbrev pub flight_after_effect : List InFlight → Effect → List InFlight
-flight_after_effect before (Write _ _) = before
-flight_after_effect before (Signal _ _ _) = before
 flight_after_effect before (Release queue id) = filter (λ flying. not (is_packet queue id flying)) before
+flight_after_effect before _ = before
 
 -- the packets in flight after an entry
 abbrev pub flight_after : List InFlight → Entry → List InFlight

@@ -20,14 +20,7 @@ is_named client object right named_client named_object rights =
 abbrev pub in_force_after : ClientId → Object → Right → Bool → Event → Bool
 in_force_after client object right before (Grant c o rights) = before || is_named client object right c o rights
 in_force_after client object right before (Revoke c o rights) = before && not (is_named client object right c o rights)
-in_force_after client object right before (OpenQueue _ _ _) = before
-in_force_after client object right before (Stop _) = before
-in_force_after client object right before (Take _ _ _) = before
-in_force_after client object right before (RunNext _ _) = before
-in_force_after client object right before (Poll _ _) = before
-in_force_after client object right before (Finish _ _) = before
-in_force_after client object right before (HostWrite _ _ _) = before
-in_force_after client object right before (ChangeSignal _ _ _) = before
+in_force_after client object right before _ = before
 
 -- whether a client's right on an object is in force: a grant gave it, and no later revocation took it (own)
 unfoldable pub in_force : Start → List Entry → ClientId → Object → Right → Bool

@@ -1,6 +1,6 @@
 -- What packets in flight hold, and which of them stands against a revocation.
-use Rattle.std.specs.Prelude.{ℕ, ◌==◌, ◌&&◌, ◌||◌, Bool, false, nat_lt, List, [], ◌∷◌, ◌++◌, map, filter, fold, Option, Some, None, if◌then◌else◌}
-use Rattle.std.specs.List.{flat_map, list_any}
+use Rattle.std.specs.Prelude.{ℕ, ◌==◌, ◌&&◌, ◌||◌, Bool, false, nat_lt, nat_le, List, [], ◌∷◌, ◌++◌, map, filter, find, Option, Some, None, if◌then◌else◌}
+use Rattle.std.specs.List.{flat_map, list_all, list_any}
 use Rattle.aql_packet.specs.declared.ids.ClientId.{ClientId}
 use Rattle.aql_packet.specs.declared.ids.QueueId.{QueueId}
 use Rattle.aql_packet.specs.declared.ids.PacketId.{PacketId}
@@ -64,14 +64,9 @@ held_from start before (entry ∷ entries) queue id =
 abbrev pub held : Start → List Entry → QueueId → PacketId → List Held
 held start entries queue id = held_from start [] entries queue id
 
--- a packet by its queue and id
-pub record Holder : Type 0 where
-  pub queue : QueueId
-  pub packet : PacketId
-
 -- whether a packet in flight holds one of these rights on the object
 abbrev pub holds_one_of : Start → List Entry → Object → Rights → InFlight → Bool
-holds_one_of start entries on rights f = list_any (λ h. same_object h.0 on && has rights h.1) (held start entries f.queue f.id)
+holds_one_of start entries on rights f = list_any (λ h. same_object on h.0 && has rights h.1) (held start entries f.queue f.id)
 
 -- whether a queue is the client's
 abbrev pub is_owned : Start → List Entry → ClientId → QueueId → Bool
@@ -82,19 +77,14 @@ abbrev pub holders : Start → List Entry → ClientId → Object → Rights →
 holders start entries client on rights =
     filter (λ f. is_owned start entries client f.queue && holds_one_of start entries on rights f) (flight start entries)
 
--- whether a packet comes before another: by its queue, then by its id
-abbrev pub comes_before : InFlight → Holder → Bool
-comes_before f h = nat_lt f.queue.0 h.queue.0 || (f.queue.0 == h.queue.0 && nat_lt f.id.0 h.packet.0)
+-- whether a packet comes before another, or is it: by queue, then by id
+abbrev pub is_up_to : InFlight → InFlight → Bool
+is_up_to f g = nat_lt f.queue.0 g.queue.0 || (f.queue.0 == g.queue.0 && nat_le f.id.0 g.id.0)
 
--- a packet's name
-abbrev pub as_holder : InFlight → Holder
-as_holder f = record { queue = f.queue; packet = f.id }
-
--- the lesser of what was found and one packet more
-abbrev pub least_of : Option Holder → InFlight → Option Holder
-least_of None f = Some (as_holder f)
-least_of (Some h) f = if comes_before f h then Some (as_holder f) else Some h
+-- the least of some packets: the one of them that comes before each, or is it
+abbrev pub least : List InFlight → Option InFlight
+least all = find (λ f. list_all (is_up_to f) all) all
 
 -- of all packets that hold one of these rights, the one with the least queue, then the least id
-abbrev pub holder : Start → List Entry → ClientId → Object → Rights → Option Holder
-holder start entries client on rights = fold least_of None (holders start entries client on rights)
+abbrev pub holder : Start → List Entry → ClientId → Object → Rights → Option InFlight
+holder start entries client on rights = least (holders start entries client on rights)

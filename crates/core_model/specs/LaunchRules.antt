@@ -41,15 +41,12 @@ lies_whole lengths (subject.Range range) = is_within lengths range.address.0 ran
 abbrev pub is_taken : Takes → Packet → Bool
 is_taken takes (packet.Kernel _) = false
 is_taken takes (packet.Agent _) = takes.agent
-is_taken takes (packet.BarrierAnd _) = true
-is_taken takes (packet.BarrierOr _) = true
+is_taken takes _ = true
 
 -- an agent dispatch names a known function (own)
 abbrev pub names_known_function : Packet → Bool
 names_known_function (packet.Agent dispatch) = is_some (function_of dispatch)
-names_known_function (packet.Kernel _) = true
-names_known_function (packet.BarrierAnd _) = true
-names_known_function (packet.BarrierOr _) = true
+names_known_function _ = true
 
 -- whether a right is in force that a packet needs, on an object, or on the region in which a range lies whole (own)
 abbrev pub is_met : Facts → Need → Bool
@@ -84,8 +81,7 @@ first_failing facts bytes = find (λ rule. not (holds_rule facts bytes (packet_a
 abbrev pub is_barrier : Packet → Bool
 is_barrier (packet.BarrierAnd _) = true
 is_barrier (packet.BarrierOr _) = true
-is_barrier (packet.Kernel _) = false
-is_barrier (packet.Agent _) = false
+is_barrier _ = false
 
 -- why a packet may not start yet, by the packets in flight of its own queue; the barrier bit counts whatever the type
 -- (PSA, Architected Queuing Language: the barrier bit, barrier packets; the number of slots is own)

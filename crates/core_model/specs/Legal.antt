@@ -9,6 +9,7 @@ use Rattle.core_model.specs.declared.event.Request.TheVariants as request
 use Rattle.core_model.specs.declared.entry.Entry.{Entry}
 use Rattle.core_model.specs.declared.entry.Effect.{Effect}
 use Rattle.core_model.specs.declared.outcome.Outcome.{Outcome}
+use Rattle.core_model.specs.declared.outcome.Outcome.TheVariants as outcomes
 use Rattle.core_model.specs.declared.answer.Answer.{Answer}
 use Rattle.core_model.specs.declared.answer.Answer.TheVariants as answer
 use Rattle.core_model.specs.declared.refusal.Refusal.{Refusal}
@@ -77,6 +78,15 @@ entries_after entries event (enters outcome effects) = with_entry entries event 
 abbrev pub history_after : History → Event → Owed → History
 history_after history event owing = record history { entries = entries_after history.entries event owing }
 
+-- what a call answers by itself, said as a variant of what all calls answer; a refusal stays
+abbrev pub wrapped : {X Y : Type 0} → (X → Y) → Result X Refusal → Result Y Refusal
+wrapped say (Ok x) = Ok (say x)
+wrapped say (Err why) = Err why
+
+-- a call that answers nothing more than that it was made
+abbrev pub accepted : Result (Unit {0}) Refusal → Result Outcome Refusal
+accepted made = wrapped (λ done. outcomes.Accepted) made
+
 -- an event got what was due, and left what was due (own)
 pub record Meets (event : Event) (old new : History) (reply : Result Outcome Refusal) : Type 0 where
   pub reply_is : reply ≡ reply_of (due old event)
@@ -90,13 +100,7 @@ may_lack (Stop _) owing = false
 may_lack (Finish _ _) owing = false
 may_lack (ChangeSignal _ _ _) owing = false
 may_lack (Take _ _ _) (answers _) = false
-may_lack (Take _ _ _) (refuses _) = true
-may_lack (Take _ _ _) (enters _ _) = true
-may_lack (Grant _ _ _) owing = true
-may_lack (OpenQueue _ _ _) owing = true
-may_lack (RunNext _ _) owing = true
-may_lack (Poll _ _) owing = true
-may_lack (HostWrite _ _ _) owing = true
+may_lack _ owing = true
 
 -- memory was wanted and not to be had, and all is as before (own)
 pub record Lacks (event : Event) (old new : History) (reply : Result Outcome Refusal) : Type 0 where
@@ -110,12 +114,9 @@ MeetsOrLacks event old new reply = Meets event old new reply ⊎ Lacks event old
 
 -- whether a query may want memory: to look at a signal never does (own)
 abbrev pub query_may_lack : Query → Bool
-query_may_lack (query.HostRead _ _ _) = true
 query_may_lack (query.LoadSignal _ _) = false
 query_may_lack (query.TestSignal _ _ _ _) = false
-query_may_lack (query.List _) = true
-query_may_lack (query.Errors _) = true
-query_may_lack query.Audit = true
+query_may_lack _ = true
 
 -- the reply to a request
 abbrev pub Replying : Type 0
@@ -123,8 +124,7 @@ Replying = Result Answer Refusal
 
 -- an event's reply as a reply to a request
 abbrev pub as_reply : Result Outcome Refusal → Replying
-as_reply (Ok outcome) = Ok (answer.Outcome outcome)
-as_reply (Err why) = Err why
+as_reply made = wrapped answer.Outcome made
 
 -- the reply that is due to a request
 abbrev pub reply_due : History → Request → Replying

@@ -10,8 +10,7 @@ use Rattle.core_model.specs.History.{Start, effects_of}
 abbrev pub byte_after : ℕ → ℕ → Effect → ℕ
 byte_after x before (Write address bytes) =
     if nat_le address.0 x && nat_lt x (address.0 + length bytes) then slice_index bytes (x - address.0) else before
-byte_after x before (Signal _ _ _) = before
-byte_after x before (Release _ _) = before
+byte_after x before _ = before
 
 -- the byte at an address: 0 at first, then what was last written there (own)
 unfoldable pub memory_at : Start → List Entry → ℕ → ℕ
@@ -31,9 +30,8 @@ region_lengths start = map (λ row. row.1) start.policy.regions
 
 -- the values of the signals after a change, by those before it (own)
 abbrev pub signals_after : List ℤ → Effect → List ℤ
-signals_after before (Write _ _) = before
 signals_after before (Signal signal old new) = slice_set before (signal.0 - 1) new
-signals_after before (Release _ _) = before
+signals_after before _ = before
 
 -- the values of all signals in order: the policy's at first, then what each was last changed to (own)
 unfoldable pub signals : Start → List Entry → List ℤ

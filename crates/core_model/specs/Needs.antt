@@ -60,8 +60,7 @@ function_needs (Some (Add64 number addend)) = range_need Read number ++ range_ne
 abbrev pub dependencies : Packet → List SignalHandle
 dependencies (packet.BarrierAnd barrier) = barrier.dependencies
 dependencies (packet.BarrierOr barrier) = barrier.dependencies
-dependencies (packet.Kernel _) = []
-dependencies (packet.Agent _) = []
+dependencies _ = []
 
 -- the signal that is decremented when a packet completes
 abbrev pub completion : Packet → SignalHandle

@@ -43,7 +43,7 @@ use Rattle.core_model.specs.declared.limits.TheConstants.{MOST_HOST_BYTES, QUEUE
 use Rattle.core_model.specs.Needs.{completion}
 use Rattle.core_model.specs.LaunchRules.{Facts, first_failing, may_start, is_barrier}
 use Rattle.core_model.specs.Work.{agent_writes, groups_of, is_ready, is_negative, newly_seen, awaited}
-use Rattle.core_model.specs.Holds.{holder, Holder}
+use Rattle.core_model.specs.Holds.{holder}
 
 -- What an event is owed (own).
 pub data Owed : Type 0 where
@@ -165,17 +165,12 @@ stop_releases flying = release_of (find (λ f. is_barrier f.packet) flying)
 abbrev pub old_if_asked : SignalOp → ℤ → ℤ
 old_if_asked (op.Exchange _) old = old
 old_if_asked (op.Cas _ _) old = old
-old_if_asked (op.Store _) old = pos 0
-old_if_asked (op.Add _) old = pos 0
-old_if_asked (op.Subtract _) old = pos 0
-old_if_asked (op.And _) old = pos 0
-old_if_asked (op.Or _) old = pos 0
-old_if_asked (op.Xor _) old = pos 0
+old_if_asked _ old = pos 0
 
 -- the refusal of a revocation by the packet that holds a right
-abbrev pub refuse_if_held : Option Holder → Owed → Owed
+abbrev pub refuse_if_held : Option InFlight → Owed → Owed
 refuse_if_held None rest = rest
-refuse_if_held (Some h) rest = refuses (refusal.Busy h.queue h.packet)
+refuse_if_held (Some f) rest = refuses (refusal.Busy f.queue f.id)
 
 -- what an event is owed after these entries, whatever room the audit has: its refusals in order, then its outcome
 unfoldable pub owed : Start → List Entry → Event → Owed

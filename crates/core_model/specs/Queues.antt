@@ -24,15 +24,7 @@ pub record Opening : Type 0 where
 -- the opening that an event made (own)
 abbrev pub opening_of : Event → Option Opening
 opening_of (OpenQueue client agent size) = Some (record { client = client; agent = agent })
-opening_of (Grant _ _ _) = None
-opening_of (Revoke _ _ _) = None
-opening_of (Stop _) = None
-opening_of (Take _ _ _) = None
-opening_of (RunNext _ _) = None
-opening_of (Poll _ _) = None
-opening_of (Finish _ _) = None
-opening_of (HostWrite _ _ _) = None
-opening_of (ChangeSignal _ _ _) = None
+opening_of _ = None
 
 -- all openings, in order: the first is queue 1 (own)
 unfoldable pub openings : Start → List Entry → List Opening
@@ -45,15 +37,7 @@ owner start entries queue = numbered (openings start entries) queue.0
 -- whether an event hands over a packet of a queue (own)
 abbrev pub hands_over : QueueId → Event → Bool
 hands_over queue (Take q _ _) = q.0 == queue.0
-hands_over queue (Grant _ _ _) = false
-hands_over queue (Revoke _ _ _) = false
-hands_over queue (OpenQueue _ _ _) = false
-hands_over queue (Stop _) = false
-hands_over queue (RunNext _ _) = false
-hands_over queue (Poll _ _) = false
-hands_over queue (Finish _ _) = false
-hands_over queue (HostWrite _ _ _) = false
-hands_over queue (ChangeSignal _ _ _) = false
+hands_over queue _ = false
 
 -- the id of a queue's next packet: how many of its packets were launched or denied (PSA, User Mode Queuing: packets are processed in order)
 unfoldable pub next_id : Start → List Entry → QueueId → ℕ
@@ -61,18 +45,10 @@ next_id start entries queue = count_by (λ entry. hands_over queue entry.event) 
 
 -- the error that an outcome tells (own)
 abbrev pub error_of : Outcome → Option QueueError
-error_of outcome.Accepted = None
-error_of (outcome.Opened _) = None
-error_of (outcome.Taken Launched) = None
 error_of (outcome.Taken (Denied error)) = Some error
-error_of (outcome.Taken (Waiting _)) = None
-error_of (outcome.Worked (Ran _ _)) = None
 error_of (outcome.Worked (Faulted error)) = Some error
-error_of (outcome.Worked Done) = None
-error_of (outcome.Polled (Pending _)) = None
-error_of (outcome.Polled (Ready _)) = None
 error_of (outcome.Polled (Failed error)) = Some error
-error_of (outcome.Changed _) = None
+error_of _ = None
 
 -- a queue's errors, in order (own)
 unfoldable pub errors : Start → List Entry → QueueId → List QueueError
@@ -81,15 +57,7 @@ errors start entries queue = filter (λ error. error.queue.0 == queue.0) (filter
 -- whether an event stops a queue (own)
 abbrev pub stops : QueueId → Event → Bool
 stops queue (Stop q) = q.0 == queue.0
-stops queue (Grant _ _ _) = false
-stops queue (Revoke _ _ _) = false
-stops queue (OpenQueue _ _ _) = false
-stops queue (Take _ _ _) = false
-stops queue (RunNext _ _) = false
-stops queue (Poll _ _) = false
-stops queue (Finish _ _) = false
-stops queue (HostWrite _ _ _) = false
-stops queue (ChangeSignal _ _ _) = false
+stops queue _ = false
 
 -- whether a queue was stopped (own)
 unfoldable pub is_stopped : Start → List Entry → QueueId → Bool

@@ -55,9 +55,7 @@ agent_writes start entries dispatch = function_writes start entries (function_of
 -- how many groups a packet has: an agent dispatch has one; barrier packets have no work (own)
 abbrev pub groups_of : Packet → ℕ
 groups_of (packet.Agent _) = 1
-groups_of (packet.Kernel _) = 0
-groups_of (packet.BarrierAnd _) = 0
-groups_of (packet.BarrierOr _) = 0
+groups_of _ = 0
 
 -- a dependency with whether it was seen as 0 before
 abbrev pub Awaited : Type 0
@@ -72,8 +70,7 @@ awaited p seen = zip (dependencies p) seen.0
 abbrev pub is_ready : Packet → Seen → Bool
 is_ready (packet.BarrierAnd barrier) seen = list_all (λ a. a.0.0 == 0 || a.1) (zip barrier.dependencies seen.0)
 is_ready (packet.BarrierOr barrier) seen = list_any (λ a. not (a.0.0 == 0) && a.1) (zip barrier.dependencies seen.0)
-is_ready (packet.Kernel _) seen = false
-is_ready (packet.Agent _) seen = false
+is_ready _ seen = false
 
 -- whether a dependency is still looked at: it isn't null, and wasn't seen as 0
 abbrev pub is_awaited : Awaited → Bool

@@ -1,3 +1,3 @@
 pub mod FirstFailing
-pub mod HeldByKind
+pub mod HeldByRule
 pub mod QueueingLemmas

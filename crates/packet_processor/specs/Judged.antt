@@ -5,7 +5,7 @@ use Rattle.aql_packet.specs.Reading.{decoded}
 use Rattle.regions.specs.Memory.{lengths_of}
 use Rattle.queue_error.specs.declared.rule.Rule.{Rule}
 use Rattle.queue_error.specs.declared.rule.Rule.TheVariants.{L4, L5, L6, L7, L8, L9, L10}
-use Rattle.grants.specs.Table.{has_granted}
+use Rattle.grants.specs.Ledger.{in_force}
 use Rattle.core_model.specs.LaunchRules.{Facts, meets_rule, first_failing}
 use Rattle.packet_processor.specs.declared.facts.Facts.{Facts as Lent}
 use Rattle.packet_processor.specs.declared.facts.Verdict.{Verdict}
@@ -16,7 +16,7 @@ abbrev pub facts_seen : Lent → Facts
 facts_seen lent = record {
   agent = lent.agent;
   takes = lent.takes;
-  in_force = has_granted lent.granted.now lent.client;
+  in_force = in_force lent.grants.now lent.client;
   lengths = lengths_of lent.regions.now;
 }
 

@@ -1,7 +1,7 @@
 //! What a packet is judged by, and the verdict.
 
 use aql_packet::{AgentHandle, ClientId, Packet};
-use grants::RightsTable;
+use grants::Grants;
 use policy::Takes;
 use queue_error::Rule;
 use regions::Regions;
@@ -22,7 +22,7 @@ pub struct Facts<'a> {
     /// Which kinds of dispatch the agent takes.
     pub takes: Takes,
     /// The rights in force.
-    pub granted: &'a RightsTable,
+    pub grants: &'a Grants,
     /// The memory, for its regions' lengths.
     pub regions: &'a Regions,
 }

@@ -113,8 +113,8 @@ fn is_met(facts: &Facts, need: &Need) -> bool
 {
     lies_whole(facts.regions, &need.subject)
         && facts
-            .granted
-            .has(facts.client, object_of(&need.subject), need.right)
+            .grants
+            .is_in_force(facts.client, object_of(&need.subject), need.right)
 }
 
 // Whether a range lies whole in one region.

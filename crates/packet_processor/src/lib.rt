@@ -12,7 +12,7 @@ mod packets;
 mod queue_state;
 
 pub use facts::{Facts, TAKES_NOTHING, Verdict};
-pub use holding::holds;
+pub use holding::held;
 pub use judging::verdict;
 pub use need_table::{Needs, function_of, needs, result_range};
 pub use packets::{completion, is_barrier, is_ready};

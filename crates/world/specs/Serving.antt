@@ -14,8 +14,7 @@ use Rattle.core_model.specs.declared.outcome.Outcome.TheVariants as outcome
 use Rattle.core_model.specs.declared.refusal.Refusal.{Refusal}
 use Rattle.core_model.specs.declared.refusal.Refusal.TheVariants as refusal
 use Rattle.core_model.specs.History.{History}
-use Rattle.core_model.specs.Legal.{MeetsOrLacks, IsServed, Replying}
-use Rattle.access_core.specs.Told.{opened, taken}
+use Rattle.core_model.specs.Legal.{MeetsOrLacks, IsServed, Replying, wrapped}
 use Rattle.script.specs.declared.command.Command.{Command}
 use Rattle.script.specs.declared.command.Command.TheVariants as command
 use Rattle.script.specs.declared.command.Told.{Told}
@@ -69,7 +68,7 @@ rings_opened rings ring (Err why) = rings
 -- a queue was opened with its ring, or refused by the core (own)
 abbrev pub Opens : Event → Ring → Ringed → Told → Ringed → Type 0
 Opens event ring old reply new =
-    (made : Result QueueId Refusal) × MeetsOrLacks event old.core new.core (opened made)
+    (made : Result QueueId Refusal) × MeetsOrLacks event old.core new.core (wrapped outcome.Opened made)
     × (reply ≡ told_opened made) × (new.rings ≡ rings_opened old.rings ring made)
 
 -- a request was served by the core, and no ring changed; a queue that is opened so has no producers, and only what stands in a ring is handed over (own)
@@ -104,7 +103,7 @@ ring_after ring (Err why) = ring
 abbrev pub HandsOver : Option (List ℕ) → Ring → QueueId → Ringed → Told → Ringed → Type 0
 HandsOver None ring queue old reply new = (reply ≡ told.Empty) × (new ≡ old)
 HandsOver (Some bytes) ring queue old reply new =
-    (became : Result Taken Refusal) × MeetsOrLacks (Take queue (record { 0 = ring.read }) bytes) old.core new.core (taken became)
+    (became : Result Taken Refusal) × MeetsOrLacks (Take queue (record { 0 = ring.read }) bytes) old.core new.core (wrapped outcome.Taken became)
     × (reply ≡ told_taken (record { 0 = ring.read }) became) × (new.rings ≡ with_ring old.rings queue (ring_after ring became))
 
 -- the packet processor looked at a queue, where it was opened

@@ -1,27 +1,53 @@
-//! Grants.
+//! Grants and revocations.
 
-ghost use Rattle.std.specs.Prelude.{◌≡◌, [], OnOk, IfErr};
-ghost use Rattle.core_model.specs.Owed.{enters, refuses};
-ghost use Rattle.core_model.specs.Legal.{MeetsOrLacks};
-ghost use Rattle.access_core.specs.Told.{accepted};
-ghost use Rattle.access_core.specs.Owing.{OwedWhatever};
+ghost use Rattle.std.specs.Prelude.{◌≡◌};
+ghost use Rattle.core_model.specs.Legal.{Meets, MeetsOrLacks, accepted};
+ghost use Rattle.access_core.specs.Granting.{refusal_of};
 
 use crate::access::{AccessCore, enter, lacks_room};
 use aql_packet::ClientId;
 use core_model::{Effects, Event, Outcome, Refusal};
-use policy::{Object, Policy, Rights};
+use policy::{Object, Rights};
 
 impl AccessCore {
     /// Gives a client rights on an object.
     pub fn grant(&mut self, client: ClientId, object: Object, rights: Rights) -> Result<(), Refusal>
         ensures { MeetsOrLacks (Event.Grant client object rights) self.old self.new (accepted result) }
     {
-        may_grant(&self.policy, client, object, rights)?;
+        if let Err(why) = self.grants.may_grant(client, object, rights) {
+            return Err(refusal_of(why));
+        }
         if lacks_room(self.capacity, self.audit.len(), self.flight.len()) {
             return Err(Refusal::AuditFull);
         }
-        self.granted.grant(client, object, rights)?;
+        self.grants.put_in_force(client, object, rights);
         let event = Event::Grant {
+            client,
+            object,
+            rights,
+        };
+        enter(&mut self.audit, event, Outcome::Accepted, Effects::none());
+        Ok(())
+    }
+
+    /// Takes rights on an object from a client, unless a packet in flight of the client's queues
+    /// holds one of them. It takes no memory.
+    pub fn revoke(
+        &mut self,
+        client: ClientId,
+        object: Object,
+        rights: Rights,
+    ) -> Result<(), Refusal>
+        ensures { Meets (Event.Revoke client object rights) self.old self.new (accepted result) }
+    {
+        if let Err(why) = self.grants.may_revoke(client, object, rights) {
+            return Err(refusal_of(why));
+        }
+        if lacks_room(self.capacity, self.audit.len(), self.flight.len()) {
+            return Err(Refusal::AuditFull);
+        }
+        self.grants.take_out_of_force(client, object, rights);
+        let event = Event::Revoke {
             client,
             object,
             rights,
@@ -31,25 +57,14 @@ impl AccessCore {
     }
 }
 
-// Whether a policy lets rights be granted to a client on an object.
-#[tactic(auto, unfolding(core_model::specs::Owed::owed))]
-fn may_grant(
-    policy: &Policy,
-    client: ClientId,
-    object: Object,
-    rights: Rights,
-) -> Result<(), Refusal>
-    ensures may { OnOk result (OwedWhatever policy.now (Event.Grant client object rights) (enters Outcome.Accepted [])) }
-    ensures why { IfErr result (λ why. OwedWhatever policy.now (Event.Grant client object rights) (refuses why)) }
+// The core's refusal where a change of grants is refused.
+fn refusal_of(why: grants::Refusal) -> Refusal
+    ensures { result ≡ refusal_of why }
 {
-    if !policy.declares_client(client) {
-        return Err(Refusal::UnknownClient);
+    match why {
+        grants::Refusal::UnknownClient => Refusal::UnknownClient,
+        grants::Refusal::UnknownObject => Refusal::UnknownObject,
+        grants::Refusal::NotAllowed => Refusal::NotAllowed,
+        grants::Refusal::Busy { queue, packet } => Refusal::Busy { queue, packet },
     }
-    if !policy.declares(object) {
-        return Err(Refusal::UnknownObject);
-    }
-    if !policy.allows(client, object, rights) {
-        return Err(Refusal::NotAllowed);
-    }
-    Ok(())
 }

@@ -4,16 +4,14 @@ ghost use Rattle.std.specs.Prelude.{◌≡◌, ◌-◌, ◌∷◌, [], OnOk, IfO
 ghost use Rattle.regions.specs.Memory.{is_within, lengths_of};
 ghost use Rattle.signals.specs.Values.{applied, value_of};
 ghost use Rattle.core_model.specs.Owed.{enters, old_if_asked, refuses};
-ghost use Rattle.core_model.specs.Legal.{Meets, MeetsOrLacks};
-ghost use Rattle.access_core.specs.Told.{accepted};
-ghost use Rattle.access_core.specs.ToldHost.{changed};
+ghost use Rattle.core_model.specs.Legal.{Meets, MeetsOrLacks, accepted, wrapped};
 ghost use Rattle.access_core.specs.OwingHost.{ChangeOwed, WriteOwed};
 
 use crate::access::lookups::region_at;
 use crate::access::{AccessCore, enter, lacks_room};
 use aql_packet::{Address, ClientId, SignalHandle};
 use core_model::{Effect, Effects, Event, MOST_HOST_BYTES, Outcome, Refusal};
-use grants::RightsTable;
+use grants::Grants;
 use policy::{Object, Policy, Right};
 use regions::Regions;
 use sequences::Sequence;
@@ -29,11 +27,11 @@ impl AccessCore {
         signal: SignalHandle,
         operation: SignalOp,
     ) -> Result<i64, Refusal>
-        ensures { Meets (Event.ChangeSignal client signal operation) self.old self.new (changed result) }
+        ensures { Meets (Event.ChangeSignal client signal operation) self.old self.new (wrapped Outcome.Changed result) }
     {
         let old = may_change(
             &self.policy,
-            &self.granted,
+            &self.grants,
             &self.signals,
             client,
             signal,
@@ -67,7 +65,7 @@ impl AccessCore {
     {
         may_write(
             &self.policy,
-            &self.granted,
+            &self.grants,
             &self.memory,
             client,
             address,
@@ -96,17 +94,17 @@ impl AccessCore {
 #[tactic(auto, unfolding(core_model::specs::Owed::owed))]
 fn may_write(
     policy: &Policy,
-    granted: &RightsTable,
+    grants: &Grants,
     memory: &Regions,
     client: ClientId,
     address: Address,
     bytes: &Sequence<u8>,
 ) -> Result<(), Refusal>
     ensures within { OnOk result (is_within (lengths_of memory.now) address.0 (length bytes.now) ≡ true) }
-    ensures may { OnOk result (WriteOwed policy.now granted.now memory.now client address bytes.now
+    ensures may { OnOk result (WriteOwed policy.now grants.now memory.now client address bytes.now
         (enters Outcome.Accepted (Effect.Write address bytes.now ∷ []))) }
     ensures why { IfErr result (λ why.
-        WriteOwed policy.now granted.now memory.now client address bytes.now (refuses why)) }
+        WriteOwed policy.now grants.now memory.now client address bytes.now (refuses why)) }
 {
     if !policy.declares_client(client) {
         return Err(Refusal::UnknownClient);
@@ -115,7 +113,9 @@ fn may_write(
         return Err(Refusal::BadSize);
     }
     let region = Object::Region(region_at(address));
-    if !lies_within(memory, address, bytes.len()) || !granted.has(client, region, Right::Write) {
+    if !lies_within(memory, address, bytes.len())
+        || !grants.is_in_force(client, region, Right::Write)
+    {
         return Err(Refusal::Denied(Right::Write));
     }
     Ok(())
@@ -132,23 +132,23 @@ fn lies_within(memory: &Regions, address: Address, size: usize) -> bool
 #[tactic(auto, unfolding(core_model::specs::Owed::owed))]
 fn may_change(
     policy: &Policy,
-    granted: &RightsTable,
+    grants: &Grants,
     signals: &Signals,
     client: ClientId,
     signal: SignalHandle,
     operation: SignalOp,
 ) -> Result<i64, Refusal>
     ensures value { IfOk result (λ old. value_of signals.now signal.0 ≡ Some old) }
-    ensures may { IfOk result (λ old. ChangeOwed policy.now granted.now signals.now client signal operation
+    ensures may { IfOk result (λ old. ChangeOwed policy.now grants.now signals.now client signal operation
         (enters (Outcome.Changed (old_if_asked operation old))
         (Effect.Signal signal old (applied operation old) ∷ []))) }
     ensures why { IfErr result (λ why.
-        ChangeOwed policy.now granted.now signals.now client signal operation (refuses why)) }
+        ChangeOwed policy.now grants.now signals.now client signal operation (refuses why)) }
 {
     if !policy.declares_client(client) {
         return Err(Refusal::UnknownClient);
     }
-    if !granted.has(client, Object::Signal(signal), Right::Change) {
+    if !grants.is_in_force(client, Object::Signal(signal), Right::Change) {
         return Err(Refusal::Denied(Right::Change));
     }
     match signals.load(signal) {

@@ -20,7 +20,7 @@ impl AccessCore {
     pub(crate) fn is_in_force(&self, client: ClientId, object: Object, right: Right) -> bool
         ensures { result ≡ in_force self.now.start self.now.entries client object right }
     {
-        self.granted.has(client, object, right)
+        self.grants.is_in_force(client, object, right)
     }
 
     // The bytes of a range of addresses, if it lies whole in one region.

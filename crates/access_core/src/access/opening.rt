@@ -9,7 +9,7 @@ ghost use Rattle.access_core.specs.Opening.{is_capacity, IsUntouched, lengths_of
 use crate::access::{AccessCore, OpenFault};
 use aql_packet::{RegionHandle, SignalHandle};
 use core_model::{Entry, MOST_ENTRIES};
-use grants::RightsTable;
+use grants::Grants;
 use policy::{Kind, Policy};
 use regions::Regions;
 use sequences::{Reserved, Sequence};
@@ -19,6 +19,7 @@ use std::alloc::{AllocError, Global};
 /// What a core gets memory for when it is opened.
 #[derive(Drop)]
 struct Parts {
+    grants: Grants,
     memory: Regions,
     signals: Signals,
     audit: Reserved<Entry>,
@@ -45,10 +46,12 @@ impl AccessCore {
 fn get_parts(alloc: Global, policy: &Policy, capacity: usize) -> Result<Parts, AllocError>
     ensures { IfOk result (IsUntouched policy.now capacity) }
 {
+    let grants = Grants::new(alloc, policy)?;
     let memory = zeroed(alloc, policy)?;
     let signals = begun(alloc, policy)?;
     let audit = Reserved::with_room(alloc, capacity)?;
     Ok(Parts {
+        grants,
         memory,
         signals,
         audit,
@@ -144,13 +147,14 @@ fn blank(alloc: Global, policy: Policy, capacity: usize, parts: Parts) -> Access
     ensures { result ≡ opened policy capacity }
 {
     let Parts {
+        grants,
         memory,
         signals,
         audit,
     } = parts;
     AccessCore {
         policy,
-        granted: RightsTable::new(alloc),
+        grants,
         memory,
         signals,
         queues: Vec::new(alloc),

@@ -8,9 +8,9 @@ ghost use Rattle.core_model.specs.LaunchRules.{is_barrier};
 ghost use Rattle.core_model.specs.Needs.{dependencies};
 ghost use Rattle.core_model.specs.Work.{is_negative, is_zero, signal_value};
 ghost use Rattle.core_model.specs.Owed.{refuses};
-ghost use Rattle.core_model.specs.Legal.{Meets};
+ghost use Rattle.core_model.specs.Legal.{Meets, wrapped};
 ghost use Rattle.access_core.specs.Moves.{HasFailed, HasPlace, IsThere};
-ghost use Rattle.access_core.specs.Polling.{PollOwed, look_owed, polled, sees_owed, sight};
+ghost use Rattle.access_core.specs.Polling.{PollOwed, look_owed, sees_owed, sight};
 ghost use Rattle.access_core.specs.ToldWork.{IsFlying, IsOwed};
 
 use crate::access::working::release;
@@ -43,7 +43,7 @@ impl AccessCore {
     /// then on, whatever becomes of it (PSA, Architected Queuing Language: barrier packets). It takes
     /// no memory.
     pub fn poll(&mut self, queue: QueueId, packet: PacketId) -> Result<Polled, Refusal>
-        ensures { Meets (Event.Poll queue packet) self.old self.new (polled result) }
+        ensures { Meets (Event.Poll queue packet) self.old self.new (wrapped Outcome.Polled result) }
     {
         let (flying, look) = self.may_poll(queue, packet)?;
         match look {
@@ -81,6 +81,7 @@ impl AccessCore {
         };
         add_error(&mut self.queues, error);
         release(&mut self.flight, flying.queue, flying.id);
+        self.grants.release(flying.queue, flying.id);
         let told = Polled::Failed(error);
         let event = Event::Poll { queue, packet };
         let effects = Effects::one(Effect::Release {
@@ -100,7 +101,7 @@ impl AccessCore {
         ready: bool,
     ) -> Result<Polled, Refusal>
         requires { IsOwed self.old (Event.Poll queue packet) (sees_owed new ready) }
-        ensures { Meets (Event.Poll queue packet) self.old self.new (polled result) }
+        ensures { Meets (Event.Poll queue packet) self.old self.new (wrapped Outcome.Polled result) }
     {
         if lacks_room(self.capacity, self.audit.len(), self.flight.len()) {
             return Err(Refusal::AuditFull);

@@ -1,14 +1,14 @@
 //! Queries: they change nothing, and no entry tells of them.
 
 ghost use Rattle.std.specs.Prelude.{◌≡◌};
-ghost use Rattle.core_model.specs.Legal.{Replies, RepliesOrLacks};
-ghost use Rattle.access_core.specs.ToldQueries.{bytes_told, errors_told, listing_told, test_told, value_told};
+ghost use Rattle.core_model.specs.declared.answer.Answer.TheVariants as answer;
+ghost use Rattle.core_model.specs.Legal.{Replies, RepliesOrLacks, wrapped};
 
 use crate::access::AccessCore;
 use crate::access::lookups::region_at;
 use aql_packet::{Address, ClientId, QueueId, SignalHandle};
 use core_model::{Entry, MOST_HOST_BYTES, Query, Refusal};
-use policy::{Kind, Object, Policy, Right, Rights};
+use policy::{Object, Policy, Right, Rights};
 use queue_error::QueueError;
 use sequences::Sequence;
 use signals::Condition;
@@ -41,7 +41,7 @@ impl AccessCore {
         length: u64,
     ) -> Result<Sequence<u8>, Refusal>
         ensures { RepliesOrLacks
-            (Query.HostRead client address length) self.now (bytes_told result) }
+            (Query.HostRead client address length) self.now (wrapped answer.Bytes result) }
     {
         if !self.policy().declares_client(client) {
             return Err(Refusal::UnknownClient);
@@ -62,7 +62,7 @@ impl AccessCore {
     /// wait on the signal isn't in force.
     #[tactic(auto, unfolding(core_model::specs::Queries::replied))]
     pub fn signal_load(&self, client: ClientId, signal: SignalHandle) -> Result<i64, Refusal>
-        ensures { Replies (Query.LoadSignal client signal) self.now (value_told result) }
+        ensures { Replies (Query.LoadSignal client signal) self.now (wrapped answer.Value result) }
     {
         if !self.policy().declares_client(client) {
             return Err(Refusal::UnknownClient);
@@ -86,7 +86,7 @@ impl AccessCore {
         value: i64,
     ) -> Result<bool, Refusal>
         ensures { Replies
-            (Query.TestSignal client signal condition value) self.now (test_told result) }
+            (Query.TestSignal client signal condition value) self.now (wrapped answer.Test result) }
     {
         let current = self.signal_load(client, signal)?;
         Ok(condition.is_met(current, value))
@@ -100,23 +100,18 @@ impl AccessCore {
         alloc: Global,
         client: ClientId,
     ) -> Result<Sequence<(Object, Rights)>, Refusal>
-        ensures { RepliesOrLacks (Query.List client) self.now (listing_told result) }
+        ensures { RepliesOrLacks (Query.List client) self.now (wrapped answer.Listing result) }
     {
         if !self.policy().declares_client(client) {
             return Err(Refusal::UnknownClient);
         }
-        let mut rows = Sequence::new(alloc);
-        self.list_kind(client, Kind::Agent, &mut rows)?;
-        self.list_kind(client, Kind::Region, &mut rows)?;
-        self.list_kind(client, Kind::Signal, &mut rows)?;
-        self.list_kind(client, Kind::Kernel, &mut rows)?;
-        Ok(rows)
+        Ok(self.grants.list(alloc, client)?)
     }
 
     /// The errors of a queue, in order. Refused where no queue has the number.
     #[tactic(auto, unfolding(core_model::specs::Queries::replied))]
     pub fn errors(&self, alloc: Global, queue: QueueId) -> Result<Sequence<QueueError>, Refusal>
-        ensures { RepliesOrLacks (Query.Errors queue) self.now (errors_told result) }
+        ensures { RepliesOrLacks (Query.Errors queue) self.now (wrapped answer.Errors result) }
     {
         let Some(kept) = self.queue(queue) else {
             return Err(Refusal::UnknownQueue);

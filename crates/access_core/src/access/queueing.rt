@@ -3,8 +3,7 @@
 ghost use Rattle.std.specs.Prelude.{◌≡◌, ◌<◌, [], OnOk, IfErr, IfOk, length};
 ghost use Rattle.core_model.specs.Queues.{openings};
 ghost use Rattle.core_model.specs.Owed.{owed, enters, refuses, is_ring_size};
-ghost use Rattle.core_model.specs.Legal.{MeetsOrLacks};
-ghost use Rattle.access_core.specs.Told.{opened};
+ghost use Rattle.core_model.specs.Legal.{MeetsOrLacks, wrapped};
 
 use crate::access::{AccessCore, enter, lacks_room};
 use crate::queue::Queue;
@@ -33,7 +32,7 @@ impl AccessCore {
         agent: AgentHandle,
         size: u64,
     ) -> Result<QueueId, Refusal>
-        ensures { MeetsOrLacks (Event.OpenQueue client agent size) self.old self.new (opened result) }
+        ensures { MeetsOrLacks (Event.OpenQueue client agent size) self.old self.new (wrapped Outcome.Opened result) }
     {
         let queue = self.may_open(client, agent, size)?;
         if lacks_room(self.capacity, self.audit.len(), self.flight.len()) {

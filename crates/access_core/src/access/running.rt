@@ -10,8 +10,8 @@ ghost use Rattle.core_model.specs.Flight.{group_ran};
 ghost use Rattle.core_model.specs.Needs.{function_of};
 ghost use Rattle.core_model.specs.Work.{function_result, function_writes, number_in_memory, result_writes, write_of};
 ghost use Rattle.core_model.specs.Owed.{refuses};
-ghost use Rattle.core_model.specs.Legal.{MeetsOrLacks};
-ghost use Rattle.access_core.specs.ToldWork.{GroupOwed, IsChanged, IsOwed, IsPlaced, is_placed, Reaches, run_owed, worked};
+ghost use Rattle.core_model.specs.Legal.{MeetsOrLacks, wrapped};
+ghost use Rattle.access_core.specs.ToldWork.{GroupOwed, IsChanged, IsOwed, IsPlaced, is_placed, Reaches, run_owed};
 
 use crate::access::{AccessCore, enter, lacks_room};
 use aql_packet::{Address, AgentDispatch, Packet, PacketId, QueueId};
@@ -39,7 +39,7 @@ impl AccessCore {
         queue: QueueId,
         packet: PacketId,
     ) -> Result<Worked, Refusal>
-        ensures { MeetsOrLacks (Event.RunNext queue packet) self.old self.new (worked result) }
+        ensures { MeetsOrLacks (Event.RunNext queue packet) self.old self.new (wrapped Outcome.Worked result) }
     {
         let Some(dispatch) = self.may_run(queue, packet)? else {
             return Ok(Worked::Done);

@@ -1,13 +1,13 @@
 //! Queues are stopped.
 
-ghost use Rattle.std.specs.Prelude.{◌≡◌, ◌==◌, ◌&&◌, IfErr, IfOk, Err, find, fold};
+ghost use Rattle.std.specs.Prelude.{◌≡◌, ◌==◌, ◌&&◌, IfErr, IfNone, IfOk, IfSome, Err, find, fold};
+ghost use Rattle.grants.specs.Ledger.{Releases};
 ghost use Rattle.core_model.specs.Flight.{flight_after_effect};
 ghost use Rattle.core_model.specs.LaunchRules.{is_barrier};
 ghost use Rattle.core_model.specs.Owed.{refuses, release_of};
-ghost use Rattle.core_model.specs.Legal.{Meets};
+ghost use Rattle.core_model.specs.Legal.{Meets, accepted};
 ghost use Rattle.access_core.specs.Moves.{IsHalted, IsThere};
 ghost use Rattle.access_core.specs.Stopping.{MayStop};
-ghost use Rattle.access_core.specs.Told.{accepted};
 
 use crate::access::lookups::queue_of;
 use crate::access::working::release;
@@ -15,6 +15,7 @@ use crate::access::{AccessCore, enter, lacks_room};
 use crate::queue::Queue;
 use aql_packet::QueueId;
 use core_model::{Effect, Effects, Event, InFlight, Outcome, Refusal};
+use grants::Grants;
 use packet_processor::is_barrier;
 use sequences::Sequence;
 
@@ -26,7 +27,7 @@ impl AccessCore {
     {
         let barrier = self.may_stop(queue)?;
         halt(&mut self.queues, queue);
-        let effects = let_go(&mut self.flight, barrier);
+        let effects = let_go(&mut self.flight, &mut self.grants, barrier);
         let event = Event::Stop { queue };
         enter(&mut self.audit, event, Outcome::Accepted, effects);
         Ok(())
@@ -73,14 +74,21 @@ fn halt(queues: &mut Vec<Queue>, queue: QueueId)
 }
 
 // Takes a packet out of flight, if there is one, and tells its release.
-fn let_go(flight: &mut Sequence<InFlight>, barrier: Option<InFlight>) -> Effects
+fn let_go(
+    flight: &mut Sequence<InFlight>,
+    grants: &mut Grants,
+    barrier: Option<InFlight>,
+) -> Effects
     ensures effects { result ≡ release_of barrier }
     ensures flight { flight.new ≡ fold flight_after_effect flight.old (release_of barrier) }
+    ensures released { IfSome barrier (λ f. Releases grants.old grants.new f.queue f.id) }
+    ensures same { IfNone barrier (grants.new ≡ grants.old) }
 {
     match barrier {
         None => Effects::none(),
         Some(flying) => {
             release(flight, flying.queue, flying.id);
+            grants.release(flying.queue, flying.id);
             Effects::one(Effect::Release {
                 queue: flying.queue,
                 packet: flying.id,

@@ -7,16 +7,15 @@ ghost use Rattle.packet_processor.specs.Judged.{Judges};
 ghost use Rattle.access_core.specs.Judged.{facts_lent};
 ghost use Rattle.access_core.specs.Deciding.{Decides};
 ghost use Rattle.access_core.specs.Moves.{HandsOver, CanHandOver, HasPlace};
-ghost use Rattle.core_model.specs.Legal.{MeetsOrLacks};
-ghost use Rattle.access_core.specs.Told.{taken};
+ghost use Rattle.core_model.specs.Legal.{MeetsOrLacks, wrapped};
 
 use crate::access::lookups::queue_of;
 use crate::access::{AccessCore, enter, lacks_room};
 use crate::queue::Queue;
-use aql_packet::{Packet, PacketId, QueueId, RawHeader, header_of};
+use aql_packet::{AgentHandle, ClientId, Packet, PacketId, QueueId, RawHeader, header_of};
 use core_model::{Cause, Effects, Event, InFlight, Outcome, Refusal, Seen, Taken};
-use grants::RightsTable;
-use packet_processor::{Facts, MayLaunch, QueueState, TAKES_NOTHING, Verdict, verdict};
+use grants::Grants;
+use packet_processor::{Facts, MayLaunch, QueueState, TAKES_NOTHING, Verdict, held, verdict};
 use policy::Policy;
 use queue_error::{QueueError, Rule};
 use regions::Regions;
@@ -34,24 +33,32 @@ fn header(bytes: &[u8; 64]) -> RawHeader
 enum Decision {
     Wait(Cause),
     Deny(Rule),
-    Launch(Packet),
+    Launch(Launching),
+}
+
+// A packet that is launched, and whose queue it is.
+#[derive(Drop)]
+struct Launching {
+    client: ClientId,
+    agent: AgentHandle,
+    packet: Packet,
 }
 
 // Judges a packet of a queue.
 fn judged(
     policy: &Policy,
-    granted: &RightsTable,
+    grants: &Grants,
     regions: &Regions,
     kept: &Queue,
     bytes: &[u8; 64],
 ) -> Verdict
-    ensures { Judges (facts_lent policy.now granted.now regions.now kept.now.client kept.now.agent) bytes.now result }
+    ensures { Judges (facts_lent policy.now grants.now regions.now kept.now.client kept.now.agent) bytes.now result }
 {
     let facts = Facts {
         client: kept.client,
         agent: kept.agent,
         takes: policy.takes(kept.agent).unwrap_or(TAKES_NOTHING),
-        granted,
+        grants,
         regions,
     };
     verdict(bytes, &facts)
@@ -110,8 +117,12 @@ impl AccessCore {
         match state.may_launch(&header(bytes)) {
             MayLaunch::Waiting(cause) => Ok(Decision::Wait(cause)),
             MayLaunch::Go => {
-                match judged(&self.policy, &self.granted, &self.memory, kept, bytes) {
-                    Verdict::Launch(packet) => Ok(Decision::Launch(packet)),
+                match judged(&self.policy, &self.grants, &self.memory, kept, bytes) {
+                    Verdict::Launch(packet) => Ok(Decision::Launch(Launching {
+                        client: kept.client,
+                        agent: kept.agent,
+                        packet,
+                    })),
                     Verdict::Deny(rule) => Ok(Decision::Deny(rule)),
                 }
             }
@@ -127,12 +138,12 @@ impl AccessCore {
         packet: PacketId,
         bytes: &[u8; 64],
     ) -> Result<Taken, Refusal>
-        ensures { MeetsOrLacks (Event.Take queue packet bytes.now) self.old self.new (taken result) }
+        ensures { MeetsOrLacks (Event.Take queue packet bytes.now) self.old self.new (wrapped Outcome.Taken result) }
     {
         match self.may_take(queue, packet, bytes)? {
             Decision::Wait(cause) => Ok(Taken::Waiting(cause)),
             Decision::Deny(rule) => self.deny(queue, packet, bytes, rule),
-            Decision::Launch(laid_out) => self.launch(queue, packet, bytes, laid_out),
+            Decision::Launch(launching) => self.launch(alloc, queue, packet, bytes, launching),
         }
     }
 
@@ -145,7 +156,7 @@ impl AccessCore {
         rule: Rule,
     ) -> Result<Taken, Refusal>
         requires { Decides self.old queue packet bytes.now (Decision.Deny rule) }
-        ensures { MeetsOrLacks (Event.Take queue packet bytes.now) self.old self.new (taken result) }
+        ensures { MeetsOrLacks (Event.Take queue packet bytes.now) self.old self.new (wrapped Outcome.Taken result) }
     {
         if lacks_room(self.capacity, self.audit.len(), self.flight.len()) {
             return Err(Refusal::AuditFull);
@@ -172,27 +183,33 @@ impl AccessCore {
         Ok(became)
     }
 
-    // Launches the next packet of a queue.
+    // Launches the next packet of a queue: it holds its rights from then on.
     fn launch(
         &mut self,
+        alloc: Global,
         queue: QueueId,
         packet: PacketId,
         bytes: &[u8; 64],
-        laid_out: Packet,
+        launching: Launching,
     ) -> Result<Taken, Refusal>
-        requires { Decides self.old queue packet bytes.now (Decision.Launch laid_out) }
-        ensures { MeetsOrLacks (Event.Take queue packet bytes.now) self.old self.new (taken result) }
+        requires { Decides self.old queue packet bytes.now (Decision.Launch launching) }
+        ensures { MeetsOrLacks (Event.Take queue packet bytes.now) self.old self.new (wrapped Outcome.Taken result) }
     {
         if lacks_room(self.capacity, self.audit.len(), self.flight.len() + 1) {
             return Err(Refusal::AuditFull);
         }
+        let rights = held(alloc, launching.agent, &launching.packet)?;
+        self.grants.reserve(rights.len())?;
         self.flight.push(InFlight {
             queue,
             id: packet,
-            packet: laid_out,
+            packet: launching.packet,
             groups_run: 0,
             seen: Seen([false; 5]),
         })?;
+        let client = launching.client;
+        self.grants
+            .hold_reserved(client, queue, packet, rights.as_slice());
         advance(&mut self.queues, queue);
         let event = Event::Take {
             queue,

@@ -1,12 +1,7 @@
-//! What the core's calls answer, as the outcomes and answers of requests.
+//! What the core's calls answer, as variants of what all calls answer.
 
 ghost use Rattle.std.specs.Prelude.{◌≡◌};
-ghost use Rattle.core_model.specs.Legal.{as_reply};
-ghost use Rattle.access_core.specs.Polling.{polled};
-ghost use Rattle.access_core.specs.Told.{accepted, opened, taken};
-ghost use Rattle.access_core.specs.ToldWork.{worked};
-ghost use Rattle.access_core.specs.ToldHost.{changed};
-ghost use Rattle.access_core.specs.ToldQueries.{bytes_told, errors_told, listing_told, test_told, value_told};
+ghost use Rattle.core_model.specs.Legal.{accepted, wrapped};
 
 use aql_packet::QueueId;
 use core_model::{Answer, Outcome, Polled, Refusal, Reply, Taken, Worked};
@@ -26,110 +21,77 @@ pub(crate) fn accepted(made: Result<(), Refusal>) -> Result<Outcome, Refusal>
 
 // A queue that was opened.
 pub(crate) fn opened(made: Result<QueueId, Refusal>) -> Result<Outcome, Refusal>
-    ensures { result ≡ opened made }
+    ensures { result ≡ wrapped Outcome.Opened made }
 {
-    match made {
-        Ok(told) => Ok(Outcome::Opened(told)),
-        Err(why) => Err(why),
-    }
+    made.map(Outcome::Opened)
 }
 
-// What became of a packet that was handed over.
+// What became of a packet that was taken.
 pub(crate) fn taken(made: Result<Taken, Refusal>) -> Result<Outcome, Refusal>
-    ensures { result ≡ taken made }
+    ensures { result ≡ wrapped Outcome.Taken made }
 {
-    match made {
-        Ok(told) => Ok(Outcome::Taken(told)),
-        Err(why) => Err(why),
-    }
+    made.map(Outcome::Taken)
 }
 
 // What became of a packet's next group.
 pub(crate) fn worked(made: Result<Worked, Refusal>) -> Result<Outcome, Refusal>
-    ensures { result ≡ worked made }
+    ensures { result ≡ wrapped Outcome.Worked made }
 {
-    match made {
-        Ok(told) => Ok(Outcome::Worked(told)),
-        Err(why) => Err(why),
-    }
+    made.map(Outcome::Worked)
 }
 
 // What a poll found.
 pub(crate) fn polled(made: Result<Polled, Refusal>) -> Result<Outcome, Refusal>
-    ensures { result ≡ polled made }
+    ensures { result ≡ wrapped Outcome.Polled made }
 {
-    match made {
-        Ok(told) => Ok(Outcome::Polled(told)),
-        Err(why) => Err(why),
-    }
+    made.map(Outcome::Polled)
 }
 
 // A signal that was changed.
 pub(crate) fn changed(made: Result<i64, Refusal>) -> Result<Outcome, Refusal>
-    ensures { result ≡ changed made }
+    ensures { result ≡ wrapped Outcome.Changed made }
 {
-    match made {
-        Ok(told) => Ok(Outcome::Changed(told)),
-        Err(why) => Err(why),
-    }
+    made.map(Outcome::Changed)
 }
 
 // Bytes that were read.
 pub(crate) fn bytes_told(made: Result<Sequence<u8>, Refusal>) -> Reply
-    ensures { result ≡ bytes_told made }
+    ensures { result ≡ wrapped Answer.Bytes made }
 {
-    match made {
-        Ok(told) => Ok(Answer::Bytes(told)),
-        Err(why) => Err(why),
-    }
+    made.map(Answer::Bytes)
 }
 
 // The value of a signal.
 pub(crate) fn value_told(made: Result<i64, Refusal>) -> Reply
-    ensures { result ≡ value_told made }
+    ensures { result ≡ wrapped Answer.Value made }
 {
-    match made {
-        Ok(told) => Ok(Answer::Value(told)),
-        Err(why) => Err(why),
-    }
+    made.map(Answer::Value)
 }
 
 // Whether a condition held.
 pub(crate) fn test_told(made: Result<bool, Refusal>) -> Reply
-    ensures { result ≡ test_told made }
+    ensures { result ≡ wrapped Answer.Test made }
 {
-    match made {
-        Ok(told) => Ok(Answer::Test(told)),
-        Err(why) => Err(why),
-    }
+    made.map(Answer::Test)
 }
 
 // Objects with rights on them.
 pub(crate) fn listing_told(made: Result<Sequence<(Object, Rights)>, Refusal>) -> Reply
-    ensures { result ≡ listing_told made }
+    ensures { result ≡ wrapped Answer.Listing made }
 {
-    match made {
-        Ok(told) => Ok(Answer::Listing(told)),
-        Err(why) => Err(why),
-    }
+    made.map(Answer::Listing)
 }
 
 // A queue's errors.
 pub(crate) fn errors_told(made: Result<Sequence<QueueError>, Refusal>) -> Reply
-    ensures { result ≡ errors_told made }
+    ensures { result ≡ wrapped Answer.Errors made }
 {
-    match made {
-        Ok(told) => Ok(Answer::Errors(told)),
-        Err(why) => Err(why),
-    }
+    made.map(Answer::Errors)
 }
 
 // What an event came to.
 pub(crate) fn as_reply(made: Result<Outcome, Refusal>) -> Reply
-    ensures { result ≡ as_reply made }
+    ensures { result ≡ wrapped Answer.Outcome made }
 {
-    match made {
-        Ok(outcome) => Ok(Answer::Outcome(outcome)),
-        Err(why) => Err(why),
-    }
+    made.map(Answer::Outcome)
 }

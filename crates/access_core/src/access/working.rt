@@ -5,8 +5,7 @@ ghost use Rattle.core_model.specs.Memory.{signals_after};
 ghost use Rattle.core_model.specs.Queues.{owner};
 ghost use Rattle.core_model.specs.Flight.{is_packet};
 ghost use Rattle.core_model.specs.Owed.{refuses, is_finished};
-ghost use Rattle.core_model.specs.Legal.{Meets};
-ghost use Rattle.access_core.specs.Told.{accepted};
+ghost use Rattle.core_model.specs.Legal.{Meets, accepted};
 ghost use Rattle.access_core.specs.ToldWork.{completion_of, finish_owed, IsFlying, IsOwed, OwedBy, Reaches, RefusedAt, without};
 
 use crate::access::{AccessCore, enter};
@@ -26,6 +25,7 @@ impl AccessCore {
         let flying = self.may_finish(queue, packet)?;
         let effects = complete(&mut self.signals, flying);
         release(&mut self.flight, flying.queue, flying.id);
+        self.grants.release(flying.queue, flying.id);
         let event = Event::Finish { queue, packet };
         enter(&mut self.audit, event, Outcome::Accepted, effects);
         Ok(())

@@ -8,7 +8,7 @@ use borrow.Author.Tests.{tests}
 use Rattle.core_model.specs.declared.need.Need.{Need}
 use Rattle.core_model.specs.LaunchRules.{is_met}
 use Rattle.packet_processor.specs.Judged.{facts_seen}
-use Rattle.packet_processor.proofs.HeldByKind.{all-options}
+use Rattle.packet_processor.proofs.HeldByRule.{all-options}
 use Rattle.packet_processor.proofs.judging.are_met.Goals as goal
 
 pub returns : goal.returns

@@ -8,6 +8,7 @@ use Rattle.core_model.specs.declared.outcome.Taken.TheVariants.{Denied}
 use Rattle.core_model.specs.Owed.{error_at}
 use Rattle.access_core.specs.Deciding.{TakesNext}
 use Rattle.access_core.specs.Kept.{history_of}
+use Rattle.access_core.proofs.HeldMoves.{held-still}
 use Rattle.access_core.proofs.KeptMore.{IsKept-more}
 use Rattle.access_core.proofs.TakeLemmas.{few-flying, kept-next}
 use Rattle.access_core.proofs.ErrorRooms.{ErrorRoom-denied, HasPlace-first}
@@ -39,6 +40,8 @@ invariant_of-self c =
     (record { policy = refl; capacity = refl; entries = rw c.none.ensures at c.enter.ensures.entries; place = c.enter.ensures.place; room = ltb-false _ _ room })
     (record {
       granted = λ client on right. refl;
+      rules = refl;
+      held = λ queue id client on right. held-still c.self.inside c.self.invariant (Take c.args.queue c.args.packet c.args.bytes.now) (outcome.Taken (Denied (error_at c.args.queue c.args.packet.0 c.args.rule))) [] refl queue id client on right;
       lengths = refl;
       memory = λ x byte h. h;
       values = refl;

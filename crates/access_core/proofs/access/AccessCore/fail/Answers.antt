@@ -13,6 +13,7 @@ use Rattle.core_model.specs.Memory.{region_lengths}
 use Rattle.core_model.specs.Owed.{error_at}
 use Rattle.access_core.specs.Kept.{start_of}
 use Rattle.access_core.specs.LiesInRegions.{lies_in_regions}
+use Rattle.access_core.proofs.HeldMoves.{held-released, held-still}
 use Rattle.access_core.proofs.KeptMore.{IsKept-more}
 use Rattle.access_core.proofs.Calls.{entered, owed-inside}
 use Rattle.access_core.proofs.ErrorRooms.{ErrorRoom-failed, HasPlace-flying}
@@ -40,7 +41,9 @@ invariant_of-self c =
     IsKept-more a _ (Poll c.args.queue c.args.packet) (outcome.Polled (Failed (error_at f.queue f.id.0 B1))) (effect.Release f.queue f.id ∷ []) c.self.invariant
     (record { policy = refl; capacity = refl; entries = rw c.one-effects.ensures at c.enter.ensures.entries; place = c.enter.ensures.place; room = rw c.release.ensures room })
     (record {
-      granted = λ client on right. refl;
+      granted = c.release-2.ensures.same_rights;
+      rules = c.release-2.ensures.same_rules;
+      held = rw c.release.ensures (held-released a c.self.invariant (Poll c.args.queue c.args.packet) (outcome.Polled (Failed (error_at f.queue f.id.0 B1))) (effect.Release f.queue f.id ∷ []) refl _ f.queue f.id c.release-2.ensures);
       lengths = refl;
       memory = λ x byte h. h;
       values = refl;

@@ -13,6 +13,7 @@ use Rattle.core_model.specs.Owed.{completed}
 use Rattle.access_core.specs.Kept.{start_of}
 use Rattle.access_core.specs.LiesInRegions.{lies_in_regions}
 use Rattle.access_core.specs.ErrorRoom.{HasErrorRoom}
+use Rattle.access_core.proofs.HeldMoves.{held-released, held-still}
 use Rattle.access_core.proofs.KeptMore.{IsKept-more}
 use Rattle.access_core.proofs.Calls.{entered}
 use Rattle.access_core.proofs.ErrorRooms.{ErrorRoom-released}
@@ -31,7 +32,9 @@ invariant_of-self c =
     IsKept-more a _ (Finish c.args.queue c.args.packet) outcome.Accepted (completed a.signals (completion f.packet) ++ effect.Release f.queue f.id ∷ []) c.self.invariant
     (record { policy = refl; capacity = refl; entries = rw c.complete-effects.ensures.effects at c.enter.ensures.entries; place = c.enter.ensures.place; room = rw c.release.ensures room })
     (record {
-      granted = λ client on right. refl;
+      granted = c.release-2.ensures.same_rights;
+      rules = c.release-2.ensures.same_rules;
+      held = rw c.release.ensures (held-released a c.self.invariant (Finish c.args.queue c.args.packet) outcome.Accepted (completed a.signals (completion f.packet) ++ effect.Release f.queue f.id ∷ []) refl _ f.queue f.id c.release-2.ensures);
       lengths = refl;
       memory = λ x byte h. rw (memory-completed a.signals (completion f.packet) f.queue f.id x byte) h;
       values = rw c.complete-effects.ensures.effects at c.complete-effects.ensures.values;

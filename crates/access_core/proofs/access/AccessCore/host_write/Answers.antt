@@ -5,6 +5,7 @@ use Rattle.std.proofs.lemmas.Bool.{ltb-false}
 use Rattle.core_model.specs.declared.event.Event.TheVariants.{HostWrite}
 use Rattle.core_model.specs.declared.entry.Effect.TheVariants.{Write}
 use Rattle.core_model.specs.declared.outcome.Outcome.TheVariants as outcome
+use Rattle.access_core.proofs.HeldMoves.{held-still}
 use Rattle.access_core.proofs.KeptMore.{IsKept-more}
 use Rattle.access_core.proofs.Calls.{full, entered}
 use Rattle.access_core.proofs.HostMemory.{byte_at-written}
@@ -28,6 +29,8 @@ invariant_of-self c =
     })
     (record {
       granted = λ client on right. refl;
+      rules = refl;
+      held = λ queue id client on right. held-still c.self.inside c.self.invariant (HostWrite c.args.client c.args.address c.args.bytes) outcome.Accepted (Write c.args.address c.args.bytes ∷ []) refl queue id client on right;
       lengths = c.lay.ensures.lengths;
       memory = λ x byte before. byte_at-written _ _ c.args.address c.args.bytes x byte (rw c.as_slice.ensures at c.lay.ensures.bytes) before;
       values = refl;

@@ -6,7 +6,14 @@ use Rattle.policy.specs.Policy.{numbered}
 use Rattle.core_model.specs.declared.flight.InFlight.{InFlight}
 use Rattle.core_model.specs.LaunchRules.{may_start}
 use Rattle.packet_processor.proofs.QueueingLemmas.{launching-waits, launching-goes}
-use Rattle.access_core.proofs.TakeLemmas.{take-unknown, take-known, reachable-launched, takes-next}
+use Rattle.std.proofs.Common.{ap}
+use Rattle.std.specs.Prelude.{option_map}
+use Rattle.access_core.specs.Kept.{kept_opening}
+use Rattle.std.proofs.Common.{subst}
+use Rattle.core_model.specs.History.{History}
+use Rattle.access_core.specs.Deciding.{Decides}
+use Rattle.access_core.specs.declared.access.taking.Decision.TheVariants.{Launch}
+use Rattle.access_core.proofs.TakeLemmas.{owner-kept, may-hold, take-unknown, take-known, reachable-launched, takes-next}
 use Rattle.access_core.proofs.access.AccessCore.may_take.Goals as goal
 
 pub returns-in-None-clause-why : goal.returns-in-None-clause-why
@@ -43,11 +50,13 @@ returns-in-Launch-clause-may c =
     let next : (c.args.packet.0 == c.in-Some.kept.now.next) ≡ true = search rules in
     let told : may_start (filter (λ (f : InFlight). f.queue.0 == c.args.queue.0) c.as_slice-2.result.now) c.header.result.barrier ≡ None = launching-goes _ c.in-Go.ensures in
     let waits : may_start (filter (λ (f : InFlight). f.queue.0 == c.args.queue.0) c.self.inside.flight) (barrier_bit c.args.bytes.now) ≡ None = cc (told, c.as_slice-2.ensures, c.header.ensures) in
-    rw (← c.self.view_is) (
+    subst (λ (h : History). Decides h c.args.queue c.args.packet c.args.bytes.now (Launch (record { client = c.in-Some.kept.now.client; agent = c.in-Some.kept.now.agent; packet = c.in-Launch.packet }))) c.self.view_is (
       take-known c.self.inside c.self.invariant _ _ _ _ some ∙ (rw (down, next, waits, c.in-Launch.ensures.1) refl),
       c.in-Launch.ensures.0,
       reachable-launched c.self.inside c.in-Some.kept.now c.args.bytes.now c.in-Launch.packet c.self.invariant c.in-Launch.ensures.0 c.in-Launch.ensures.1,
       takes-next c.self.inside c.self.invariant _ _ _ some down waits,
+      owner-kept c.self.inside c.args.queue c.self.invariant ∙ ap (option_map kept_opening) some,
+      may-hold c.self.inside c.in-Some.kept.now c.args.bytes.now c.in-Launch.packet c.self.invariant c.in-Launch.ensures.0 c.in-Launch.ensures.1,
     )
 
 pub returns-in-Deny-clause-may : goal.returns-in-Deny-clause-may

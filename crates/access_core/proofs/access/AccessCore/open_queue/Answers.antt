@@ -1,9 +1,11 @@
 -- What is kept moves along with the opening, which is entered where there is room.
-use Rattle.std.proofs.Common.{◌≡◌, refl, sym, subst, inl, true, false, [], ◌+◌, ◌<◌, length}
+use Rattle.std.proofs.Common.{◌≡◌, ◌∙◌, refl, sym, subst, inl, true, false, [], ◌+◌, ◌<◌, length}
 use Rattle.std.specs.Prelude.{nat_lt}
 use Rattle.std.proofs.lemmas.Bool.{ltb-false}
 use Rattle.core_model.specs.declared.event.Event.TheVariants.{OpenQueue}
 use Rattle.core_model.specs.declared.outcome.Outcome.TheVariants as outcome
+use Rattle.access_core.proofs.HeldMoves.{held-opened}
+use Rattle.access_core.proofs.HeldMore.{AreHeld-legal}
 use Rattle.access_core.proofs.KeptMore.{IsKept-more}
 use Rattle.std.proofs.lemmas.List.{map-append}
 use Rattle.access_core.specs.Kept.{kept_opening, kept_next, kept_errors, kept_stopped}
@@ -27,6 +29,9 @@ invariant_of-self-2 c =
     (record { policy = refl; capacity = refl; entries = rw c.none.ensures at c.enter.ensures.entries; place = c.enter.ensures.place; room = ltb-false _ _ room })
     (record {
       granted = λ client on right. refl;
+      rules = refl;
+      held = λ queue id client on right. c.self.invariant.held queue id client on right
+          ∙ held-opened _ c.self.inside.audit.items _ queue id client on right c.self.inside.flight (rw c.self.invariant.flight (AreHeld-legal _ c.self.inside.audit.items c.self.invariant.legal));
       lengths = refl;
       memory = λ x byte h. h;
       values = refl;

@@ -1,35 +1,38 @@
--- What is kept moves along with a revocation, which is entered where there is room.
-use Rattle.std.proofs.Common.{◌≡◌, refl, true, false, [], ◌+◌, length}
+-- What is kept moves along with the revocation, which is entered where there is room.
+use Rattle.std.proofs.Common.{◌≡◌, ◌+◌, refl, sym, ◌∙◌, true, false, List, [], length, ap}
+use Rattle.std.proofs.Common.{subst}
+use Rattle.grants.specs.Ledger.{RevokeAnswers}
 use Rattle.std.specs.Prelude.{nat_lt}
 use Rattle.std.proofs.lemmas.Bool.{ltb-false}
-use Rattle.std.proofs.lemmas.Result.{err_from_is_err_and}
 use Rattle.core_model.specs.declared.event.Event.TheVariants.{Revoke}
 use Rattle.core_model.specs.declared.outcome.Outcome.TheVariants as outcome
 use Rattle.access_core.proofs.KeptMore.{IsKept-more}
-use Rattle.access_core.proofs.Calls.{refused, full, entered}
-use Rattle.access_core.proofs.HolderKept.{holder-kept}
+use Rattle.access_core.proofs.Calls.{full, entered, refused}
+use Rattle.access_core.proofs.Granting.{revoke-owed, revoke-refused}
+use Rattle.access_core.proofs.HeldMoves.{held-still}
 use Rattle.access_core.proofs.access.AccessCore.revoke.Goals as goal
 
-pub returns-in_err-may_revoke : goal.returns-in_err-may_revoke
-returns-in_err-may_revoke c =
-    let p = err_from_is_err_and c.from_residual.result c.from_residual.ensures.1 in
-    let found = holder-kept _ _ c.args.client c.args.object c.args.rights c.self.inside.queues.items c.self.inside.flight c.self.invariant.legal c.self.invariant.openings c.self.invariant.flight in
-    rw (p.1, p.2) (refused _ c.self.inside _ c.self.view_is _ (c.in_err-may_revoke.ensures.why _ found))
+pub returns-in-Err : goal.returns-in-Err
+returns-in-Err c =
+    let owing = revoke-refused c.self.inside c.self.invariant c.args.client c.args.object c.args.rights c.in-Err.why (subst (RevokeAnswers c.self.inside.grants c.args.client c.args.object c.args.rights) c.in-Err.is c.may_revoke.ensures) in
+    rw c.refusal_of.ensures (refused _ c.self.inside _ c.self.view_is _ owing)
 
 pub returns-then-lacks_room : goal.returns-then-lacks_room
 returns-then-lacks_room c =
     let lacks : nat_lt c.self.inside.capacity (length c.self.inside.audit.items + 1 + length c.self.inside.flight) ≡ true = cc in
-    let found = holder-kept _ _ c.args.client c.args.object c.args.rights c.self.inside.queues.items c.self.inside.flight c.self.invariant.legal c.self.invariant.openings c.self.invariant.flight in
-    full _ c.self.inside _ c.self.view_is _ _ c.self.invariant (c.in_ok-may_revoke.ensures.may _ found) lacks
+    (full _ c.self.inside _ c.self.view_is outcome.Accepted [] c.self.invariant (revoke-owed c.self.inside c.self.invariant c.args.client c.args.object c.args.rights (subst (RevokeAnswers c.self.inside.grants c.args.client c.args.object c.args.rights) c.in_default.is c.may_revoke.ensures)) lacks)
 
 pub invariant_of-self : goal.invariant_of-self
 invariant_of-self c =
-    let room : nat_lt c.self.inside.capacity (length c.self.inside.audit.items + 1 + length c.self.inside.flight) ≡ false = cc in
-    let found = holder-kept _ _ c.args.client c.args.object c.args.rights c.self.inside.queues.items c.self.inside.flight c.self.invariant.legal c.self.invariant.openings c.self.invariant.flight in
-    IsKept-more c.self.inside _ (Revoke c.args.client c.args.object c.args.rights) outcome.Accepted [] c.self.invariant
+    let a = c.self.inside in
+    let room : nat_lt a.capacity (length a.audit.items + 1 + length a.flight) ≡ false = cc in
+    let takes = c.take_out_of_force.ensures in
+    IsKept-more a _ (Revoke c.args.client c.args.object c.args.rights) outcome.Accepted [] c.self.invariant
     (record { policy = refl; capacity = refl; entries = rw c.none.ensures at c.enter.ensures.entries; place = c.enter.ensures.place; room = ltb-false _ _ room })
     (record {
-      granted = c.revoke.ensures;
+      granted = takes.taken;
+      rules = takes.same_rules;
+      held = λ queue id client on right. takes.same_holds queue id client on right ∙ held-still a c.self.invariant (Revoke c.args.client c.args.object c.args.rights) outcome.Accepted [] refl queue id client on right;
       lengths = refl;
       memory = λ x byte h. h;
       values = refl;
@@ -42,10 +45,10 @@ invariant_of-self c =
       reachable = c.self.invariant.reachable;
       error_room = c.self.invariant.error_room;
     })
-    (c.in_ok-may_revoke.ensures.may _ found)
+    (revoke-owed a c.self.invariant c.args.client c.args.object c.args.rights (subst (RevokeAnswers c.self.inside.grants c.args.client c.args.object c.args.rights) c.in_default.is c.may_revoke.ensures))
 
 pub returns : goal.returns
 returns c =
     let room : nat_lt c.self.inside.capacity (length c.self.inside.audit.items + 1 + length c.self.inside.flight) ≡ false = cc in
-    let found = holder-kept _ _ c.args.client c.args.object c.args.rights c.self.inside.queues.items c.self.inside.flight c.self.invariant.legal c.self.invariant.openings c.self.invariant.flight in
-    entered _ c.self.inside _ c.self.view_is _ outcome.Accepted [] c.self.invariant (rw c.none.ensures at c.enter.ensures.entries) (c.in_ok-may_revoke.ensures.may _ found) room
+    (entered _ c.self.inside _ c.self.view_is _ outcome.Accepted [] c.self.invariant (rw c.none.ensures at c.enter.ensures.entries)
+    (revoke-owed c.self.inside c.self.invariant c.args.client c.args.object c.args.rights (subst (RevokeAnswers c.self.inside.grants c.args.client c.args.object c.args.rights) c.in_default.is c.may_revoke.ensures)) room)

@@ -12,6 +12,10 @@ use Rattle.core_model.specs.Memory.{region_lengths}
 use Rattle.core_model.specs.Work.{agent_writes}
 use Rattle.access_core.specs.Kept.{start_of}
 use Rattle.access_core.specs.ToldWork.{IsChanged}
+use Rattle.access_core.proofs.HeldMoves.{held-still, held-ran, held-seen, held-without, owners-still}
+use Rattle.core_model.specs.Queues.{owner}
+use Rattle.access_core.specs.Held.{packet_holds}
+use Rattle.core_model.specs.Legal.{with_entry}
 use Rattle.access_core.proofs.KeptMore.{IsKept-more}
 use Rattle.access_core.proofs.Calls.{full, entered}
 use Rattle.access_core.proofs.ErrorRooms.{ErrorRoom-ran}
@@ -46,6 +50,10 @@ invariant_of-self c =
     })
     (record {
       granted = λ client on right. refl;
+      rules = refl;
+      held = λ queue id client on right. rw c.count_group.ensures
+          (held-still a c.self.invariant (RunNext c.args.queue c.args.packet) (outcome.Worked (Ran 0 0)) (agent_writes (start_of a) a.audit.items c.in-Some.dispatch) refl queue id client on right
+          ∙ sym (held-ran (owner (start_of a) (with_entry a.audit.items (RunNext c.args.queue c.args.packet) (outcome.Worked (Ran 0 0)) (agent_writes (start_of a) a.audit.items c.in-Some.dispatch))) a.flight queue id client on right c.args.queue c.args.packet));
       lengths = c.lay_both-effects.ensures.lengths;
       memory = subst (λ (effects : List Effect). IsChanged a.memory effects c.lay_both-effects.new.memory) pieces c.lay_both-effects.ensures.changed;
       values = sym (writes.signals a.signals);

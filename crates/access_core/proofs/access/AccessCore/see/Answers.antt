@@ -9,6 +9,10 @@ use Rattle.core_model.specs.Flight.{has_seen}
 use Rattle.core_model.specs.Memory.{region_lengths}
 use Rattle.access_core.specs.Kept.{start_of}
 use Rattle.access_core.specs.Polling.{sight}
+use Rattle.access_core.proofs.HeldMoves.{held-still, held-ran, held-seen, held-without, owners-still}
+use Rattle.core_model.specs.Queues.{owner}
+use Rattle.access_core.specs.Held.{packet_holds}
+use Rattle.core_model.specs.Legal.{with_entry}
 use Rattle.access_core.proofs.KeptMore.{IsKept-more}
 use Rattle.access_core.proofs.Calls.{full, entered, owed-inside}
 use Rattle.access_core.proofs.ErrorRooms.{ErrorRoom-seen}
@@ -37,6 +41,10 @@ invariant_of-self c =
     })
     (record {
       granted = λ client on right. refl;
+      rules = refl;
+      held = λ queue id client on right. rw c.note_seen.ensures
+          (held-still a c.self.invariant (Poll c.args.queue c.args.packet) (outcome.Polled (sight c.args.ready c.args.new)) [] refl queue id client on right
+          ∙ sym (held-seen (owner (start_of a) (with_entry a.audit.items (Poll c.args.queue c.args.packet) (outcome.Polled (sight c.args.ready c.args.new)) [])) a.flight queue id client on right c.args.queue c.args.packet c.args.new));
       lengths = refl;
       memory = λ x byte h. h;
       values = refl;

@@ -7,6 +7,7 @@ use Rattle.core_model.specs.declared.event.Event.TheVariants.{ChangeSignal}
 use Rattle.core_model.specs.declared.entry.Effect.TheVariants as effect
 use Rattle.core_model.specs.declared.outcome.Outcome.TheVariants as outcome
 use Rattle.core_model.specs.Owed.{old_if_asked}
+use Rattle.access_core.proofs.HeldMoves.{held-still}
 use Rattle.access_core.proofs.KeptMore.{IsKept-more}
 use Rattle.access_core.proofs.Calls.{full, entered}
 use Rattle.access_core.proofs.access.AccessCore.signal_op.Goals as goal
@@ -31,6 +32,8 @@ invariant_of-self c =
     (record { policy = refl; capacity = refl; entries = rw (told, new) at entries; place = c.enter.ensures.place; room = ltb-false _ _ room })
     (record {
       granted = λ client on right. refl;
+      rules = refl;
+      held = λ queue id client on right. held-still c.self.inside c.self.invariant (ChangeSignal c.args.client c.args.signal c.args.operation) (outcome.Changed (old_if_asked c.args.operation c.in_ok-old.old)) (effect.Signal c.args.signal c.in_ok-old.old (applied c.args.operation c.in_ok-old.old) ∷ []) refl queue id client on right;
       lengths = refl;
       memory = λ x byte h. h;
       values = values;

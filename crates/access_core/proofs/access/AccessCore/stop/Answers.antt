@@ -7,6 +7,7 @@ use Rattle.core_model.specs.Owed.{release_of}
 use Rattle.access_core.specs.Kept.{history_of, start_of}
 use Rattle.access_core.specs.LiesInRegions.{lies_in_regions}
 use Rattle.access_core.specs.Stopping.{MayStop}
+use Rattle.access_core.proofs.HeldMoves.{after-stop}
 use Rattle.access_core.proofs.KeptMore.{IsKept-more}
 use Rattle.access_core.proofs.ErrorRooms.{ErrorRoom-halted}
 use Rattle.access_core.proofs.StopLemmas.{all-released, stop-there, memory-released, values-released, room-of_stop}
@@ -32,6 +33,7 @@ invariant_of-self c =
     let halted = c.halt.ensures in
     let may : MayStop (history_of a) c.args.queue barrier = subst (λ h. MayStop h c.args.queue barrier) (sym c.self.view_is) c.in_ok-barrier.ensures.may in
     let room = room-of_stop a c.self.invariant c.args.queue barrier may.room in
+    let grants = after-stop a c.self.invariant c.args.queue barrier _ c.let_go-effects.ensures.released c.let_go-effects.ensures.same in
     IsKept-more a _ (Stop c.args.queue) outcome.Accepted (release_of barrier) c.self.invariant
     (record {
       policy = refl;
@@ -41,7 +43,9 @@ invariant_of-self c =
       room = rw c.let_go-effects.ensures.flight room;
     })
     (record {
-      granted = λ client on right. refl;
+      granted = grants.granted;
+      rules = grants.rules;
+      held = rw c.let_go-effects.ensures.flight grants.held;
       lengths = refl;
       memory = λ x byte h. memory-released barrier a.memory x byte h;
       values = sym (values-released barrier a.signals);

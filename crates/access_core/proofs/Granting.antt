@@ -1,0 +1,102 @@
+-- What a grant and a revocation are owed, by the grants that are kept.
+use Rattle.std.proofs.Common.{◌≡◌, List, refl, sym, ◌∙◌, ap, subst, Bool, true, false, Option, Some, None, Ok, Err}
+use Rattle.std.specs.Prelude.{◌==◌, ◌&&◌, [], Result, filter, if◌then◌else◌, not}
+use Rattle.grants.specs.Rules as rules_kept
+use Rattle.aql_packet.specs.declared.ids.ClientId.{ClientId}
+use Rattle.aql_packet.specs.declared.ids.QueueId.{QueueId}
+use Rattle.aql_packet.specs.declared.ids.PacketId.{PacketId}
+use Rattle.policy.specs.declared.object.Object.{Object}
+use Rattle.policy.specs.declared.rights.Rights.{Rights}
+use Rattle.policy.specs.Policy.{declares_client, declares, allows}
+use Rattle.grants.specs.declared.refusal.Refusal.{Refusal as Why}
+use Rattle.grants.specs.declared.refusal.Refusal.TheVariants as why
+use Rattle.grants.specs.Holders.{IsFirstTo, IsUpTo}
+use Rattle.grants.specs.Rules.{Rules, rules_of, knows_client, knows}
+use Rattle.grants.specs.Ledger.{grant_due, RevokeAnswers, is_holder, rules_in}
+use Rattle.core_model.specs.declared.event.Event.TheVariants.{Grant, Revoke}
+use Rattle.core_model.specs.declared.outcome.Outcome.TheVariants as outcome
+use Rattle.core_model.specs.declared.refusal.Refusal.TheVariants as refusal
+use Rattle.core_model.specs.declared.flight.InFlight.{InFlight}
+use Rattle.core_model.specs.Holds.{holder, holders, is_owned, holds_one_of, least}
+use Rattle.core_model.specs.Flight.{flight, is_packet}
+use Rattle.core_model.specs.Owed.{Owed, owed, enters, refuses, refuse_unless, refuse_if_held}
+use Rattle.access_core.specs.declared.access.AccessCore.TheInside.{Inside}
+use Rattle.access_core.specs.Kept.{IsKept, start_of}
+use Rattle.access_core.specs.Granting.{refusal_of}
+use Rattle.access_core.proofs.HeldMore.{AreHeld-legal}
+use Rattle.access_core.proofs.HeldRights.{is_holder-history}
+use Rattle.access_core.proofs.Least.{passes, least-none, least-first}
+
+-- what is due to a grant, by whether the client and the object are declared, and the rights allowed
+abbrev due_of : Bool → Bool → Bool → Result (Unit {0}) Why
+due_of client object rights =
+    if not client then Err why.UnknownClient else if not object then Err why.UnknownObject else if not rights then Err why.NotAllowed else Ok tt
+
+module _ (a : Inside) (kept : IsKept a) (client : ClientId) (on : Object) (rights : Rights) where
+  rules_is : rules_in a.grants ≡ rules_of a.policy
+  rules_is = kept.rules
+
+  due-is : grant_due a.grants client on rights ≡ due_of (declares_client a.policy client) (declares a.policy on) (allows a.policy client on rights)
+  due-is = ap (λ (rules : Rules). due_of (knows_client rules client) (knows rules on) (rules_kept.allows rules client on rights)) rules_is
+
+  -- what grants say is due is what is owed
+  pub grant-refused : (r : Why) → Err r ≡ grant_due a.grants client on rights → owed (start_of a) a.audit.items (Grant client on rights) ≡ refuses (refusal_of r)
+  unfolding owed
+  grant-refused r due = by_tests (declares_client a.policy client) (declares a.policy on) (allows a.policy client on rights) (due ∙ due-is)
+    where
+      by_tests : (c o s : Bool) → Err r ≡ due_of c o s
+          → refuse_unless c refusal.UnknownClient (refuse_unless o refusal.UnknownObject (refuse_unless s refusal.NotAllowed (enters outcome.Accepted []))) ≡ refuses (refusal_of r)
+      by_tests false o s e = let is : r ≡ why.UnknownClient = cc in rw is refl
+      by_tests true false s e = let is : r ≡ why.UnknownObject = cc in rw is refl
+      by_tests true true false e = let is : r ≡ why.NotAllowed = cc in rw is refl
+      by_tests true true true e = absurd cc
+
+  pub grant-owed : Ok tt ≡ grant_due a.grants client on rights → owed (start_of a) a.audit.items (Grant client on rights) ≡ enters outcome.Accepted []
+  unfolding owed
+  grant-owed due = by_tests (declares_client a.policy client) (declares a.policy on) (allows a.policy client on rights) (due ∙ due-is)
+    where
+      by_tests : (c o s : Bool) → Ok tt ≡ due_of c o s
+          → refuse_unless c refusal.UnknownClient (refuse_unless o refusal.UnknownObject (refuse_unless s refusal.NotAllowed (enters outcome.Accepted []))) ≡ enters outcome.Accepted []
+      by_tests false o s e = absurd cc
+      by_tests true false s e = absurd cc
+      by_tests true true false e = absurd cc
+      by_tests true true true e = refl
+
+  -- whether a packet in flight holds, by the history
+  abbrev holding : InFlight → Bool
+  holding f = is_owned (start_of a) a.audit.items client f.queue && holds_one_of (start_of a) a.audit.items on rights f
+
+  same_test : (queue : QueueId) (id : PacketId) → is_holder a.grants client on rights queue id ≡ passes holding a.flight queue id
+  same_test queue id =
+      is_holder-history client on rights (start_of a) a.audit.items a.grants a.flight (rw kept.flight (AreHeld-legal (start_of a) a.audit.items kept.legal)) kept.held queue id
+
+  first-test : (o : Option (QueueId × PacketId)) → IsFirstTo (is_holder a.grants client on rights) o → IsFirstTo (passes holding a.flight) o
+  first-test None none = λ queue id. sym (same_test queue id) ∙ none queue id
+  first-test (Some first) is = (sym (same_test first.0 first.1) ∙ is.0, λ queue id passing. is.1 queue id (same_test queue id ∙ passing))
+
+  -- a revocation that grants let pass is owed its entry
+  pub revoke-owed : RevokeAnswers a.grants client on rights (Ok tt) → owed (start_of a) a.audit.items (Revoke client on rights) ≡ enters outcome.Accepted []
+  unfolding owed
+  revoke-owed answers =
+      let known : declares_client a.policy client ≡ true = sym (ap (λ (rules : Rules). knows_client rules client) rules_is) ∙ answers.0 in
+      let there : declares a.policy on ≡ true = sym (ap (λ (rules : Rules). knows rules on) rules_is) ∙ answers.1 in
+      let none : holder (start_of a) a.audit.items client on rights ≡ None = ap (λ (fs : List InFlight). least (filter holding fs)) (sym kept.flight) ∙ least-none holding a.flight (first-test None answers.2) in
+      rw (known, there, none) refl
+
+  -- one that grants refuse is owed the refusal
+  pub revoke-refused : (r : Why) → RevokeAnswers a.grants client on rights (Err r) → owed (start_of a) a.audit.items (Revoke client on rights) ≡ refuses (refusal_of r)
+  unfolding owed
+  revoke-refused why.UnknownClient answers =
+      let known : declares_client a.policy client ≡ false = sym (ap (λ (rules : Rules). knows_client rules client) rules_is) ∙ answers in
+      rw known refl
+  revoke-refused why.UnknownObject answers =
+      let known : declares_client a.policy client ≡ true = sym (ap (λ (rules : Rules). knows_client rules client) rules_is) ∙ answers.0 in
+      let there : declares a.policy on ≡ false = sym (ap (λ (rules : Rules). knows rules on) rules_is) ∙ answers.1 in
+      rw (known, there) refl
+  revoke-refused why.NotAllowed answers = absurd answers
+  revoke-refused (why.Busy queue id) answers =
+      let known : declares_client a.policy client ≡ true = sym (ap (λ (rules : Rules). knows_client rules client) rules_is) ∙ answers.0 in
+      let there : declares a.policy on ≡ true = sym (ap (λ (rules : Rules). knows rules on) rules_is) ∙ answers.1 in
+      let first = least-first holding a.flight queue id (first-test (Some (queue, id)) answers.2) in
+      let found : holder (start_of a) a.audit.items client on rights ≡ Some first.one = ap (λ (fs : List InFlight). least (filter holding fs)) (sym kept.flight) ∙ first.is in
+      rw (known, there, found) (ap (λ (q : QueueId). refuses (refusal.Busy q first.one.id)) first.queue_is ∙ ap (λ (i : PacketId). refuses (refusal.Busy queue i)) first.id_is)

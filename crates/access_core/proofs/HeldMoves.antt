@@ -1,0 +1,240 @@
+-- What packets hold moves along with what is in flight.
+use Rattle.std.proofs.Common.{◌≡◌, List, [], ◌∷◌, ◌++◌, refl, sym, ◌∙◌, ap, Bool, true, false, Option, Some, None, arith}
+use Rattle.std.specs.Prelude.{All, ℕ, ◌+◌, ◌&&◌, ◌||◌, ◌==◌, not, map, filter, fold, if◌then◌else◌}
+use Rattle.std.specs.List.{list_all, list_any}
+use Rattle.std.proofs.lemmas.List.Elements.{All-head, All-tail}
+use Rattle.std.proofs.lemmas.List.Folds.{list_any-append}
+use Rattle.aql_packet.specs.declared.ids.ClientId.{ClientId}
+use Rattle.aql_packet.specs.declared.ids.QueueId.{QueueId}
+use Rattle.aql_packet.specs.declared.ids.PacketId.{PacketId}
+use Rattle.aql_packet.specs.declared.packet.Packet.{Packet}
+use Rattle.policy.specs.declared.object.Object.{Object}
+use Rattle.policy.specs.declared.rights.Right.{Right}
+use Rattle.policy.specs.declared.rights.Rights.{Rights}
+use Rattle.policy.specs.Object.{same_object}
+use Rattle.policy.specs.declared.rights.Right.TheVariants as right
+use Rattle.policy.specs.Rights.{has, bit_of, each_right}
+use Rattle.policy.specs.Policy.{numbered}
+use Rattle.grants.specs.Ledger as ledger
+use Rattle.grants.specs.Ledger.{Ledger, Holds, Releases, are_in_force}
+use Rattle.grants.specs.Holders.{same_packet}
+use Rattle.grants.specs.Pairs.{names}
+use Rattle.core_model.specs.declared.entry.Effect.{Effect}
+use Rattle.core_model.specs.declared.entry.Entry.{Entry}
+use Rattle.core_model.specs.History.{Start}
+use Rattle.core_model.specs.Grants.{in_force}
+use Rattle.std.specs.Prelude.{IfSome, IfNone}
+use Rattle.core_model.specs.declared.event.Event.TheVariants.{Stop}
+use Rattle.core_model.specs.declared.entry.Effect.TheVariants as effect
+use Rattle.core_model.specs.Flight.{flight_after_effect}
+use Rattle.core_model.specs.Owed.{release_of}
+use Rattle.core_model.specs.declared.event.Event.{Event}
+use Rattle.core_model.specs.declared.outcome.Seen.{Seen}
+use Rattle.core_model.specs.declared.outcome.Outcome.{Outcome}
+use Rattle.core_model.specs.declared.outcome.Outcome.TheVariants as outcomes
+use Rattle.core_model.specs.declared.flight.InFlight.{InFlight}
+use Rattle.core_model.specs.Queues.{Opening, openings, owner, opening_of}
+use Rattle.core_model.specs.Flight.{as_launched, is_packet, group_ran, has_seen, seen_with}
+use Rattle.core_model.specs.Holds.{Held, held_at_launch}
+use Rattle.core_model.specs.Legal.{entry_of, with_entry}
+use Rattle.core_model.proofs.More.{openings-more, with_some}
+use Rattle.access_core.specs.declared.access.AccessCore.TheInside.{Inside}
+use Rattle.access_core.specs.Kept.{IsKept, start_of}
+use Rattle.access_core.specs.Held.{IsHeld, holds_by, packet_holds}
+use Rattle.access_core.proofs.HeldMore.{owner-more}
+use Rattle.packet_processor.specs.Holding.{as_rights}
+use Rattle.access_core.proofs.HeldRights.{any-before, or-false}
+
+-- ---- an entry that opens no queue
+
+pub owners-still : (a : Inside) (event : Event) (outcome : Outcome) (effects : List Effect) → opening_of event ≡ None → openings (start_of a) (with_entry a.audit.items event outcome effects) ≡ openings (start_of a) a.audit.items
+owners-still a event outcome effects none = openings-more (start_of a) a.audit.items (entry_of event outcome effects) ∙ ap (with_some (openings (start_of a) a.audit.items)) none
+
+-- the same packets in flight hold the same after it
+pub held-still : (a : Inside) → IsKept a → (event : Event) (outcome : Outcome) (effects : List Effect) → opening_of event ≡ None → (queue : QueueId) (id : PacketId) (client : ClientId) (on : Object) (right : Right)
+    → ledger.holds a.grants queue id client on right ≡ packet_holds (owner (start_of a) (with_entry a.audit.items event outcome effects)) a.flight queue id client on right
+held-still a kept event outcome effects none queue id client on right =
+    kept.held queue id client on right
+    ∙ ap (λ (os : List Opening). packet_holds (λ (q : QueueId). numbered os q.0) a.flight queue id client on right) (sym (owners-still a event outcome effects none))
+
+-- ---- packets that change and stay what they are
+
+any-map : {X : Type 0} (p : X → Bool) (g : X → X) (xs : List X) → ((x : X) → p (g x) ≡ p x) → list_any p (map g xs) ≡ list_any p xs
+any-map p g [] same = refl
+any-map p g (x ∷ xs) same = ap (λ b. b || list_any p (map g xs)) (same x) ∙ ap (λ b. p x || b) (any-map p g xs same)
+
+module _ (owners : QueueId → Option Opening) (fs : List InFlight) (queue : QueueId) (id : PacketId) (client : ClientId) (on : Object) (right : Right) where
+  abbrev test : InFlight → Bool
+  test f = is_packet queue id f && holds_by (owners f.queue) client on right f.packet
+
+  pub held-ran : (q : QueueId) (i : PacketId) → packet_holds owners (map (group_ran q i) fs) queue id client on right ≡ packet_holds owners fs queue id client on right
+  held-ran q i = any-map (λ (f : InFlight). is_packet queue id f && holds_by (owners f.queue) client on right f.packet) (group_ran q i) fs (λ f. either f (is_packet q i f))
+    where
+      either : (f : InFlight) (b : Bool) → test (if b then record f { groups_run = f.groups_run + 1 } else f) ≡ test f
+      either f true = refl
+      either f false = refl
+
+  pub held-seen : (q : QueueId) (i : PacketId) (seen : Seen) → packet_holds owners (map (has_seen q i seen) fs) queue id client on right ≡ packet_holds owners fs queue id client on right
+  held-seen q i seen = any-map (λ (f : InFlight). is_packet queue id f && holds_by (owners f.queue) client on right f.packet) (has_seen q i seen) fs (λ f. either f (is_packet q i f))
+    where
+      either : (f : InFlight) (b : Bool) → test (if b then record f { seen = seen_with f.seen seen } else f) ≡ test f
+      either f true = refl
+      either f false = refl
+
+-- ---- a packet that leaves flight
+
+left_out : (k p s x r : Bool) → (k ≡ true → p ≡ s) → (k ≡ false → (p && s) ≡ false) → (if not k then ((p && x) || (r && not s)) else (r && not s)) ≡ (((p && x) || r) && not s)
+left_out true true true x r one two = either x
+  where
+    either : (x : Bool) → (r && false) ≡ ((x || r) && false)
+    either true = and-none r
+      where
+        and-none : (r : Bool) → (r && false) ≡ false
+        and-none true = refl
+        and-none false = refl
+    either false = refl
+left_out true true false x r one two = let e : true ≡ false = one refl in absurd cc
+left_out true false true x r one two = let e : false ≡ true = one refl in absurd cc
+left_out true false false x r one two = refl
+left_out false true true x r one two = let e : true ≡ false = two refl in absurd cc
+left_out false true false true r one two = refl
+left_out false true false false r one two = refl
+left_out false false s x r one two = refl
+
+module _ (owners : QueueId → Option Opening) (q : QueueId) (i : PacketId) (queue : QueueId) (id : PacketId) (client : ClientId) (on : Object) (right : Right) where
+  pub held-without : (fs : List InFlight) → packet_holds owners (filter (λ f. not (is_packet q i f)) fs) queue id client on right ≡ (packet_holds owners fs queue id client on right && not (same_packet queue id q i))
+  held-without [] = refl
+  held-without (f ∷ fs) =
+      either (not (is_packet q i f))
+      ∙ ap (λ rest. if not (is_packet q i f) then ((is_packet queue id f && holds_by (owners f.queue) client on right f.packet) || rest) else rest) (held-without fs)
+      ∙ left_out (is_packet q i f) (is_packet queue id f) (same_packet queue id q i) (holds_by (owners f.queue) client on right f.packet) (packet_holds owners fs queue id client on right) named other
+    where
+      either : (b : Bool) → packet_holds owners (if b then f ∷ filter (λ g. not (is_packet q i g)) fs else filter (λ g. not (is_packet q i g)) fs) queue id client on right
+          ≡ (if b then ((is_packet queue id f && holds_by (owners f.queue) client on right f.packet) || packet_holds owners (filter (λ g. not (is_packet q i g)) fs) queue id client on right) else packet_holds owners (filter (λ g. not (is_packet q i g)) fs) queue id client on right)
+      either true = refl
+      either false = refl
+
+      named : is_packet q i f ≡ true → is_packet queue id f ≡ same_packet queue id q i
+      named is = grind arith
+
+      other : is_packet q i f ≡ false → (is_packet queue id f && same_packet queue id q i) ≡ false
+      other is = grind arith
+
+-- ---- a packet that is launched
+
+same_turned : (a b : ℕ) → (a == b) ≡ (b == a)
+same_turned a b = grind arith
+
+names-held : (client c : ClientId) (on : Object) (right : Right) (hs : List Held) → names (map as_rights hs) client c on right ≡ (client.0 == c.0 && list_any (λ h. same_object on h.0 && has (as_rights h).1 right) hs)
+names-held client c on right hs =
+    ap (λ b. list_any (λ (named : Object × Rights). (b && same_object on named.0) && has named.1 right) (map as_rights hs)) (same_turned c.0 client.0)
+    ∙ mapped hs ∙ any-before (λ (h : Held). same_object on h.0 && has (as_rights h).1 right) (client.0 == c.0) hs
+  where
+    turned : (a b d : Bool) → ((a && b) && d) ≡ (a && (b && d))
+    turned true b d = refl
+    turned false b d = refl
+
+    mapped : (hs : List Held) → list_any (λ (named : Object × Rights). (client.0 == c.0 && same_object on named.0) && has named.1 right) (map as_rights hs) ≡ list_any (λ (h : Held). client.0 == c.0 && (same_object on h.0 && has (as_rights h).1 right)) hs
+    mapped [] = refl
+    mapped (h ∷ hs) = ap (λ b. b || list_any (λ (named : Object × Rights). (client.0 == c.0 && same_object on named.0) && has named.1 right) (map as_rights hs)) (turned (client.0 == c.0) (same_object on h.0) (has (as_rights h).1 right))
+        ∙ ap (λ rest. (client.0 == c.0 && (same_object on h.0 && has (as_rights h).1 right)) || rest) (mapped hs)
+
+-- the packets in flight hold what they held, and the one that is launched what its launch gives it
+pub held-launched : (owners : QueueId → Option Opening) (fs : List InFlight) (opening : Opening) (q : QueueId) (i : PacketId) (p : Packet) → owners q ≡ Some opening
+    → (queue : QueueId) (id : PacketId) (client : ClientId) (on : Object) (right : Right)
+    → (packet_holds owners fs queue id client on right || (same_packet queue id q i && names (map as_rights (held_at_launch opening p)) opening.client client on right))
+    ≡ packet_holds owners (fs ++ as_launched q i p ∷ []) queue id client on right
+held-launched owners fs opening q i p is queue id client on right =
+    ap (λ b. packet_holds owners fs queue id client on right || b) (launched ∙ sym (or-false _))
+    ∙ sym (list_any-append (λ (f : InFlight). is_packet queue id f && holds_by (owners f.queue) client on right f.packet) fs (as_launched q i p ∷ []))
+  where
+    launched : (same_packet queue id q i && names (map as_rights (held_at_launch opening p)) opening.client client on right) ≡ (is_packet queue id (as_launched q i p) && holds_by (owners q) client on right p)
+    launched =
+        ap (λ b. b && names (map as_rights (held_at_launch opening p)) opening.client client on right) numbers
+        ∙ ap (λ b. is_packet queue id (as_launched q i p) && b) (names-held opening.client client on right (held_at_launch opening p) ∙ ap (λ (o : Option Opening). holds_by o client on right p) (sym is))
+      where
+        numbers : same_packet queue id q i ≡ is_packet queue id (as_launched q i p)
+        numbers = grind arith
+
+-- ---- the grants of a call
+
+-- a packet that leaves flight holds nothing after it
+pub held-released : (a : Inside) → IsKept a → (event : Event) (outcome : Outcome) (effects : List Effect) → opening_of event ≡ None → (new : Ledger) (q : QueueId) (i : PacketId) → Releases a.grants new q i
+    → (queue : QueueId) (id : PacketId) (client : ClientId) (on : Object) (right : Right)
+    → ledger.holds new queue id client on right ≡ packet_holds (owner (start_of a) (with_entry a.audit.items event outcome effects)) (filter (λ f. not (is_packet q i f)) a.flight) queue id client on right
+held-released a kept event outcome effects none new q i releases queue id client on right =
+    releases.released queue id client on right
+    ∙ ap (λ b. b && not (same_packet queue id q i)) (held-still a kept event outcome effects none queue id client on right)
+    ∙ sym (held-without (owner (start_of a) (with_entry a.audit.items event outcome effects)) q i queue id client on right a.flight)
+
+-- a queue that is opened changes nothing of what packets in flight hold
+pub held-opened : (start : Start) (es : List Entry) (e : Entry) (queue : QueueId) (id : PacketId) (client : ClientId) (on : Object) (right : Right) (fs : List InFlight) → All (IsHeld start es) fs
+    → packet_holds (owner start es) fs queue id client on right ≡ packet_holds (owner start (es ++ e ∷ [])) fs queue id client on right
+held-opened start es e queue id client on right [] all = refl
+held-opened start es e queue id client on right (f ∷ fs) all =
+    let before = All-head (IsHeld start es) f fs all in
+    let same : owner start es f.queue ≡ owner start (es ++ e ∷ []) f.queue = before.owner_is ∙ sym (owner-more start es e f.queue before.opening before.owner_is) in
+    ap (λ (o : Option Opening). (is_packet queue id f && holds_by o client on right f.packet) || packet_holds (owner start es) fs queue id client on right) same
+    ∙ ap (λ rest. (is_packet queue id f && holds_by (owner start (es ++ e ∷ []) f.queue) client on right f.packet) || rest) (held-opened start es e queue id client on right fs (All-tail (IsHeld start es) f fs all))
+
+-- a packet that is launched holds what it needs
+pub held-more : (a : Inside) → IsKept a → (event : Event) (outcome : Outcome) (effects : List Effect) → opening_of event ≡ None → (old new : Ledger) (opening : Opening) (q : QueueId) (i : PacketId) (p : Packet) (rights : List (Object × Rights))
+    → old ≡ record a.grants { room = old.room } → rights ≡ map as_rights (held_at_launch opening p) → owner (start_of a) a.audit.items q ≡ Some opening → Holds old new opening.client q i rights
+    → (queue : QueueId) (id : PacketId) (client : ClientId) (on : Object) (right : Right)
+    → ledger.holds new queue id client on right ≡ packet_holds (owner (start_of a) (with_entry a.audit.items event outcome effects)) (a.flight ++ as_launched q i p ∷ []) queue id client on right
+held-more a kept event outcome effects none old new opening q i p rights same are is holds queue id client on right =
+    let owners = owner (start_of a) (with_entry a.audit.items event outcome effects) in
+    let named : owners q ≡ Some opening = ap (λ (os : List Opening). numbered os q.0) (owners-still a event outcome effects none) ∙ is in
+    holds.held queue id client on right
+    ∙ ap (λ (g : Ledger). ledger.holds g queue id client on right || (same_packet queue id q i && names rights opening.client client on right)) same
+    ∙ ap (λ (rs : List (Object × Rights)). ledger.holds a.grants queue id client on right || (same_packet queue id q i && names rs opening.client client on right)) are
+    ∙ ap (λ b. b || (same_packet queue id q i && names (map as_rights (held_at_launch opening p)) opening.client client on right)) (held-still a kept event outcome effects none queue id client on right)
+    ∙ held-launched owners a.flight opening q i p named queue id client on right
+
+and-true : (b : Bool) → (b && true) ≡ b
+and-true true = refl
+and-true false = refl
+
+-- a set of one right is in force where the right is
+each-one : (one : Right) (test : Right → Bool) → each_right (record { 0 = bit_of one }) test ≡ test one
+each-one right.Use test = and-true (test right.Use)
+each-one right.Read test = and-true (test right.Read)
+each-one right.Write test = and-true (test right.Write)
+each-one right.Wait test = and-true (test right.Wait)
+each-one right.Change test = and-true (test right.Change)
+each-one right.Launch test = and-true (test right.Launch)
+
+all-in_force : (grants : Ledger) (client : ClientId) (hs : List Held) → are_in_force grants client (map as_rights hs) ≡ list_all (λ h. ledger.in_force grants client h.0 h.1) hs
+all-in_force grants client [] = refl
+all-in_force grants client (h ∷ hs) =
+    ap (λ b. b && are_in_force grants client (map as_rights hs)) (each-one h.1 (ledger.in_force grants client h.0))
+    ∙ ap (λ rest. ledger.in_force grants client h.0 h.1 && rest) (all-in_force grants client hs)
+
+-- what a packet that is launched needs is in force
+pub launch-in_force : (a : Inside) → IsKept a → (old : Ledger) (opening : Opening) (p : Packet) (rights : List (Object × Rights)) → old ≡ record a.grants { room = old.room } → rights ≡ map as_rights (held_at_launch opening p)
+    → list_all (λ h. in_force (start_of a) a.audit.items opening.client h.0 h.1) (held_at_launch opening p) ≡ true → are_in_force old opening.client rights ≡ true
+launch-in_force a kept old opening p rights same are forced =
+    ap (λ (g : Ledger). are_in_force g opening.client rights) same
+    ∙ ap (are_in_force a.grants opening.client) are
+    ∙ all-in_force a.grants opening.client (held_at_launch opening p)
+    ∙ (λ i. list_all (λ (h : Held). kept.granted opening.client h.0 h.1 i) (held_at_launch opening p))
+    ∙ forced
+
+-- the grants after a stop
+pub record AfterStop (a : Inside) (new : Ledger) (queue : QueueId) (barrier : Option InFlight) : Type 0 where
+  pub granted : (client : ClientId) (on : Object) (right : Right) → ledger.in_force new client on right ≡ ledger.in_force a.grants client on right
+  pub rules : ledger.rules_in new ≡ ledger.rules_in a.grants
+  pub held : (q : QueueId) (id : PacketId) (client : ClientId) (on : Object) (right : Right)
+      → ledger.holds new q id client on right ≡ packet_holds (owner (start_of a) (with_entry a.audit.items (Stop queue) outcomes.Accepted (release_of barrier))) (fold flight_after_effect a.flight (release_of barrier)) q id client on right
+
+pub after-stop : (a : Inside) → IsKept a → (queue : QueueId) (barrier : Option InFlight) (new : Ledger) → IfSome barrier (λ f. Releases a.grants new f.queue f.id) → IfNone barrier (new ≡ a.grants) → AfterStop a new queue barrier
+after-stop a kept queue None new released same = record {
+  granted = λ client on right. ap (λ (g : Ledger). ledger.in_force g client on right) same;
+  rules = ap ledger.rules_in same;
+  held = λ q id client on right. ap (λ (g : Ledger). ledger.holds g q id client on right) same ∙ held-still a kept (Stop queue) outcomes.Accepted [] refl q id client on right;
+}
+after-stop a kept queue (Some f) new released same = record {
+  granted = released.same_rights;
+  rules = released.same_rules;
+  held = held-released a kept (Stop queue) outcomes.Accepted (effect.Release f.queue f.id ∷ []) refl new f.queue f.id released;
+}

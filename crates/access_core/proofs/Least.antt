@@ -1,0 +1,169 @@
+-- The least of the packets that pass a test is the first to pass it by queue and id.
+use Rattle.std.proofs.Common.{◌≡◌, ◌<◌, ◌≤◌, ◌⊎◌, inl, inr, List, [], ◌∷◌, refl, sym, ◌∙◌, ap, subst, Bool, true, false, Option, Some, None, arith}
+use Rattle.std.specs.Prelude.{All, ◌&&◌, ◌||◌, ◌==◌, nat_lt, nat_le, filter, find, if◌then◌else◌}
+use Rattle.std.specs.List.{list_all, list_any}
+use Rattle.std.proofs.lemmas.Bool.{and_parts, or_parts, eqb-true, eq-eqb, ltb-true, leb-true, lt-ltb, le-leb}
+use Rattle.std.proofs.lemmas.List.Elements.{All-nil, All-cons, All-head, All-tail, All-filter}
+use Rattle.aql_packet.specs.declared.ids.QueueId.{QueueId}
+use Rattle.aql_packet.specs.declared.ids.PacketId.{PacketId}
+use Rattle.grants.specs.Holders.{IsUpTo, IsFirstTo}
+use Rattle.core_model.specs.declared.flight.InFlight.{InFlight}
+use Rattle.core_model.specs.Flight.{is_packet}
+use Rattle.core_model.specs.Holds.{is_up_to, least}
+
+-- ---- what is found in a list
+
+-- what is found is one of the list
+found-all : {X : Type 0} (P : X → Type 0) (test : X → Bool) (xs : List X) (f : X) → All P xs → find test xs ≡ Some f → P f
+found-all P test [] f all found = absurd cc
+found-all P test (x ∷ xs) f all found = first (test x) found (found-all P test xs f (All-tail P x xs all))
+  where
+    first : (b : Bool) → (if b then Some x else find test xs) ≡ Some f → (find test xs ≡ Some f → P f) → P f
+    first true same more = let here : x ≡ f = cc in subst P here (All-head P x xs all)
+    first false same more = more same
+
+-- what is found passes
+found-passes : {X : Type 0} (test : X → Bool) (xs : List X) (f : X) → find test xs ≡ Some f → test f ≡ true
+found-passes test [] f found = absurd cc
+found-passes test (x ∷ xs) f found = first (test x) refl found (found-passes test xs f)
+  where
+    first : (b : Bool) → test x ≡ b → (if b then Some x else find test xs) ≡ Some f → (find test xs ≡ Some f → test f ≡ true) → test f ≡ true
+    first true is same more = let here : x ≡ f = cc in subst (λ y. test y ≡ true) here is
+    first false is same more = more same
+
+-- where one passes, one is found
+pub record IsFound {X : Type 0} (test : X → Bool) (xs : List X) : Type 0 where
+  pub one : X
+  pub is : find test xs ≡ Some one
+
+any-found : {X : Type 0} (test : X → Bool) (xs : List X) → list_any test xs ≡ true → IsFound test xs
+any-found test [] any = absurd cc
+any-found test (x ∷ xs) any = first (test x) refl any (any-found test xs)
+  where
+    first : (b : Bool) → test x ≡ b → (b || list_any test xs) ≡ true → (list_any test xs ≡ true → IsFound test xs) → IsFound test (x ∷ xs)
+    first true is any more = record { one = x; is = rw is refl }
+    first false is any more = let later = more any in record { one = later.one; is = rw is later.is }
+
+-- one that is found by one test, and passes another, is one that passes
+found-any : {X : Type 0} (sought test : X → Bool) (xs : List X) (f : X) → find sought xs ≡ Some f → test f ≡ true → list_any test xs ≡ true
+found-any sought test [] f found passes = absurd cc
+found-any sought test (x ∷ xs) f found passes = first (sought x) found (found-any sought test xs f)
+  where
+    or-true : (b : Bool) → (b || true) ≡ true
+    or-true true = refl
+    or-true false = refl
+
+    first : (b : Bool) → (if b then Some x else find sought xs) ≡ Some f → (find sought xs ≡ Some f → test f ≡ true → list_any test xs ≡ true) → (test x || list_any test xs) ≡ true
+    first true same more = let here : x ≡ f = cc in rw (here, passes) refl
+    first false same more = ap (λ b. test x || b) (more same passes) ∙ or-true (test x)
+
+all-from_list_all : {X : Type 0} (test : X → Bool) (xs : List X) → list_all test xs ≡ true → All (λ x. test x ≡ true) xs
+all-from_list_all test [] all = All-nil (λ x. test x ≡ true)
+all-from_list_all test (x ∷ xs) all =
+    let both = and_parts (test x) (list_all test xs) all in
+    All-cons (λ y. test y ≡ true) x xs both.0 (all-from_list_all test xs both.1)
+
+list_all-from_all : {X : Type 0} (P : X → Type 0) (test : X → Bool) (xs : List X) → ((x : X) → P x → test x ≡ true) → All P xs → list_all test xs ≡ true
+list_all-from_all P test [] step all = refl
+list_all-from_all P test (x ∷ xs) step all = rw (step x (All-head P x xs all), list_all-from_all P test xs step (All-tail P x xs all)) refl
+
+-- ---- packets
+
+is_packet-itself : (f : InFlight) → is_packet f.queue f.id f ≡ true
+is_packet-itself f = grind arith
+
+-- a packet that comes up to one by its numbers comes up to it
+up_to-test : (f g : InFlight) → IsUpTo f.queue f.id g.queue g.id → is_up_to f g ≡ true
+up_to-test f g (inl less) = rw (lt-ltb f.queue.0 g.queue.0 less) refl
+up_to-test f g (inr same) = grind arith
+
+module _ (test : InFlight → Bool) where
+  -- whether a packet of the list with this queue and id passes
+  abbrev pub passes : List InFlight → QueueId → PacketId → Bool
+  passes fs queue id = list_any (λ f. is_packet queue id f && test f) fs
+
+  -- one of the list that passes, passes by its queue and id
+  itself-passes : (f : InFlight) (fs : List InFlight) → test f ≡ true → passes (f ∷ fs) f.queue f.id ≡ true
+  itself-passes f fs is = rw (is_packet-itself f, is) refl
+
+  later-passes : (f : InFlight) (fs : List InFlight) (queue : QueueId) (id : PacketId) → passes fs queue id ≡ true → passes (f ∷ fs) queue id ≡ true
+  later-passes f fs queue id is = either (is_packet queue id f && test f)
+    where
+      either : (b : Bool) → (b || passes fs queue id) ≡ true
+      either true = refl
+      either false = is
+
+  -- what holds of all that pass by queue and id holds of each of the list that passes
+  all-passing : (P : QueueId → PacketId → Type 0) (fs : List InFlight) → ((queue : QueueId) (id : PacketId) → passes fs queue id ≡ true → P queue id) → All (λ f. P f.queue f.id) (filter test fs)
+  all-passing P [] step = All-nil (λ f. P f.queue f.id)
+  all-passing P (f ∷ fs) step = either (test f) refl (all-passing P fs (λ queue id is. step queue id (later-passes f fs queue id is)))
+    where
+      either : (b : Bool) → test f ≡ b → All (λ g. P g.queue g.id) (filter test fs) → All (λ g. P g.queue g.id) (if b then f ∷ filter test fs else filter test fs)
+      either true is rest = All-cons (λ g. P g.queue g.id) f (filter test fs) (step f.queue f.id (itself-passes f fs is)) rest
+      either false is rest = rest
+
+  -- none passes
+  none-passing : (fs : List InFlight) → ((queue : QueueId) (id : PacketId) → passes fs queue id ≡ false) → filter test fs ≡ []
+  none-passing [] none = refl
+  none-passing (f ∷ fs) none = either (test f) refl (none-passing fs (λ queue id. (or_parts (is_packet queue id f && test f) (passes fs queue id) (none queue id)).1))
+    where
+      either : (b : Bool) → test f ≡ b → filter test fs ≡ [] → (if b then f ∷ filter test fs else filter test fs) ≡ []
+      either true is rest = let e : true ≡ false = sym (itself-passes f fs is) ∙ none f.queue f.id in absurd cc
+      either false is rest = rest
+
+  -- one that passes by its queue and id is found among those that pass
+  passing-found : (fs : List InFlight) (queue : QueueId) (id : PacketId) → passes fs queue id ≡ true → list_any (is_packet queue id) (filter test fs) ≡ true
+  passing-found [] queue id is = absurd cc
+  passing-found (f ∷ fs) queue id is = either (test f) (is_packet queue id f) refl is (passing-found fs queue id)
+    where
+      either : (t p : Bool) → is_packet queue id f ≡ p → ((p && t) || passes fs queue id) ≡ true → (passes fs queue id ≡ true → list_any (is_packet queue id) (filter test fs) ≡ true) → list_any (is_packet queue id) (if t then f ∷ filter test fs else filter test fs) ≡ true
+      either true true same is more = rw same refl
+      either true false same is more = rw same (more is)
+      either false true same is more = more is
+      either false false same is more = more is
+
+-- a packet's name
+abbrev pub name_of : InFlight → QueueId × PacketId
+name_of f = (f.queue, f.id)
+
+-- a packet that is the first, and one that comes up to it, are the same
+same_name : (queue : QueueId) (id : PacketId) (f g : InFlight) → is_packet queue id g ≡ true → IsUpTo queue id f.queue f.id → is_up_to f g ≡ true → (f.queue.0 ≡ queue.0) × (f.id.0 ≡ id.0)
+same_name queue id f g same first up = grind arith
+
+module _ (test : InFlight → Bool) (fs : List InFlight) where
+  -- no packet passes
+  pub least-none : IsFirstTo (passes test fs) None → least (filter test fs) ≡ None
+  least-none none = rw (none-passing test fs none) refl
+
+  -- the first by queue and id of those that pass is the least of them
+  pub record IsLeast (queue : QueueId) (id : PacketId) : Type 0 where
+    pub one : InFlight
+    pub is : least (filter test fs) ≡ Some one
+    pub queue_is : one.queue ≡ queue
+    pub id_is : one.id ≡ id
+
+  pub least-first : (queue : QueueId) (id : PacketId) → IsFirstTo (passes test fs) (Some (queue, id)) → IsLeast queue id
+  least-first queue id first =
+      let all : List InFlight = filter test fs in
+      let up : All (λ f. IsUpTo queue id f.queue f.id) all = all-passing test (IsUpTo queue id) fs first.1 in
+      let there = any-found (is_packet queue id) all (passing-found test fs queue id first.0) in
+      let named : is_packet queue id there.one ≡ true = found-passes (is_packet queue id) all there.one there.is in
+      let numbers = and_parts (there.one.queue.0 == queue.0) (there.one.id.0 == id.0) named in
+      let lowest : list_all (is_up_to there.one) all ≡ true =
+      list_all-from_all (λ f. IsUpTo queue id f.queue f.id) (is_up_to there.one) all
+      (λ f below. up_to-test there.one f (lowered queue id there.one f (eqb-true _ _ numbers.0) (eqb-true _ _ numbers.1) below)) up in
+      let some = any-found (λ f. list_all (is_up_to f) all) all (found-any (is_packet queue id) (λ f. list_all (is_up_to f) all) all there.one there.is lowest) in
+      let below : is_up_to some.one there.one ≡ true =
+      found-all (λ g. is_up_to some.one g ≡ true) (is_packet queue id) all there.one
+      (all-from_list_all (is_up_to some.one) all (found-passes (λ f. list_all (is_up_to f) all) all some.one some.is)) there.is in
+      let same = same_name queue id some.one there.one named (found-all (λ f. IsUpTo queue id f.queue f.id) (λ f. list_all (is_up_to f) all) all some.one up some.is) below in
+      record {
+        one = some.one;
+        is = some.is;
+        queue_is = ap (λ n. record { 0 = n }) same.0;
+        id_is = ap (λ n. record { 0 = n }) same.1;
+      }
+    where
+      lowered : (queue : QueueId) (id : PacketId) (f g : InFlight) → f.queue.0 ≡ queue.0 → f.id.0 ≡ id.0 → IsUpTo queue id g.queue g.id → IsUpTo f.queue f.id g.queue g.id
+      lowered queue id f g a b (inl less) = inl (omega (arith, a, less))
+      lowered queue id f g a b (inr same) = inr (a ∙ same.0, omega (arith, b, same.1))

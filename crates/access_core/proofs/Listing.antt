@@ -1,0 +1,32 @@
+-- A client's listing, by the grants that are kept.
+use Rattle.std.proofs.Common.{◌≡◌, List, refl, sym, ◌∙◌, ap, Bool, true, Ok}
+use Rattle.std.specs.Prelude.{map, filter}
+use Rattle.std.specs.List.{list_any}
+use Rattle.aql_packet.specs.declared.ids.ClientId.{ClientId}
+use Rattle.policy.specs.declared.object.Object.{Object}
+use Rattle.policy.specs.declared.rights.Rights.{Rights}
+use Rattle.policy.specs.Policy.{declares_client}
+use Rattle.policy.specs.Rights.{all_rights, rights_that}
+use Rattle.grants.specs.Rules.{Rules, rules_of}
+use Rattle.grants.specs.Rules as rules_kept
+use Rattle.grants.specs.Ledger as ledger
+use Rattle.core_model.specs.declared.answer.Answer.TheVariants as answer
+use Rattle.core_model.specs.declared.event.Query.TheVariants as query
+use Rattle.core_model.specs.History.{History}
+use Rattle.core_model.specs.Queries.{replied, listing, all_objects}
+use Rattle.access_core.specs.declared.access.AccessCore.TheInside.{Inside}
+use Rattle.access_core.specs.Kept.{IsKept, start_of, history_of}
+
+module _ (a : Inside) (kept : IsKept a) (client : ClientId) where
+  listing-kept : ledger.listing a.grants client ≡ listing (start_of a) a.audit.items client
+  unfolding ledger.listed
+  listing-kept =
+      ap (λ (rules : Rules). map (λ on. (on, ledger.rights_on a.grants client on)) (filter (λ on. list_any (ledger.in_force a.grants client on) all_rights) (rules_kept.all_objects rules))) kept.rules
+      ∙ (λ i. map (λ (on : Object). (on, rights_that (λ right. kept.granted client on right i))) (filter (λ (on : Object). list_any (λ right. kept.granted client on right i) all_rights) (all_objects a.policy)))
+
+  -- a client that is declared is told the listing
+  pub listing-replied : (old : History) → history_of a ≡ old → (rows : List (Object × Rights)) → rows ≡ ledger.listing a.grants client → declares_client old.start.policy client ≡ true
+      → Ok (answer.Listing rows) ≡ replied old.start old.entries (query.List client)
+  unfolding replied
+  listing-replied old seen_as rows are declared =
+      rw declared (ap (λ (l : List (Object × Rights)). Ok (answer.Listing l)) (are ∙ listing-kept ∙ ap (λ (h : History). listing h.start h.entries client) seen_as))
