@@ -13,8 +13,6 @@ mod refusal;
 mod rules;
 mod sets;
 mod table;
-#[cfg(test)]
-mod tests;
 
 pub use grants::Grants;
 pub use laws::law_of_calls;

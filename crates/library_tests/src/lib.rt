@@ -11,6 +11,8 @@ mod errors;
 #[cfg(test)]
 mod files;
 #[cfg(test)]
+mod holds;
+#[cfg(test)]
 mod kernels;
 #[cfg(test)]
 mod memory;

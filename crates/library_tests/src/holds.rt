@@ -1,51 +1,14 @@
-use super::*;
+//! Grants with their holds: each call once.
+
+use crate::sample::{SAMPLE, read};
 use aql_packet::{AgentHandle, ClientId, PacketId, QueueId, RegionHandle, SignalHandle};
 use bitflags::Flags;
-use policy::{Object, Policy, ReadPolicyError, Right, Rights, read_policy};
+use grants::{Grants, Refusal};
+use policy::{Object, Policy, Right, Rights};
 use sequences::Sequence;
 use std::alloc::{AllocError, Global};
 use std::process::Abort;
 use std::test::*;
-
-// Two clients and two regions; alice may have all, bob may read the first region.
-const POLICY: &str = r#"
-[[client]]
-name = "alice"
-[[client]]
-name = "bob"
-[[agent]]
-name = "gpu"
-takes = ["agent"]
-[[region]]
-name = "buf"
-length = 64
-[[region]]
-name = "args"
-length = 16
-[[signal]]
-name = "done"
-initial = 1
-[[allow]]
-client = "alice"
-kind = "agent"
-object = "*"
-rights = ["USE"]
-[[allow]]
-client = "alice"
-kind = "region"
-object = "*"
-rights = ["READ", "WRITE"]
-[[allow]]
-client = "alice"
-kind = "signal"
-object = "*"
-rights = ["WAIT", "CHANGE"]
-[[allow]]
-client = "bob"
-kind = "region"
-object = "buf"
-rights = ["READ"]
-"#;
 
 const ALICE: ClientId = ClientId(1);
 
@@ -64,23 +27,19 @@ const DONE: Object = Object::Signal(SignalHandle(1));
 // The calls stand in functions of their own without contracts, so that the proofs of the tests don't carry what
 // is known of each.
 
-fn policy(alloc: Global, text: &str) -> Result<Policy, ReadPolicyError> {
-    read_policy(alloc, text.as_bytes())
-}
-
 fn grants_under(alloc: Global, policy: &Policy) -> Result<Grants, AllocError> {
     Grants::new(alloc, policy)
 }
 
 fn opened_over(alloc: Global, text: &str) -> Result<Grants, Fail> {
-    match policy(alloc, text) {
+    match read(alloc, text.as_bytes()) {
         Ok(policy) => Ok(grants_under(alloc, &policy)?),
         Err(_) => Err("refused".into()),
     }
 }
 
 fn opened(alloc: Global) -> Result<Grants, Fail> {
-    opened_over(alloc, POLICY)
+    opened_over(alloc, SAMPLE)
 }
 
 fn is_granted(grants: &mut Grants, client: ClientId, object: Object, rights: Rights) -> bool {
@@ -256,63 +215,4 @@ fn check_all_lists(rt: &(impl Abort + AllocGlobal), mut grants: Grants) -> Resul
 #[test]
 fn a_listing_has_what_is_in_force_in_order(rt: HostRuntime) -> Result<(), Fail> {
     Ok(check_all_lists(&rt, opened(rt.alloc())?)?)
-}
-
-fn grant_row(
-    table: &mut RightsTable,
-    client: ClientId,
-    object: Object,
-    rights: Rights,
-) -> Result<(), AllocError> {
-    table.grant(client, object, rights)
-}
-
-fn revoke_row(table: &mut RightsTable, client: ClientId, object: Object, rights: Rights) {
-    table.revoke(client, object, rights);
-}
-
-fn check_has(
-    rt: &impl Abort,
-    table: &RightsTable,
-    client: ClientId,
-    object: Object,
-    right: Right,
-    wanted: bool,
-) {
-    assert!(rt; table.has(client, object, right) == wanted, "{object:?}");
-}
-
-fn check_rights_on(
-    rt: &impl Abort,
-    table: &RightsTable,
-    client: ClientId,
-    object: Object,
-    rights: Rights,
-) {
-    assert!(rt; table.rights_on(client, object) == rights, "{object:?}");
-}
-
-fn check_table(rt: &impl Abort, table: &mut RightsTable) -> Result<(), AllocError> {
-    check_has(rt, table, ALICE, BUF, Right::Read, false);
-    grant_row(table, ALICE, BUF, Rights::READ)?;
-    grant_row(table, ALICE, GPU, Rights::USE)?;
-    grant_row(table, ALICE, BUF, Rights::WRITE)?;
-    grant_row(table, BOB, BUF, Rights::READ)?;
-    check_rights_on(rt, table, ALICE, BUF, both());
-    check_has(rt, table, ALICE, ARGS, Right::Read, false);
-    revoke_row(table, ALICE, BUF, Rights::READ);
-    revoke_row(table, BOB, BUF, Rights::WRITE);
-    check_rights_on(rt, table, ALICE, BUF, Rights::WRITE);
-    check_has(rt, table, ALICE, GPU, Right::Use, true);
-    check_has(rt, table, BOB, BUF, Right::Read, true);
-    Ok(())
-}
-
-fn check_new_table(rt: &impl Abort, mut table: RightsTable) -> Result<(), AllocError> {
-    check_table(rt, &mut table)
-}
-
-#[test]
-fn a_table_has_what_was_granted_and_not_revoked(rt: HostRuntime) -> Result<(), Fail> {
-    Ok(check_new_table(&rt, RightsTable::new(rt.alloc()))?)
 }
