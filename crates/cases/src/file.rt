@@ -92,18 +92,13 @@ impl<'a> Case<'a> {
 
     // Adds the columns of a row behind its name: what is asked, and last what is wanted.
     fn add_columns(&mut self, columns: &'a str) -> Result<(), Error> {
-        let mut wanted = "";
-        for (place, column) in columns.split('|').enumerate() {
-            if place > 0 {
-                self.asked.push(wanted)?;
-            }
-            wanted = column.trim();
+        let (asked, wanted) = columns.rsplit_once("|").unwrap_or(("", columns));
+        for column in asked.split('|') {
+            self.asked.push(column.trim())?;
         }
         let number = self.number;
-        self.wanted.push(Wanted {
-            number,
-            text: wanted,
-        })?;
+        let text = wanted.trim();
+        self.wanted.push(Wanted { number, text })?;
         Ok(())
     }
 }
@@ -123,6 +118,42 @@ fn kind_of(word: &str) -> Result<Kind, Error> {
     }
 }
 
+/// What the next word of a head is.
+#[derive(Clone, Copy)]
+enum Role {
+    /// The name of a role.
+    Role,
+    Over,
+    Before,
+    Names,
+    Text,
+}
+
+// The role that a word names. Any other word has none, and the next is looked at.
+fn role_of(word: &str) -> Role {
+    match word {
+        "over" | "in" => Role::Over,
+        "after" => Role::Before,
+        "names" => Role::Names,
+        "text" => Role::Text,
+        _ => Role::Role,
+    }
+}
+
+impl<'a> Head<'a> {
+    // Reads a word of the head, and tells what the next one is.
+    fn read_word(&mut self, role: Role, word: &'a str) -> Result<Role, Error> {
+        match role {
+            Role::Role => return Ok(role_of(word)),
+            Role::Over => self.over = Some(word),
+            Role::Before => self.before = Some(word),
+            Role::Names => self.names = Some(word),
+            Role::Text => self.texts.push(word)?,
+        }
+        Ok(Role::Role)
+    }
+}
+
 // The head in a file's first line, as `scripts over sample.toml after prelude.script names packets.names`.
 fn read_head<'a>(alloc: Global, line: &'a str) -> Result<Head<'a>, Error> {
     let (kind, rest) = line.split_once(" ").unwrap_or((line, ""));
@@ -133,19 +164,9 @@ fn read_head<'a>(alloc: Global, line: &'a str) -> Result<Head<'a>, Error> {
         names: None,
         texts: Vec::new(alloc),
     };
-    let mut role = "";
+    let mut role = Role::Role;
     for word in rest.split_whitespace() {
-        match role {
-            "over" | "in" => head.over = Some(word),
-            "after" => head.before = Some(word),
-            "names" => head.names = Some(word),
-            "text" => head.texts.push(word)?,
-            _ => {
-                role = word;
-                continue;
-            }
-        }
-        role = "";
+        role = head.read_word(role, word)?;
     }
     Ok(head)
 }
