@@ -12,11 +12,9 @@ mod laws;
 mod refusal;
 mod rules;
 mod sets;
-mod table;
 #[cfg(test)]
 mod tests;
 
 pub use grants::Grants;
 pub use laws::law_of_calls;
 pub use refusal::Refusal;
-pub use table::{RightsRow, RightsTable};
