@@ -19,7 +19,7 @@ use Rattle.access_core.specs.Kept.{IsKept, start_of, history_of}
 
 module _ (a : Inside) (kept : IsKept a) (client : ClientId) where
   listing-kept : ledger.listing a.grants client ≡ listing (start_of a) a.audit.items client
-  unfolding ledger.listed
+  unfolding ledger.listing_by
   listing-kept =
       ap (λ (rules : Rules). map (λ on. (on, ledger.rights_on a.grants client on)) (filter (λ on. list_any (ledger.in_force a.grants client on) all_rights) (rules_kept.all_objects rules))) kept.rules
       ∙ (λ i. map (λ (on : Object). (on, rights_that (λ right. kept.granted client on right i))) (filter (λ (on : Object). list_any (λ right. kept.granted client on right i) all_rights) (all_objects a.policy)))

@@ -1,5 +1,4 @@
 pub mod Pairs
-pub mod Table
 pub mod Rules
 pub mod Holders
 pub mod Holds

@@ -12,9 +12,7 @@ mod laws;
 mod refusal;
 mod rules;
 mod sets;
-mod table;
 
 pub use grants::Grants;
 pub use laws::law_of_calls;
 pub use refusal::Refusal;
-pub use table::{RightsRow, RightsTable};
