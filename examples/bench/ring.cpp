@@ -4,8 +4,9 @@
 //   g++ -O2 -std=c++17 -pthread examples/bench/ring.cpp -o yardstick_ring
 //   ./yardstick_ring 100000 20        # packets of each producer, and how often all is measured
 //
-// It measures three layouts of the words: as the ring has them (the indices and the slots side by side),
-// with the slots on cache lines of their own, and with the indices on cache lines of their own as well.
+// It measures three layouts of the words, in turn within each run: as the ring has them (the indices and
+// the slots side by side), with the slots on cache lines of their own, and with the indices on cache lines
+// of their own as well. Of the runs the least is told.
 #include <algorithm>
 #include <array>
 #include <atomic>
@@ -178,21 +179,32 @@ template <class L> double many_threads(uint64_t producers, uint64_t packets) {
     return nanoseconds(start);
 }
 
-template <class L> void measure(const char *layout, uint64_t packets, uint64_t runs) {
-    double least = 1e300;
-    for (uint64_t run = 0; run < runs; run++) least = std::min(least, one_thread<L>(packets));
-    std::printf("%s, one thread: %.1f ns a packet\n", layout, least / packets);
-    for (uint64_t producers : {1, 2, 4, 8, 16}) {
-        least = 1e300;
-        for (uint64_t run = 0; run < runs; run++) least = std::min(least, many_threads<L>(producers, packets));
-        std::printf("%s, producers %d: %.1f ns a packet\n", layout, int(producers), least / (producers * packets));
-    }
+static void tell(const char *what, const double (&least)[3], uint64_t packets) {
+    std::printf("%s: %.1f side by side, %.1f with the slots on lines of their own, %.1f with the indices too\n",
+                what, least[0] / packets, least[1] / packets, least[2] / packets);
+    std::fflush(stdout);
 }
 
 int main(int count, char **words) {
     uint64_t packets = count > 1 ? std::strtoull(words[1], nullptr, 10) : 100000;
     uint64_t runs = count > 2 ? std::strtoull(words[2], nullptr, 10) : 1;
-    measure<Together>("side by side", packets, runs);
-    measure<SlotLines>("slots on lines of their own", packets, runs);
-    measure<AllLines>("indices on lines of their own too", packets, runs);
+    double least[3] = {1e300, 1e300, 1e300};
+    for (uint64_t run = 0; run < runs; run++) {
+        least[0] = std::min(least[0], one_thread<Together>(packets));
+        least[1] = std::min(least[1], one_thread<SlotLines>(packets));
+        least[2] = std::min(least[2], one_thread<AllLines>(packets));
+    }
+    std::printf("nanoseconds a packet\n");
+    tell("one thread", least, packets);
+    for (uint64_t producers : {1, 2, 4, 8, 16}) {
+        std::fill(least, least + 3, 1e300);
+        for (uint64_t run = 0; run < runs; run++) {
+            least[0] = std::min(least[0], many_threads<Together>(producers, packets));
+            least[1] = std::min(least[1], many_threads<SlotLines>(producers, packets));
+            least[2] = std::min(least[2], many_threads<AllLines>(producers, packets));
+        }
+        char what[32];
+        std::snprintf(what, sizeof what, "producers %d", int(producers));
+        tell(what, least, producers * packets);
+    }
 }
