@@ -1,7 +1,7 @@
 // The yardstick of the ring over atomics: its eight steps by hand in C++, with sequentially consistent
 // order, under the same loops as `bench ring`. Nothing here is proved.
 //
-//   g++ -O2 -std=c++17 -pthread examples/bench/ring.cpp -o yardstick_ring
+//   g++ -O2 -std=c++17 -pthread examples/bench/ring.cpp -o yardstick_ring    (or clang++, as the ring is built)
 //   ./yardstick_ring 100000 20        # packets of each producer, and how often all is measured
 //
 // It measures three layouts of the words, in turn within each run: as the ring has them (the indices and
