@@ -1,3 +1,10 @@
 pub mod More
 pub mod Meeting
 pub mod Legality
+pub mod Lists
+pub mod Launches
+pub mod Entered
+pub mod Flying
+pub mod Granted
+pub mod Changes
+pub mod Holding

@@ -11,4 +11,5 @@ pub mod Holds
 pub mod Owed
 pub mod Queries
 pub mod Legal
+pub mod Headline
 pub mod Refusals

@@ -7,6 +7,7 @@ mod effects;
 mod entry;
 mod event;
 mod flight;
+mod laws;
 mod limits;
 mod need;
 mod outcome;

@@ -1,0 +1,258 @@
+-- What an entry that was owed tells of its event: its outcome, its changes, and the tests that it passed.
+use Rattle.std.proofs.Common.{◌≡◌, ℕ, ℤ, pos, List, [], ◌∷◌, ◌++◌, length, refl, sym, ◌∙◌, ap, Bool, true, false, Option, Some, None, ◌⊎◌, inl, inr}
+use Rattle.std.specs.Prelude.{nat_le, ◌&&◌, ◌==◌, if◌then◌else◌}
+use Rattle.std.specs.List.{list_any}
+use Rattle.std.proofs.lemmas.Bool.{and_parts, eqb-true}
+use Rattle.aql_packet.specs.declared.ids.Address.{Address}
+use Rattle.aql_packet.specs.declared.ids.AgentHandle.{AgentHandle}
+use Rattle.aql_packet.specs.declared.ids.ClientId.{ClientId}
+use Rattle.aql_packet.specs.declared.ids.QueueId.{QueueId}
+use Rattle.aql_packet.specs.declared.ids.PacketId.{PacketId}
+use Rattle.aql_packet.specs.declared.ids.SignalHandle.{SignalHandle}
+use Rattle.aql_packet.specs.declared.packet.AgentDispatch.{AgentDispatch}
+use Rattle.aql_packet.specs.declared.packet.Packet.{Packet}
+use Rattle.aql_packet.specs.declared.packet.Packet.TheVariants as packet
+use Rattle.aql_packet.specs.Reading.{barrier_bit}
+use Rattle.policy.specs.Policy.{declares_client, declares, allows}
+use Rattle.policy.specs.declared.object.Object.{Object}
+use Rattle.policy.specs.declared.object.Object.TheVariants as object
+use Rattle.policy.specs.declared.rights.Right.TheVariants as right
+use Rattle.policy.specs.declared.rights.Rights.{Rights}
+use Rattle.regions.specs.Memory.{is_within, region_of}
+use Rattle.signals.specs.Values.{applied, value_of}
+use Rattle.signals.specs.declared.operation.SignalOp.{SignalOp}
+use Rattle.queue_error.specs.declared.error.QueueError.{QueueError}
+use Rattle.queue_error.specs.declared.rule.Rule.{Rule}
+use Rattle.queue_error.specs.declared.rule.Rule.TheVariants.{B1}
+use Rattle.core_model.specs.declared.event.Event.TheVariants.{Grant, Revoke, OpenQueue, Stop, Take, RunNext, Poll, Finish, HostWrite, ChangeSignal}
+use Rattle.core_model.specs.declared.outcome.Cause.{Cause}
+use Rattle.core_model.specs.declared.outcome.Outcome.{Outcome}
+use Rattle.core_model.specs.declared.outcome.Outcome.TheVariants as outcome
+use Rattle.core_model.specs.declared.outcome.Seen.{Seen}
+use Rattle.core_model.specs.declared.outcome.Taken.TheVariants as taken
+use Rattle.core_model.specs.declared.outcome.Worked.TheVariants as worked
+use Rattle.core_model.specs.declared.outcome.Polled.TheVariants as polled_as
+use Rattle.core_model.specs.declared.refusal.Refusal.{Refusal}
+use Rattle.core_model.specs.declared.refusal.Refusal.TheVariants as refusal
+use Rattle.core_model.specs.declared.entry.Effect.{Effect}
+use Rattle.core_model.specs.declared.entry.Effect.TheVariants as effect
+use Rattle.core_model.specs.declared.entry.Entry.{Entry}
+use Rattle.core_model.specs.declared.flight.InFlight.{InFlight}
+use Rattle.core_model.specs.History.{Start}
+use Rattle.core_model.specs.Grants.{in_force}
+use Rattle.core_model.specs.Memory.{region_lengths, signals}
+use Rattle.core_model.specs.Queues.{Opening, owner, openings, next_id, is_down, is_stopped}
+use Rattle.core_model.specs.Flight.{flight, in_flight, is_packet, none_seen, seen_with}
+use Rattle.core_model.specs.Holds.{holder}
+use Rattle.core_model.specs.Needs.{completion}
+use Rattle.core_model.specs.LaunchRules.{first_failing, may_start, is_barrier}
+use Rattle.core_model.specs.Work.{agent_writes, is_ready, is_negative, awaited, newly_seen}
+use Rattle.core_model.specs.Owed.{Owed, owed, refuses, answers, enters, refuse_if, refuse_unless, refuse_if_held, for_some, decided, error_at, facts_of, flight_of, is_host_size, is_ring_size, is_finished, completed, owed_take, owed_group, owed_poll, owed_finish, polled, stop_releases}
+use Rattle.core_model.proofs.Lists.{found-passes}
+use Rattle.core_model.proofs.Launches.{refuse_if-passed, refuse_unless-passed, for_some-found}
+
+-- a packet that is found in flight has the numbers that were looked for
+pub named-found : (start : Start) (es : List Entry) (queue : QueueId) (id : PacketId) (f : InFlight) → in_flight start es queue id ≡ Some f → (f.queue ≡ queue) × (f.id ≡ id)
+named-found start es queue id f found =
+    let both = and_parts (f.queue.0 == queue.0) (f.id.0 == id.0) (found-passes (is_packet queue id) (flight start es) f found) in
+    (ap (λ n. record { 0 = n }) (eqb-true _ _ both.0), ap (λ n. record { 0 = n }) (eqb-true _ _ both.1))
+
+module _ (start : Start) (es : List Entry) (told : Outcome) (effects : List Effect) where
+  -- ---- a grant, a revocation, an opening change nothing
+
+  pub grant-effects : (client : ClientId) (on : Object) (rights : Rights) → owed start es (Grant client on rights) ≡ enters told effects → effects ≡ []
+  unfolding owed
+  grant-effects client on rights owing =
+      let one = refuse_unless-passed (declares_client start.policy client) _ _ told effects owing in
+      let two = refuse_unless-passed (declares start.policy on) _ _ told effects one.rest_is in
+      let three = refuse_unless-passed (allows start.policy client on rights) _ _ told effects two.rest_is in
+      let last = three.rest_is in cc
+
+  -- no packet in flight holds what is revoked
+  pub record Revoked (client : ClientId) (on : Object) (rights : Rights) : Type 0 where
+    pub effects_are : effects ≡ []
+    pub unheld : holder start es client on rights ≡ None
+
+  unheld-passed : (o : Option InFlight) (rest : Owed) → refuse_if_held o rest ≡ enters told effects → (o ≡ None) × (rest ≡ enters told effects)
+  unheld-passed None rest same = (refl, same)
+  unheld-passed (Some f) rest same = absurd cc
+
+  pub revoke-effects : (client : ClientId) (on : Object) (rights : Rights) → owed start es (Revoke client on rights) ≡ enters told effects → Revoked client on rights
+  unfolding owed
+  revoke-effects client on rights owing =
+      let one = refuse_unless-passed (declares_client start.policy client) _ _ told effects owing in
+      let two = refuse_unless-passed (declares start.policy on) _ _ told effects one.rest_is in
+      let three = unheld-passed (holder start es client on rights) _ two.rest_is in
+      let last = three.1 in
+      record { effects_are = cc; unheld = three.0 }
+
+  pub open-effects : (client : ClientId) (agent : AgentHandle) (size : ℕ) → owed start es (OpenQueue client agent size) ≡ enters told effects → effects ≡ []
+  unfolding owed
+  open-effects client agent size owing =
+      let one = refuse_unless-passed (declares_client start.policy client) _ _ told effects owing in
+      let two = refuse_unless-passed (in_force start es client (object.Agent agent) right.Use) _ _ told effects one.rest_is in
+      let three = refuse_unless-passed (is_ring_size size) _ _ told effects two.rest_is in
+      let last = refuse_if-passed (nat_le 64 (length (openings start es))) _ _ told effects three.rest_is in cc
+
+  -- ---- a stop releases at most
+
+  pub stop-effects : (queue : QueueId) → owed start es (Stop queue) ≡ enters told effects → effects ≡ stop_releases (flight_of start es queue)
+  unfolding owed
+  stop-effects queue owing =
+      let found = for_some-found (owner start es queue) _ _ told effects owing in
+      let last = refuse_if-passed (is_stopped start es queue) _ _ told effects found.rest_is in cc
+
+  -- ---- a packet that is handed over
+
+  -- it changes nothing, and is launched or denied by the launch rules
+  pub record Decided (queue : QueueId) (id : PacketId) (bytes : List ℕ) : Type 0 where
+    pub opening : Opening
+    pub opened : owner start es queue ≡ Some opening
+    pub effects_are : effects ≡ []
+    pub verdict : Option Rule
+    pub verdict_is : first_failing (facts_of start es opening) bytes ≡ verdict
+    pub outcome_is : told ≡ elim verdict [ None ↦ outcome.Taken taken.Launched | Some rule ↦ outcome.Taken (taken.Denied (error_at queue id.0 rule)) ]
+
+  decided-entered : (queue : QueueId) (id : ℕ) (cause : Option Cause) (verdict : Option Rule) → decided queue id cause verdict ≡ enters told effects →
+      (effects ≡ []) × (told ≡ elim verdict [ None ↦ outcome.Taken taken.Launched | Some rule ↦ outcome.Taken (taken.Denied (error_at queue id rule)) ])
+  decided-entered queue id (Some cause) verdict same = absurd cc
+  decided-entered queue id None None same = (cc, cc)
+  decided-entered queue id None (Some rule) same = (cc, cc)
+
+  pub take-decided : (queue : QueueId) (id : PacketId) (bytes : List ℕ) → owed start es (Take queue id bytes) ≡ enters told effects → Decided queue id bytes
+  unfolding owed
+  take-decided queue id bytes owing =
+      let found = for_some-found (owner start es queue) _ (owed_take start es queue id bytes) told effects owing in
+      let opening = found.found in
+      let up = refuse_if-passed (is_down start es queue) _ _ told effects found.rest_is in
+      let next = refuse_unless-passed (id.0 == next_id start es queue) _ _ told effects up in
+      let last = decided-entered queue id.0 (may_start (flight_of start es queue) (barrier_bit bytes)) (first_failing (facts_of start es opening) bytes) next.rest_is in
+      record {
+        opening = opening;
+        opened = found.is;
+        effects_are = last.0;
+        verdict = first_failing (facts_of start es opening) bytes;
+        verdict_is = refl;
+        outcome_is = last.1;
+      }
+
+  -- ---- work
+
+  -- an agent dispatch in flight whose one group ran
+  pub record GroupRan (queue : QueueId) (id : PacketId) : Type 0 where
+    pub flying : InFlight
+    pub found : in_flight start es queue id ≡ Some flying
+    pub dispatch : AgentDispatch
+    pub is_agent : flying.packet ≡ packet.Agent dispatch
+    pub effects_are : effects ≡ agent_writes start es dispatch
+    pub outcome_is : told ≡ outcome.Worked (worked.Ran 0 0)
+
+  group-entered : (queue : QueueId) (id : PacketId) (f : InFlight) (p : Packet) → f.packet ≡ p → in_flight start es queue id ≡ Some f → owed_group start es f ≡ enters told effects → GroupRan queue id
+  group-entered queue id f (packet.Agent dispatch) is found same = ran (nat_le 1 f.groups_run) (rw is at same)
+    where
+      ran : (b : Bool) → (if b then answers (outcome.Worked worked.Done) else enters (outcome.Worked (worked.Ran 0 0)) (agent_writes start es dispatch)) ≡ enters told effects → GroupRan queue id
+      ran true same = absurd cc
+      ran false same = record { flying = f; found = found; dispatch = dispatch; is_agent = is; effects_are = cc; outcome_is = cc }
+  group-entered queue id f (packet.Kernel _) is found same = let no : answers (outcome.Worked worked.Done) ≡ enters told effects = rw is at same in absurd cc
+  group-entered queue id f (packet.BarrierAnd _) is found same = let no : refuses refusal.NotInFlight ≡ enters told effects = rw is at same in absurd cc
+  group-entered queue id f (packet.BarrierOr _) is found same = let no : refuses refusal.NotInFlight ≡ enters told effects = rw is at same in absurd cc
+
+  pub run-entered : (queue : QueueId) (id : PacketId) → owed start es (RunNext queue id) ≡ enters told effects → GroupRan queue id
+  unfolding owed
+  run-entered queue id owing =
+      let queued = for_some-found (owner start es queue) _ _ told effects owing in
+      let there = for_some-found (in_flight start es queue id) _ (owed_group start es) told effects queued.rest_is in
+      group-entered queue id there.found there.found.packet refl there.is there.rest_is
+
+  -- ---- a poll fails, or changes nothing
+
+  pub record HasFailed (queue : QueueId) (id : PacketId) : Type 0 where
+    pub effects_are : effects ≡ effect.Release queue id ∷ []
+    pub outcome_is : told ≡ outcome.Polled (polled_as.Failed (error_at queue id.0 B1))
+
+  poll-end : (queue : QueueId) (id : PacketId) (f : InFlight) → f.queue ≡ queue → f.id ≡ id → owed_poll start es f ≡ enters told effects → (effects ≡ []) ⊎ HasFailed queue id
+  poll-end queue id f queue_is id_is same =
+      let barrier = refuse_unless-passed (is_barrier f.packet) _ _ told effects same in
+      ready (is_ready f.packet f.seen) (list_any (is_negative (signals start es)) (awaited f.packet f.seen)) barrier.rest_is
+    where
+      seen_some : (b : Bool) (yes : Outcome) → (if b then enters yes [] else answers (outcome.Polled (polled_as.Pending none_seen))) ≡ enters told effects → effects ≡ []
+      seen_some true say same = cc
+      seen_some false say same = absurd cc
+
+      ready : (is negative : Bool) → (if is then answers (outcome.Polled (polled_as.Ready none_seen)) else if negative then enters (outcome.Polled (polled_as.Failed (error_at f.queue f.id.0 B1))) (effect.Release f.queue f.id ∷ []) else polled f.packet f.seen (newly_seen (signals start es) f.packet f.seen)) ≡ enters told effects → (effects ≡ []) ⊎ HasFailed queue id
+      ready true negative same = absurd cc
+      ready false true same =
+          let released : effect.Release f.queue f.id ∷ [] ≡ effects = cc in
+          let failed : outcome.Polled (polled_as.Failed (error_at f.queue f.id.0 B1)) ≡ told = cc in
+          inr (record {
+            effects_are = sym released ∙ ap (λ q. effect.Release q f.id ∷ []) queue_is ∙ ap (λ i. effect.Release queue i ∷ []) id_is;
+            outcome_is = sym failed ∙ ap (λ q. outcome.Polled (polled_as.Failed (error_at q f.id.0 B1))) queue_is ∙ ap (λ i. outcome.Polled (polled_as.Failed (error_at queue i.0 B1))) id_is;
+          })
+      ready false false same =
+          let new = newly_seen (signals start es) f.packet f.seen in
+          inl (seen_some (list_any (λ at. at) new.0) (outcome.Polled (if is_ready f.packet (seen_with f.seen new) then polled_as.Ready new else polled_as.Pending new)) same)
+
+  pub poll-entered : (queue : QueueId) (id : PacketId) → owed start es (Poll queue id) ≡ enters told effects → (effects ≡ []) ⊎ HasFailed queue id
+  unfolding owed
+  poll-entered queue id owing =
+      let queued = for_some-found (owner start es queue) _ _ told effects owing in
+      let there = for_some-found (in_flight start es queue id) _ (owed_poll start es) told effects queued.rest_is in
+      let named = named-found start es queue id there.found there.is in
+      poll-end queue id there.found named.0 named.1 there.rest_is
+
+  -- ---- a packet's completion
+
+  pub record Completed (queue : QueueId) (id : PacketId) : Type 0 where
+    pub flying : InFlight
+    pub found : in_flight start es queue id ≡ Some flying
+    pub effects_are : effects ≡ completed (signals start es) (completion flying.packet) ++ effect.Release queue id ∷ []
+
+  pub finish-entered : (queue : QueueId) (id : PacketId) → owed start es (Finish queue id) ≡ enters told effects → Completed queue id
+  unfolding owed
+  finish-entered queue id owing =
+      let queued = for_some-found (owner start es queue) _ _ told effects owing in
+      let there = for_some-found (in_flight start es queue id) _ (owed_finish start es) told effects queued.rest_is in
+      let f = there.found in
+      let named = named-found start es queue id f there.is in
+      let last = refuse_unless-passed (is_finished f) _ _ told effects there.rest_is in
+      let same : completed (signals start es) (completion f.packet) ++ effect.Release f.queue f.id ∷ [] ≡ effects = let is = last.rest_is in cc in
+      record {
+        flying = f;
+        found = there.is;
+        effects_are =
+        sym same
+        ∙ ap (λ q. completed (signals start es) (completion f.packet) ++ effect.Release q f.id ∷ []) named.0
+        ∙ ap (λ i. completed (signals start es) (completion f.packet) ++ effect.Release queue i ∷ []) named.1;
+      }
+
+  -- ---- a client's own write and change
+
+  pub record HostWrote (client : ClientId) (address : Address) (bytes : List ℕ) : Type 0 where
+    pub effects_are : effects ≡ effect.Write address bytes ∷ []
+    pub whole : is_within (region_lengths start) address.0 (length bytes) ≡ true
+    pub granted : in_force start es client (object.Region (record { 0 = region_of address.0 })) right.Write ≡ true
+
+  pub write-entered : (client : ClientId) (address : Address) (bytes : List ℕ) → owed start es (HostWrite client address bytes) ≡ enters told effects → HostWrote client address bytes
+  unfolding owed
+  write-entered client address bytes owing =
+      let one = refuse_unless-passed (declares_client start.policy client) _ _ told effects owing in
+      let two = refuse_unless-passed (is_host_size (length bytes)) _ _ told effects one.rest_is in
+      let three = refuse_unless-passed (is_within (region_lengths start) address.0 (length bytes) && in_force start es client (object.Region (record { 0 = region_of address.0 })) right.Write) _ _ told effects two.rest_is in
+      let both = and_parts (is_within (region_lengths start) address.0 (length bytes)) _ three.test_is in
+      let last = three.rest_is in
+      record { effects_are = cc; whole = both.0; granted = both.1 }
+
+  pub record ClientChanged (client : ClientId) (signal : SignalHandle) (operation : SignalOp) : Type 0 where
+    pub old : ℤ
+    pub was : value_of (signals start es) signal.0 ≡ Some old
+    pub granted : in_force start es client (object.Signal signal) right.Change ≡ true
+    pub effects_are : effects ≡ effect.Signal signal old (applied operation old) ∷ []
+
+  pub change-entered : (client : ClientId) (signal : SignalHandle) (operation : SignalOp) → owed start es (ChangeSignal client signal operation) ≡ enters told effects → ClientChanged client signal operation
+  unfolding owed
+  change-entered client signal operation owing =
+      let one = refuse_unless-passed (declares_client start.policy client) _ _ told effects owing in
+      let two = refuse_unless-passed (in_force start es client (object.Signal signal) right.Change) _ _ told effects one.rest_is in
+      let three = for_some-found (value_of (signals start es) signal.0) _ _ told effects two.rest_is in
+      let last = three.rest_is in
+      record { old = three.found; was = three.is; granted = two.test_is; effects_are = cc }

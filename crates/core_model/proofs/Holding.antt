@@ -1,0 +1,321 @@
+-- What packets in flight hold is in force: no revocation takes what one of them holds.
+use Rattle.std.proofs.Common.{◌≡◌, ℕ, ◌-◌, ◌<◌, List, [], ◌∷◌, ◌++◌, refl, sym, ◌∙◌, ap, subst, Bool, true, false, Option, Some, None, arith, append_assoc, zero, suc}
+use Rattle.std.specs.Prelude.{All, slice_get, nat_lt, nat_le, find, filter, map, not, ◌&&◌, ◌||◌, ◌==◌, if◌then◌else◌}
+use Rattle.std.specs.List.{flat_map, list_all, list_any}
+use Rattle.std.proofs.lemmas.Bool.{and_from, and_parts, or_parts, eq-eqb}
+use Rattle.std.proofs.lemmas.List.{append-nil}
+use Rattle.std.proofs.lemmas.List.Elements.{All-nil, All-cons, All-head, All-tail, All-append, All-map, All-weaker}
+use Rattle.aql_packet.specs.declared.ids.ClientId.{ClientId}
+use Rattle.aql_packet.specs.declared.ids.AgentHandle.{AgentHandle}
+use Rattle.aql_packet.specs.declared.ids.QueueId.{QueueId}
+use Rattle.aql_packet.specs.declared.ids.PacketId.{PacketId}
+use Rattle.aql_packet.specs.declared.packet.Packet.{Packet}
+use Rattle.aql_packet.specs.Reading.{decoded}
+use Rattle.policy.specs.Policy.{numbered}
+use Rattle.policy.specs.declared.object.Object.{Object}
+use Rattle.policy.specs.declared.object.Object.TheVariants as object
+use Rattle.policy.specs.declared.rights.Right.{Right}
+use Rattle.policy.specs.declared.rights.Rights.{Rights}
+use Rattle.policy.specs.Object.{same_object}
+use Rattle.policy.specs.Rights.{has}
+use Rattle.queue_error.specs.declared.rule.Rule.{Rule}
+use Rattle.queue_error.specs.declared.rule.Rule.TheVariants as rule
+use Rattle.core_model.specs.declared.event.Event.{Event}
+use Rattle.core_model.specs.declared.event.Event.TheVariants.{Grant, Revoke, OpenQueue, Stop, Take, RunNext, Poll, Finish, HostWrite, ChangeSignal}
+use Rattle.core_model.specs.declared.outcome.Outcome.{Outcome}
+use Rattle.core_model.specs.declared.outcome.Outcome.TheVariants as outcome
+use Rattle.core_model.specs.declared.outcome.Taken.TheVariants.{Launched}
+use Rattle.core_model.specs.declared.entry.Entry.{Entry}
+use Rattle.core_model.specs.declared.flight.InFlight.{InFlight}
+use Rattle.core_model.specs.declared.need.Need.{Need}
+use Rattle.core_model.specs.History.{Start}
+use Rattle.core_model.specs.Grants.{in_force, in_force_after, is_named}
+use Rattle.core_model.specs.Queues.{Opening, owner, openings, opening_of, next_id}
+use Rattle.core_model.specs.Flight.{flight}
+use Rattle.core_model.specs.Needs.{needs, object_of}
+use Rattle.core_model.specs.LaunchRules.{Facts, has_form, holds_rule, is_met, launch_rules, lies_whole}
+use Rattle.core_model.specs.Holds.{Held, as_held, held, held_at_launch, held_from, held_if, launches, bytes_taken, holder, holds_one_of, is_owned, is_up_to, least}
+use Rattle.core_model.specs.Owed.{owed, enters, facts_of}
+use Rattle.core_model.specs.Legal.{IsLegal}
+use Rattle.core_model.specs.Headline.{HoldsInForce}
+use Rattle.core_model.proofs.Lists.{none-passes, all-from_list_all}
+use Rattle.core_model.proofs.More.{openings-more, with_some, in_force-more}
+use Rattle.core_model.proofs.Launches.{was_launched, IsNext-from_owed, AreBelowNext-legal}
+use Rattle.core_model.proofs.Flying.{Of, flying-legal}
+use Rattle.core_model.proofs.Entered.{revoke-effects}
+use Rattle.core_model.proofs.Granted.{launch-granted}
+
+-- ---- what a packet holds stays what its launch gave it
+
+-- what a launch holds doesn't look at the entries before it
+held_if-same : (start : Start) (before : List Entry) (o : Option Opening) (p : Option Packet) → held_if start before o p ≡ held_if start [] o p
+held_if-same start before None p = refl
+held_if-same start before (Some opening) None = refl
+held_if-same start before (Some opening) (Some p) = refl
+
+-- a packet that was launched holds what it held
+held_from-kept : (start : Start) (before es more : List Entry) (queue : QueueId) (id : PacketId) → was_launched es queue id ≡ true → held_from start before (es ++ more) queue id ≡ held_from start before es queue id
+held_from-kept start before [] more queue id launched = absurd (cc)
+held_from-kept start before (x ∷ xs) more queue id launched =
+    by_test (launches queue id x.event x.outcome) refl (held_from-kept start (before ++ x ∷ []) xs more queue id)
+  where
+    by_test : (b : Bool) → launches queue id x.event x.outcome ≡ b
+        → (was_launched xs queue id ≡ true → held_from start (before ++ x ∷ []) (xs ++ more) queue id ≡ held_from start (before ++ x ∷ []) xs queue id)
+        → held_from start before (x ∷ (xs ++ more)) queue id ≡ held_from start before (x ∷ xs) queue id
+    by_test true is rest = rw is refl
+    by_test false is rest = rw is (rest (rw is at launched))
+
+-- one that wasn't holds nothing
+held_from-none : (start : Start) (before es : List Entry) (queue : QueueId) (id : PacketId) → was_launched es queue id ≡ false → held_from start before es queue id ≡ []
+held_from-none start before [] queue id none = refl
+held_from-none start before (x ∷ xs) queue id none =
+    by_test (launches queue id x.event x.outcome) refl (held_from-none start (before ++ x ∷ []) xs queue id)
+  where
+    by_test : (b : Bool) → launches queue id x.event x.outcome ≡ b
+        → (was_launched xs queue id ≡ false → held_from start (before ++ x ∷ []) xs queue id ≡ [])
+        → held_from start before (x ∷ xs) queue id ≡ []
+    by_test true is rest = absurd (cc (rw is at none))
+    by_test false is rest = rw is (rest (rw is at none))
+
+-- and holds, from the entry that launches it on, what its launch gives it
+held_from-launch : (start : Start) (before es : List Entry) (e : Entry) (queue : QueueId) (id : PacketId) → was_launched es queue id ≡ false → launches queue id e.event e.outcome ≡ true → held_from start before (es ++ e ∷ []) queue id ≡ held_if start [] (owner start (before ++ es) queue) (decoded (bytes_taken e.event))
+held_from-launch start before [] e queue id none now = rw (now, append-nil) (held_if-same start before (owner start before queue) (decoded (bytes_taken e.event)))
+held_from-launch start before (x ∷ xs) e queue id none now =
+    by_test (launches queue id x.event x.outcome) refl (λ others. held_from-launch start (before ++ x ∷ []) xs e queue id others now)
+  where
+    by_test : (b : Bool) → launches queue id x.event x.outcome ≡ b
+        → (was_launched xs queue id ≡ false → held_from start (before ++ x ∷ []) (xs ++ e ∷ []) queue id ≡ held_if start [] (owner start ((before ++ x ∷ []) ++ xs) queue) (decoded (bytes_taken e.event)))
+        → held_from start before (x ∷ (xs ++ e ∷ [])) queue id ≡ held_if start [] (owner start (before ++ x ∷ xs) queue) (decoded (bytes_taken e.event))
+    by_test true is rest = absurd (cc (rw is at none))
+    by_test false is rest =
+        rw is (rest (rw is at none))
+        ∙ ap (λ (es : List Entry). held_if start [] (owner start es queue) (decoded (bytes_taken e.event))) (append_assoc before (x ∷ []) xs)
+
+-- a queue stays whose it is
+slice_get-more : {X : Type 0} (xs : List X) (x y : X) (k : ℕ) → slice_get xs k ≡ Some x → slice_get (xs ++ y ∷ []) k ≡ Some x
+slice_get-more [] x y k is = absurd (cc)
+slice_get-more (z ∷ zs) x y zero is = is
+slice_get-more (z ∷ zs) x y (suc k) is = slice_get-more zs x y k is
+
+numbered-more : {X : Type 0} (xs : List X) (o : Option X) (x : X) (n : ℕ) → numbered xs n ≡ Some x → numbered (with_some xs o) n ≡ Some x
+numbered-more xs None x n is = is
+numbered-more xs (Some y) x n is = by_test (nat_lt 0 n) refl
+  where
+    by_test : (b : Bool) → nat_lt 0 n ≡ b → numbered (xs ++ y ∷ []) n ≡ Some x
+    by_test true positive = rw positive (slice_get-more xs x y (n - 1) (rw positive at is))
+    by_test false positive = let none : numbered xs n ≡ None = rw positive refl in absurd (cc)
+
+pub owner-more : (start : Start) (es : List Entry) (e : Entry) (queue : QueueId) (opening : Opening) → owner start es queue ≡ Some opening → owner start (es ++ e ∷ []) queue ≡ Some opening
+owner-more start es e queue opening is = rw openings-more (numbered-more (openings start es) (opening_of e.event) opening queue.0 is)
+
+-- ---- the least of some packets
+
+up_to-itself : (f : InFlight) → is_up_to f f ≡ true
+up_to-itself f = grind arith
+
+up_to-turned : (f g : InFlight) → is_up_to f g ≡ false → is_up_to g f ≡ true
+up_to-turned f g not_up = grind arith
+
+up_to-through : (f g h : InFlight) → is_up_to f g ≡ true → is_up_to g h ≡ true → is_up_to f h ≡ true
+up_to-through f g h one two = grind arith
+
+module _ (Q : InFlight → Type 0) where
+  -- one of some packets that comes up to each
+  record Lowest (fs : List InFlight) : Type 0 where
+    pub one : InFlight
+    pub holds : Q one
+    pub up_to : list_all (is_up_to one) fs ≡ true
+
+  through-all : (f g : InFlight) (fs : List InFlight) → is_up_to f g ≡ true → list_all (is_up_to g) fs ≡ true → list_all (is_up_to f) fs ≡ true
+  through-all f g [] up all = refl
+  through-all f g (h ∷ hs) up all =
+      let both = and_parts (is_up_to g h) (list_all (is_up_to g) hs) all in
+      and_from _ _ (up_to-through f g h up both.0) (through-all f g hs up both.1)
+
+  lowest-of : (f : InFlight) (fs : List InFlight) → All Q (f ∷ fs) → Lowest (f ∷ fs)
+  lowest-of f [] all = record { one = f; holds = All-head Q f [] all; up_to = and_from _ _ (up_to-itself f) refl }
+  lowest-of f (g ∷ gs) all =
+      let rest = lowest-of g gs (All-tail Q f (g ∷ gs) all) in
+      lower rest (is_up_to f rest.one) refl
+    where
+      lower : (rest : Lowest (g ∷ gs)) (b : Bool) → is_up_to f rest.one ≡ b → Lowest (f ∷ g ∷ gs)
+      lower rest true up = record { one = f; holds = All-head Q f (g ∷ gs) all; up_to = and_from _ _ (up_to-itself f) (through-all f rest.one (g ∷ gs) up rest.up_to) }
+      lower rest false up = record { one = rest.one; holds = rest.holds; up_to = and_from _ _ (up_to-turned f rest.one up) rest.up_to }
+
+-- where there is no least one, there is none
+least-none : (fs : List InFlight) → least fs ≡ None → fs ≡ []
+least-none [] none = refl
+least-none (f ∷ fs) none =
+    let lowest = lowest-of (λ m. list_all (is_up_to m) (f ∷ fs) ≡ false) f fs (none-passes (λ m. list_all (is_up_to m) (f ∷ fs)) (f ∷ fs) none) in
+    let up = lowest.up_to in
+    let down = lowest.holds in
+    absurd cc
+
+filtered-none : (test : InFlight → Bool) (fs : List InFlight) → filter test fs ≡ [] → All (λ f. test f ≡ false) fs
+filtered-none test [] none = All-nil (λ f. test f ≡ false)
+filtered-none test (f ∷ fs) none = by_test (test f) refl none (filtered-none test fs)
+  where
+    by_test : (b : Bool) → test f ≡ b → (if b then f ∷ filter test fs else filter test fs) ≡ [] → (filter test fs ≡ [] → All (λ g. test g ≡ false) fs) → All (λ g. test g ≡ false) (f ∷ fs)
+    by_test true is same more = absurd cc
+    by_test false is same more = All-cons (λ g. test g ≡ false) f fs is (more same)
+
+-- ---- a revocation that was made names nothing that is held
+
+numbers-turned : (n m : ℕ) → (n == m) ≡ (m == n)
+numbers-turned n m = grind arith
+
+same-turned : (a b : Object) → same_object a b ≡ same_object b a
+same-turned (object.Agent a) (object.Agent b) = numbers-turned a.0 b.0
+same-turned (object.Region a) (object.Region b) = numbers-turned a.0 b.0
+same-turned (object.Signal a) (object.Signal b) = numbers-turned a.0 b.0
+same-turned (object.Kernel a) (object.Kernel b) = numbers-turned a.0 b.0
+same-turned (object.Agent a) (object.Region b) = refl
+same-turned (object.Agent a) (object.Signal b) = refl
+same-turned (object.Agent a) (object.Kernel b) = refl
+same-turned (object.Region a) (object.Agent b) = refl
+same-turned (object.Region a) (object.Signal b) = refl
+same-turned (object.Region a) (object.Kernel b) = refl
+same-turned (object.Signal a) (object.Agent b) = refl
+same-turned (object.Signal a) (object.Region b) = refl
+same-turned (object.Signal a) (object.Kernel b) = refl
+same-turned (object.Kernel a) (object.Agent b) = refl
+same-turned (object.Kernel a) (object.Region b) = refl
+same-turned (object.Kernel a) (object.Signal b) = refl
+
+-- rights that are in force stay so where none of them is named
+unnamed-stay : (client named : ClientId) (on : Object) (rights : Rights) (before : Object → Right → Bool) (hs : List Held) →
+    (client.0 == named.0 && list_any (λ h. same_object on h.0 && has rights h.1) hs) ≡ false → All (λ h. before h.0 h.1 ≡ true) hs →
+    All (λ h. (before h.0 h.1 && not (is_named client h.0 h.1 named on rights)) ≡ true) hs
+unnamed-stay client named on rights before [] none all = All-nil _
+unnamed-stay client named on rights before (h ∷ hs) none all =
+    let parts = spread (client.0 == named.0) (same_object on h.0 && has rights h.1) (list_any (λ g. same_object on g.0 && has rights g.1) hs) none in
+    All-cons (λ g. (before g.0 g.1 && not (is_named client g.0 g.1 named on rights)) ≡ true) h hs
+    (stays (before h.0 h.1) (All-head (λ g. before g.0 g.1 ≡ true) h hs all) (gathered (client.0 == named.0) (same_object h.0 on) (has rights h.1) ∙ ap (λ b. client.0 == named.0 && (b && has rights h.1)) (same-turned h.0 on) ∙ parts.0))
+    (unnamed-stay client named on rights before hs parts.1 (All-tail (λ g. before g.0 g.1 ≡ true) h hs all))
+  where
+    spread : (a b c : Bool) → (a && (b || c)) ≡ false → ((a && b) ≡ false) × ((a && c) ≡ false)
+    spread true true c same = absurd cc
+    spread true false c same = (refl, same)
+    spread false b c same = (refl, refl)
+
+    gathered : (a b c : Bool) → ((a && b) && c) ≡ (a && (b && c))
+    gathered true b c = refl
+    gathered false b c = refl
+
+    stays : (b : Bool) → b ≡ true → is_named client h.0 h.1 named on rights ≡ false → (b && not (is_named client h.0 h.1 named on rights)) ≡ true
+    stays b is unnamed = rw (is, unnamed) refl
+
+-- ---- what a packet in flight holds is in force
+
+-- a packet holds what its launch gave it, and all of it is in force for the owner of its queue
+pub record HoldsNow (start : Start) (es : List Entry) (queue : QueueId) (id : PacketId) (p : Packet) : Type 0 where
+  pub opening : Opening
+  pub opened : owner start es queue ≡ Some opening
+  pub held_is : held start es queue id ≡ held_at_launch opening p
+  pub granted : All (λ h. in_force start es opening.client h.0 h.1 ≡ true) (held_at_launch opening p)
+
+module _ (start : Start) (es : List Entry) (e : Entry) where
+  was-launched : (queue : QueueId) (id : PacketId) (opening : Opening) (p : Packet) → held start es queue id ≡ held_at_launch opening p → was_launched es queue id ≡ true
+  was-launched queue id opening p is = by_test (was_launched es queue id) refl
+    where
+      by_test : (b : Bool) → was_launched es queue id ≡ b → was_launched es queue id ≡ true
+      by_test true was = was
+      by_test false was = let none = held_from-none start [] es queue id was in absurd (cc)
+
+  -- one entry more, after which the rights are in force yet
+  holds-more : (queue : QueueId) (id : PacketId) (p : Packet) (h : HoldsNow start es queue id p) →
+      All (λ g. in_force_after h.opening.client g.0 g.1 (in_force start es h.opening.client g.0 g.1) e.event ≡ true) (held_at_launch h.opening p) → HoldsNow start (es ++ e ∷ []) queue id p
+  holds-more queue id p h stays = record {
+    opening = h.opening;
+    opened = owner-more start es e queue h.opening h.opened;
+    held_is = held_from-kept start [] es (e ∷ []) queue id (was-launched queue id h.opening p h.held_is) ∙ h.held_is;
+    granted = All-weaker (λ g. in_force_after h.opening.client g.0 g.1 (in_force start es h.opening.client g.0 g.1) e.event ≡ true) (λ g. in_force start (es ++ e ∷ []) h.opening.client g.0 g.1 ≡ true)
+    (λ g is. in_force-more start es e h.opening.client g.0 g.1 ∙ is) (held_at_launch h.opening p) stays;
+  }
+
+  -- what an event does to rights in force that are held by none that it names
+  kept-by : (event : Event) (queue : QueueId) (id : PacketId) (p : Packet) (h : HoldsNow start es queue id p) →
+      ((client : ClientId) (on : Object) (rights : Rights) → event ≡ Revoke client on rights → (is_owned start es client queue && list_any (λ g. same_object on g.0 && has rights g.1) (held start es queue id)) ≡ false) →
+      All (λ g. in_force_after h.opening.client g.0 g.1 (in_force start es h.opening.client g.0 g.1) event ≡ true) (held_at_launch h.opening p)
+  kept-by (Grant c o rights) queue id p h none =
+      All-weaker (λ g. in_force start es h.opening.client g.0 g.1 ≡ true) (λ g. (in_force start es h.opening.client g.0 g.1 || is_named h.opening.client g.0 g.1 c o rights) ≡ true)
+      (λ g is. rw is refl) (held_at_launch h.opening p) h.granted
+  kept-by (Revoke c o rights) queue id p h none =
+      let own : is_owned start es c queue ≡ (h.opening.client.0 == c.0) = ap (λ (found : Option Opening). elim found [ None ↦ false | Some opening ↦ opening.client.0 == c.0 ]) h.opened in
+      let named = λ (g : Held). same_object o g.0 && has rights g.1 in
+      unnamed-stay h.opening.client c o rights (in_force start es h.opening.client) (held_at_launch h.opening p) (sym (λ i. own i && list_any named (h.held_is i)) ∙ none c o rights refl) h.granted
+  kept-by (OpenQueue _ _ _) queue id p h none = h.granted
+  kept-by (Stop _) queue id p h none = h.granted
+  kept-by (Take _ _ _) queue id p h none = h.granted
+  kept-by (RunNext _ _) queue id p h none = h.granted
+  kept-by (Poll _ _) queue id p h none = h.granted
+  kept-by (Finish _ _) queue id p h none = h.granted
+  kept-by (HostWrite _ _ _) queue id p h none = h.granted
+  kept-by (ChangeSignal _ _ _) queue id p h none = h.granted
+
+  -- a revocation that was made names nothing that a packet in flight holds
+  unheld : owed start es e.event ≡ enters e.outcome e.effects → (client : ClientId) (on : Object) (rights : Rights) → e.event ≡ Revoke client on rights →
+      All (λ f. (is_owned start es client f.queue && holds_one_of start es on rights f) ≡ false) (flight start es)
+  unheld owing client on rights is =
+      let revoked = revoke-effects start es e.outcome e.effects client on rights (rw is at owing) in
+      filtered-none (λ f. is_owned start es client f.queue && holds_one_of start es on rights f) (flight start es) (least-none _ revoked.unheld)
+
+  more : IsLegal start es → owed start es e.event ≡ enters e.outcome e.effects → All (Of (HoldsNow start es)) (flight start es) → All (Of (HoldsNow start (es ++ e ∷ []))) (flight start es)
+  more legal owing all k d below =
+      let h = all k d below in
+      holds-more _ _ _ h (kept-by e.event _ _ _ h (λ client on rights is. unheld owing client on rights is k d below))
+
+  -- ---- at its launch
+
+  rights-met : (facts : Facts) (needed : List Need) → list_all (is_met facts) needed ≡ true → All (λ h. facts.in_force h.0 h.1 ≡ true) (map as_held needed)
+  rights-met facts needed met =
+      All-map (λ h. facts.in_force h.0 h.1 ≡ true) as_held needed
+      (All-weaker (λ n. is_met facts n ≡ true) (λ n. facts.in_force (object_of n.subject) n.right ≡ true) (λ n is. (and_parts (lies_whole facts.lengths n.subject) _ is).1) needed (all-from_list_all (is_met facts) needed met))
+
+  rule-met : (facts : Facts) (bytes : List ℕ) (p : Packet) (r : Rule) → holds_rule facts bytes p r ≡ true → list_all (is_met facts) (needs r facts.agent p) ≡ true
+  rule-met facts bytes p rule.L1 holds = refl
+  rule-met facts bytes p rule.L2 holds = refl
+  rule-met facts bytes p rule.L3 holds = refl
+  rule-met facts bytes p rule.L4 holds = (and_parts (has_form facts p rule.L4) _ holds).1
+  rule-met facts bytes p rule.L5 holds = refl
+  rule-met facts bytes p rule.L6 holds = refl
+  rule-met facts bytes p rule.L7 holds = refl
+  rule-met facts bytes p rule.L8 holds = holds
+  rule-met facts bytes p rule.L9 holds = holds
+  rule-met facts bytes p rule.L10 holds = holds
+  rule-met facts bytes p _ holds = refl
+
+  rules-met : (facts : Facts) (p : Packet) (rules : List Rule) → ((r : Rule) → list_all (is_met facts) (needs r facts.agent p) ≡ true) → All (λ h. facts.in_force h.0 h.1 ≡ true) (flat_map (λ r. map as_held (needs r facts.agent p)) rules)
+  rules-met facts p [] each = All-nil _
+  rules-met facts p (r ∷ rules) each = All-append (λ h. facts.in_force h.0 h.1 ≡ true) _ _ (rights-met facts (needs r facts.agent p) (each r)) (rules-met facts p rules each)
+
+  launched : IsLegal start es → owed start es e.event ≡ enters e.outcome e.effects → (queue : QueueId) (id : PacketId) (bytes : List ℕ) (p : Packet) → e.event ≡ Take queue id bytes → e.outcome ≡ outcome.Taken Launched → decoded bytes ≡ Some p → HoldsNow start (es ++ e ∷ []) queue id p
+  launched legal owing queue id bytes p event_is outcome_is is =
+      let granted = launch-granted start es queue id bytes e.effects (rw (event_is, outcome_is) at owing) in
+      let next = IsNext-from_owed start es queue id bytes (outcome.Taken Launched) e.effects (rw (event_is, outcome_is) at owing) in
+      let opening = granted.opening in
+      let packet_is : granted.packet ≡ p = let same : Some granted.packet ≡ Some p = sym granted.decoded_is ∙ is in cc in
+      let none : was_launched es queue id ≡ false = by_test (was_launched es queue id) refl next.id_is in
+      let now : launches queue id e.event e.outcome ≡ true = rw (event_is, outcome_is) (and_from _ _ (eq-eqb queue.0 queue.0 refl) (eq-eqb id.0 id.0 refl)) in
+      let bytes_are : decoded (bytes_taken e.event) ≡ Some p = ap (λ event. decoded (bytes_taken event)) event_is ∙ is in
+      let facts : Facts = facts_of start es opening in
+      let met = rules-met facts granted.packet launch_rules (λ r. rule-met facts bytes granted.packet r (granted.allowed.every_rule r)) in
+      record {
+        opening = opening;
+        opened = owner-more start es e queue opening granted.allowed.opened;
+        held_is = ◌∙◌ {b = held_if start [] (owner start es queue) (decoded (bytes_taken e.event))} (held_from-launch start [] es e queue id none now) (λ i. held_if start [] (granted.allowed.opened i) (bytes_are i));
+        granted = subst (λ q. All (λ h. in_force start (es ++ e ∷ []) opening.client h.0 h.1 ≡ true) (held_at_launch opening q)) packet_is
+        (All-weaker (λ h. in_force start es opening.client h.0 h.1 ≡ true) (λ h. in_force start (es ++ e ∷ []) opening.client h.0 h.1 ≡ true)
+        (λ h here. in_force-more start es e opening.client h.0 h.1 ∙ ap (in_force_after opening.client h.0 h.1 (in_force start es opening.client h.0 h.1)) event_is ∙ here) (held_at_launch opening granted.packet) met);
+      }
+    where
+      by_test : (b : Bool) → was_launched es queue id ≡ b → id.0 ≡ next_id start es queue → was_launched es queue id ≡ false
+      by_test true was at = let below : id.0 < next_id start es queue = AreBelowNext-legal start es legal queue id was in absurd (omega arith)
+      by_test false was at = was
+
+-- in a legal history all that packets in flight hold is in force
+pub holding-legal : (start : Start) (es : List Entry) → IsLegal start es → All (HoldsInForce start es) (flight start es)
+holding-legal start es legal =
+    All-weaker (Of (HoldsNow start es)) (HoldsInForce start es)
+    (λ f h. record { opening = h.opening; opened = h.opened; in_force = subst (All (λ g. in_force start es h.opening.client g.0 g.1 ≡ true)) (sym h.held_is) h.granted })
+    (flight start es) (flying-legal start (HoldsNow start) (more start) (launched start) es legal)

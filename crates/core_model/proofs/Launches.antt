@@ -1,0 +1,147 @@
+-- Launches in a history: each packet is launched once, with the id that is next in its queue.
+use Rattle.std.proofs.Common.{◌≡◌, ℕ, ◌+◌, ◌<◌, ◌≤◌, List, [], ◌∷◌, ◌++◌, refl, sym, ◌∙◌, ap, subst, Bool, true, false, Option, Some, None, arith, append_assoc}
+use Rattle.std.specs.Prelude.{◌==◌, ◌&&◌, ◌||◌, if◌then◌else◌}
+use Rattle.std.specs.List.{list_any}
+use Rattle.std.proofs.lemmas.Bool.{and_parts, eqb-true, eq-eqb}
+use Rattle.std.proofs.lemmas.List.{append-nil}
+use Rattle.std.proofs.lemmas.List.Folds.{list_any-append}
+use Rattle.aql_packet.specs.declared.ids.QueueId.{QueueId}
+use Rattle.aql_packet.specs.declared.ids.PacketId.{PacketId}
+use Rattle.core_model.specs.declared.event.Event.{Event}
+use Rattle.core_model.specs.declared.event.Event.TheVariants.{Grant, Revoke, OpenQueue, Stop, Take, RunNext, Poll, Finish, HostWrite, ChangeSignal}
+use Rattle.core_model.specs.declared.outcome.Outcome.{Outcome}
+use Rattle.core_model.specs.declared.outcome.Outcome.TheVariants as outcome
+use Rattle.core_model.specs.declared.outcome.Taken.TheVariants.{Launched, Denied, Waiting}
+use Rattle.core_model.specs.declared.entry.Entry.{Entry}
+use Rattle.core_model.specs.declared.entry.Effect.{Effect}
+use Rattle.core_model.specs.declared.refusal.Refusal.{Refusal}
+use Rattle.core_model.specs.History.{Start}
+use Rattle.core_model.specs.Queues.{Opening, owner, next_id, hands_over, is_down}
+use Rattle.core_model.specs.Holds.{launches}
+use Rattle.core_model.specs.Owed.{Owed, owed, enters, refuse_if, refuse_unless, for_some, owed_take}
+use Rattle.core_model.specs.Legal.{IsLegal, IsLegalAfter}
+use Rattle.core_model.proofs.More.{next_id-more}
+
+-- ---- what an owed entry tells of the tests before it
+
+pub refuse_if-passed : (test : Bool) (why : Refusal) (rest : Owed) (outcome : Outcome) (effects : List Effect) → refuse_if test why rest ≡ enters outcome effects → rest ≡ enters outcome effects
+refuse_if-passed true why rest outcome effects e = absurd (cc)
+refuse_if-passed false why rest outcome effects e = e
+
+-- a test that passed
+pub record Passed (test : Bool) (rest : Owed) (outcome : Outcome) (effects : List Effect) : Type 0 where
+  pub test_is : test ≡ true
+  pub rest_is : rest ≡ enters outcome effects
+
+pub refuse_unless-passed : (test : Bool) (why : Refusal) (rest : Owed) (outcome : Outcome) (effects : List Effect) → refuse_unless test why rest ≡ enters outcome effects → Passed test rest outcome effects
+refuse_unless-passed true why rest outcome effects e = record { test_is = refl; rest_is = e }
+refuse_unless-passed false why rest outcome effects e = absurd (cc)
+
+-- something that is there
+pub record Found {X : Type 0} (o : Option X) (rest : X → Owed) (outcome : Outcome) (effects : List Effect) : Type 0 where
+  pub found : X
+  pub is : o ≡ Some found
+  pub rest_is : rest found ≡ enters outcome effects
+
+pub for_some-found : {X : Type 0} (o : Option X) (why : Refusal) (rest : X → Owed) (outcome : Outcome) (effects : List Effect) → for_some o why rest ≡ enters outcome effects → Found o rest outcome effects
+for_some-found None why rest outcome effects e = absurd (cc)
+for_some-found (Some x) why rest outcome effects e = record { found = x; is = refl; rest_is = e }
+
+-- a packet that is launched is the next of an open queue
+pub record IsNext (start : Start) (entries : List Entry) (queue : QueueId) (id : PacketId) : Type 0 where
+  pub opening : Opening
+  pub owner_is : owner start entries queue ≡ Some opening
+  pub id_is : id.0 ≡ next_id start entries queue
+
+pub IsNext-from_owed : (start : Start) (entries : List Entry) (queue : QueueId) (id : PacketId) (bytes : List ℕ) (outcome : Outcome) (effects : List Effect) → owed start entries (Take queue id bytes) ≡ enters outcome effects → IsNext start entries queue id
+unfolding owed
+IsNext-from_owed start entries queue id bytes outcome effects owing =
+    let found = for_some-found (owner start entries queue) _ (owed_take start entries queue id bytes) outcome effects owing in
+    let passed = refuse_unless-passed (id.0 == next_id start entries queue) _ _ outcome effects (refuse_if-passed (is_down start entries queue) _ _ outcome effects found.rest_is) in
+    record { opening = found.found; owner_is = found.is; id_is = eqb-true _ _ passed.test_is }
+
+-- ---- which entry launches a packet
+
+-- an event that launches this packet
+pub record IsLaunch (queue : QueueId) (id : PacketId) (event : Event) (told : Outcome) : Type 0 where
+  pub bytes : List ℕ
+  pub event_is : event ≡ Take queue id bytes
+  pub outcome_is : told ≡ outcome.Taken Launched
+
+same_numbers : (q queue : QueueId) (i id : PacketId) (bytes : List ℕ) → (q.0 == queue.0 && i.0 == id.0) ≡ true → IsLaunch queue id (Take q i bytes) (outcome.Taken Launched)
+same_numbers q queue i id bytes same =
+    let both = and_parts (q.0 == queue.0) _ same in
+    let queues : q.0 ≡ queue.0 = eqb-true _ _ both.0 in
+    let ids : i.0 ≡ id.0 = eqb-true _ _ both.1 in
+    record {
+      bytes = bytes;
+      event_is = ap (λ (n : ℕ). Take (record { 0 = n }) i bytes) queues ∙ ap (λ (n : ℕ). Take queue (record { 0 = n }) bytes) ids;
+      outcome_is = refl;
+    }
+
+pub IsLaunch-from_test : (queue : QueueId) (id : PacketId) (event : Event) (told : Outcome) → launches queue id event told ≡ true → IsLaunch queue id event told
+IsLaunch-from_test queue id (Take q i bytes) (outcome.Taken Launched) test = same_numbers q queue i id bytes test
+IsLaunch-from_test queue id (Take q i bytes) (outcome.Taken (Denied _)) test = absurd (cc)
+IsLaunch-from_test queue id (Take q i bytes) (outcome.Taken (Waiting _)) test = absurd (cc)
+IsLaunch-from_test queue id (Take q i bytes) outcome.Accepted test = absurd (cc)
+IsLaunch-from_test queue id (Take q i bytes) (outcome.Opened _) test = absurd (cc)
+IsLaunch-from_test queue id (Take q i bytes) (outcome.Worked _) test = absurd (cc)
+IsLaunch-from_test queue id (Take q i bytes) (outcome.Polled _) test = absurd (cc)
+IsLaunch-from_test queue id (Take q i bytes) (outcome.Changed _) test = absurd (cc)
+IsLaunch-from_test queue id (Grant _ _ _) told test = absurd (cc)
+IsLaunch-from_test queue id (Revoke _ _ _) told test = absurd (cc)
+IsLaunch-from_test queue id (OpenQueue _ _ _) told test = absurd (cc)
+IsLaunch-from_test queue id (Stop _) told test = absurd (cc)
+IsLaunch-from_test queue id (RunNext _ _) told test = absurd (cc)
+IsLaunch-from_test queue id (Poll _ _) told test = absurd (cc)
+IsLaunch-from_test queue id (Finish _ _) told test = absurd (cc)
+IsLaunch-from_test queue id (HostWrite _ _ _) told test = absurd (cc)
+IsLaunch-from_test queue id (ChangeSignal _ _ _) told test = absurd (cc)
+
+-- whether some entry launches a packet
+abbrev pub was_launched : List Entry → QueueId → PacketId → Bool
+was_launched entries queue id = list_any (λ entry. launches queue id entry.event entry.outcome) entries
+
+-- ---- the ids of packets that were launched
+
+-- each packet that was launched has an id below its queue's next
+abbrev pub AreBelowNext : Start → List Entry → Type 0
+AreBelowNext start entries = (queue : QueueId) (id : PacketId) → was_launched entries queue id ≡ true → id.0 < next_id start entries queue
+
+was_launched-more : (entries : List Entry) (e : Entry) (queue : QueueId) (id : PacketId) → was_launched (entries ++ e ∷ []) queue id ≡ (was_launched entries queue id || (launches queue id e.event e.outcome || false))
+was_launched-more entries e queue id = list_any-append (λ (entry : Entry). launches queue id entry.event entry.outcome) entries (e ∷ [])
+
+next_id-grows : (start : Start) (entries : List Entry) (e : Entry) (queue : QueueId) → next_id start entries queue ≤ next_id start (entries ++ e ∷ []) queue
+next_id-grows start entries e queue = by_test (hands_over queue e.event) (next_id-more start entries e queue)
+  where
+    by_test : (b : Bool) → next_id start (entries ++ e ∷ []) queue ≡ (if b then next_id start entries queue + 1 else next_id start entries queue) → next_id start entries queue ≤ next_id start (entries ++ e ∷ []) queue
+    by_test true is = omega arith
+    by_test false is = omega arith
+
+below_launch : (start : Start) (entries : List Entry) (e : Entry) (queue : QueueId) (id : PacketId) → owed start entries e.event ≡ enters e.outcome e.effects → IsLaunch queue id e.event e.outcome → id.0 < next_id start (entries ++ e ∷ []) queue
+below_launch start entries e queue id owing launch =
+    let next = IsNext-from_owed start entries queue id launch.bytes e.outcome e.effects (rw launch.event_is at owing) in
+    let hands : hands_over queue e.event ≡ true = ap (hands_over queue) launch.event_is ∙ eq-eqb queue.0 queue.0 refl in
+    let more : next_id start (entries ++ e ∷ []) queue ≡ next_id start entries queue + 1 = next_id-more start entries e queue ∙ rw hands refl in
+    let at = next.id_is in
+    omega arith
+
+AreBelowNext-more : (start : Start) (entries : List Entry) (e : Entry) → AreBelowNext start entries → owed start entries e.event ≡ enters e.outcome e.effects → AreBelowNext start (entries ++ e ∷ [])
+AreBelowNext-more start entries e below owing queue id launched =
+    by_test (was_launched entries queue id) (launches queue id e.event e.outcome) refl refl (sym (was_launched-more entries e queue id) ∙ launched)
+  where
+    by_test : (was is : Bool) → was_launched entries queue id ≡ was → launches queue id e.event e.outcome ≡ is → (was || (is || false)) ≡ true → id.0 < next_id start (entries ++ e ∷ []) queue
+    by_test true is before now h =
+        let small : id.0 < next_id start entries queue = below queue id before in
+        omega (arith, next_id-grows start entries e queue)
+    by_test false true before now h = below_launch start entries e queue id owing (IsLaunch-from_test queue id e.event e.outcome now)
+    by_test false false before now h = absurd (cc)
+
+below_after : (start : Start) (before entries : List Entry) → AreBelowNext start before → IsLegalAfter start before entries → AreBelowNext start (before ++ entries)
+below_after start before [] below legal = rw append-nil below
+below_after start before (e ∷ es) below legal =
+    subst (AreBelowNext start) (append_assoc before (e ∷ []) es) (below_after start (before ++ e ∷ []) es (AreBelowNext-more start before e below legal.0) legal.1)
+
+-- so it is in a legal history
+pub AreBelowNext-legal : (start : Start) (entries : List Entry) → IsLegal start entries → AreBelowNext start entries
+AreBelowNext-legal start entries legal = below_after start [] entries (λ queue id launched. absurd (cc)) legal

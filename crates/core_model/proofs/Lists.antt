@@ -1,0 +1,42 @@
+-- What is found in a list.
+use Rattle.std.proofs.Common.{◌≡◌, List, [], ◌∷◌, refl, sym, subst, ◌∙◌, ap, Bool, true, false, Option, Some, None}
+use Rattle.std.specs.Prelude.{All, ◌&&◌, ◌||◌, not, filter, find, if◌then◌else◌}
+use Rattle.std.specs.List.{list_all, list_any}
+use Rattle.std.proofs.lemmas.Bool.{and_parts}
+use Rattle.std.proofs.lemmas.List.Elements.{All-nil, All-cons, All-head, All-tail}
+
+-- what is found is one of the list
+pub found-all : {X : Type 0} (P : X → Type 0) (test : X → Bool) (xs : List X) (f : X) → All P xs → find test xs ≡ Some f → P f
+found-all P test [] f all found = absurd cc
+found-all P test (x ∷ xs) f all found = first (test x) found (found-all P test xs f (All-tail P x xs all))
+  where
+    first : (b : Bool) → (if b then Some x else find test xs) ≡ Some f → (find test xs ≡ Some f → P f) → P f
+    first true same more = let here : x ≡ f = cc in subst P here (All-head P x xs all)
+    first false same more = more same
+
+-- what is found passes
+pub found-passes : {X : Type 0} (test : X → Bool) (xs : List X) (f : X) → find test xs ≡ Some f → test f ≡ true
+found-passes test [] f found = absurd cc
+found-passes test (x ∷ xs) f found = first (test x) refl found (found-passes test xs f)
+  where
+    first : (b : Bool) → test x ≡ b → (if b then Some x else find test xs) ≡ Some f → (find test xs ≡ Some f → test f ≡ true) → test f ≡ true
+    first true is same more = let here : x ≡ f = cc in subst (λ y. test y ≡ true) here is
+    first false is same more = more same
+
+-- where nothing is found, nothing passes
+pub none-passes : {X : Type 0} (test : X → Bool) (xs : List X) → find test xs ≡ None → All (λ x. test x ≡ false) xs
+none-passes test [] none = All-nil (λ x. test x ≡ false)
+none-passes test (x ∷ xs) none = first (test x) refl none (none-passes test xs)
+  where
+    first : (b : Bool) → test x ≡ b → (if b then Some x else find test xs) ≡ None → (find test xs ≡ None → All (λ y. test y ≡ false) xs) → All (λ y. test y ≡ false) (x ∷ xs)
+    first true is same more = absurd cc
+    first false is same more = All-cons (λ y. test y ≡ false) x xs is (more same)
+
+pub all-from_list_all : {X : Type 0} (test : X → Bool) (xs : List X) → list_all test xs ≡ true → All (λ x. test x ≡ true) xs
+all-from_list_all test [] all = All-nil (λ x. test x ≡ true)
+all-from_list_all test (x ∷ xs) all =
+    let both = and_parts (test x) (list_all test xs) all in
+    All-cons (λ y. test y ≡ true) x xs both.0 (all-from_list_all test xs both.1)
+
+pub all-one : {X : Type 0} (P : X → Type 0) (x : X) → P x → All P (x ∷ [])
+all-one P x is = All-cons P x [] is (All-nil P)
