@@ -1,6 +1,6 @@
 -- The changes of each entry of a legal history, one by one, with the grants that allowed them.
-use Rattle.std.proofs.Common.{◌≡◌, ℕ, ℤ, pos, List, [], ◌∷◌, ◌++◌, length, refl, sym, ◌∙◌, ap, subst, Bool, true, false, Option, Some, None, ◌⊎◌, inl, inr}
-use Rattle.std.specs.Prelude.{All, find, ◌&&◌, ◌==◌, if◌then◌else◌}
+use Rattle.std.proofs.Common.{◌≡◌, ℕ, ℤ, pos, List, [], ◌∷◌, length, refl, sym, ◌∙◌, ap, subst, Bool, true, false, Option, Some, None, ◌⊎◌, inl, inr}
+use Rattle.std.specs.Prelude.{All, find, ◌==◌, if◌then◌else◌}
 use Rattle.std.specs.List.{list_all}
 use Rattle.std.proofs.lemmas.Bool.{and_parts}
 use Rattle.std.proofs.lemmas.List.Elements.{All-nil, All-append}
@@ -12,15 +12,18 @@ use Rattle.aql_packet.specs.declared.packet.Packet.{Packet}
 use Rattle.aql_packet.specs.declared.packet.Packet.TheVariants as packet
 use Rattle.policy.specs.declared.object.Object.TheVariants as object
 use Rattle.policy.specs.declared.rights.Right.TheVariants as right
-use Rattle.regions.specs.Memory.{is_within, region_of}
+use Rattle.regions.specs.Memory.{is_within}
 use Rattle.signals.specs.Values.{applied, value_of}
 use Rattle.signals.specs.declared.operation.SignalOp.TheVariants.{Subtract}
 use Rattle.queue_error.specs.declared.error.QueueError.{QueueError}
-use Rattle.queue_error.specs.declared.rule.Rule.{Rule}
 use Rattle.queue_error.specs.declared.rule.Rule.TheVariants as rule
+use Rattle.queue_error.specs.declared.rule.Rule.TheVariants.{B1}
 use Rattle.core_model.specs.declared.event.Event.{Event}
 use Rattle.core_model.specs.declared.event.Event.TheVariants.{Grant, Revoke, OpenQueue, Stop, Take, RunNext, Poll, Finish, HostWrite, ChangeSignal}
 use Rattle.core_model.specs.declared.outcome.Outcome.{Outcome}
+use Rattle.core_model.specs.declared.outcome.Outcome.TheVariants as outcome
+use Rattle.core_model.specs.declared.outcome.Worked.TheVariants as worked
+use Rattle.core_model.specs.declared.outcome.Polled.TheVariants as polled_as
 use Rattle.core_model.specs.declared.entry.Effect.{Effect}
 use Rattle.core_model.specs.declared.entry.Effect.TheVariants as effect
 use Rattle.core_model.specs.declared.entry.Entry.{Entry}
@@ -31,15 +34,14 @@ use Rattle.core_model.specs.declared.need.Subject.TheVariants as subject
 use Rattle.core_model.specs.History.{Start}
 use Rattle.core_model.specs.Grants.{in_force}
 use Rattle.core_model.specs.Memory.{region_lengths, signals}
-use Rattle.core_model.specs.Needs.{completion, memory_needs, needs}
-use Rattle.core_model.specs.LaunchRules.{Facts, has_form, holds_rule, is_barrier, is_met, meets_rule}
-use Rattle.core_model.specs.Work.{agent_writes}
-use Rattle.core_model.specs.Owed.{owed, enters, facts_of, completed, flight_of, release_of, stop_releases}
+use Rattle.core_model.specs.Needs.{completion, memory_needs}
+use Rattle.core_model.specs.LaunchRules.{Facts, holds_rule, is_barrier, is_met}
+use Rattle.core_model.specs.Owed.{owed, enters, error_at, facts_of, completed, flight_of, release_of, stop_releases}
 use Rattle.core_model.specs.Legal.{IsLegal}
-use Rattle.core_model.specs.Headline.{Launch, MayReach, ByHost, ByGroup, ByClient, ByCompletion, WriteIsGranted, ChangeIsGranted}
+use Rattle.core_model.specs.Headline.{Launch, WriteIsGranted, ChangeIsGranted}
 use Rattle.core_model.proofs.Lists.{all-one}
 use Rattle.core_model.proofs.Granted.{found-launched, agent-writes, write_need, agent-met}
-use Rattle.core_model.proofs.Entered.{grant-effects, revoke-effects, open-effects, stop-effects, take-decided, run-entered, poll-entered, finish-entered, write-entered, change-entered, HasFailed}
+use Rattle.core_model.proofs.Entered.{grant-effects, revoke-effects, open-effects, stop-effects, take-decided, run-entered, poll-entered, finish-entered, write-entered, change-entered, is_fault, IsQuiet, HasFailed}
 
 -- ---- releases
 
@@ -51,8 +53,8 @@ module _ (P : Effect → Type 0) (released : (queue : QueueId) (id : PacketId) �
       by_one None = All-nil P
       by_one (Some f) = all-one P (effect.Release f.queue f.id) (released f.queue f.id)
 
-  poll-all : (start : Start) (es : List Entry) (told : Outcome) (effects : List Effect) (queue : QueueId) (id : PacketId) → (effects ≡ []) ⊎ HasFailed start es told effects queue id → All P effects
-  poll-all start es told effects queue id (inl none) = subst (All P) (sym none) (All-nil P)
+  poll-all : (start : Start) (es : List Entry) (told : Outcome) (effects : List Effect) (queue : QueueId) (id : PacketId) → IsQuiet start es told effects ⊎ HasFailed start es told effects queue id → All P effects
+  poll-all start es told effects queue id (inl quiet) = subst (All P) (sym quiet.effects_are) (All-nil P)
   poll-all start es told effects queue id (inr failed) = subst (All P) (sym failed.effects_are) (all-one P (effect.Release queue id) (released queue id))
 
 -- ---- writes
@@ -65,15 +67,15 @@ module _ (start : Start) (es : List Entry) (legal : IsLegal start es) where
       let both = and_parts (is_within (region_lengths start) target.address.0 target.size) _ met in
       inr (record { queue = queue; id = id; asked = refl; launch = l; allowed = record { whole = rw long both.0; granted = both.1 } })
 
-  memory-met : (facts : Facts) (bytes : List ℕ) (p : Packet) (d : AgentDispatch) → p ≡ packet.Agent d → holds_rule facts bytes p rule.L8 ≡ true → list_all (is_met facts) (memory_needs (packet.Agent d)) ≡ true
+  pub memory-met : (facts : Facts) (bytes : List ℕ) (p : Packet) (d : AgentDispatch) → p ≡ packet.Agent d → holds_rule facts bytes p rule.L8 ≡ true → list_all (is_met facts) (memory_needs (packet.Agent d)) ≡ true
   memory-met facts bytes p d is holds = subst (λ q. holds_rule facts bytes q rule.L8 ≡ true) is holds
 
   pub write-granted : (event : Event) (told : Outcome) (effects : List Effect) → owed start es event ≡ enters told effects → All (WriteIsGranted start es event) effects
-  write-granted (Grant client on rights) told effects owing = subst (All (WriteIsGranted start es (Grant client on rights))) (sym (grant-effects start es told effects client on rights owing)) (All-nil _)
-  write-granted (Revoke client on rights) told effects owing = subst (All (WriteIsGranted start es (Revoke client on rights))) (sym (revoke-effects start es told effects client on rights owing).effects_are) (All-nil _)
-  write-granted (OpenQueue client agent size) told effects owing = subst (All (WriteIsGranted start es (OpenQueue client agent size))) (sym (open-effects start es told effects client agent size owing)) (All-nil _)
+  write-granted (Grant client on rights) told effects owing = subst (All (WriteIsGranted start es (Grant client on rights))) (sym (grant-effects start es told effects client on rights owing).effects_are) (All-nil _)
+  write-granted (Revoke client on rights) told effects owing = subst (All (WriteIsGranted start es (Revoke client on rights))) (sym (revoke-effects start es told effects client on rights owing).is_quiet.effects_are) (All-nil _)
+  write-granted (OpenQueue client agent size) told effects owing = subst (All (WriteIsGranted start es (OpenQueue client agent size))) (sym (open-effects start es told effects client agent size owing).effects_are) (All-nil _)
   write-granted (Stop queue) told effects owing =
-      subst (All (WriteIsGranted start es (Stop queue))) (sym (stop-effects start es told effects queue owing)) (stop-all (WriteIsGranted start es (Stop queue)) (λ q i. tt) (flight_of start es queue))
+      subst (All (WriteIsGranted start es (Stop queue))) (sym (stop-effects start es told effects queue owing).effects_are) (stop-all (WriteIsGranted start es (Stop queue)) (λ q i. tt) (flight_of start es queue))
   write-granted (Take queue id bytes) told effects owing = subst (All (WriteIsGranted start es (Take queue id bytes))) (sym (take-decided start es told effects queue id bytes owing).effects_are) (All-nil _)
   write-granted (RunNext queue id) told effects owing =
       let ran = run-entered start es told effects queue id owing in
@@ -109,11 +111,11 @@ module _ (start : Start) (es : List Entry) (legal : IsLegal start es) where
   -- ---- changes of signals
 
   pub change-granted : (event : Event) (told : Outcome) (effects : List Effect) → owed start es event ≡ enters told effects → All (ChangeIsGranted start es event) effects
-  change-granted (Grant client on rights) told effects owing = subst (All (ChangeIsGranted start es (Grant client on rights))) (sym (grant-effects start es told effects client on rights owing)) (All-nil _)
-  change-granted (Revoke client on rights) told effects owing = subst (All (ChangeIsGranted start es (Revoke client on rights))) (sym (revoke-effects start es told effects client on rights owing).effects_are) (All-nil _)
-  change-granted (OpenQueue client agent size) told effects owing = subst (All (ChangeIsGranted start es (OpenQueue client agent size))) (sym (open-effects start es told effects client agent size owing)) (All-nil _)
+  change-granted (Grant client on rights) told effects owing = subst (All (ChangeIsGranted start es (Grant client on rights))) (sym (grant-effects start es told effects client on rights owing).effects_are) (All-nil _)
+  change-granted (Revoke client on rights) told effects owing = subst (All (ChangeIsGranted start es (Revoke client on rights))) (sym (revoke-effects start es told effects client on rights owing).is_quiet.effects_are) (All-nil _)
+  change-granted (OpenQueue client agent size) told effects owing = subst (All (ChangeIsGranted start es (OpenQueue client agent size))) (sym (open-effects start es told effects client agent size owing).effects_are) (All-nil _)
   change-granted (Stop queue) told effects owing =
-      subst (All (ChangeIsGranted start es (Stop queue))) (sym (stop-effects start es told effects queue owing)) (stop-all (ChangeIsGranted start es (Stop queue)) (λ q i. tt) (flight_of start es queue))
+      subst (All (ChangeIsGranted start es (Stop queue))) (sym (stop-effects start es told effects queue owing).effects_are) (stop-all (ChangeIsGranted start es (Stop queue)) (λ q i. tt) (flight_of start es queue))
   change-granted (Take queue id bytes) told effects owing = subst (All (ChangeIsGranted start es (Take queue id bytes))) (sym (take-decided start es told effects queue id bytes owing).effects_are) (All-nil _)
   change-granted (RunNext queue id) told effects owing =
       let ran = run-entered start es told effects queue id owing in
@@ -148,3 +150,36 @@ module _ (start : Start) (es : List Entry) (legal : IsLegal start es) where
       subst (All (ChangeIsGranted start es (ChangeSignal client signal operation))) (sym changed.effects_are)
       (all-one (ChangeIsGranted start es (ChangeSignal client signal operation)) (effect.Signal signal changed.old (applied operation changed.old))
       (changed.was, inl (record { client = client; operation = operation; asked = refl; result = refl; allowed = changed.granted })))
+
+  -- ---- faults
+
+  -- an error that a fault tells
+  abbrev Faults : Outcome → QueueError → Type 0
+  Faults told error = (told ≡ outcome.Worked (worked.Faulted error)) ⊎ (told ≡ outcome.Polled (polled_as.Failed error))
+
+  is-fault : (told : Outcome) (error : QueueError) → Faults told error → is_fault told ≡ true
+  is-fault told error (inl is) = ap is_fault is
+  is-fault told error (inr is) = ap is_fault is
+
+  no-fault : (told : Outcome) (error : QueueError) (X : Type 0) → Faults told error → is_fault told ≡ false → X
+  no-fault told error X faults plain = let is = is-fault told error faults in absurd cc
+
+  pub fault-released : (event : Event) (told : Outcome) (effects : List Effect) (error : QueueError) → owed start es event ≡ enters told effects → Faults told error → effects ≡ effect.Release error.queue error.packet ∷ []
+  fault-released (Grant client on rights) told effects error owing faults = no-fault told error _ faults (grant-effects start es told effects client on rights owing).no_fault
+  fault-released (Revoke client on rights) told effects error owing faults = no-fault told error _ faults (revoke-effects start es told effects client on rights owing).is_quiet.no_fault
+  fault-released (OpenQueue client agent size) told effects error owing faults = no-fault told error _ faults (open-effects start es told effects client agent size owing).no_fault
+  fault-released (Stop queue) told effects error owing faults = no-fault told error _ faults (stop-effects start es told effects queue owing).no_fault
+  fault-released (Take queue id bytes) told effects error owing faults = no-fault told error _ faults (take-decided start es told effects queue id bytes owing).no_fault
+  fault-released (RunNext queue id) told effects error owing faults = no-fault told error _ faults (ap is_fault (run-entered start es told effects queue id owing).outcome_is)
+  fault-released (Poll queue id) told effects error owing faults = polled-so (poll-entered start es told effects queue id owing) faults
+    where
+      polled-so : IsQuiet start es told effects ⊎ HasFailed start es told effects queue id → Faults told error → effects ≡ effect.Release error.queue error.packet ∷ []
+      polled-so (inl quiet) faults = no-fault told error _ faults quiet.no_fault
+      polled-so (inr failed) (inl is) = let other : outcome.Worked (worked.Faulted error) ≡ outcome.Polled (polled_as.Failed (error_at queue id.0 B1)) = sym is ∙ failed.outcome_is in absurd cc
+      polled-so (inr failed) (inr is) =
+          let same : outcome.Polled (polled_as.Failed error) ≡ outcome.Polled (polled_as.Failed (error_at queue id.0 B1)) = sym is ∙ failed.outcome_is in
+          let error_is : error_at queue id.0 B1 ≡ error = cc in
+          failed.effects_are ∙ ap (λ e. effect.Release e.queue e.packet ∷ []) error_is
+  fault-released (Finish queue id) told effects error owing faults = no-fault told error _ faults (finish-entered start es told effects queue id owing).no_fault
+  fault-released (HostWrite client address bytes) told effects error owing faults = no-fault told error _ faults (write-entered start es told effects client address bytes owing).no_fault
+  fault-released (ChangeSignal client signal operation) told effects error owing faults = no-fault told error _ faults (change-entered start es told effects client signal operation owing).no_fault

@@ -1,5 +1,5 @@
 -- What an entry that was owed tells of its event: its outcome, its changes, and the tests that it passed.
-use Rattle.std.proofs.Common.{◌≡◌, ℕ, ℤ, pos, List, [], ◌∷◌, ◌++◌, length, refl, sym, ◌∙◌, ap, Bool, true, false, Option, Some, None, ◌⊎◌, inl, inr}
+use Rattle.std.proofs.Common.{◌≡◌, ℕ, ℤ, ◌+◌, List, [], ◌∷◌, ◌++◌, length, refl, sym, ◌∙◌, ap, subst, Bool, true, false, Option, Some, None, ◌⊎◌, inl, inr}
 use Rattle.std.specs.Prelude.{nat_le, ◌&&◌, ◌==◌, if◌then◌else◌}
 use Rattle.std.specs.List.{list_any}
 use Rattle.std.proofs.lemmas.Bool.{and_parts, eqb-true}
@@ -21,7 +21,6 @@ use Rattle.policy.specs.declared.rights.Rights.{Rights}
 use Rattle.regions.specs.Memory.{is_within, region_of}
 use Rattle.signals.specs.Values.{applied, value_of}
 use Rattle.signals.specs.declared.operation.SignalOp.{SignalOp}
-use Rattle.queue_error.specs.declared.error.QueueError.{QueueError}
 use Rattle.queue_error.specs.declared.rule.Rule.{Rule}
 use Rattle.queue_error.specs.declared.rule.Rule.TheVariants.{B1}
 use Rattle.core_model.specs.declared.event.Event.TheVariants.{Grant, Revoke, OpenQueue, Stop, Take, RunNext, Poll, Finish, HostWrite, ChangeSignal}
@@ -32,7 +31,6 @@ use Rattle.core_model.specs.declared.outcome.Seen.{Seen}
 use Rattle.core_model.specs.declared.outcome.Taken.TheVariants as taken
 use Rattle.core_model.specs.declared.outcome.Worked.TheVariants as worked
 use Rattle.core_model.specs.declared.outcome.Polled.TheVariants as polled_as
-use Rattle.core_model.specs.declared.refusal.Refusal.{Refusal}
 use Rattle.core_model.specs.declared.refusal.Refusal.TheVariants as refusal
 use Rattle.core_model.specs.declared.entry.Effect.{Effect}
 use Rattle.core_model.specs.declared.entry.Effect.TheVariants as effect
@@ -44,10 +42,11 @@ use Rattle.core_model.specs.Memory.{region_lengths, signals}
 use Rattle.core_model.specs.Queues.{Opening, owner, openings, next_id, is_down, is_stopped}
 use Rattle.core_model.specs.Flight.{flight, in_flight, is_packet, none_seen, seen_with}
 use Rattle.core_model.specs.Holds.{holder}
+use Rattle.core_model.specs.declared.limits.TheConstants.{QUEUES}
 use Rattle.core_model.specs.Needs.{completion}
 use Rattle.core_model.specs.LaunchRules.{first_failing, may_start, is_barrier}
 use Rattle.core_model.specs.Work.{agent_writes, is_ready, is_negative, awaited, newly_seen}
-use Rattle.core_model.specs.Owed.{Owed, owed, refuses, answers, enters, refuse_if, refuse_unless, refuse_if_held, for_some, decided, error_at, facts_of, flight_of, is_host_size, is_ring_size, is_finished, completed, owed_take, owed_group, owed_poll, owed_finish, polled, stop_releases}
+use Rattle.core_model.specs.Owed.{Owed, owed, refuses, answers, enters, refuse_if_held, decided, error_at, facts_of, flight_of, is_host_size, is_ring_size, is_finished, completed, owed_take, owed_group, owed_poll, owed_finish, polled, stop_releases, old_if_asked}
 use Rattle.core_model.proofs.Lists.{found-passes}
 use Rattle.core_model.proofs.Launches.{refuse_if-passed, refuse_unless-passed, for_some-found}
 
@@ -57,20 +56,36 @@ named-found start es queue id f found =
     let both = and_parts (f.queue.0 == queue.0) (f.id.0 == id.0) (found-passes (is_packet queue id) (flight start es) f found) in
     (ap (λ n. record { 0 = n }) (eqb-true _ _ both.0), ap (λ n. record { 0 = n }) (eqb-true _ _ both.1))
 
+-- whether an outcome tells a fault
+abbrev pub is_fault : Outcome → Bool
+is_fault (outcome.Worked (worked.Faulted _)) = true
+is_fault (outcome.Polled (polled_as.Failed _)) = true
+is_fault _ = false
+
 module _ (start : Start) (es : List Entry) (told : Outcome) (effects : List Effect) where
+  -- an entry that tells no fault and changes nothing
+  pub record IsQuiet : Type 0 where
+    pub effects_are : effects ≡ []
+    pub no_fault : is_fault told ≡ false
+
+  quiet : (outcome : Outcome) → is_fault outcome ≡ false → enters outcome [] ≡ enters told effects → IsQuiet
+  quiet outcome plain same =
+      let is : outcome ≡ told = cc in
+      record { effects_are = cc; no_fault = subst (λ o. is_fault o ≡ false) is plain }
+
   -- ---- a grant, a revocation, an opening change nothing
 
-  pub grant-effects : (client : ClientId) (on : Object) (rights : Rights) → owed start es (Grant client on rights) ≡ enters told effects → effects ≡ []
+  pub grant-effects : (client : ClientId) (on : Object) (rights : Rights) → owed start es (Grant client on rights) ≡ enters told effects → IsQuiet
   unfolding owed
   grant-effects client on rights owing =
       let one = refuse_unless-passed (declares_client start.policy client) _ _ told effects owing in
       let two = refuse_unless-passed (declares start.policy on) _ _ told effects one.rest_is in
       let three = refuse_unless-passed (allows start.policy client on rights) _ _ told effects two.rest_is in
-      let last = three.rest_is in cc
+      quiet outcome.Accepted refl three.rest_is
 
   -- no packet in flight holds what is revoked
   pub record Revoked (client : ClientId) (on : Object) (rights : Rights) : Type 0 where
-    pub effects_are : effects ≡ []
+    pub is_quiet : IsQuiet
     pub unheld : holder start es client on rights ≡ None
 
   unheld-passed : (o : Option InFlight) (rest : Owed) → refuse_if_held o rest ≡ enters told effects → (o ≡ None) × (rest ≡ enters told effects)
@@ -83,24 +98,29 @@ module _ (start : Start) (es : List Entry) (told : Outcome) (effects : List Effe
       let one = refuse_unless-passed (declares_client start.policy client) _ _ told effects owing in
       let two = refuse_unless-passed (declares start.policy on) _ _ told effects one.rest_is in
       let three = unheld-passed (holder start es client on rights) _ two.rest_is in
-      let last = three.1 in
-      record { effects_are = cc; unheld = three.0 }
+      record { is_quiet = quiet outcome.Accepted refl three.1; unheld = three.0 }
 
-  pub open-effects : (client : ClientId) (agent : AgentHandle) (size : ℕ) → owed start es (OpenQueue client agent size) ≡ enters told effects → effects ≡ []
+  pub open-effects : (client : ClientId) (agent : AgentHandle) (size : ℕ) → owed start es (OpenQueue client agent size) ≡ enters told effects → IsQuiet
   unfolding owed
   open-effects client agent size owing =
       let one = refuse_unless-passed (declares_client start.policy client) _ _ told effects owing in
       let two = refuse_unless-passed (in_force start es client (object.Agent agent) right.Use) _ _ told effects one.rest_is in
       let three = refuse_unless-passed (is_ring_size size) _ _ told effects two.rest_is in
-      let last = refuse_if-passed (nat_le 64 (length (openings start es))) _ _ told effects three.rest_is in cc
+      quiet (outcome.Opened (record { 0 = length (openings start es) + 1 })) refl (refuse_if-passed (nat_le QUEUES (length (openings start es))) _ _ told effects three.rest_is)
 
   -- ---- a stop releases at most
 
-  pub stop-effects : (queue : QueueId) → owed start es (Stop queue) ≡ enters told effects → effects ≡ stop_releases (flight_of start es queue)
+  pub record HasStopped (queue : QueueId) : Type 0 where
+    pub effects_are : effects ≡ stop_releases (flight_of start es queue)
+    pub no_fault : is_fault told ≡ false
+
+  pub stop-effects : (queue : QueueId) → owed start es (Stop queue) ≡ enters told effects → HasStopped queue
   unfolding owed
   stop-effects queue owing =
       let found = for_some-found (owner start es queue) _ _ told effects owing in
-      let last = refuse_if-passed (is_stopped start es queue) _ _ told effects found.rest_is in cc
+      let last = refuse_if-passed (is_stopped start es queue) _ _ told effects found.rest_is in
+      let is : outcome.Accepted ≡ told = cc in
+      record { effects_are = cc; no_fault = ap is_fault (sym is) }
 
   -- ---- a packet that is handed over
 
@@ -109,6 +129,7 @@ module _ (start : Start) (es : List Entry) (told : Outcome) (effects : List Effe
     pub opening : Opening
     pub opened : owner start es queue ≡ Some opening
     pub effects_are : effects ≡ []
+    pub no_fault : is_fault told ≡ false
     pub verdict : Option Rule
     pub verdict_is : first_failing (facts_of start es opening) bytes ≡ verdict
     pub outcome_is : told ≡ elim verdict [ None ↦ outcome.Taken taken.Launched | Some rule ↦ outcome.Taken (taken.Denied (error_at queue id.0 rule)) ]
@@ -131,10 +152,15 @@ module _ (start : Start) (es : List Entry) (told : Outcome) (effects : List Effe
         opening = opening;
         opened = found.is;
         effects_are = last.0;
+        no_fault = ap is_fault last.1 ∙ plain (first_failing (facts_of start es opening) bytes);
         verdict = first_failing (facts_of start es opening) bytes;
         verdict_is = refl;
         outcome_is = last.1;
       }
+    where
+      plain : (verdict : Option Rule) → is_fault (elim verdict [ None ↦ outcome.Taken taken.Launched | Some rule ↦ outcome.Taken (taken.Denied (error_at queue id.0 rule)) ]) ≡ false
+      plain None = refl
+      plain (Some rule) = refl
 
   -- ---- work
 
@@ -170,16 +196,20 @@ module _ (start : Start) (es : List Entry) (told : Outcome) (effects : List Effe
     pub effects_are : effects ≡ effect.Release queue id ∷ []
     pub outcome_is : told ≡ outcome.Polled (polled_as.Failed (error_at queue id.0 B1))
 
-  poll-end : (queue : QueueId) (id : PacketId) (f : InFlight) → f.queue ≡ queue → f.id ≡ id → owed_poll start es f ≡ enters told effects → (effects ≡ []) ⊎ HasFailed queue id
+  poll-end : (queue : QueueId) (id : PacketId) (f : InFlight) → f.queue ≡ queue → f.id ≡ id → owed_poll start es f ≡ enters told effects → IsQuiet ⊎ HasFailed queue id
   poll-end queue id f queue_is id_is same =
       let barrier = refuse_unless-passed (is_barrier f.packet) _ _ told effects same in
       ready (is_ready f.packet f.seen) (list_any (is_negative (signals start es)) (awaited f.packet f.seen)) barrier.rest_is
     where
-      seen_some : (b : Bool) (yes : Outcome) → (if b then enters yes [] else answers (outcome.Polled (polled_as.Pending none_seen))) ≡ enters told effects → effects ≡ []
-      seen_some true say same = cc
-      seen_some false say same = absurd cc
+      seen_some : (b : Bool) (seen : Outcome) → is_fault seen ≡ false → (if b then enters seen [] else answers (outcome.Polled (polled_as.Pending none_seen))) ≡ enters told effects → IsQuiet
+      seen_some true seen plain same = quiet seen plain same
+      seen_some false seen plain same = absurd cc
 
-      ready : (is negative : Bool) → (if is then answers (outcome.Polled (polled_as.Ready none_seen)) else if negative then enters (outcome.Polled (polled_as.Failed (error_at f.queue f.id.0 B1))) (effect.Release f.queue f.id ∷ []) else polled f.packet f.seen (newly_seen (signals start es) f.packet f.seen)) ≡ enters told effects → (effects ≡ []) ⊎ HasFailed queue id
+      either : (b : Bool) (seen : Seen) → is_fault (outcome.Polled (if b then polled_as.Ready seen else polled_as.Pending seen)) ≡ false
+      either true seen = refl
+      either false seen = refl
+
+      ready : (is negative : Bool) → (if is then answers (outcome.Polled (polled_as.Ready none_seen)) else if negative then enters (outcome.Polled (polled_as.Failed (error_at f.queue f.id.0 B1))) (effect.Release f.queue f.id ∷ []) else polled f.packet f.seen (newly_seen (signals start es) f.packet f.seen)) ≡ enters told effects → IsQuiet ⊎ HasFailed queue id
       ready true negative same = absurd cc
       ready false true same =
           let released : effect.Release f.queue f.id ∷ [] ≡ effects = cc in
@@ -190,9 +220,9 @@ module _ (start : Start) (es : List Entry) (told : Outcome) (effects : List Effe
           })
       ready false false same =
           let new = newly_seen (signals start es) f.packet f.seen in
-          inl (seen_some (list_any (λ at. at) new.0) (outcome.Polled (if is_ready f.packet (seen_with f.seen new) then polled_as.Ready new else polled_as.Pending new)) same)
+          inl (seen_some (list_any (λ at. at) new.0) (outcome.Polled (if is_ready f.packet (seen_with f.seen new) then polled_as.Ready new else polled_as.Pending new)) (either (is_ready f.packet (seen_with f.seen new)) new) same)
 
-  pub poll-entered : (queue : QueueId) (id : PacketId) → owed start es (Poll queue id) ≡ enters told effects → (effects ≡ []) ⊎ HasFailed queue id
+  pub poll-entered : (queue : QueueId) (id : PacketId) → owed start es (Poll queue id) ≡ enters told effects → IsQuiet ⊎ HasFailed queue id
   unfolding owed
   poll-entered queue id owing =
       let queued = for_some-found (owner start es queue) _ _ told effects owing in
@@ -205,6 +235,7 @@ module _ (start : Start) (es : List Entry) (told : Outcome) (effects : List Effe
   pub record Completed (queue : QueueId) (id : PacketId) : Type 0 where
     pub flying : InFlight
     pub found : in_flight start es queue id ≡ Some flying
+    pub no_fault : is_fault told ≡ false
     pub effects_are : effects ≡ completed (signals start es) (completion flying.packet) ++ effect.Release queue id ∷ []
 
   pub finish-entered : (queue : QueueId) (id : PacketId) → owed start es (Finish queue id) ≡ enters told effects → Completed queue id
@@ -216,18 +247,21 @@ module _ (start : Start) (es : List Entry) (told : Outcome) (effects : List Effe
       let named = named-found start es queue id f there.is in
       let last = refuse_unless-passed (is_finished f) _ _ told effects there.rest_is in
       let same : completed (signals start es) (completion f.packet) ++ effect.Release f.queue f.id ∷ [] ≡ effects = let is = last.rest_is in cc in
+      let accepted : outcome.Accepted ≡ told = let is = last.rest_is in cc in
       record {
         flying = f;
         found = there.is;
+        no_fault = ap is_fault (sym accepted);
         effects_are =
-        sym same
-        ∙ ap (λ q. completed (signals start es) (completion f.packet) ++ effect.Release q f.id ∷ []) named.0
-        ∙ ap (λ i. completed (signals start es) (completion f.packet) ++ effect.Release queue i ∷ []) named.1;
+            sym same
+            ∙ ap (λ q. completed (signals start es) (completion f.packet) ++ effect.Release q f.id ∷ []) named.0
+            ∙ ap (λ i. completed (signals start es) (completion f.packet) ++ effect.Release queue i ∷ []) named.1;
       }
 
   -- ---- a client's own write and change
 
   pub record HostWrote (client : ClientId) (address : Address) (bytes : List ℕ) : Type 0 where
+    pub no_fault : is_fault told ≡ false
     pub effects_are : effects ≡ effect.Write address bytes ∷ []
     pub whole : is_within (region_lengths start) address.0 (length bytes) ≡ true
     pub granted : in_force start es client (object.Region (record { 0 = region_of address.0 })) right.Write ≡ true
@@ -240,10 +274,12 @@ module _ (start : Start) (es : List Entry) (told : Outcome) (effects : List Effe
       let three = refuse_unless-passed (is_within (region_lengths start) address.0 (length bytes) && in_force start es client (object.Region (record { 0 = region_of address.0 })) right.Write) _ _ told effects two.rest_is in
       let both = and_parts (is_within (region_lengths start) address.0 (length bytes)) _ three.test_is in
       let last = three.rest_is in
-      record { effects_are = cc; whole = both.0; granted = both.1 }
+      let is : outcome.Accepted ≡ told = cc in
+      record { no_fault = ap is_fault (sym is); effects_are = cc; whole = both.0; granted = both.1 }
 
   pub record ClientChanged (client : ClientId) (signal : SignalHandle) (operation : SignalOp) : Type 0 where
     pub old : ℤ
+    pub no_fault : is_fault told ≡ false
     pub was : value_of (signals start es) signal.0 ≡ Some old
     pub granted : in_force start es client (object.Signal signal) right.Change ≡ true
     pub effects_are : effects ≡ effect.Signal signal old (applied operation old) ∷ []
@@ -255,4 +291,5 @@ module _ (start : Start) (es : List Entry) (told : Outcome) (effects : List Effe
       let two = refuse_unless-passed (in_force start es client (object.Signal signal) right.Change) _ _ told effects one.rest_is in
       let three = for_some-found (value_of (signals start es) signal.0) _ _ told effects two.rest_is in
       let last = three.rest_is in
-      record { old = three.found; was = three.is; granted = two.test_is; effects_are = cc }
+      let is : outcome.Changed (old_if_asked operation three.found) ≡ told = cc in
+      record { old = three.found; no_fault = ap is_fault (sym is); was = three.is; granted = two.test_is; effects_are = cc }

@@ -22,7 +22,7 @@ use Rattle.core_model.specs.declared.flight.InFlight.{InFlight}
 use Rattle.core_model.specs.History.{Start}
 use Rattle.core_model.specs.Flight.{flight, flight_after, flight_moved, flight_after_effect, with_launched, as_launched, is_packet, group_ran, has_seen}
 use Rattle.core_model.specs.Owed.{owed, enters}
-use Rattle.core_model.specs.Legal.{IsLegal, IsLegalAfter, entry_of, with_entry}
+use Rattle.core_model.specs.Legal.{IsLegal, IsLegalAfter}
 use Rattle.core_model.proofs.More.{flight-more}
 use Rattle.core_model.proofs.Legality.{IsLegal-more}
 
@@ -111,9 +111,8 @@ module _ (Fact : QueueId → PacketId → Packet → Type 0) where
 
 -- a fact that may speak of the entries so far
 module _ (start : Start) (Fact : List Entry → QueueId → PacketId → Packet → Type 0)
-  (more : (es : List Entry) (e : Entry) → IsLegal start es → owed start es e.event ≡ enters e.outcome e.effects → All (Of (Fact es)) (flight start es) → All (Of (Fact (es ++ e ∷ []))) (flight start es))
-  (launched : (es : List Entry) (e : Entry) → IsLegal start es → owed start es e.event ≡ enters e.outcome e.effects → Launches (Fact (es ++ e ∷ [])) e.event e.outcome) where
-
+    (more : (es : List Entry) (e : Entry) → IsLegal start es → owed start es e.event ≡ enters e.outcome e.effects → All (Of (Fact es)) (flight start es) → All (Of (Fact (es ++ e ∷ []))) (flight start es))
+    (launched : (es : List Entry) (e : Entry) → IsLegal start es → owed start es e.event ≡ enters e.outcome e.effects → Launches (Fact (es ++ e ∷ [])) e.event e.outcome) where
   flying_after : (before es : List Entry) → IsLegal start before → All (Of (Fact before)) (flight start before) → IsLegalAfter start before es → All (Of (Fact (before ++ es))) (flight start (before ++ es))
   flying_after before [] legal all rest = rw append-nil all
   flying_after before (e ∷ es) legal all rest =

@@ -1,6 +1,6 @@
 -- Launches, writes and changes of signals in a legal history, each with the grants that allowed it.
-use Rattle.std.proofs.Common.{◌≡◌, ℕ, ℤ, ◌+◌, ◌^◌, pos, List, [], ◌∷◌, ◌++◌, length, refl, sym, ◌∙◌, ap, subst, Bool, true, false, Option, Some, None, ◌⊎◌, inl, inr, append_assoc, arith}
-use Rattle.std.specs.Prelude.{All, not, ◌%◌, ◌&&◌, ◌==◌, replicate, if◌then◌else◌}
+use Rattle.std.proofs.Common.{◌≡◌, ℕ, ◌+◌, ◌^◌, List, [], ◌∷◌, ◌++◌, length, refl, sym, ◌∙◌, ap, subst, Bool, true, false, Option, Some, None, append_assoc, arith}
+use Rattle.std.specs.Prelude.{All, not, ◌%◌, ◌==◌, replicate, if◌then◌else◌}
 use Rattle.std.specs.Int.{w64, to_le_bytes}
 use Rattle.std.specs.List.{list_all}
 use Rattle.std.proofs.lemmas.Bool.{and_parts}
@@ -10,28 +10,17 @@ use Rattle.std.proofs.lemmas.List.FromFn.{length-map-range_with_len}
 use Rattle.std.proofs.lemmas.List.Folds.{list_all-append}
 use Rattle.aql_packet.specs.declared.ids.QueueId.{QueueId}
 use Rattle.aql_packet.specs.declared.ids.PacketId.{PacketId}
-use Rattle.aql_packet.specs.declared.ids.SignalHandle.{SignalHandle}
 use Rattle.aql_packet.specs.declared.packet.AgentDispatch.{AgentDispatch}
 use Rattle.aql_packet.specs.declared.packet.Packet.{Packet}
 use Rattle.aql_packet.specs.declared.packet.Packet.TheVariants as packet
-use Rattle.aql_packet.specs.declared.packet.CodecRule.TheVariants as codec
-use Rattle.aql_packet.specs.Reading.{passes, packet_at, packet_type, refusal, decoded}
+use Rattle.aql_packet.specs.Reading.{packet_at, packet_type, refusal, decoded}
 use Rattle.aql_packet.proofs.ReadingLemmas.{decoded_is, decoded_is_laid}
-use Rattle.policy.specs.declared.object.Object.TheVariants as object
 use Rattle.policy.specs.declared.rights.Right.TheVariants as right
-use Rattle.regions.specs.Memory.{is_within, region_of}
-use Rattle.signals.specs.Values.{applied, value_of}
-use Rattle.signals.specs.declared.operation.SignalOp.TheVariants.{Subtract}
-use Rattle.queue_error.specs.declared.error.QueueError.{QueueError}
 use Rattle.queue_error.specs.declared.rule.Rule.{Rule}
 use Rattle.queue_error.specs.declared.rule.Rule.TheVariants as rule
-use Rattle.core_model.specs.declared.event.Event.{Event}
-use Rattle.core_model.specs.declared.event.Event.TheVariants.{Grant, Revoke, OpenQueue, Stop, Take, RunNext, Poll, Finish, HostWrite, ChangeSignal}
-use Rattle.core_model.specs.declared.outcome.Outcome.{Outcome}
+use Rattle.core_model.specs.declared.event.Event.TheVariants.{Take}
 use Rattle.core_model.specs.declared.outcome.Outcome.TheVariants as outcome
 use Rattle.core_model.specs.declared.outcome.Taken.TheVariants as taken
-use Rattle.core_model.specs.declared.outcome.Worked.TheVariants as worked
-use Rattle.core_model.specs.declared.outcome.Polled.TheVariants as polled_as
 use Rattle.core_model.specs.declared.entry.Effect.{Effect}
 use Rattle.core_model.specs.declared.entry.Effect.TheVariants as effect
 use Rattle.core_model.specs.declared.entry.Entry.{Entry}
@@ -43,19 +32,18 @@ use Rattle.core_model.specs.declared.need.Need.{Need}
 use Rattle.core_model.specs.declared.need.Subject.TheVariants as subject
 use Rattle.core_model.specs.declared.need.TheConstants.{FILL, COPY, ADD64}
 use Rattle.core_model.specs.History.{Start}
-use Rattle.core_model.specs.Grants.{in_force}
-use Rattle.core_model.specs.Memory.{memory_at, memory_from, region_lengths, signals}
+use Rattle.core_model.specs.Memory.{memory_at, memory_from}
 use Rattle.core_model.specs.Queues.{Opening, owner}
 use Rattle.core_model.specs.Flight.{flight, in_flight, is_packet}
-use Rattle.core_model.specs.Needs.{argument, bytes_at, function_of, function_needs, range_need, result_range, completion, memory_needs}
+use Rattle.core_model.specs.Needs.{argument, bytes_at, function_of, function_needs, range_need, result_range, memory_needs}
 use Rattle.core_model.specs.LaunchRules.{Facts, first_failing, holds_rule, is_met, launch_rules}
 use Rattle.core_model.specs.Work.{number_in_memory, write_of, function_writes, function_result, result_writes, agent_writes}
-use Rattle.core_model.specs.Owed.{owed, enters, error_at, facts_of, completed, flight_of, release_of, stop_releases}
+use Rattle.core_model.specs.Owed.{owed, enters, error_at, facts_of}
 use Rattle.core_model.specs.Legal.{IsLegal, IsLegalAfter, entry_of}
-use Rattle.core_model.specs.Headline.{Stands, MayBeLaunched, Launch, MayReach, WriteIsGranted, ChangeIsGranted}
+use Rattle.core_model.specs.Headline.{Stands, MayBeLaunched, Launch}
 use Rattle.core_model.proofs.Lists.{found-all, none-passes, all-one}
 use Rattle.core_model.proofs.Flying.{Of, flying-legal}
-use Rattle.core_model.proofs.Entered.{named-found, grant-effects, revoke-effects, open-effects, stop-effects, take-decided, run-entered, poll-entered, finish-entered, write-entered, change-entered, HasFailed}
+use Rattle.core_model.proofs.Entered.{named-found, take-decided}
 
 -- ---- an entry of a legal history is what its event was owed behind a legal history
 
@@ -158,15 +146,17 @@ launched-now : (start : Start) (es : List Entry) (e : Entry) (queue : QueueId) (
 launched-now start es e queue id bytes p owing event_is outcome_is is =
     let granted = launch-granted start es queue id bytes e.effects (rw (event_is, outcome_is) at owing) in
     let entry_is : e ≡ entry_of (Take queue id bytes) (outcome.Taken taken.Launched) [] = λ i. record { event = event_is i; outcome = outcome_is i; effects = granted.effects_are i } in
-    let same : Some granted.packet ≡ Some p = sym granted.decoded_is ∙ is in
-    (record {
-      before = es;
-      bytes = bytes;
-      opening = granted.opening;
-      packet = granted.packet;
-      stands = record { after = []; whole = ap (λ x. es ++ x ∷ []) entry_is };
-      allowed = granted.allowed;
-    }, cc)
+    let same : Some granted.packet ≡ Some p = sym granted.decoded_is ∙ is in (
+      record {
+        before = es;
+        bytes = bytes;
+        opening = granted.opening;
+        packet = granted.packet;
+        stands = record { after = []; whole = ap (λ x. es ++ x ∷ []) entry_is };
+        allowed = granted.allowed;
+      },
+      cc,
+    )
 
 module _ (start : Start) where
   flying-launched : (es : List Entry) → IsLegal start es → All (Of (WasLaunched start es)) (flight start es)
@@ -180,6 +170,31 @@ module _ (start : Start) where
       let l : WasLaunched start es f.queue f.id f.packet = found-all (Of (WasLaunched start es)) (is_packet queue id) (flight start es) f (flying-launched es legal) found in
       subst (λ i. WasLaunched start es queue i f.packet) named.1 (subst (λ q. WasLaunched start es q f.id f.packet) named.0 l)
 
+-- ---- the ranges that a function names
+
+pub copy-size : (d : AgentDispatch) (source target : Range) → function_of d ≡ Some (Copy source target) → source.size ≡ target.size
+copy-size d source target same = by_tests (d.function == FILL) (d.function == COPY) (d.function == ADD64) same
+  where
+    by_tests : (fill copy add : Bool) → (if fill then Some (Fill (bytes_at (argument d 0) (argument d 1)) (argument d 2 % 256)) else if copy then Some (Copy (bytes_at (argument d 0) (argument d 2)) (bytes_at (argument d 1) (argument d 2))) else if add then Some (Add64 (bytes_at (argument d 0) 8) (argument d 1)) else None) ≡ Some (Copy source target) → source.size ≡ target.size
+    by_tests true copy add same = absurd cc
+    by_tests false true add same =
+        let from : bytes_at (argument d 0) (argument d 2) ≡ source = cc in
+        let to : bytes_at (argument d 1) (argument d 2) ≡ target = cc in
+        ap (λ r. r.size) (sym from) ∙ ap (λ r. r.size) to
+    by_tests false false true same = absurd cc
+    by_tests false false false same = absurd cc
+
+pub add-size : (d : AgentDispatch) (number : Range) (addend : ℕ) → function_of d ≡ Some (Add64 number addend) → number.size ≡ 8
+add-size d number addend same = by_tests (d.function == FILL) (d.function == COPY) (d.function == ADD64) same
+  where
+    by_tests : (fill copy add : Bool) → (if fill then Some (Fill (bytes_at (argument d 0) (argument d 1)) (argument d 2 % 256)) else if copy then Some (Copy (bytes_at (argument d 0) (argument d 2)) (bytes_at (argument d 1) (argument d 2))) else if add then Some (Add64 (bytes_at (argument d 0) 8) (argument d 1)) else None) ≡ Some (Add64 number addend) → number.size ≡ 8
+    by_tests true copy add same = absurd cc
+    by_tests false true add same = absurd cc
+    by_tests false false true same =
+        let is : bytes_at (argument d 0) 8 ≡ number = cc in
+        ap (λ r. r.size) (sym is)
+    by_tests false false false same = absurd cc
+
 -- ---- what a group writes lies where its packet may write
 
 -- the need to write a range
@@ -187,8 +202,7 @@ abbrev pub write_need : Range → Need
 write_need range = record { subject = subject.Range range; right = right.Write }
 
 module _ (P : Effect → Type 0) (facts : Facts)
-  (one : (target : Range) (bytes : List ℕ) → length bytes ≡ target.size → is_met facts (write_need target) ≡ true → P (effect.Write target.address bytes)) where
-
+    (one : (target : Range) (bytes : List ℕ) → length bytes ≡ target.size → is_met facts (write_need target) ≡ true → P (effect.Write target.address bytes)) where
   write-met : (target : Range) (bytes : List ℕ) → length bytes ≡ target.size → list_all (is_met facts) (range_need right.Write target) ≡ true → All P (write_of target.address.0 bytes)
   write-met target bytes long met = rw long (by_test (target.size == 0) met)
     where
@@ -225,30 +239,7 @@ module _ (P : Effect → Type 0) (facts : Facts)
     pub agent-met : (d : AgentDispatch) → list_all (is_met facts) (memory_needs (packet.Agent d)) ≡ true → All P (agent_writes start es d)
     agent-met d met =
         let both = and_parts (list_all (is_met facts) (function_needs (function_of d))) _ (sym (list_all-append (is_met facts) (function_needs (function_of d)) (range_need right.Write (result_range d))) ∙ met) in
-        All-append P _ _ (function-met (function_of d) (copies d) (adds d) both.0) (result-met d both.1)
-      where
-        copies : (d : AgentDispatch) (source target : Range) → function_of d ≡ Some (Copy source target) → source.size ≡ target.size
-        copies d source target same = by_tests (d.function == FILL) (d.function == COPY) (d.function == ADD64) same
-          where
-            by_tests : (fill copy add : Bool) → (if fill then Some (Fill (bytes_at (argument d 0) (argument d 1)) (argument d 2 % 256)) else if copy then Some (Copy (bytes_at (argument d 0) (argument d 2)) (bytes_at (argument d 1) (argument d 2))) else if add then Some (Add64 (bytes_at (argument d 0) 8) (argument d 1)) else None) ≡ Some (Copy source target) → source.size ≡ target.size
-            by_tests true copy add same = absurd cc
-            by_tests false true add same =
-                let from : bytes_at (argument d 0) (argument d 2) ≡ source = cc in
-                let to : bytes_at (argument d 1) (argument d 2) ≡ target = cc in
-                ap (λ r. r.size) (sym from) ∙ ap (λ r. r.size) to
-            by_tests false false true same = absurd cc
-            by_tests false false false same = absurd cc
-
-        adds : (d : AgentDispatch) (number : Range) (addend : ℕ) → function_of d ≡ Some (Add64 number addend) → number.size ≡ 8
-        adds d number addend same = by_tests (d.function == FILL) (d.function == COPY) (d.function == ADD64) same
-          where
-            by_tests : (fill copy add : Bool) → (if fill then Some (Fill (bytes_at (argument d 0) (argument d 1)) (argument d 2 % 256)) else if copy then Some (Copy (bytes_at (argument d 0) (argument d 2)) (bytes_at (argument d 1) (argument d 2))) else if add then Some (Add64 (bytes_at (argument d 0) 8) (argument d 1)) else None) ≡ Some (Add64 number addend) → number.size ≡ 8
-            by_tests true copy add same = absurd cc
-            by_tests false true add same = absurd cc
-            by_tests false false true same =
-                let is : bytes_at (argument d 0) 8 ≡ number = cc in
-                ap (λ r. r.size) (sym is)
-            by_tests false false false same = absurd cc
+        All-append P _ _ (function-met (function_of d) (copy-size d) (add-size d) both.0) (result-met d both.1)
 
 -- a group of an agent dispatch writes, and does nothing else
 module _ (P : Effect → Type 0) (wrote : (address : ℕ) (bytes : List ℕ) → P (effect.Write (record { 0 = address }) bytes)) where

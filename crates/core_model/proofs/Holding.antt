@@ -1,12 +1,11 @@
 -- What packets in flight hold is in force: no revocation takes what one of them holds.
 use Rattle.std.proofs.Common.{◌≡◌, ℕ, ◌-◌, ◌<◌, List, [], ◌∷◌, ◌++◌, refl, sym, ◌∙◌, ap, subst, Bool, true, false, Option, Some, None, arith, append_assoc, zero, suc}
-use Rattle.std.specs.Prelude.{All, slice_get, nat_lt, nat_le, find, filter, map, not, ◌&&◌, ◌||◌, ◌==◌, if◌then◌else◌}
+use Rattle.std.specs.Prelude.{All, slice_get, nat_lt, filter, map, not, ◌&&◌, ◌||◌, ◌==◌, if◌then◌else◌}
 use Rattle.std.specs.List.{flat_map, list_all, list_any}
-use Rattle.std.proofs.lemmas.Bool.{and_from, and_parts, or_parts, eq-eqb}
+use Rattle.std.proofs.lemmas.Bool.{and_from, and_parts, eq-eqb}
 use Rattle.std.proofs.lemmas.List.{append-nil}
 use Rattle.std.proofs.lemmas.List.Elements.{All-nil, All-cons, All-head, All-tail, All-append, All-map, All-weaker}
 use Rattle.aql_packet.specs.declared.ids.ClientId.{ClientId}
-use Rattle.aql_packet.specs.declared.ids.AgentHandle.{AgentHandle}
 use Rattle.aql_packet.specs.declared.ids.QueueId.{QueueId}
 use Rattle.aql_packet.specs.declared.ids.PacketId.{PacketId}
 use Rattle.aql_packet.specs.declared.packet.Packet.{Packet}
@@ -22,7 +21,6 @@ use Rattle.queue_error.specs.declared.rule.Rule.{Rule}
 use Rattle.queue_error.specs.declared.rule.Rule.TheVariants as rule
 use Rattle.core_model.specs.declared.event.Event.{Event}
 use Rattle.core_model.specs.declared.event.Event.TheVariants.{Grant, Revoke, OpenQueue, Stop, Take, RunNext, Poll, Finish, HostWrite, ChangeSignal}
-use Rattle.core_model.specs.declared.outcome.Outcome.{Outcome}
 use Rattle.core_model.specs.declared.outcome.Outcome.TheVariants as outcome
 use Rattle.core_model.specs.declared.outcome.Taken.TheVariants.{Launched}
 use Rattle.core_model.specs.declared.entry.Entry.{Entry}
@@ -34,7 +32,7 @@ use Rattle.core_model.specs.Queues.{Opening, owner, openings, opening_of, next_i
 use Rattle.core_model.specs.Flight.{flight}
 use Rattle.core_model.specs.Needs.{needs, object_of}
 use Rattle.core_model.specs.LaunchRules.{Facts, has_form, holds_rule, is_met, launch_rules, lies_whole}
-use Rattle.core_model.specs.Holds.{Held, as_held, held, held_at_launch, held_from, held_if, launches, bytes_taken, holder, holds_one_of, is_owned, is_up_to, least}
+use Rattle.core_model.specs.Holds.{Held, as_held, held, held_at_launch, held_from, held_if, launches, bytes_taken, holds_one_of, is_owned, is_up_to, least}
 use Rattle.core_model.specs.Owed.{owed, enters, facts_of}
 use Rattle.core_model.specs.Legal.{IsLegal}
 use Rattle.core_model.specs.Headline.{HoldsInForce}
@@ -230,7 +228,7 @@ module _ (start : Start) (es : List Entry) (e : Entry) where
     opened = owner-more start es e queue h.opening h.opened;
     held_is = held_from-kept start [] es (e ∷ []) queue id (was-launched queue id h.opening p h.held_is) ∙ h.held_is;
     granted = All-weaker (λ g. in_force_after h.opening.client g.0 g.1 (in_force start es h.opening.client g.0 g.1) e.event ≡ true) (λ g. in_force start (es ++ e ∷ []) h.opening.client g.0 g.1 ≡ true)
-    (λ g is. in_force-more start es e h.opening.client g.0 g.1 ∙ is) (held_at_launch h.opening p) stays;
+        (λ g is. in_force-more start es e h.opening.client g.0 g.1 ∙ is) (held_at_launch h.opening p) stays;
   }
 
   -- what an event does to rights in force that are held by none that it names
@@ -305,8 +303,8 @@ module _ (start : Start) (es : List Entry) (e : Entry) where
         opened = owner-more start es e queue opening granted.allowed.opened;
         held_is = ◌∙◌ {b = held_if start [] (owner start es queue) (decoded (bytes_taken e.event))} (held_from-launch start [] es e queue id none now) (λ i. held_if start [] (granted.allowed.opened i) (bytes_are i));
         granted = subst (λ q. All (λ h. in_force start (es ++ e ∷ []) opening.client h.0 h.1 ≡ true) (held_at_launch opening q)) packet_is
-        (All-weaker (λ h. in_force start es opening.client h.0 h.1 ≡ true) (λ h. in_force start (es ++ e ∷ []) opening.client h.0 h.1 ≡ true)
-        (λ h here. in_force-more start es e opening.client h.0 h.1 ∙ ap (in_force_after opening.client h.0 h.1 (in_force start es opening.client h.0 h.1)) event_is ∙ here) (held_at_launch opening granted.packet) met);
+            (All-weaker (λ h. in_force start es opening.client h.0 h.1 ≡ true) (λ h. in_force start (es ++ e ∷ []) opening.client h.0 h.1 ≡ true)
+            (λ h here. in_force-more start es e opening.client h.0 h.1 ∙ ap (in_force_after opening.client h.0 h.1 (in_force start es opening.client h.0 h.1)) event_is ∙ here) (held_at_launch opening granted.packet) met);
       }
     where
       by_test : (b : Bool) → was_launched es queue id ≡ b → id.0 ≡ next_id start es queue → was_launched es queue id ≡ false

@@ -7,4 +7,5 @@ pub mod Entered
 pub mod Flying
 pub mod Granted
 pub mod Changes
+pub mod Seeing
 pub mod Holding

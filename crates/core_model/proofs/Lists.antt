@@ -1,7 +1,7 @@
 -- What is found in a list.
-use Rattle.std.proofs.Common.{◌≡◌, List, [], ◌∷◌, refl, sym, subst, ◌∙◌, ap, Bool, true, false, Option, Some, None}
-use Rattle.std.specs.Prelude.{All, ◌&&◌, ◌||◌, not, filter, find, if◌then◌else◌}
-use Rattle.std.specs.List.{list_all, list_any}
+use Rattle.std.proofs.Common.{◌≡◌, List, [], ◌∷◌, refl, subst, Bool, true, false, Some, None}
+use Rattle.std.specs.Prelude.{All, find, if◌then◌else◌}
+use Rattle.std.specs.List.{list_all}
 use Rattle.std.proofs.lemmas.Bool.{and_parts}
 use Rattle.std.proofs.lemmas.List.Elements.{All-nil, All-cons, All-head, All-tail}
 

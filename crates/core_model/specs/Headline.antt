@@ -1,20 +1,23 @@
 -- What a legal history shows: for each thing that it tells, who asked for it and which grant in force allowed it.
-use Rattle.std.specs.Prelude.{ℕ, ℤ, pos, ◌≡◌, ◌⊎◌, Bool, true, List, [], ◌∷◌, ◌++◌, length, Some, All}
+use Rattle.std.specs.Prelude.{ℕ, ℤ, pos, ◌≡◌, ◌⊎◌, true, false, List, [], ◌∷◌, ◌++◌, length, Option, Some, All}
 use Rattle.aql_packet.specs.declared.ids.ClientId.{ClientId}
 use Rattle.aql_packet.specs.declared.ids.QueueId.{QueueId}
 use Rattle.aql_packet.specs.declared.ids.PacketId.{PacketId}
 use Rattle.aql_packet.specs.declared.ids.SignalHandle.{SignalHandle}
 use Rattle.aql_packet.specs.declared.packet.Packet.{Packet}
+use Rattle.aql_packet.specs.declared.packet.Packet.TheVariants.{Agent}
+use Rattle.aql_packet.specs.declared.packet.AgentDispatch.{AgentDispatch}
 use Rattle.aql_packet.specs.Layout.{Are64Bytes, PacketOf}
+use Rattle.aql_packet.specs.Reading.{packet_at, packet_type}
 use Rattle.regions.specs.Memory.{is_within, region_of}
 use Rattle.signals.specs.declared.operation.SignalOp.{SignalOp}
 use Rattle.signals.specs.declared.operation.SignalOp.TheVariants.{Subtract}
 use Rattle.signals.specs.Values.{applied, value_of}
-use Rattle.policy.specs.declared.object.Object.{Object}
 use Rattle.policy.specs.declared.object.Object.TheVariants as object
 use Rattle.policy.specs.declared.rights.Right.{Right}
 use Rattle.policy.specs.declared.rights.Right.TheVariants as right
 use Rattle.queue_error.specs.declared.rule.Rule.{Rule}
+use Rattle.queue_error.specs.declared.error.QueueError.{QueueError}
 use Rattle.core_model.specs.declared.event.Event.{Event}
 use Rattle.core_model.specs.declared.event.Event.TheVariants.{Take, RunNext, Finish, HostWrite, ChangeSignal}
 use Rattle.core_model.specs.declared.outcome.Outcome.TheVariants as outcome
@@ -27,9 +30,14 @@ use Rattle.core_model.specs.History.{Start}
 use Rattle.core_model.specs.Grants.{in_force}
 use Rattle.core_model.specs.Memory.{region_lengths, signals}
 use Rattle.core_model.specs.Queues.{Opening, owner}
-use Rattle.core_model.specs.LaunchRules.{holds_rule}
+use Rattle.core_model.specs.declared.need.AgentFunction.{AgentFunction}
+use Rattle.core_model.specs.declared.need.AgentFunction.TheVariants.{Copy, Add64}
+use Rattle.core_model.specs.declared.need.Range.{Range}
+use Rattle.core_model.specs.Needs.{function_of}
+use Rattle.core_model.specs.LaunchRules.{holds_rule, launch_rules}
+use Rattle.core_model.specs.Work.{agent_writes}
 use Rattle.core_model.specs.Holds.{held}
-use Rattle.core_model.specs.Owed.{facts_of}
+use Rattle.core_model.specs.Owed.{error_at, facts_of}
 use Rattle.core_model.specs.Legal.{entry_of}
 
 -- an entry of a history, right behind these others (own)
@@ -108,3 +116,34 @@ pub record HoldsInForce (start : Start) (entries : List Entry) (f : InFlight) : 
   pub opening : Opening
   pub opened : owner start entries f.queue ≡ Some opening
   pub in_force : All (λ h. in_force start entries opening.client h.0 h.1 ≡ true) (held start entries f.queue f.id)
+
+-- a packet was denied, by what was in force behind these entries: its error names it and the first launch rule that fails (own)
+pub record IsDenied (start : Start) (before : List Entry) (queue : QueueId) (id : PacketId) (bytes : List ℕ) (error : QueueError) : Type 0 where
+  pub opening : Opening
+  pub opened : owner start before queue ≡ Some opening
+  pub rule : Rule
+  pub error_is : error ≡ error_at queue id.0 rule
+  -- the rules before it hold, and it fails
+  pub earlier : List Rule
+  pub later : List Rule
+  pub in_order : launch_rules ≡ earlier ++ rule ∷ later
+  pub hold : All (λ r. holds_rule (facts_of start before opening) bytes (packet_at (packet_type bytes) bytes) r ≡ true) earlier
+  pub fails : holds_rule (facts_of start before opening) bytes (packet_at (packet_type bytes) bytes) rule ≡ false
+
+-- the ranges that an agent's function reads (own)
+abbrev pub ranges_read : Option AgentFunction → List Range
+ranges_read (Some (Copy source target)) = source ∷ []
+ranges_read (Some (Add64 number addend)) = number ∷ []
+ranges_read _ = []
+
+-- a client may read a range, if it has any bytes (own)
+abbrev pub MayRead : Start → List Entry → ClientId → Range → Type 0
+MayRead start entries client range = (range.size ≡ 0) ⊎ MayReach start entries client right.Read range.address.0 range.size
+
+-- a group of a packet ran: what it wrote is its dispatch's, which reads only what its packet was launched with READ on (own)
+pub record ReadsGranted (start : Start) (before : List Entry) (queue : QueueId) (id : PacketId) (effects : List Effect) : Type 0 where
+  pub launch : Launch start before queue id
+  pub dispatch : AgentDispatch
+  pub packet_is : launch.packet ≡ Agent dispatch
+  pub wrote : effects ≡ agent_writes start before dispatch
+  pub granted : All (MayRead start launch.before launch.opening.client) (ranges_read (function_of dispatch))
