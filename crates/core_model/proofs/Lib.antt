@@ -8,4 +8,5 @@ pub mod Flying
 pub mod Granted
 pub mod Changes
 pub mod Seeing
+pub mod Served
 pub mod Holding

@@ -26,7 +26,7 @@ use Rattle.core_model.specs.declared.entry.Effect.{Effect}
 use Rattle.core_model.specs.declared.entry.Effect.TheVariants as effect
 use Rattle.core_model.specs.declared.entry.Entry.{Entry}
 use Rattle.core_model.specs.declared.flight.InFlight.{InFlight}
-use Rattle.core_model.specs.History.{Start}
+use Rattle.core_model.specs.History.{Start, History}
 use Rattle.core_model.specs.Grants.{in_force}
 use Rattle.core_model.specs.Memory.{region_lengths, signals}
 use Rattle.core_model.specs.Queues.{Opening, owner}
@@ -38,7 +38,7 @@ use Rattle.core_model.specs.LaunchRules.{holds_rule, launch_rules}
 use Rattle.core_model.specs.Work.{agent_writes}
 use Rattle.core_model.specs.Holds.{held}
 use Rattle.core_model.specs.Owed.{error_at, facts_of}
-use Rattle.core_model.specs.Legal.{entry_of}
+use Rattle.core_model.specs.Legal.{IsLegal, entry_of}
 
 -- an entry of a history, right behind these others (own)
 pub record Stands (entries before : List Entry) (entry : Entry) : Type 0 where
@@ -147,3 +147,10 @@ pub record ReadsGranted (start : Start) (before : List Entry) (queue : QueueId) 
   pub packet_is : launch.packet ≡ Agent dispatch
   pub wrote : effects ≡ agent_writes start before dispatch
   pub granted : All (MayRead start launch.before launch.opening.client) (ranges_read (function_of dispatch))
+
+-- a history goes on as another: from the same start, with entries behind its own, and legal (own)
+pub record GoesOn (old new : History) : Type 0 where
+  pub start_is : new.start ≡ old.start
+  pub more : List Entry
+  pub entries_are : new.entries ≡ old.entries ++ more
+  pub legal : IsLegal new.start new.entries

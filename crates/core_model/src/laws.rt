@@ -1,7 +1,7 @@
 //! What a legal history shows: for each thing that it tells, who asked for it, and which grant in
 //! force allowed it. Each law holds of every legal history, whoever made it.
 
-ghost use Rattle.std.specs.Prelude.{ℕ, ℤ, List, [], ◌∷◌, ◌≡◌, ◌⊎◌, All, Ok, Err, true};
+ghost use Rattle.std.specs.Prelude.{ℕ, ℤ, List, [], ◌∷◌, ◌≡◌, ◌⊎◌, All, Result, Ok, Err, true};
 ghost use Rattle.aql_packet.specs.declared.ids.Address.{Address};
 ghost use Rattle.aql_packet.specs.declared.ids.ClientId.{ClientId};
 ghost use Rattle.aql_packet.specs.declared.ids.QueueId.{QueueId};
@@ -25,6 +25,7 @@ ghost use Rattle.core_model.specs.declared.outcome.Outcome.TheVariants as outcom
 ghost use Rattle.core_model.specs.declared.outcome.Taken.TheVariants as taken;
 ghost use Rattle.core_model.specs.declared.outcome.Worked.TheVariants as worked;
 ghost use Rattle.core_model.specs.declared.outcome.Polled.TheVariants as polled;
+ghost use Rattle.core_model.specs.declared.event.Request.{Request};
 ghost use Rattle.core_model.specs.declared.refusal.Refusal.{Refusal};
 ghost use Rattle.core_model.specs.declared.entry.Entry.{Entry};
 ghost use Rattle.core_model.specs.declared.entry.Effect.{Effect};
@@ -32,13 +33,13 @@ ghost use Rattle.core_model.specs.declared.entry.Effect.TheVariants as effect;
 ghost use Rattle.core_model.specs.History.{Start, History};
 ghost use Rattle.core_model.specs.Queues.{Opening};
 ghost use Rattle.core_model.specs.Flight.{flight};
-ghost use Rattle.core_model.specs.Legal.{IsLegal, Meets, entry_of};
+ghost use Rattle.core_model.specs.Legal.{AreReplies, IsLegal, Meets, MeetsOrLacks, Replying, entry_of};
 ghost use Rattle.core_model.specs.Needs.{function_of};
 ghost use Rattle.core_model.specs.Work.{agent_writes};
 ghost use Rattle.core_model.specs.Memory.{memory_from};
 ghost use Rattle.core_model.specs.Grants.{in_force, rights_in_force};
 ghost use Rattle.core_model.specs.Queries.{replied, has_some};
-ghost use Rattle.core_model.specs.Headline.{Stands, MayBeLaunched, IsDenied, MayReach, WriteIsGranted, ChangeIsGranted, ReadsGranted, ranges_read, HoldsInForce};
+ghost use Rattle.core_model.specs.Headline.{Stands, MayBeLaunched, IsDenied, MayReach, WriteIsGranted, ChangeIsGranted, ReadsGranted, ranges_read, GoesOn, HoldsInForce};
 
 /// A launched packet is laid out by its bytes, and every launch rule held for it by the grants in
 /// force just before; its launch changes nothing.
@@ -123,4 +124,13 @@ pub fn each_listed_right_is_in_force()
 /// What is refused leaves the history as it was.
 pub fn refusals_change_nothing()
     ensures { (event : Event) (old new : History) (why : Refusal) → Meets event old new (Err why) → new ≡ old }
+{}
+
+/// What is served, a call or any list of requests in turn, leaves a legal history legal, with its
+/// entries so far as they were.
+pub fn serving_keeps_a_history_legal()
+    ensures call { (old new : History) (event : Event) (reply : Result Outcome Refusal) →
+        IsLegal old.start old.entries → MeetsOrLacks event old new reply → GoesOn old new }
+    ensures list { (old new : History) (requests : List Request) (replies : List Replying) →
+        IsLegal old.start old.entries → AreReplies old requests replies new → GoesOn old new }
 {}
