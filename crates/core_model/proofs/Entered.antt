@@ -1,8 +1,8 @@
 -- What an entry that was owed tells of its event: its outcome, its changes, and the tests that it passed.
-use Rattle.std.proofs.Common.{◌≡◌, ℕ, ℤ, ◌+◌, List, [], ◌∷◌, ◌++◌, length, refl, sym, ◌∙◌, ap, subst, Bool, true, false, Option, Some, None, ◌⊎◌, inl, inr}
+use Rattle.std.proofs.Common.{◌≡◌, ◌<◌, ℕ, ℤ, ◌+◌, List, [], ◌∷◌, ◌++◌, length, refl, sym, ◌∙◌, ap, subst, Bool, true, false, Option, Some, None, ◌⊎◌, inl, inr}
 use Rattle.std.specs.Prelude.{nat_le, ◌&&◌, ◌==◌, if◌then◌else◌}
 use Rattle.std.specs.List.{list_any}
-use Rattle.std.proofs.lemmas.Bool.{and_parts, eqb-true}
+use Rattle.std.proofs.lemmas.Bool.{and_parts, eqb-true, leb-true, leb-false}
 use Rattle.aql_packet.specs.declared.ids.Address.{Address}
 use Rattle.aql_packet.specs.declared.ids.AgentHandle.{AgentHandle}
 use Rattle.aql_packet.specs.declared.ids.ClientId.{ClientId}
@@ -31,6 +31,7 @@ use Rattle.core_model.specs.declared.outcome.Seen.{Seen}
 use Rattle.core_model.specs.declared.outcome.Taken.TheVariants as taken
 use Rattle.core_model.specs.declared.outcome.Worked.TheVariants as worked
 use Rattle.core_model.specs.declared.outcome.Polled.TheVariants as polled_as
+use Rattle.core_model.specs.declared.refusal.Refusal.{Refusal}
 use Rattle.core_model.specs.declared.refusal.Refusal.TheVariants as refusal
 use Rattle.core_model.specs.declared.entry.Effect.{Effect}
 use Rattle.core_model.specs.declared.entry.Effect.TheVariants as effect
@@ -39,14 +40,14 @@ use Rattle.core_model.specs.declared.flight.InFlight.{InFlight}
 use Rattle.core_model.specs.History.{Start}
 use Rattle.core_model.specs.Grants.{in_force}
 use Rattle.core_model.specs.Memory.{region_lengths, signals}
-use Rattle.core_model.specs.Queues.{Opening, owner, openings, next_id, is_down, is_stopped}
+use Rattle.core_model.specs.Queues.{error_of, Opening, owner, openings, next_id, is_down, is_stopped}
 use Rattle.core_model.specs.Flight.{flight, in_flight, is_packet, none_seen, seen_with}
 use Rattle.core_model.specs.Holds.{holder}
 use Rattle.core_model.specs.declared.limits.TheConstants.{QUEUES}
 use Rattle.core_model.specs.Needs.{completion}
 use Rattle.core_model.specs.LaunchRules.{first_failing, may_start, is_barrier}
-use Rattle.core_model.specs.Work.{agent_writes, is_ready, is_negative, awaited, newly_seen}
-use Rattle.core_model.specs.Owed.{Owed, owed, refuses, answers, enters, refuse_if_held, decided, error_at, facts_of, flight_of, is_host_size, is_ring_size, is_finished, completed, owed_take, owed_group, owed_poll, owed_finish, polled, stop_releases, old_if_asked}
+use Rattle.core_model.specs.Work.{groups_of, agent_writes, is_ready, is_negative, awaited, newly_seen}
+use Rattle.core_model.specs.Owed.{refuse_if, Owed, owed, refuses, answers, enters, refuse_if_held, decided, error_at, facts_of, flight_of, is_host_size, is_ring_size, is_finished, completed, owed_take, owed_group, owed_poll, owed_finish, polled, stop_releases, old_if_asked}
 use Rattle.core_model.proofs.Lists.{found-passes}
 use Rattle.core_model.proofs.Launches.{refuse_if-passed, refuse_unless-passed, for_some-found}
 
@@ -56,32 +57,31 @@ named-found start es queue id f found =
     let both = and_parts (f.queue.0 == queue.0) (f.id.0 == id.0) (found-passes (is_packet queue id) (flight start es) f found) in
     (ap (λ n. record { 0 = n }) (eqb-true _ _ both.0), ap (λ n. record { 0 = n }) (eqb-true _ _ both.1))
 
--- whether an outcome tells a fault
-abbrev pub is_fault : Outcome → Bool
-is_fault (outcome.Worked (worked.Faulted _)) = true
-is_fault (outcome.Polled (polled_as.Failed _)) = true
-is_fault _ = false
+-- a test that refuses didn't
+refused-not : (test : Bool) (why : Refusal) (rest : Owed) (told : Outcome) (effects : List Effect) → refuse_if test why rest ≡ enters told effects → (test ≡ false) × (rest ≡ enters told effects)
+refused-not true why rest told effects same = absurd cc
+refused-not false why rest told effects same = (refl, same)
 
 module _ (start : Start) (es : List Entry) (told : Outcome) (effects : List Effect) where
-  -- an entry that tells no fault and changes nothing
+  -- an entry that tells no error and changes nothing
   pub record IsQuiet : Type 0 where
     pub effects_are : effects ≡ []
-    pub no_fault : is_fault told ≡ false
+    pub no_error : error_of told ≡ None
 
-  quiet : (outcome : Outcome) → is_fault outcome ≡ false → enters outcome [] ≡ enters told effects → IsQuiet
+  quiet : (outcome : Outcome) → error_of outcome ≡ None → enters outcome [] ≡ enters told effects → IsQuiet
   quiet outcome plain same =
       let is : outcome ≡ told = cc in
-      record { effects_are = cc; no_fault = subst (λ o. is_fault o ≡ false) is plain }
+      record { effects_are = cc; no_error = subst (λ o. error_of o ≡ None) is plain }
 
   -- ---- a grant, a revocation, an opening change nothing
 
-  pub grant-effects : (client : ClientId) (on : Object) (rights : Rights) → owed start es (Grant client on rights) ≡ enters told effects → IsQuiet
+  pub grant-effects : (client : ClientId) (on : Object) (rights : Rights) → owed start es (Grant client on rights) ≡ enters told effects → IsQuiet × (allows start.policy client on rights ≡ true)
   unfolding owed
   grant-effects client on rights owing =
       let one = refuse_unless-passed (declares_client start.policy client) _ _ told effects owing in
       let two = refuse_unless-passed (declares start.policy on) _ _ told effects one.rest_is in
       let three = refuse_unless-passed (allows start.policy client on rights) _ _ told effects two.rest_is in
-      quiet outcome.Accepted refl three.rest_is
+      (quiet outcome.Accepted refl three.rest_is, three.test_is)
 
   -- no packet in flight holds what is revoked
   pub record Revoked (client : ClientId) (on : Object) (rights : Rights) : Type 0 where
@@ -100,19 +100,26 @@ module _ (start : Start) (es : List Entry) (told : Outcome) (effects : List Effe
       let three = unheld-passed (holder start es client on rights) _ two.rest_is in
       record { is_quiet = quiet outcome.Accepted refl three.1; unheld = three.0 }
 
-  pub open-effects : (client : ClientId) (agent : AgentHandle) (size : ℕ) → owed start es (OpenQueue client agent size) ≡ enters told effects → IsQuiet
+  -- the queue that was opened is the next, for a client that may use the agent
+  pub record HasOpened (client : ClientId) (agent : AgentHandle) : Type 0 where
+    pub is_quiet : IsQuiet
+    pub granted : in_force start es client (object.Agent agent) right.Use ≡ true
+    pub outcome_is : told ≡ outcome.Opened (record { 0 = length (openings start es) + 1 })
+
+  pub open-effects : (client : ClientId) (agent : AgentHandle) (size : ℕ) → owed start es (OpenQueue client agent size) ≡ enters told effects → HasOpened client agent
   unfolding owed
   open-effects client agent size owing =
       let one = refuse_unless-passed (declares_client start.policy client) _ _ told effects owing in
       let two = refuse_unless-passed (in_force start es client (object.Agent agent) right.Use) _ _ told effects one.rest_is in
       let three = refuse_unless-passed (is_ring_size size) _ _ told effects two.rest_is in
-      quiet (outcome.Opened (record { 0 = length (openings start es) + 1 })) refl (refuse_if-passed (nat_le QUEUES (length (openings start es))) _ _ told effects three.rest_is)
+      let last = refuse_if-passed (nat_le QUEUES (length (openings start es))) _ _ told effects three.rest_is in
+      record { is_quiet = quiet (outcome.Opened (record { 0 = length (openings start es) + 1 })) refl last; granted = two.test_is; outcome_is = cc }
 
   -- ---- a stop releases at most
 
   pub record HasStopped (queue : QueueId) : Type 0 where
     pub effects_are : effects ≡ stop_releases (flight_of start es queue)
-    pub no_fault : is_fault told ≡ false
+    pub no_error : error_of told ≡ None
 
   pub stop-effects : (queue : QueueId) → owed start es (Stop queue) ≡ enters told effects → HasStopped queue
   unfolding owed
@@ -120,47 +127,47 @@ module _ (start : Start) (es : List Entry) (told : Outcome) (effects : List Effe
       let found = for_some-found (owner start es queue) _ _ told effects owing in
       let last = refuse_if-passed (is_stopped start es queue) _ _ told effects found.rest_is in
       let is : outcome.Accepted ≡ told = cc in
-      record { effects_are = cc; no_fault = ap is_fault (sym is) }
+      record { effects_are = cc; no_error = ap error_of (sym is) }
 
   -- ---- a packet that is handed over
 
   -- it changes nothing, and is launched or denied by the launch rules
   pub record Decided (queue : QueueId) (id : PacketId) (bytes : List ℕ) : Type 0 where
     pub opening : Opening
-    pub opened : owner start es queue ≡ Some opening
+    pub owner_is : owner start es queue ≡ Some opening
+    pub launches_yet : is_down start es queue ≡ false
+    pub is_next : id.0 ≡ next_id start es queue
+    pub may_start : may_start (flight_of start es queue) (barrier_bit bytes) ≡ None
     pub effects_are : effects ≡ []
-    pub no_fault : is_fault told ≡ false
     pub verdict : Option Rule
     pub verdict_is : first_failing (facts_of start es opening) bytes ≡ verdict
     pub outcome_is : told ≡ elim verdict [ None ↦ outcome.Taken taken.Launched | Some rule ↦ outcome.Taken (taken.Denied (error_at queue id.0 rule)) ]
 
   decided-entered : (queue : QueueId) (id : ℕ) (cause : Option Cause) (verdict : Option Rule) → decided queue id cause verdict ≡ enters told effects →
-      (effects ≡ []) × (told ≡ elim verdict [ None ↦ outcome.Taken taken.Launched | Some rule ↦ outcome.Taken (taken.Denied (error_at queue id rule)) ])
+      (effects ≡ []) × (told ≡ elim verdict [ None ↦ outcome.Taken taken.Launched | Some rule ↦ outcome.Taken (taken.Denied (error_at queue id rule)) ]) × (cause ≡ None)
   decided-entered queue id (Some cause) verdict same = absurd cc
-  decided-entered queue id None None same = (cc, cc)
-  decided-entered queue id None (Some rule) same = (cc, cc)
+  decided-entered queue id None None same = (cc, cc, refl)
+  decided-entered queue id None (Some rule) same = (cc, cc, refl)
 
   pub take-decided : (queue : QueueId) (id : PacketId) (bytes : List ℕ) → owed start es (Take queue id bytes) ≡ enters told effects → Decided queue id bytes
   unfolding owed
   take-decided queue id bytes owing =
       let found = for_some-found (owner start es queue) _ (owed_take start es queue id bytes) told effects owing in
       let opening = found.found in
-      let up = refuse_if-passed (is_down start es queue) _ _ told effects found.rest_is in
-      let next = refuse_unless-passed (id.0 == next_id start es queue) _ _ told effects up in
+      let up = refused-not (is_down start es queue) _ _ told effects found.rest_is in
+      let next = refuse_unless-passed (id.0 == next_id start es queue) _ _ told effects up.1 in
       let last = decided-entered queue id.0 (may_start (flight_of start es queue) (barrier_bit bytes)) (first_failing (facts_of start es opening) bytes) next.rest_is in
       record {
         opening = opening;
-        opened = found.is;
+        owner_is = found.is;
+        launches_yet = up.0;
+        is_next = eqb-true _ _ next.test_is;
+        may_start = last.2;
         effects_are = last.0;
-        no_fault = ap is_fault last.1 ∙ plain (first_failing (facts_of start es opening) bytes);
         verdict = first_failing (facts_of start es opening) bytes;
         verdict_is = refl;
         outcome_is = last.1;
       }
-    where
-      plain : (verdict : Option Rule) → is_fault (elim verdict [ None ↦ outcome.Taken taken.Launched | Some rule ↦ outcome.Taken (taken.Denied (error_at queue id.0 rule)) ]) ≡ false
-      plain None = refl
-      plain (Some rule) = refl
 
   -- ---- work
 
@@ -170,15 +177,16 @@ module _ (start : Start) (es : List Entry) (told : Outcome) (effects : List Effe
     pub found : in_flight start es queue id ≡ Some flying
     pub dispatch : AgentDispatch
     pub is_agent : flying.packet ≡ packet.Agent dispatch
+    pub is_left : flying.groups_run < groups_of flying.packet
     pub effects_are : effects ≡ agent_writes start es dispatch
     pub outcome_is : told ≡ outcome.Worked (worked.Ran 0 0)
 
   group-entered : (queue : QueueId) (id : PacketId) (f : InFlight) (p : Packet) → f.packet ≡ p → in_flight start es queue id ≡ Some f → owed_group start es f ≡ enters told effects → GroupRan queue id
-  group-entered queue id f (packet.Agent dispatch) is found same = ran (nat_le 1 f.groups_run) (rw is at same)
+  group-entered queue id f (packet.Agent dispatch) is found same = ran (nat_le 1 f.groups_run) refl (rw is at same)
     where
-      ran : (b : Bool) → (if b then answers (outcome.Worked worked.Done) else enters (outcome.Worked (worked.Ran 0 0)) (agent_writes start es dispatch)) ≡ enters told effects → GroupRan queue id
-      ran true same = absurd cc
-      ran false same = record { flying = f; found = found; dispatch = dispatch; is_agent = is; effects_are = cc; outcome_is = cc }
+      ran : (b : Bool) → nat_le 1 f.groups_run ≡ b → (if b then answers (outcome.Worked worked.Done) else enters (outcome.Worked (worked.Ran 0 0)) (agent_writes start es dispatch)) ≡ enters told effects → GroupRan queue id
+      ran true has same = absurd cc
+      ran false has same = record { flying = f; found = found; dispatch = dispatch; is_agent = is; is_left = rw is (leb-false 1 f.groups_run has); effects_are = cc; outcome_is = cc }
   group-entered queue id f (packet.Kernel _) is found same = let no : answers (outcome.Worked worked.Done) ≡ enters told effects = rw is at same in absurd cc
   group-entered queue id f (packet.BarrierAnd _) is found same = let no : refuses refusal.NotInFlight ≡ enters told effects = rw is at same in absurd cc
   group-entered queue id f (packet.BarrierOr _) is found same = let no : refuses refusal.NotInFlight ≡ enters told effects = rw is at same in absurd cc
@@ -193,19 +201,21 @@ module _ (start : Start) (es : List Entry) (told : Outcome) (effects : List Effe
   -- ---- a poll fails, or changes nothing
 
   pub record HasFailed (queue : QueueId) (id : PacketId) : Type 0 where
+    pub flying : InFlight
+    pub found : in_flight start es queue id ≡ Some flying
     pub effects_are : effects ≡ effect.Release queue id ∷ []
     pub outcome_is : told ≡ outcome.Polled (polled_as.Failed (error_at queue id.0 B1))
 
-  poll-end : (queue : QueueId) (id : PacketId) (f : InFlight) → f.queue ≡ queue → f.id ≡ id → owed_poll start es f ≡ enters told effects → IsQuiet ⊎ HasFailed queue id
-  poll-end queue id f queue_is id_is same =
+  poll-end : (queue : QueueId) (id : PacketId) (f : InFlight) → in_flight start es queue id ≡ Some f → f.queue ≡ queue → f.id ≡ id → owed_poll start es f ≡ enters told effects → IsQuiet ⊎ HasFailed queue id
+  poll-end queue id f found queue_is id_is same =
       let barrier = refuse_unless-passed (is_barrier f.packet) _ _ told effects same in
       ready (is_ready f.packet f.seen) (list_any (is_negative (signals start es)) (awaited f.packet f.seen)) barrier.rest_is
     where
-      seen_some : (b : Bool) (seen : Outcome) → is_fault seen ≡ false → (if b then enters seen [] else answers (outcome.Polled (polled_as.Pending none_seen))) ≡ enters told effects → IsQuiet
+      seen_some : (b : Bool) (seen : Outcome) → error_of seen ≡ None → (if b then enters seen [] else answers (outcome.Polled (polled_as.Pending none_seen))) ≡ enters told effects → IsQuiet
       seen_some true seen plain same = quiet seen plain same
       seen_some false seen plain same = absurd cc
 
-      either : (b : Bool) (seen : Seen) → is_fault (outcome.Polled (if b then polled_as.Ready seen else polled_as.Pending seen)) ≡ false
+      either : (b : Bool) (seen : Seen) → error_of (outcome.Polled (if b then polled_as.Ready seen else polled_as.Pending seen)) ≡ None
       either true seen = refl
       either false seen = refl
 
@@ -215,6 +225,8 @@ module _ (start : Start) (es : List Entry) (told : Outcome) (effects : List Effe
           let released : effect.Release f.queue f.id ∷ [] ≡ effects = cc in
           let failed : outcome.Polled (polled_as.Failed (error_at f.queue f.id.0 B1)) ≡ told = cc in
           inr (record {
+            flying = f;
+            found = found;
             effects_are = sym released ∙ ap (λ q. effect.Release q f.id ∷ []) queue_is ∙ ap (λ i. effect.Release queue i ∷ []) id_is;
             outcome_is = sym failed ∙ ap (λ q. outcome.Polled (polled_as.Failed (error_at q f.id.0 B1))) queue_is ∙ ap (λ i. outcome.Polled (polled_as.Failed (error_at queue i.0 B1))) id_is;
           })
@@ -228,14 +240,14 @@ module _ (start : Start) (es : List Entry) (told : Outcome) (effects : List Effe
       let queued = for_some-found (owner start es queue) _ _ told effects owing in
       let there = for_some-found (in_flight start es queue id) _ (owed_poll start es) told effects queued.rest_is in
       let named = named-found start es queue id there.found there.is in
-      poll-end queue id there.found named.0 named.1 there.rest_is
+      poll-end queue id there.found there.is named.0 named.1 there.rest_is
 
   -- ---- a packet's completion
 
   pub record Completed (queue : QueueId) (id : PacketId) : Type 0 where
     pub flying : InFlight
     pub found : in_flight start es queue id ≡ Some flying
-    pub no_fault : is_fault told ≡ false
+    pub no_error : error_of told ≡ None
     pub effects_are : effects ≡ completed (signals start es) (completion flying.packet) ++ effect.Release queue id ∷ []
 
   pub finish-entered : (queue : QueueId) (id : PacketId) → owed start es (Finish queue id) ≡ enters told effects → Completed queue id
@@ -251,7 +263,7 @@ module _ (start : Start) (es : List Entry) (told : Outcome) (effects : List Effe
       record {
         flying = f;
         found = there.is;
-        no_fault = ap is_fault (sym accepted);
+        no_error = ap error_of (sym accepted);
         effects_are =
             sym same
             ∙ ap (λ q. completed (signals start es) (completion f.packet) ++ effect.Release q f.id ∷ []) named.0
@@ -261,8 +273,9 @@ module _ (start : Start) (es : List Entry) (told : Outcome) (effects : List Effe
   -- ---- a client's own write and change
 
   pub record HostWrote (client : ClientId) (address : Address) (bytes : List ℕ) : Type 0 where
-    pub no_fault : is_fault told ≡ false
+    pub no_error : error_of told ≡ None
     pub effects_are : effects ≡ effect.Write address bytes ∷ []
+    pub some : 0 < length bytes
     pub whole : is_within (region_lengths start) address.0 (length bytes) ≡ true
     pub granted : in_force start es client (object.Region (record { 0 = region_of address.0 })) right.Write ≡ true
 
@@ -275,11 +288,11 @@ module _ (start : Start) (es : List Entry) (told : Outcome) (effects : List Effe
       let both = and_parts (is_within (region_lengths start) address.0 (length bytes)) _ three.test_is in
       let last = three.rest_is in
       let is : outcome.Accepted ≡ told = cc in
-      record { no_fault = ap is_fault (sym is); effects_are = cc; whole = both.0; granted = both.1 }
+      record { no_error = ap error_of (sym is); effects_are = cc; some = leb-true 1 (length bytes) (and_parts (nat_le 1 (length bytes)) _ two.test_is).0; whole = both.0; granted = both.1 }
 
   pub record ClientChanged (client : ClientId) (signal : SignalHandle) (operation : SignalOp) : Type 0 where
     pub old : ℤ
-    pub no_fault : is_fault told ≡ false
+    pub no_error : error_of told ≡ None
     pub was : value_of (signals start es) signal.0 ≡ Some old
     pub granted : in_force start es client (object.Signal signal) right.Change ≡ true
     pub effects_are : effects ≡ effect.Signal signal old (applied operation old) ∷ []
@@ -292,4 +305,4 @@ module _ (start : Start) (es : List Entry) (told : Outcome) (effects : List Effe
       let three = for_some-found (value_of (signals start es) signal.0) _ _ told effects two.rest_is in
       let last = three.rest_is in
       let is : outcome.Changed (old_if_asked operation three.found) ≡ told = cc in
-      record { old = three.found; no_fault = ap is_fault (sym is); was = three.is; granted = two.test_is; effects_are = cc }
+      record { old = three.found; no_error = ap error_of (sym is); was = three.is; granted = two.test_is; effects_are = cc }

@@ -29,19 +29,19 @@ use Rattle.core_model.specs.declared.need.Need.{Need}
 use Rattle.core_model.specs.History.{Start}
 use Rattle.core_model.specs.Grants.{in_force, in_force_after, is_named}
 use Rattle.core_model.specs.Queues.{Opening, owner, openings, opening_of, next_id}
-use Rattle.core_model.specs.Flight.{flight}
+use Rattle.core_model.specs.Flight.{flight, in_flight, is_packet}
 use Rattle.core_model.specs.Needs.{needs, object_of}
-use Rattle.core_model.specs.LaunchRules.{Facts, has_form, holds_rule, is_met, launch_rules, lies_whole}
+use Rattle.core_model.specs.LaunchRules.{Facts, holds_rule, is_met, launch_rules, lies_whole}
 use Rattle.core_model.specs.Holds.{Held, as_held, held, held_at_launch, held_from, held_if, launches, bytes_taken, holds_one_of, is_owned, is_up_to, least}
 use Rattle.core_model.specs.Owed.{owed, enters, facts_of}
-use Rattle.core_model.specs.Legal.{IsLegal}
-use Rattle.core_model.specs.Headline.{HoldsInForce}
-use Rattle.core_model.proofs.Lists.{none-passes, all-from_list_all}
+use Rattle.core_model.specs.Legal.{IsLegal, entry_of}
+use Rattle.core_model.specs.Headline.{HasItsRights, HoldsInForce, InFlightSince, Launch}
+use Rattle.core_model.proofs.Lists.{found-all, none-passes, all-from_list_all, all-left, all-right}
 use Rattle.core_model.proofs.More.{openings-more, with_some, in_force-more}
-use Rattle.core_model.proofs.Launches.{was_launched, IsNext-from_owed, AreBelowNext-legal}
+use Rattle.core_model.proofs.Launches.{was_launched, AreBelowNext-legal}
 use Rattle.core_model.proofs.Flying.{Of, flying-legal}
-use Rattle.core_model.proofs.Entered.{revoke-effects}
-use Rattle.core_model.proofs.Granted.{launch-granted}
+use Rattle.core_model.proofs.Entered.{named-found, revoke-effects}
+use Rattle.core_model.proofs.Launching.{launch-granted, has-rights, needs-met}
 
 -- ---- what a packet holds stays what its launch gave it
 
@@ -205,14 +205,28 @@ unnamed-stay client named on rights before (h ∷ hs) none all =
 
 -- ---- what a packet in flight holds is in force
 
--- a packet holds what its launch gave it, and all of it is in force for the owner of its queue
+-- a packet was launched as what it is, holds what its launch gave it, and all of it is in force for the owner of its queue
 pub record HoldsNow (start : Start) (es : List Entry) (queue : QueueId) (id : PacketId) (p : Packet) : Type 0 where
-  pub opening : Opening
-  pub opened : owner start es queue ≡ Some opening
-  pub held_is : held start es queue id ≡ held_at_launch opening p
-  pub granted : All (λ h. in_force start es opening.client h.0 h.1 ≡ true) (held_at_launch opening p)
+  pub launch : Launch start es queue id
+  pub packet_is : launch.packet ≡ p
+  pub owner_is : owner start es queue ≡ Some launch.opening
+  pub held_is : held start es queue id ≡ held_at_launch launch.opening p
+  pub granted : All (λ h. in_force start es launch.opening.client h.0 h.1 ≡ true) (held_at_launch launch.opening p)
 
 module _ (start : Start) (es : List Entry) (e : Entry) where
+  abbrev later : List Entry
+  later = es ++ e ∷ []
+
+  abbrev launch-more : (queue : QueueId) (id : PacketId) → Launch start es queue id → Launch start later queue id
+  launch-more queue id l = record {
+    before = l.before;
+    bytes = l.bytes;
+    opening = l.opening;
+    packet = l.packet;
+    place = record { after = l.place.after ++ e ∷ []; whole = ap (λ all. all ++ e ∷ []) l.place.whole ∙ append_assoc l.before _ (e ∷ []) };
+    allowed = l.allowed;
+  }
+
   was-launched : (queue : QueueId) (id : PacketId) (opening : Opening) (p : Packet) → held start es queue id ≡ held_at_launch opening p → was_launched es queue id ≡ true
   was-launched queue id opening p is = by_test (was_launched es queue id) refl
     where
@@ -222,26 +236,27 @@ module _ (start : Start) (es : List Entry) (e : Entry) where
 
   -- one entry more, after which the rights are in force yet
   holds-more : (queue : QueueId) (id : PacketId) (p : Packet) (h : HoldsNow start es queue id p) →
-      All (λ g. in_force_after h.opening.client g.0 g.1 (in_force start es h.opening.client g.0 g.1) e.event ≡ true) (held_at_launch h.opening p) → HoldsNow start (es ++ e ∷ []) queue id p
+      All (λ g. in_force_after h.launch.opening.client g.0 g.1 (in_force start es h.launch.opening.client g.0 g.1) e.event ≡ true) (held_at_launch h.launch.opening p) → HoldsNow start later queue id p
   holds-more queue id p h stays = record {
-    opening = h.opening;
-    opened = owner-more start es e queue h.opening h.opened;
-    held_is = held_from-kept start [] es (e ∷ []) queue id (was-launched queue id h.opening p h.held_is) ∙ h.held_is;
-    granted = All-weaker (λ g. in_force_after h.opening.client g.0 g.1 (in_force start es h.opening.client g.0 g.1) e.event ≡ true) (λ g. in_force start (es ++ e ∷ []) h.opening.client g.0 g.1 ≡ true)
-        (λ g is. in_force-more start es e h.opening.client g.0 g.1 ∙ is) (held_at_launch h.opening p) stays;
+    launch = launch-more queue id h.launch;
+    packet_is = h.packet_is;
+    owner_is = owner-more start es e queue h.launch.opening h.owner_is;
+    held_is = held_from-kept start [] es (e ∷ []) queue id (was-launched queue id h.launch.opening p h.held_is) ∙ h.held_is;
+    granted = All-weaker (λ g. in_force_after h.launch.opening.client g.0 g.1 (in_force start es h.launch.opening.client g.0 g.1) e.event ≡ true) (λ g. in_force start later h.launch.opening.client g.0 g.1 ≡ true)
+    (λ g is. in_force-more start es e h.launch.opening.client g.0 g.1 ∙ is) (held_at_launch h.launch.opening p) stays;
   }
 
   -- what an event does to rights in force that are held by none that it names
   kept-by : (event : Event) (queue : QueueId) (id : PacketId) (p : Packet) (h : HoldsNow start es queue id p) →
       ((client : ClientId) (on : Object) (rights : Rights) → event ≡ Revoke client on rights → (is_owned start es client queue && list_any (λ g. same_object on g.0 && has rights g.1) (held start es queue id)) ≡ false) →
-      All (λ g. in_force_after h.opening.client g.0 g.1 (in_force start es h.opening.client g.0 g.1) event ≡ true) (held_at_launch h.opening p)
+      All (λ g. in_force_after h.launch.opening.client g.0 g.1 (in_force start es h.launch.opening.client g.0 g.1) event ≡ true) (held_at_launch h.launch.opening p)
   kept-by (Grant c o rights) queue id p h none =
-      All-weaker (λ g. in_force start es h.opening.client g.0 g.1 ≡ true) (λ g. (in_force start es h.opening.client g.0 g.1 || is_named h.opening.client g.0 g.1 c o rights) ≡ true)
-      (λ g is. rw is refl) (held_at_launch h.opening p) h.granted
+      All-weaker (λ g. in_force start es h.launch.opening.client g.0 g.1 ≡ true) (λ g. (in_force start es h.launch.opening.client g.0 g.1 || is_named h.launch.opening.client g.0 g.1 c o rights) ≡ true)
+      (λ g is. rw is refl) (held_at_launch h.launch.opening p) h.granted
   kept-by (Revoke c o rights) queue id p h none =
-      let own : is_owned start es c queue ≡ (h.opening.client.0 == c.0) = ap (λ (found : Option Opening). elim found [ None ↦ false | Some opening ↦ opening.client.0 == c.0 ]) h.opened in
+      let own : is_owned start es c queue ≡ (h.launch.opening.client.0 == c.0) = ap (λ (found : Option Opening). elim found [ None ↦ false | Some opening ↦ opening.client.0 == c.0 ]) h.owner_is in
       let named = λ (g : Held). same_object o g.0 && has rights g.1 in
-      unnamed-stay h.opening.client c o rights (in_force start es h.opening.client) (held_at_launch h.opening p) (sym (λ i. own i && list_any named (h.held_is i)) ∙ none c o rights refl) h.granted
+      unnamed-stay h.launch.opening.client c o rights (in_force start es h.launch.opening.client) (held_at_launch h.launch.opening p) (sym (λ i. own i && list_any named (h.held_is i)) ∙ none c o rights refl) h.granted
   kept-by (OpenQueue _ _ _) queue id p h none = h.granted
   kept-by (Stop _) queue id p h none = h.granted
   kept-by (Take _ _ _) queue id p h none = h.granted
@@ -258,7 +273,7 @@ module _ (start : Start) (es : List Entry) (e : Entry) where
       let revoked = revoke-effects start es e.outcome e.effects client on rights (rw is at owing) in
       filtered-none (λ f. is_owned start es client f.queue && holds_one_of start es on rights f) (flight start es) (least-none _ revoked.unheld)
 
-  more : IsLegal start es → owed start es e.event ≡ enters e.outcome e.effects → All (Of (HoldsNow start es)) (flight start es) → All (Of (HoldsNow start (es ++ e ∷ []))) (flight start es)
+  more : IsLegal start es → owed start es e.event ≡ enters e.outcome e.effects → All (Of (HoldsNow start es)) (flight start es) → All (Of (HoldsNow start later)) (flight start es)
   more legal owing all k d below =
       let h = all k d below in
       holds-more _ _ _ h (kept-by e.event _ _ _ h (λ client on rights is. unheld owing client on rights is k d below))
@@ -270,50 +285,98 @@ module _ (start : Start) (es : List Entry) (e : Entry) where
       All-map (λ h. facts.in_force h.0 h.1 ≡ true) as_held needed
       (All-weaker (λ n. is_met facts n ≡ true) (λ n. facts.in_force (object_of n.subject) n.right ≡ true) (λ n is. (and_parts (lies_whole facts.lengths n.subject) _ is).1) needed (all-from_list_all (is_met facts) needed met))
 
-  rule-met : (facts : Facts) (bytes : List ℕ) (p : Packet) (r : Rule) → holds_rule facts bytes p r ≡ true → list_all (is_met facts) (needs r facts.agent p) ≡ true
-  rule-met facts bytes p rule.L1 holds = refl
-  rule-met facts bytes p rule.L2 holds = refl
-  rule-met facts bytes p rule.L3 holds = refl
-  rule-met facts bytes p rule.L4 holds = (and_parts (has_form facts p rule.L4) _ holds).1
-  rule-met facts bytes p rule.L5 holds = refl
-  rule-met facts bytes p rule.L6 holds = refl
-  rule-met facts bytes p rule.L7 holds = refl
-  rule-met facts bytes p rule.L8 holds = holds
-  rule-met facts bytes p rule.L9 holds = holds
-  rule-met facts bytes p rule.L10 holds = holds
-  rule-met facts bytes p _ holds = refl
-
   rules-met : (facts : Facts) (p : Packet) (rules : List Rule) → ((r : Rule) → list_all (is_met facts) (needs r facts.agent p) ≡ true) → All (λ h. facts.in_force h.0 h.1 ≡ true) (flat_map (λ r. map as_held (needs r facts.agent p)) rules)
   rules-met facts p [] each = All-nil _
   rules-met facts p (r ∷ rules) each = All-append (λ h. facts.in_force h.0 h.1 ≡ true) _ _ (rights-met facts (needs r facts.agent p) (each r)) (rules-met facts p rules each)
 
-  launched : IsLegal start es → owed start es e.event ≡ enters e.outcome e.effects → (queue : QueueId) (id : PacketId) (bytes : List ℕ) (p : Packet) → e.event ≡ Take queue id bytes → e.outcome ≡ outcome.Taken Launched → decoded bytes ≡ Some p → HoldsNow start (es ++ e ∷ []) queue id p
+  launched : IsLegal start es → owed start es e.event ≡ enters e.outcome e.effects → (queue : QueueId) (id : PacketId) (bytes : List ℕ) (p : Packet) → e.event ≡ Take queue id bytes → e.outcome ≡ outcome.Taken Launched → decoded bytes ≡ Some p → HoldsNow start later queue id p
   launched legal owing queue id bytes p event_is outcome_is is =
       let granted = launch-granted start es queue id bytes e.effects (rw (event_is, outcome_is) at owing) in
-      let next = IsNext-from_owed start es queue id bytes (outcome.Taken Launched) e.effects (rw (event_is, outcome_is) at owing) in
       let opening = granted.opening in
-      let packet_is : granted.packet ≡ p = let same : Some granted.packet ≡ Some p = sym granted.decoded_is ∙ is in cc in
-      let none : was_launched es queue id ≡ false = by_test (was_launched es queue id) refl next.id_is in
+      let packet_is : granted.packet ≡ p = let same : Some granted.packet ≡ Some p = sym granted.allowed.is_read ∙ is in cc in
+      let entry_is : e ≡ entry_of (Take queue id bytes) (outcome.Taken Launched) [] = λ i. record { event = event_is i; outcome = outcome_is i; effects = granted.effects_are i } in
+      let none : was_launched es queue id ≡ false = by_test (was_launched es queue id) refl granted.allowed.is_next in
       let now : launches queue id e.event e.outcome ≡ true = rw (event_is, outcome_is) (and_from _ _ (eq-eqb queue.0 queue.0 refl) (eq-eqb id.0 id.0 refl)) in
       let bytes_are : decoded (bytes_taken e.event) ≡ Some p = ap (λ event. decoded (bytes_taken event)) event_is ∙ is in
       let facts : Facts = facts_of start es opening in
-      let met = rules-met facts granted.packet launch_rules (λ r. rule-met facts bytes granted.packet r (granted.allowed.every_rule r)) in
+      let met = rules-met facts granted.packet launch_rules (needs-met facts bytes granted.packet granted.allowed.every_rule) in
       record {
-        opening = opening;
-        opened = owner-more start es e queue opening granted.allowed.opened;
-        held_is = ◌∙◌ {b = held_if start [] (owner start es queue) (decoded (bytes_taken e.event))} (held_from-launch start [] es e queue id none now) (λ i. held_if start [] (granted.allowed.opened i) (bytes_are i));
-        granted = subst (λ q. All (λ h. in_force start (es ++ e ∷ []) opening.client h.0 h.1 ≡ true) (held_at_launch opening q)) packet_is
-            (All-weaker (λ h. in_force start es opening.client h.0 h.1 ≡ true) (λ h. in_force start (es ++ e ∷ []) opening.client h.0 h.1 ≡ true)
-            (λ h here. in_force-more start es e opening.client h.0 h.1 ∙ ap (in_force_after opening.client h.0 h.1 (in_force start es opening.client h.0 h.1)) event_is ∙ here) (held_at_launch opening granted.packet) met);
+        launch = record { before = es; bytes = bytes; opening = opening; packet = granted.packet; place = record { after = []; whole = ap (λ x. es ++ x ∷ []) entry_is }; allowed = granted.allowed };
+        packet_is = packet_is;
+        owner_is = owner-more start es e queue opening granted.allowed.owner_is;
+        held_is = ◌∙◌ {b = held_if start [] (owner start es queue) (decoded (bytes_taken e.event))} (held_from-launch start [] es e queue id none now) (λ i. held_if start [] (granted.allowed.owner_is i) (bytes_are i));
+        granted = subst (λ q. All (λ h. in_force start later opening.client h.0 h.1 ≡ true) (held_at_launch opening q)) packet_is
+        (All-weaker (λ h. in_force start es opening.client h.0 h.1 ≡ true) (λ h. in_force start later opening.client h.0 h.1 ≡ true)
+        (λ h here. in_force-more start es e opening.client h.0 h.1 ∙ ap (in_force_after opening.client h.0 h.1 (in_force start es opening.client h.0 h.1)) event_is ∙ here) (held_at_launch opening granted.packet) met);
       }
     where
       by_test : (b : Bool) → was_launched es queue id ≡ b → id.0 ≡ next_id start es queue → was_launched es queue id ≡ false
       by_test true was at = let below : id.0 < next_id start es queue = AreBelowNext-legal start es legal queue id was in absurd (omega arith)
       by_test false was at = was
 
--- in a legal history all that packets in flight hold is in force
-pub holding-legal : (start : Start) (es : List Entry) → IsLegal start es → All (HoldsInForce start es) (flight start es)
-holding-legal start es legal =
-    All-weaker (Of (HoldsNow start es)) (HoldsInForce start es)
-    (λ f h. record { opening = h.opening; opened = h.opened; in_force = subst (All (λ g. in_force start es h.opening.client g.0 g.1 ≡ true)) (sym h.held_is) h.granted })
-    (flight start es) (flying-legal start (HoldsNow start) (more start) (launched start) es legal)
+module _ (start : Start) (es : List Entry) (legal : IsLegal start es) where
+  holding : All (Of (HoldsNow start es)) (flight start es)
+  holding = flying-legal start (HoldsNow start) (more start) (launched start) es legal
+
+  -- ---- the rights of a packet in flight, now
+
+  -- needs that were met are met while the rights are in force
+  met-yet : (client : ClientId) (facts : Facts) (needed : List Need) → list_all (is_met facts) needed ≡ true → All (λ h. in_force start es client h.0 h.1 ≡ true) (map as_held needed) →
+      list_all (is_met (record facts { in_force = in_force start es client })) needed ≡ true
+  met-yet client facts [] met all = refl
+  met-yet client facts (n ∷ ns) met all =
+      let both = and_parts (is_met facts n) (list_all (is_met facts) ns) met in
+      let whole = and_parts (lies_whole facts.lengths n.subject) _ both.0 in
+      and_from _ _ (and_from _ _ whole.0 (All-head (λ h. in_force start es client h.0 h.1 ≡ true) (as_held n) (map as_held ns) all))
+      (met-yet client facts ns both.1 (All-tail (λ h. in_force start es client h.0 h.1 ≡ true) (as_held n) (map as_held ns) all))
+
+  rights-now : (queue : QueueId) (id : PacketId) (p : Packet) → HoldsNow start es queue id p → (l : Launch start es queue id) → l.packet ≡ p → owner start es queue ≡ Some l.opening →
+      All (λ h. in_force start es l.opening.client h.0 h.1 ≡ true) (held_at_launch l.opening p) → HasItsRights start es l.opening p
+  rights-now queue id p h l packet_is owner_is granted = has-rights start es l.opening p each
+    where
+      Granted : Held → Type 0
+      Granted g = in_force start es l.opening.client g.0 g.1 ≡ true
+
+      asks : Rule → List Held
+      asks r = map as_held (needs r l.opening.agent p)
+
+      at_launch : (r : Rule) → list_all (is_met (facts_of start l.before l.opening)) (needs r l.opening.agent p) ≡ true
+      at_launch r = needs-met (facts_of start l.before l.opening) l.bytes p (subst (λ q. All (λ s. holds_rule (facts_of start l.before l.opening) l.bytes q s ≡ true) launch_rules) packet_is l.allowed.every_rule) r
+
+      yet : (r : Rule) → All Granted (asks r) → list_all (is_met (facts_of start es l.opening)) (needs r l.opening.agent p) ≡ true
+      yet r all = met-yet l.opening.client (facts_of start l.before l.opening) (needs r l.opening.agent p) (at_launch r) all
+
+      from_8 : All Granted (asks rule.L8 ++ (asks rule.L9 ++ (asks rule.L10 ++ [])))
+      from_8 = all-right Granted (asks rule.L4) _ granted
+
+      from_9 : All Granted (asks rule.L9 ++ (asks rule.L10 ++ []))
+      from_9 = all-right Granted (asks rule.L8) _ from_8
+
+      each : (r : Rule) → list_all (is_met (facts_of start es l.opening)) (needs r l.opening.agent p) ≡ true
+      each rule.L4 = yet rule.L4 (all-left Granted (asks rule.L4) _ granted)
+      each rule.L8 = yet rule.L8 (all-left Granted (asks rule.L8) _ from_8)
+      each rule.L9 = yet rule.L9 (all-left Granted (asks rule.L9) _ from_9)
+      each rule.L10 = yet rule.L10 (all-left Granted (asks rule.L10) _ (all-right Granted (asks rule.L9) _ from_9))
+      each _ = refl
+
+  -- in a legal history all that packets in flight hold is in force
+  pub holding-legal : All (HoldsInForce start es) (flight start es)
+  holding-legal =
+      All-weaker (Of (HoldsNow start es)) (HoldsInForce start es)
+      (λ f h. record {
+        launch = h.launch;
+        packet_is = h.packet_is;
+        owner_is = h.owner_is;
+        rights = rights-now f.queue f.id f.packet h h.launch h.packet_is h.owner_is h.granted;
+        holds = subst (All (λ g. in_force start es h.launch.opening.client g.0 g.1 ≡ true)) (sym h.held_is) h.granted;
+      })
+      (flight start es) holding
+
+  -- a packet that is found in flight has a launch
+  pub flying-since : (queue : QueueId) (id : PacketId) (f : InFlight) → in_flight start es queue id ≡ Some f → (s : InFlightSince start es queue id) × (s.flying ≡ f)
+  flying-since queue id f found =
+      let named = named-found start es queue id f found in
+      let h : HoldsNow start es f.queue f.id f.packet = found-all (Of (HoldsNow start es)) (is_packet queue id) (flight start es) f holding found in
+      let l : (l : Launch start es queue id) × (l.packet ≡ f.packet) =
+      subst (λ i. (l : Launch start es queue i) × (l.packet ≡ f.packet)) named.1 (subst (λ q. (l : Launch start es q f.id) × (l.packet ≡ f.packet)) named.0 (h.launch, h.packet_is)) in
+      (record { flying = f; is_found = found; launch = l.0; packet_is = l.1 }, refl)

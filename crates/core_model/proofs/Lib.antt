@@ -5,8 +5,5 @@ pub mod Lists
 pub mod Launches
 pub mod Entered
 pub mod Flying
-pub mod Granted
-pub mod Changes
-pub mod Seeing
-pub mod Served
+pub mod Launching
 pub mod Holding

@@ -1,5 +1,5 @@
 -- What is found in a list.
-use Rattle.std.proofs.Common.{◌≡◌, List, [], ◌∷◌, refl, subst, Bool, true, false, Some, None}
+use Rattle.std.proofs.Common.{◌≡◌, List, [], ◌∷◌, ◌++◌, refl, subst, Bool, true, false, Some, None}
 use Rattle.std.specs.Prelude.{All, find, if◌then◌else◌}
 use Rattle.std.specs.List.{list_all}
 use Rattle.std.proofs.lemmas.Bool.{and_parts}
@@ -40,3 +40,12 @@ all-from_list_all test (x ∷ xs) all =
 
 pub all-one : {X : Type 0} (P : X → Type 0) (x : X) → P x → All P (x ∷ [])
 all-one P x is = All-cons P x [] is (All-nil P)
+
+-- what holds of each of two lists together holds of each of the first, and of each of the second
+pub all-left : {X : Type 0} (P : X → Type 0) (xs ys : List X) → All P (xs ++ ys) → All P xs
+all-left P [] ys all = All-nil P
+all-left P (x ∷ xs) ys all = All-cons P x xs (All-head P x (xs ++ ys) all) (all-left P xs ys (All-tail P x (xs ++ ys) all))
+
+pub all-right : {X : Type 0} (P : X → Type 0) (xs ys : List X) → All P (xs ++ ys) → All P ys
+all-right P [] ys all = all
+all-right P (x ∷ xs) ys all = all-right P xs ys (All-tail P x (xs ++ ys) all)

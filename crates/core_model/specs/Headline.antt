@@ -1,56 +1,115 @@
 -- What a legal history shows: for each thing that it tells, who asked for it and which grant in force allowed it.
-use Rattle.std.specs.Prelude.{ℕ, ℤ, pos, ◌≡◌, ◌⊎◌, true, false, List, [], ◌∷◌, ◌++◌, length, Option, Some, All}
+use Rattle.std.specs.Prelude.{ℕ, ℤ, pos, ◌≡◌, ◌<◌, ◌⊎◌, true, false, List, [], ◌∷◌, ◌++◌, length, Option, Some, None, All}
+use Rattle.std.specs.List.{Contains}
 use Rattle.aql_packet.specs.declared.ids.ClientId.{ClientId}
 use Rattle.aql_packet.specs.declared.ids.QueueId.{QueueId}
 use Rattle.aql_packet.specs.declared.ids.PacketId.{PacketId}
 use Rattle.aql_packet.specs.declared.ids.SignalHandle.{SignalHandle}
 use Rattle.aql_packet.specs.declared.packet.Packet.{Packet}
 use Rattle.aql_packet.specs.declared.packet.Packet.TheVariants.{Agent}
-use Rattle.aql_packet.specs.declared.packet.AgentDispatch.{AgentDispatch}
 use Rattle.aql_packet.specs.Layout.{Are64Bytes, PacketOf}
-use Rattle.aql_packet.specs.Reading.{packet_at, packet_type}
+use Rattle.aql_packet.specs.Reading.{barrier_bit, decoded, packet_at, packet_type}
 use Rattle.regions.specs.Memory.{is_within, region_of}
 use Rattle.signals.specs.declared.operation.SignalOp.{SignalOp}
 use Rattle.signals.specs.declared.operation.SignalOp.TheVariants.{Subtract}
 use Rattle.signals.specs.Values.{applied, value_of}
+use Rattle.policy.specs.declared.object.Object.{Object}
 use Rattle.policy.specs.declared.object.Object.TheVariants as object
 use Rattle.policy.specs.declared.rights.Right.{Right}
 use Rattle.policy.specs.declared.rights.Right.TheVariants as right
+use Rattle.policy.specs.declared.rights.Rights.{Rights}
+use Rattle.policy.specs.Rights.{has}
 use Rattle.queue_error.specs.declared.rule.Rule.{Rule}
 use Rattle.queue_error.specs.declared.error.QueueError.{QueueError}
 use Rattle.core_model.specs.declared.event.Event.{Event}
-use Rattle.core_model.specs.declared.event.Event.TheVariants.{Take, RunNext, Finish, HostWrite, ChangeSignal}
+use Rattle.core_model.specs.declared.event.Event.TheVariants.{Take, RunNext, Poll, Finish, Stop, HostWrite, ChangeSignal}
 use Rattle.core_model.specs.declared.outcome.Outcome.TheVariants as outcome
 use Rattle.core_model.specs.declared.outcome.Taken.TheVariants.{Launched}
 use Rattle.core_model.specs.declared.entry.Effect.{Effect}
 use Rattle.core_model.specs.declared.entry.Effect.TheVariants as effect
 use Rattle.core_model.specs.declared.entry.Entry.{Entry}
 use Rattle.core_model.specs.declared.flight.InFlight.{InFlight}
+use Rattle.core_model.specs.declared.need.AgentFunction.{AgentFunction}
+use Rattle.core_model.specs.declared.need.AgentFunction.TheVariants.{Fill, Copy, Add64}
+use Rattle.core_model.specs.declared.need.Range.{Range}
 use Rattle.core_model.specs.History.{Start, History}
 use Rattle.core_model.specs.Grants.{in_force}
 use Rattle.core_model.specs.Memory.{region_lengths, signals}
-use Rattle.core_model.specs.Queues.{Opening, owner}
-use Rattle.core_model.specs.declared.need.AgentFunction.{AgentFunction}
-use Rattle.core_model.specs.declared.need.AgentFunction.TheVariants.{Copy, Add64}
-use Rattle.core_model.specs.declared.need.Range.{Range}
-use Rattle.core_model.specs.Needs.{function_of}
-use Rattle.core_model.specs.LaunchRules.{holds_rule, launch_rules}
-use Rattle.core_model.specs.Work.{agent_writes}
+use Rattle.core_model.specs.Queues.{Opening, owner, is_down, next_id}
+use Rattle.core_model.specs.Flight.{flight, in_flight}
+use Rattle.core_model.specs.Needs.{function_of, result_range, dependencies, completion}
+use Rattle.core_model.specs.LaunchRules.{holds_rule, launch_rules, may_start, is_barrier}
+use Rattle.core_model.specs.Work.{groups_of}
 use Rattle.core_model.specs.Holds.{held}
-use Rattle.core_model.specs.Owed.{error_at, facts_of}
+use Rattle.core_model.specs.Owed.{error_at, facts_of, flight_of}
 use Rattle.core_model.specs.Legal.{IsLegal, entry_of}
+use Rattle.core_model.specs.Queries.{has_some}
 
 -- an entry of a history, right behind these others (own)
-pub record Stands (entries before : List Entry) (entry : Entry) : Type 0 where
+pub record IsEntryBehind (entries before : List Entry) (entry : Entry) : Type 0 where
   pub after : List Entry
   pub whole : entries ≡ before ++ entry ∷ after
 
--- a packet may be launched from these bytes, behind these entries: its queue was opened, the bytes lay it out, and every launch
--- rule holds by the grants in force at that moment (own)
-pub record MayBeLaunched (start : Start) (before : List Entry) (queue : QueueId) (bytes : List ℕ) (opening : Opening) (packet : Packet) : Type 0 where
-  pub opened : owner start before queue ≡ Some opening
+-- ---- the rights that a packet works with
+
+-- a client may reach a range: it lies whole in one region, on which this right is in force (own)
+pub record MayReach (start : Start) (entries : List Entry) (client : ClientId) (right : Right) (address size : ℕ) : Type 0 where
+  pub lies_whole : is_within (region_lengths start) address size ≡ true
+  pub granted : in_force start entries client (object.Region (record { 0 = region_of address })) right ≡ true
+
+-- a range is empty, or a client may reach it (own)
+abbrev pub MayReachRange : Start → List Entry → ClientId → Right → Range → Type 0
+MayReachRange start entries client right range = (range.size ≡ 0) ⊎ MayReach start entries client right range.address.0 range.size
+
+-- a signal is null, or a client has this right on it in force (own)
+abbrev pub MayUseSignal : Start → List Entry → ClientId → Right → SignalHandle → Type 0
+MayUseSignal start entries client right signal = (signal.0 ≡ 0) ⊎ (in_force start entries client (object.Signal signal) right ≡ true)
+
+-- the ranges that a function reads: COPY's source, and ADD64's number (own)
+abbrev pub ranges_read : Option AgentFunction → List Range
+ranges_read None = []
+ranges_read (Some (Fill target byte)) = []
+ranges_read (Some (Copy source target)) = source ∷ []
+ranges_read (Some (Add64 number addend)) = number ∷ []
+
+-- the ranges that a function writes (own)
+abbrev pub ranges_written : Option AgentFunction → List Range
+ranges_written None = []
+ranges_written (Some (Fill target byte)) = target ∷ []
+ranges_written (Some (Copy source target)) = target ∷ []
+ranges_written (Some (Add64 number addend)) = number ∷ []
+
+-- the ranges that a packet's work reads: of an agent dispatch those of its function (own)
+abbrev pub reads_of : Packet → List Range
+reads_of (Agent dispatch) = ranges_read (function_of dispatch)
+reads_of _ = []
+
+-- the ranges that a packet's work writes: of an agent dispatch those of its function, and its result (own)
+abbrev pub writes_of : Packet → List Range
+writes_of (Agent dispatch) = ranges_written (function_of dispatch) ++ result_range dispatch ∷ []
+writes_of _ = []
+
+-- each right that a packet works with is in force for the owner of its queue (own)
+pub record HasItsRights (start : Start) (entries : List Entry) (opening : Opening) (p : Packet) : Type 0 where
+  pub agent : in_force start entries opening.client (object.Agent opening.agent) right.Use ≡ true
+  pub waits : All (MayUseSignal start entries opening.client right.Wait) (dependencies p)
+  pub completes : MayUseSignal start entries opening.client right.Change (completion p)
+  pub reads : All (MayReachRange start entries opening.client right.Read) (reads_of p)
+  pub writes : All (MayReachRange start entries opening.client right.Write) (writes_of p)
+
+-- ---- launches
+
+-- a packet may be launched from these bytes, behind these entries: it is the next of a queue that is open, the bytes lay it out
+-- (PSA, Architected Queuing Language), it need not wait, every launch rule holds, and it has its rights by the grants in force (own)
+pub record MayBeLaunched (start : Start) (before : List Entry) (queue : QueueId) (id : PacketId) (bytes : List ℕ) (opening : Opening) (packet : Packet) : Type 0 where
+  pub owner_is : owner start before queue ≡ Some opening
+  pub launches_yet : is_down start before queue ≡ false
+  pub is_next : id.0 ≡ next_id start before queue
+  pub may_start : may_start (flight_of start before queue) (barrier_bit bytes) ≡ None
+  pub is_read : decoded bytes ≡ Some packet
   pub laid_out : Are64Bytes bytes → PacketOf bytes packet
-  pub every_rule : (rule : Rule) → holds_rule (facts_of start before opening) bytes packet rule ≡ true
+  pub every_rule : All (λ rule. holds_rule (facts_of start before opening) bytes packet rule ≡ true) launch_rules
+  pub rights : HasItsRights start before opening packet
 
 -- a packet's launch in a history (own)
 pub record Launch (start : Start) (entries : List Entry) (queue : QueueId) (id : PacketId) : Type 0 where
@@ -60,67 +119,20 @@ pub record Launch (start : Start) (entries : List Entry) (queue : QueueId) (id :
   -- who owns the queue
   pub opening : Opening
   pub packet : Packet
-  pub stands : Stands entries before (entry_of (Take queue id bytes) (outcome.Taken Launched) [])
-  pub allowed : MayBeLaunched start before queue bytes opening packet
+  pub place : IsEntryBehind entries before (entry_of (Take queue id bytes) (outcome.Taken Launched) [])
+  pub allowed : MayBeLaunched start before queue id bytes opening packet
 
--- a client may reach a range: it lies whole in one region, on which this right is in force (own)
-pub record MayReach (start : Start) (entries : List Entry) (client : ClientId) (right : Right) (address size : ℕ) : Type 0 where
-  pub whole : is_within (region_lengths start) address size ≡ true
-  pub granted : in_force start entries client (object.Region (record { 0 = region_of address })) right ≡ true
-
--- a client wrote these bytes itself, with WRITE in force just before (own)
-pub record ByHost (start : Start) (before : List Entry) (event : Event) (address : ℕ) (bytes : List ℕ) : Type 0 where
-  pub client : ClientId
-  pub asked : event ≡ HostWrite client (record { 0 = address }) bytes
-  pub allowed : MayReach start before client right.Write address (length bytes)
-
--- a group of a packet wrote them, with WRITE in force for the owner of its queue when it was launched (own)
-pub record ByGroup (start : Start) (before : List Entry) (event : Event) (address : ℕ) (bytes : List ℕ) : Type 0 where
-  pub queue : QueueId
-  pub id : PacketId
-  pub asked : event ≡ RunNext queue id
-  pub launch : Launch start before queue id
-  pub allowed : MayReach start launch.before launch.opening.client right.Write address (length bytes)
-
--- who wrote, and which grant allowed it (own)
-abbrev pub WriteIsGranted : Start → List Entry → Event → Effect → Type 0
-WriteIsGranted start before event (effect.Write address bytes) = ByHost start before event address.0 bytes ⊎ ByGroup start before event address.0 bytes
-WriteIsGranted start before event _ = Unit {0}
-
--- a client changed the signal itself, with CHANGE in force just before (own)
-pub record ByClient (start : Start) (before : List Entry) (event : Event) (signal : SignalHandle) (old new : ℤ) : Type 0 where
-  pub client : ClientId
-  pub operation : SignalOp
-  pub asked : event ≡ ChangeSignal client signal operation
-  pub result : new ≡ applied operation old
-  pub allowed : in_force start before client (object.Signal signal) right.Change ≡ true
-
--- a packet decremented its completion signal, with CHANGE in force for the owner of its queue when it was launched (own)
-pub record ByCompletion (start : Start) (before : List Entry) (event : Event) (signal : SignalHandle) (old new : ℤ) : Type 0 where
-  pub queue : QueueId
-  pub id : PacketId
-  pub asked : event ≡ Finish queue id
-  pub result : new ≡ applied (Subtract (pos 1)) old
-  pub launch : Launch start before queue id
-  pub allowed : in_force start launch.before launch.opening.client (object.Signal signal) right.Change ≡ true
-
--- who changed a signal, from the value that it had, and which grant allowed it (own)
-abbrev pub ChangeIsGranted : Start → List Entry → Event → Effect → Type 0
-ChangeIsGranted start before event (effect.Signal signal old new) =
-    (value_of (signals start before) signal.0 ≡ Some old)
-    × (ByClient start before event signal old new ⊎ ByCompletion start before event signal old new)
-ChangeIsGranted start before event _ = Unit {0}
-
--- each right that a packet in flight holds is in force for the owner of its queue (own)
-pub record HoldsInForce (start : Start) (entries : List Entry) (f : InFlight) : Type 0 where
-  pub opening : Opening
-  pub opened : owner start entries f.queue ≡ Some opening
-  pub in_force : All (λ h. in_force start entries opening.client h.0 h.1 ≡ true) (held start entries f.queue f.id)
+-- a packet in flight, with its launch (own)
+pub record InFlightSince (start : Start) (entries : List Entry) (queue : QueueId) (id : PacketId) : Type 0 where
+  pub flying : InFlight
+  pub is_found : in_flight start entries queue id ≡ Some flying
+  pub launch : Launch start entries queue id
+  pub packet_is : launch.packet ≡ flying.packet
 
 -- a packet was denied, by what was in force behind these entries: its error names it and the first launch rule that fails (own)
 pub record IsDenied (start : Start) (before : List Entry) (queue : QueueId) (id : PacketId) (bytes : List ℕ) (error : QueueError) : Type 0 where
   pub opening : Opening
-  pub opened : owner start before queue ≡ Some opening
+  pub owner_is : owner start before queue ≡ Some opening
   pub rule : Rule
   pub error_is : error ≡ error_at queue id.0 rule
   -- the rules before it hold, and it fails
@@ -130,27 +142,104 @@ pub record IsDenied (start : Start) (before : List Entry) (queue : QueueId) (id 
   pub hold : All (λ r. holds_rule (facts_of start before opening) bytes (packet_at (packet_type bytes) bytes) r ≡ true) earlier
   pub fails : holds_rule (facts_of start before opening) bytes (packet_at (packet_type bytes) bytes) rule ≡ false
 
--- the ranges that an agent's function reads (own)
-abbrev pub ranges_read : Option AgentFunction → List Range
-ranges_read (Some (Copy source target)) = source ∷ []
-ranges_read (Some (Add64 number addend)) = number ∷ []
-ranges_read _ = []
+-- ---- writes
 
--- a client may read a range, if it has any bytes (own)
-abbrev pub MayRead : Start → List Entry → ClientId → Range → Type 0
-MayRead start entries client range = (range.size ≡ 0) ⊎ MayReach start entries client right.Read range.address.0 range.size
+-- a client wrote these bytes itself, with WRITE in force just before (own)
+pub record IsHostWrite (start : Start) (before : List Entry) (event : Event) (address : ℕ) (bytes : List ℕ) : Type 0 where
+  pub client : ClientId
+  pub event_is : event ≡ HostWrite client (record { 0 = address }) bytes
+  pub allowed : MayReach start before client right.Write address (length bytes)
 
--- a group of a packet ran: what it wrote is its dispatch's, which reads only what its packet was launched with READ on (own)
-pub record ReadsGranted (start : Start) (before : List Entry) (queue : QueueId) (id : PacketId) (effects : List Effect) : Type 0 where
-  pub launch : Launch start before queue id
-  pub dispatch : AgentDispatch
-  pub packet_is : launch.packet ≡ Agent dispatch
-  pub wrote : effects ≡ agent_writes start before dispatch
-  pub granted : All (MayRead start launch.before launch.opening.client) (ranges_read (function_of dispatch))
+-- a group of a packet in flight wrote them, with WRITE in force for the owner of its queue when it was launched (own)
+pub record IsGroupWrite (start : Start) (before : List Entry) (event : Event) (address : ℕ) (bytes : List ℕ) : Type 0 where
+  pub queue : QueueId
+  pub id : PacketId
+  pub event_is : event ≡ RunNext queue id
+  pub packet : InFlightSince start before queue id
+  -- a group was left to run
+  pub is_left : packet.flying.groups_run < groups_of packet.flying.packet
+  pub allowed : MayReach start packet.launch.before packet.launch.opening.client right.Write address (length bytes)
+
+-- who wrote, at least one byte, and which grant allowed it (own)
+abbrev pub WriteIsGranted : Start → List Entry → Event → Effect → Type 0
+WriteIsGranted start before event (effect.Write address bytes) =
+    (0 < length bytes) × (IsHostWrite start before event address.0 bytes ⊎ IsGroupWrite start before event address.0 bytes)
+WriteIsGranted start before event _ = Unit {0}
+
+-- ---- changes of signals
+
+-- a client changed the signal itself, with CHANGE in force just before (own)
+pub record IsClientChange (start : Start) (before : List Entry) (event : Event) (signal : SignalHandle) (old new : ℤ) : Type 0 where
+  pub client : ClientId
+  pub operation : SignalOp
+  pub event_is : event ≡ ChangeSignal client signal operation
+  pub result : new ≡ applied operation old
+  pub allowed : in_force start before client (object.Signal signal) right.Change ≡ true
+
+-- a packet in flight decremented its completion signal (PSA, Signals), with CHANGE in force for the owner of its queue when it
+-- was launched (own)
+pub record IsCompletion (start : Start) (before : List Entry) (event : Event) (signal : SignalHandle) (old new : ℤ) : Type 0 where
+  pub queue : QueueId
+  pub id : PacketId
+  pub event_is : event ≡ Finish queue id
+  pub result : new ≡ applied (Subtract (pos 1)) old
+  pub packet : InFlightSince start before queue id
+  pub signal_is : completion packet.flying.packet ≡ signal
+  pub allowed : in_force start packet.launch.before packet.launch.opening.client (object.Signal signal) right.Change ≡ true
+
+-- who changed a signal, from the value that it had, and which grant allowed it (own)
+abbrev pub ChangeIsGranted : Start → List Entry → Event → Effect → Type 0
+ChangeIsGranted start before event (effect.Signal signal old new) =
+    (value_of (signals start before) signal.0 ≡ Some old)
+    × (IsClientChange start before event signal old new ⊎ IsCompletion start before event signal old new)
+ChangeIsGranted start before event _ = Unit {0}
+
+-- ---- releases
+
+-- what releases this packet: its completion, its fault, or the stop of its queue, if it is a barrier packet (own)
+abbrev pub Releases : Event → InFlight → Type 0
+Releases (Finish queue id) f = (queue ≡ f.queue) × (id ≡ f.id)
+Releases (RunNext queue id) f = (queue ≡ f.queue) × (id ≡ f.id)
+Releases (Poll queue id) f = (queue ≡ f.queue) × (id ≡ f.id)
+Releases (Stop queue) f = (queue.0 ≡ f.queue.0) × (is_barrier f.packet ≡ true)
+Releases _ f = ⊥
+
+-- a packet is released that is in flight, by what releases it (own)
+abbrev pub ReleaseIsDue : Start → List Entry → Event → Effect → Type 0
+ReleaseIsDue start before event (effect.Release queue id) =
+    (f : InFlight) × Contains (flight start before) f × (f.queue ≡ queue) × (f.id ≡ id) × Releases event f
+ReleaseIsDue start before event _ = Unit {0}
+
+-- the packet that an event concerns, if it concerns one (own)
+abbrev pub packet_named : Event → Option (QueueId × PacketId)
+packet_named (Take queue id bytes) = Some (queue, id)
+packet_named (RunNext queue id) = Some (queue, id)
+packet_named (Poll queue id) = Some (queue, id)
+packet_named _ = None
+
+-- ---- rights held
+
+-- a packet in flight has its rights in force, and so is all else that it holds, for the owner of its queue (own)
+pub record HoldsInForce (start : Start) (entries : List Entry) (f : InFlight) : Type 0 where
+  pub launch : Launch start entries f.queue f.id
+  pub packet_is : launch.packet ≡ f.packet
+  pub owner_is : owner start entries f.queue ≡ Some launch.opening
+  pub rights : HasItsRights start entries launch.opening f.packet
+  pub holds : All (λ h. in_force start entries launch.opening.client h.0 h.1 ≡ true) (held start entries f.queue f.id)
+
+-- ---- listings
+
+-- a row of a listing: an object on which the client has a right in force, with just those rights (own)
+pub record IsListed (start : Start) (entries : List Entry) (client : ClientId) (row : Object × Rights) : Type 0 where
+  pub some : has_some start entries client row.0 ≡ true
+  pub rights : (right : Right) → has row.1 right ≡ in_force start entries client row.0 right
+
+-- ---- histories
 
 -- a history goes on as another: from the same start, with entries behind its own, and legal (own)
 pub record GoesOn (old new : History) : Type 0 where
   pub start_is : new.start ≡ old.start
+  pub capacity_is : new.capacity ≡ old.capacity
   pub more : List Entry
   pub entries_are : new.entries ≡ old.entries ++ more
   pub legal : IsLegal new.start new.entries
