@@ -243,7 +243,7 @@ module _ (start : Start) (es : List Entry) (e : Entry) where
     owner_is = owner-more start es e queue h.launch.opening h.owner_is;
     held_is = held_from-kept start [] es (e ∷ []) queue id (was-launched queue id h.launch.opening p h.held_is) ∙ h.held_is;
     granted = All-weaker (λ g. in_force_after h.launch.opening.client g.0 g.1 (in_force start es h.launch.opening.client g.0 g.1) e.event ≡ true) (λ g. in_force start later h.launch.opening.client g.0 g.1 ≡ true)
-    (λ g is. in_force-more start es e h.launch.opening.client g.0 g.1 ∙ is) (held_at_launch h.launch.opening p) stays;
+        (λ g is. in_force-more start es e h.launch.opening.client g.0 g.1 ∙ is) (held_at_launch h.launch.opening p) stays;
   }
 
   -- what an event does to rights in force that are held by none that it names
@@ -293,7 +293,7 @@ module _ (start : Start) (es : List Entry) (e : Entry) where
   launched legal owing queue id bytes p event_is outcome_is is =
       let granted = launch-granted start es queue id bytes e.effects (rw (event_is, outcome_is) at owing) in
       let opening = granted.opening in
-      let packet_is : granted.packet ≡ p = let same : Some granted.packet ≡ Some p = sym granted.allowed.is_read ∙ is in cc in
+      let packet_is : granted.packet ≡ p = one-packet (decoded bytes) granted.packet p granted.allowed.is_read is in
       let entry_is : e ≡ entry_of (Take queue id bytes) (outcome.Taken Launched) [] = λ i. record { event = event_is i; outcome = outcome_is i; effects = granted.effects_are i } in
       let none : was_launched es queue id ≡ false = by_test (was_launched es queue id) refl granted.allowed.is_next in
       let now : launches queue id e.event e.outcome ≡ true = rw (event_is, outcome_is) (and_from _ _ (eq-eqb queue.0 queue.0 refl) (eq-eqb id.0 id.0 refl)) in
@@ -306,10 +306,13 @@ module _ (start : Start) (es : List Entry) (e : Entry) where
         owner_is = owner-more start es e queue opening granted.allowed.owner_is;
         held_is = ◌∙◌ {b = held_if start [] (owner start es queue) (decoded (bytes_taken e.event))} (held_from-launch start [] es e queue id none now) (λ i. held_if start [] (granted.allowed.owner_is i) (bytes_are i));
         granted = subst (λ q. All (λ h. in_force start later opening.client h.0 h.1 ≡ true) (held_at_launch opening q)) packet_is
-        (All-weaker (λ h. in_force start es opening.client h.0 h.1 ≡ true) (λ h. in_force start later opening.client h.0 h.1 ≡ true)
-        (λ h here. in_force-more start es e opening.client h.0 h.1 ∙ ap (in_force_after opening.client h.0 h.1 (in_force start es opening.client h.0 h.1)) event_is ∙ here) (held_at_launch opening granted.packet) met);
+            (All-weaker (λ h. in_force start es opening.client h.0 h.1 ≡ true) (λ h. in_force start later opening.client h.0 h.1 ≡ true)
+            (λ h here. in_force-more start es e opening.client h.0 h.1 ∙ ap (in_force_after opening.client h.0 h.1 (in_force start es opening.client h.0 h.1)) event_is ∙ here) (held_at_launch opening granted.packet) met);
       }
     where
+      one-packet : (o : Option Packet) (p q : Packet) → o ≡ Some p → o ≡ Some q → p ≡ q
+      one-packet o p q one other = let same : Some p ≡ Some q = sym one ∙ other in cc
+
       by_test : (b : Bool) → was_launched es queue id ≡ b → id.0 ≡ next_id start es queue → was_launched es queue id ≡ false
       by_test true was at = let below : id.0 < next_id start es queue = AreBelowNext-legal start es legal queue id was in absurd (omega arith)
       by_test false was at = was

@@ -1,6 +1,6 @@
 -- What is found in a list.
 use Rattle.std.proofs.Common.{◌≡◌, List, [], ◌∷◌, ◌++◌, refl, subst, Bool, true, false, Some, None}
-use Rattle.std.specs.Prelude.{All, find, if◌then◌else◌}
+use Rattle.std.specs.Prelude.{All, filter, find, if◌then◌else◌}
 use Rattle.std.specs.List.{list_all}
 use Rattle.std.proofs.lemmas.Bool.{and_parts}
 use Rattle.std.proofs.lemmas.List.Elements.{All-nil, All-cons, All-head, All-tail}
@@ -49,3 +49,12 @@ all-left P (x ∷ xs) ys all = All-cons P x xs (All-head P x (xs ++ ys) all) (al
 pub all-right : {X : Type 0} (P : X → Type 0) (xs ys : List X) → All P (xs ++ ys) → All P ys
 all-right P [] ys all = all
 all-right P (x ∷ xs) ys all = all-right P xs ys (All-tail P x (xs ++ ys) all)
+
+-- what is left of a list by a test passes it
+pub filter-passes : {X : Type 0} (test : X → Bool) (xs : List X) → All (λ x. test x ≡ true) (filter test xs)
+filter-passes test [] = All-nil (λ x. test x ≡ true)
+filter-passes test (x ∷ xs) = by_test (test x) refl (filter-passes test xs)
+  where
+    by_test : (b : Bool) → test x ≡ b → All (λ y. test y ≡ true) (filter test xs) → All (λ y. test y ≡ true) (if b then x ∷ filter test xs else filter test xs)
+    by_test true is rest = All-cons (λ y. test y ≡ true) x (filter test xs) is rest
+    by_test false is rest = rest

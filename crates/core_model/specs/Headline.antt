@@ -1,6 +1,7 @@
 -- What a legal history shows: for each thing that it tells, who asked for it and which grant in force allowed it.
 use Rattle.std.specs.Prelude.{ℕ, ℤ, pos, ◌≡◌, ◌<◌, ◌⊎◌, true, false, List, [], ◌∷◌, ◌++◌, length, Option, Some, None, All}
 use Rattle.std.specs.List.{Contains}
+use Rattle.aql_packet.specs.declared.ids.AgentHandle.{AgentHandle}
 use Rattle.aql_packet.specs.declared.ids.ClientId.{ClientId}
 use Rattle.aql_packet.specs.declared.ids.QueueId.{QueueId}
 use Rattle.aql_packet.specs.declared.ids.PacketId.{PacketId}
@@ -226,6 +227,16 @@ pub record HoldsInForce (start : Start) (entries : List Entry) (f : InFlight) : 
   pub owner_is : owner start entries f.queue ≡ Some launch.opening
   pub rights : HasItsRights start entries launch.opening f.packet
   pub holds : All (λ h. in_force start entries launch.opening.client h.0 h.1 ≡ true) (held start entries f.queue f.id)
+
+-- ---- queues
+
+-- an entry behind these opens a queue that wasn't there, for a client that may use the agent, whose it is from then on (own)
+pub record IsOpened (start : Start) (before : List Entry) (entry : Entry) (client : ClientId) (agent : AgentHandle) : Type 0 where
+  pub queue : QueueId
+  pub outcome_is : entry.outcome ≡ outcome.Opened queue
+  pub granted : in_force start before client (object.Agent agent) right.Use ≡ true
+  pub is_new : owner start before queue ≡ None
+  pub owner_is : owner start (before ++ entry ∷ []) queue ≡ Some (record { client = client; agent = agent })
 
 -- ---- listings
 

@@ -1,31 +1,199 @@
 //! What a legal history shows: for each thing that it tells, who asked for it, and which grant in
-//! force allowed it.
+//! force allowed it; and what clients are told.
 
-ghost use Rattle.std.specs.Prelude.{ℕ, List, [], ◌≡◌, All};
+ghost use Rattle.std.specs.Prelude.{ℕ, ℤ, List, [], ◌∷◌, ◌++◌, ◌≡◌, ◌⊎◌, All, Option, Some, Result, Ok, Err, true, length};
+ghost use Rattle.aql_packet.specs.declared.ids.Address.{Address};
+ghost use Rattle.aql_packet.specs.declared.ids.AgentHandle.{AgentHandle};
+ghost use Rattle.aql_packet.specs.declared.ids.ClientId.{ClientId};
 ghost use Rattle.aql_packet.specs.declared.ids.QueueId.{QueueId};
 ghost use Rattle.aql_packet.specs.declared.ids.PacketId.{PacketId};
+ghost use Rattle.aql_packet.specs.declared.ids.SignalHandle.{SignalHandle};
+ghost use Rattle.aql_packet.specs.declared.packet.AgentDispatch.{AgentDispatch};
 ghost use Rattle.aql_packet.specs.declared.packet.Packet.{Packet};
-ghost use Rattle.core_model.specs.declared.event.Event.TheVariants.{Take};
-ghost use Rattle.core_model.specs.declared.outcome.Outcome.TheVariants as outcome;
-ghost use Rattle.core_model.specs.declared.outcome.Taken.TheVariants as taken;
-ghost use Rattle.core_model.specs.declared.entry.Entry.{Entry};
+ghost use Rattle.aql_packet.specs.declared.packet.Packet.TheVariants as packet;
+ghost use Rattle.signals.specs.Values.{applied, meets, value_of};
+ghost use Rattle.signals.specs.declared.operation.Condition.{Condition};
+ghost use Rattle.signals.specs.declared.operation.SignalOp.{SignalOp};
+ghost use Rattle.policy.specs.Policy.{allows};
+ghost use Rattle.policy.specs.declared.object.Object.{Object};
+ghost use Rattle.policy.specs.declared.object.Object.TheVariants as object;
+ghost use Rattle.policy.specs.declared.rights.Right.TheVariants as right;
+ghost use Rattle.policy.specs.declared.rights.Rights.{Rights};
+ghost use Rattle.queue_error.specs.declared.error.QueueError.{QueueError};
+ghost use Rattle.core_model.specs.declared.answer.Answer.{Answer};
+ghost use Rattle.core_model.specs.declared.answer.Answer.TheVariants as answer;
 ghost use Rattle.core_model.specs.declared.entry.Effect.{Effect};
-ghost use Rattle.core_model.specs.History.{Start};
-ghost use Rattle.core_model.specs.Flight.{flight};
-ghost use Rattle.core_model.specs.Queues.{Opening};
-ghost use Rattle.core_model.specs.Legal.{IsLegal, entry_of};
-ghost use Rattle.core_model.specs.Headline.{HoldsInForce, IsEntryBehind, MayBeLaunched};
+ghost use Rattle.core_model.specs.declared.entry.Effect.TheVariants as effect;
+ghost use Rattle.core_model.specs.declared.entry.Entry.{Entry};
+ghost use Rattle.core_model.specs.declared.event.Event.{Event};
+ghost use Rattle.core_model.specs.declared.event.Event.TheVariants.{ChangeSignal, Grant, HostWrite, OpenQueue, RunNext, Take};
+ghost use Rattle.core_model.specs.declared.event.Query.TheVariants as query;
+ghost use Rattle.core_model.specs.declared.event.Request.{Request};
+ghost use Rattle.core_model.specs.declared.flight.InFlight.{InFlight};
+ghost use Rattle.core_model.specs.declared.outcome.Outcome.{Outcome};
+ghost use Rattle.core_model.specs.declared.outcome.Outcome.TheVariants as outcome;
+ghost use Rattle.core_model.specs.declared.outcome.Polled.TheVariants as polled;
+ghost use Rattle.core_model.specs.declared.outcome.Taken.TheVariants as taken;
+ghost use Rattle.core_model.specs.declared.outcome.Worked.TheVariants as worked;
+ghost use Rattle.core_model.specs.declared.refusal.Refusal.{Refusal};
+ghost use Rattle.core_model.specs.History.{Start, History};
+ghost use Rattle.core_model.specs.Grants.{in_force};
+ghost use Rattle.core_model.specs.Memory.{memory_from, signals};
+ghost use Rattle.core_model.specs.Queues.{Opening, error_of, next_id};
+ghost use Rattle.core_model.specs.Flight.{flight, in_flight};
+ghost use Rattle.core_model.specs.Work.{agent_writes};
+ghost use Rattle.core_model.specs.Owed.{owed_group};
+ghost use Rattle.core_model.specs.Legal.{AreReplies, IsLegal, IsServed, MeetsOrLacks, Replying, entry_of};
+ghost use Rattle.core_model.specs.Queries.{replied};
+ghost use Rattle.core_model.specs.Headline.{ChangeIsGranted, GoesOn, HoldsInForce, InFlightSince, IsDenied, IsEntryBehind, IsListed, IsOpened, Launch, MayBeLaunched, MayReach, MayReachRange, ReleaseIsDue, WriteIsGranted, packet_named, reads_of};
 
-/// A launched packet is the next of a queue that is open, is laid out by its bytes, and meets every
-/// launch rule by the grants in force just before; its launch has no effect.
+/// A launched packet is the next of a queue that is open and need not wait, is laid out by its bytes, and
+/// meets every launch rule by the grants in force just before; its launch has no effect.
 pub fn each_launch_was_granted()
     ensures { (start : Start) (entries before : List Entry) (queue : QueueId) (id : PacketId) (bytes : List ℕ) (effects : List Effect) →
         IsLegal start entries → IsEntryBehind entries before (entry_of (Take queue id bytes) (outcome.Taken taken.Launched) effects) →
         (opening : Opening) × (packet : Packet) × MayBeLaunched start before queue id bytes opening packet × (effects ≡ []) }
 {}
 
+/// A packet is launched or denied under the id that is its queue's next, and so launched once at most.
+pub fn each_packet_is_taken_in_turn()
+    ensures turn { (start : Start) (entries before : List Entry) (queue : QueueId) (id : PacketId) (bytes : List ℕ) (told : Outcome) (effects : List Effect) →
+        IsLegal start entries → IsEntryBehind entries before (entry_of (Take queue id bytes) told effects) → id.0 ≡ next_id start before queue }
+    ensures once { (start : Start) (entries : List Entry) (queue : QueueId) (id : PacketId) →
+        IsLegal start entries → (one other : Launch start entries queue id) → (one.before ≡ other.before) × (one.packet ≡ other.packet) }
+{}
+
+/// A denied packet's error names the packet and the first launch rule that fails by the grants in force
+/// just before; a denial has no effect.
+pub fn denials_name_the_first_rule()
+    ensures { (start : Start) (entries before : List Entry) (queue : QueueId) (id : PacketId) (bytes : List ℕ) (error : QueueError) (effects : List Effect) →
+        IsLegal start entries → IsEntryBehind entries before (entry_of (Take queue id bytes) (outcome.Taken (taken.Denied error)) effects) →
+        IsDenied start before queue id bytes error × (effects ≡ []) }
+{}
+
+/// Each write has bytes, and is a client's own, with WRITE in force on the region in which it lies
+/// whole; or a group's, of a packet in flight that was launched with WRITE in force there for the
+/// owner of its queue.
+pub fn each_write_was_granted()
+    ensures { (start : Start) (entries before : List Entry) (entry : Entry) →
+        IsLegal start entries → IsEntryBehind entries before entry → All (WriteIsGranted start before entry.event) entry.effects }
+{}
+
+/// Each change of a signal is a client's own, with CHANGE in force; or the decrement of the completion
+/// signal of a packet in flight that was launched with CHANGE in force for the owner of its queue.
+pub fn each_signal_change_was_granted()
+    ensures { (start : Start) (entries before : List Entry) (entry : Entry) →
+        IsLegal start entries → IsEntryBehind entries before entry → All (ChangeIsGranted start before entry.event) entry.effects }
+{}
+
+/// Each packet that is released is in flight, and is the one that completes, faults, or is the barrier
+/// packet of a queue that is stopped.
+pub fn each_release_is_due()
+    ensures { (start : Start) (entries before : List Entry) (entry : Entry) →
+        IsLegal start entries → IsEntryBehind entries before entry → All (ReleaseIsDue start before entry.event) entry.effects }
+{}
+
+/// A packet whose group runs is in flight, and was launched with READ in force, for the owner of its
+/// queue, on all that its work reads; what a group of an agent dispatch changes is what it writes.
+pub fn each_read_of_a_group_was_granted()
+    ensures reads { (start : Start) (entries before : List Entry) (queue : QueueId) (id : PacketId) (told : Outcome) (effects : List Effect) →
+        IsLegal start entries → IsEntryBehind entries before (entry_of (RunNext queue id) told effects) →
+        (s : InFlightSince start before queue id) × All (MayReachRange start s.launch.before s.launch.opening.client right.Read) (reads_of s.flying.packet) }
+    ensures agents { (start : Start) (entries before : List Entry) (queue : QueueId) (id : PacketId) (told : Outcome) (effects : List Effect) (flying : InFlight) (dispatch : AgentDispatch) →
+        IsLegal start entries → IsEntryBehind entries before (entry_of (RunNext queue id) told effects) →
+        in_flight start before queue id ≡ Some flying → flying.packet ≡ packet.Agent dispatch → effects ≡ agent_writes start before dispatch }
+{}
+
+/// What a group is owed depends on memory by the ranges that its packet's work reads alone.
+pub fn groups_depend_on_what_they_read()
+    ensures { (start : Start) (one other : List Entry) (flying : InFlight) →
+        All (λ range. memory_from start one range.address.0 range.size ≡ memory_from start other range.address.0 range.size) (reads_of flying.packet) →
+        owed_group start one flying ≡ owed_group start other flying }
+{}
+
+/// An error names the packet that its event concerns; a packet that faults is released, and its fault
+/// has no other effect.
+pub fn faults_release_alone()
+    ensures names { (start : Start) (entries before : List Entry) (entry : Entry) (error : QueueError) →
+        IsLegal start entries → IsEntryBehind entries before entry → error_of entry.outcome ≡ Some error →
+        packet_named entry.event ≡ Some (error.queue, error.packet) }
+    ensures releases { (start : Start) (entries before : List Entry) (entry : Entry) (error : QueueError) →
+        IsLegal start entries → IsEntryBehind entries before entry →
+        (entry.outcome ≡ outcome.Worked (worked.Faulted error)) ⊎ (entry.outcome ≡ outcome.Polled (polled.Failed error)) →
+        entry.effects ≡ effect.Release error.queue error.packet ∷ [] }
+{}
+
 /// A packet in flight was launched, and its rights, with all that it holds, are in force for the
 /// owner of its queue.
 pub fn held_rights_are_in_force()
     ensures { (start : Start) (entries : List Entry) → IsLegal start entries → All (HoldsInForce start entries) (flight start entries) }
+{}
+
+/// A grant gives what the policy allows the client, and has no effect.
+pub fn each_grant_is_allowed()
+    ensures { (start : Start) (entries before : List Entry) (client : ClientId) (on : Object) (rights : Rights) (told : Outcome) (effects : List Effect) →
+        IsLegal start entries → IsEntryBehind entries before (entry_of (Grant client on rights) told effects) →
+        (allows start.policy client on rights ≡ true) × (effects ≡ []) }
+{}
+
+/// A queue is opened for a client that may use the agent, and is a new one, which is the client's from
+/// then on.
+pub fn each_queue_is_its_openers()
+    ensures { (start : Start) (entries before : List Entry) (client : ClientId) (agent : AgentHandle) (size : ℕ) (told : Outcome) (effects : List Effect) →
+        IsLegal start entries → IsEntryBehind entries before (entry_of (OpenQueue client agent size) told effects) →
+        IsOpened start before (entry_of (OpenQueue client agent size) told effects) client agent }
+{}
+
+/// A client's write is made only with WRITE in force, and then whole; its change of a signal only with
+/// CHANGE in force, and then as the operation says.
+pub fn each_host_call_was_granted()
+    ensures write { (start : Start) (entries before : List Entry) (client : ClientId) (address : Address) (bytes : List ℕ) (told : Outcome) (effects : List Effect) →
+        IsLegal start entries → IsEntryBehind entries before (entry_of (HostWrite client address bytes) told effects) →
+        MayReach start before client right.Write address.0 (length bytes) × (effects ≡ effect.Write address bytes ∷ []) }
+    ensures change { (start : Start) (entries before : List Entry) (client : ClientId) (signal : SignalHandle) (operation : SignalOp) (told : Outcome) (effects : List Effect) →
+        IsLegal start entries → IsEntryBehind entries before (entry_of (ChangeSignal client signal operation) told effects) →
+        (in_force start before client (object.Signal signal) right.Change ≡ true) × (old : ℤ) × (value_of (signals start before) signal.0 ≡ Some old)
+        × (effects ≡ effect.Signal signal old (applied operation old) ∷ []) }
+{}
+
+/// A client that is told bytes of memory is told those of the range, which lies whole in a region on
+/// which READ is in force for it.
+pub fn each_read_of_a_client_is_granted()
+    ensures { (start : Start) (entries : List Entry) (client : ClientId) (address : Address) (size : ℕ) (told : Answer) →
+        replied start entries (query.HostRead client address size) ≡ Ok told →
+        MayReach start entries client right.Read address.0 size × (told ≡ answer.Bytes (memory_from start entries address.0 size)) }
+{}
+
+/// A client that is told a signal's value, or how it compares, has WAIT in force on it.
+pub fn each_look_at_a_signal_is_granted()
+    ensures load { (start : Start) (entries : List Entry) (client : ClientId) (signal : SignalHandle) (told : Answer) →
+        replied start entries (query.LoadSignal client signal) ≡ Ok told →
+        (in_force start entries client (object.Signal signal) right.Wait ≡ true) × (v : ℤ) × (value_of (signals start entries) signal.0 ≡ Some v) × (told ≡ answer.Value v) }
+    ensures test { (start : Start) (entries : List Entry) (client : ClientId) (signal : SignalHandle) (condition : Condition) (value : ℤ) (told : Answer) →
+        replied start entries (query.TestSignal client signal condition value) ≡ Ok told →
+        (in_force start entries client (object.Signal signal) right.Wait ≡ true) × (v : ℤ) × (value_of (signals start entries) signal.0 ≡ Some v)
+        × (told ≡ answer.Test (meets condition v value)) }
+{}
+
+/// Each object that a client is listed is one on which it has a right in force, and it is told just
+/// those.
+pub fn each_listed_right_is_in_force()
+    ensures { (start : Start) (entries : List Entry) (client : ClientId) (told : Answer) →
+        replied start entries (query.List client) ≡ Ok told →
+        (rows : List (Object × Rights)) × (told ≡ answer.Listing rows) × All (IsListed start entries client) rows }
+{}
+
+/// What is refused, an event or a query, for whatever cause, leaves the history as it was.
+pub fn refusals_change_nothing()
+    ensures { (old new : History) (asked : Request) (why : Refusal) → IsServed old asked (Err why) new → new ≡ old }
+{}
+
+/// What is served, a call or any list of requests in turn, leaves a legal history legal, with its
+/// entries so far as they were; and each beginning of a legal history is legal.
+pub fn serving_keeps_a_history_legal()
+    ensures call { (old new : History) (event : Event) (reply : Result Outcome Refusal) →
+        IsLegal old.start old.entries → MeetsOrLacks event old new reply → GoesOn old new }
+    ensures list { (old new : History) (requests : List Request) (replies : List Replying) →
+        IsLegal old.start old.entries → AreReplies old requests replies new → GoesOn old new }
+    ensures beginnings { (start : Start) (before more : List Entry) → IsLegal start (before ++ more) → IsLegal start before }
 {}

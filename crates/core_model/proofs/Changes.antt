@@ -1,0 +1,315 @@
+-- The changes of each entry of a legal history, one by one: who asked for them, and which grants allowed them.
+use Rattle.std.proofs.Common.{◌≡◌, ◌<◌, ◌≤◌, ℕ, ℤ, ◌+◌, ◌^◌, pos, List, [], ◌∷◌, ◌++◌, length, refl, sym, ◌∙◌, ap, subst, Bool, true, false, Option, Some, None, ◌⊎◌, inl, inr, arith, zero, suc}
+use Rattle.std.specs.Prelude.{All, find, filter, replicate, ◌%◌, ◌&&◌, ◌==◌, if◌then◌else◌}
+use Rattle.std.specs.List.{Contains}
+use Rattle.std.specs.Int.{w64, to_le_bytes, from_le_bytes}
+use Rattle.std.proofs.lemmas.Bool.{and_parts, eqb-true}
+use Rattle.std.proofs.lemmas.List.{length-replicate}
+use Rattle.std.proofs.lemmas.List.Elements.{All-nil, All-head, All-append, All-filter, All-contains_itself}
+use Rattle.std.proofs.lemmas.List.FromFn.{length-map-range_with_len}
+use Rattle.aql_packet.specs.declared.ids.Address.{Address}
+use Rattle.aql_packet.specs.declared.ids.ClientId.{ClientId}
+use Rattle.aql_packet.specs.declared.ids.QueueId.{QueueId}
+use Rattle.aql_packet.specs.declared.ids.PacketId.{PacketId}
+use Rattle.aql_packet.specs.declared.ids.SignalHandle.{SignalHandle}
+use Rattle.aql_packet.specs.declared.packet.AgentDispatch.{AgentDispatch}
+use Rattle.aql_packet.specs.declared.packet.Packet.{Packet}
+use Rattle.aql_packet.specs.declared.packet.Packet.TheVariants as packet
+use Rattle.policy.specs.declared.object.Object.TheVariants as object
+use Rattle.policy.specs.declared.rights.Right.TheVariants as right
+use Rattle.signals.specs.Values.{applied, value_of}
+use Rattle.signals.specs.declared.operation.SignalOp.{SignalOp}
+use Rattle.signals.specs.declared.operation.SignalOp.TheVariants.{Subtract}
+use Rattle.queue_error.specs.declared.error.QueueError.{QueueError}
+use Rattle.queue_error.specs.declared.rule.Rule.{Rule}
+use Rattle.queue_error.specs.declared.rule.Rule.TheVariants.{B1}
+use Rattle.core_model.specs.declared.event.Event.{Event}
+use Rattle.core_model.specs.declared.event.Event.TheVariants.{Grant, Revoke, OpenQueue, Stop, Take, RunNext, Poll, Finish, HostWrite, ChangeSignal}
+use Rattle.core_model.specs.declared.outcome.Outcome.{Outcome}
+use Rattle.core_model.specs.declared.outcome.Outcome.TheVariants as outcome
+use Rattle.core_model.specs.declared.outcome.Taken.TheVariants as taken
+use Rattle.core_model.specs.declared.outcome.Worked.TheVariants as worked
+use Rattle.core_model.specs.declared.outcome.Polled.TheVariants as polled_as
+use Rattle.core_model.specs.declared.entry.Effect.{Effect}
+use Rattle.core_model.specs.declared.entry.Effect.TheVariants as effect
+use Rattle.core_model.specs.declared.entry.Entry.{Entry}
+use Rattle.core_model.specs.declared.flight.InFlight.{InFlight}
+use Rattle.core_model.specs.declared.need.AgentFunction.{AgentFunction}
+use Rattle.core_model.specs.declared.need.AgentFunction.TheVariants.{Fill, Copy, Add64}
+use Rattle.core_model.specs.declared.need.Range.{Range}
+use Rattle.core_model.specs.declared.need.TheConstants.{FILL, COPY, ADD64}
+use Rattle.core_model.specs.History.{Start}
+use Rattle.core_model.specs.Grants.{in_force}
+use Rattle.core_model.specs.Memory.{memory_at, memory_from, signals}
+use Rattle.core_model.specs.Queues.{error_of}
+use Rattle.core_model.specs.Flight.{flight, in_flight, is_packet}
+use Rattle.core_model.specs.Needs.{argument, bytes_at, completion, function_of, result_range}
+use Rattle.core_model.specs.LaunchRules.{is_barrier}
+use Rattle.core_model.specs.Work.{groups_of, number_in_memory, write_of, function_writes, function_result, result_writes, agent_writes}
+use Rattle.core_model.specs.Owed.{owed, enters, error_at, completed, flight_of, release_of, stop_releases}
+use Rattle.core_model.specs.Legal.{IsLegal}
+use Rattle.core_model.specs.Headline.{ChangeIsGranted, InFlightSince, MayReach, MayReachRange, MayUseSignal, ReleaseIsDue, Releases, WriteIsGranted, packet_named, ranges_written, writes_of}
+use Rattle.core_model.proofs.Lists.{all-left, all-one, all-right, filter-passes, found-all, found-passes}
+use Rattle.core_model.proofs.Holding.{flying-since}
+use Rattle.core_model.proofs.Entered.{named-found, IsQuiet, HasFailed, grant-effects, revoke-effects, open-effects, stop-effects, take-decided, run-entered, poll-entered, finish-entered, write-entered, change-entered}
+
+-- ---- the ranges that a function names
+
+pub copy-size : (d : AgentDispatch) (source target : Range) → function_of d ≡ Some (Copy source target) → source.size ≡ target.size
+copy-size d source target same = by_tests (d.function == FILL) (d.function == COPY) (d.function == ADD64) same
+  where
+    by_tests : (fill copy add : Bool) → (if fill then Some (Fill (bytes_at (argument d 0) (argument d 1)) (argument d 2 % 256)) else if copy then Some (Copy (bytes_at (argument d 0) (argument d 2)) (bytes_at (argument d 1) (argument d 2))) else if add then Some (Add64 (bytes_at (argument d 0) 8) (argument d 1)) else None) ≡ Some (Copy source target) → source.size ≡ target.size
+    by_tests true copy add same = absurd cc
+    by_tests false true add same =
+        let from : bytes_at (argument d 0) (argument d 2) ≡ source = cc in
+        let to : bytes_at (argument d 1) (argument d 2) ≡ target = cc in
+        ap (λ r. r.size) (sym from) ∙ ap (λ r. r.size) to
+    by_tests false false true same = absurd cc
+    by_tests false false false same = absurd cc
+
+pub add-size : (d : AgentDispatch) (number : Range) (addend : ℕ) → function_of d ≡ Some (Add64 number addend) → number.size ≡ 8
+add-size d number addend same = by_tests (d.function == FILL) (d.function == COPY) (d.function == ADD64) same
+  where
+    by_tests : (fill copy add : Bool) → (if fill then Some (Fill (bytes_at (argument d 0) (argument d 1)) (argument d 2 % 256)) else if copy then Some (Copy (bytes_at (argument d 0) (argument d 2)) (bytes_at (argument d 1) (argument d 2))) else if add then Some (Add64 (bytes_at (argument d 0) 8) (argument d 1)) else None) ≡ Some (Add64 number addend) → number.size ≡ 8
+    by_tests true copy add same = absurd cc
+    by_tests false true add same = absurd cc
+    by_tests false false true same =
+        let is : bytes_at (argument d 0) 8 ≡ number = cc in
+        ap (λ r. r.size) (sym is)
+    by_tests false false false same = absurd cc
+
+-- ---- what a group writes lies where its packet may write
+
+module _ (P : Effect → Type 0) (May : Range → Type 0) (one : (target : Range) (bytes : List ℕ) → length bytes ≡ target.size → 0 < length bytes → May target → P (effect.Write target.address bytes)) where
+  write-met : (target : Range) (bytes : List ℕ) → length bytes ≡ target.size → May target → All P (write_of target.address.0 bytes)
+  write-met target bytes long may = by_test (length bytes == 0) refl
+    where
+      some : (n : ℕ) → (n == 0) ≡ false → 0 < n
+      some zero is = absurd cc
+      some (suc n) is = omega arith
+
+      by_test : (b : Bool) → (length bytes == 0) ≡ b → All P (if b then [] else effect.Write (record { 0 = target.address.0 }) bytes ∷ [])
+      by_test true is = All-nil P
+      by_test false is = all-one P _ (one target bytes long (some (length bytes) is) may)
+
+  module _ (start : Start) (es : List Entry) (d : AgentDispatch) where
+    -- what a function writes: a copy as much as it reads
+    function-met : (function : Option AgentFunction) → function_of d ≡ function → All May (ranges_written function) → All P (function_writes start es function)
+    function-met None is may = All-nil P
+    function-met (Some (Fill target byte)) is may = write-met target (replicate target.size byte) (length-replicate target.size byte) (All-head May target [] may)
+    function-met (Some (Copy source target)) is may =
+        write-met target (memory_from start es source.address.0 source.size) (length-map-range_with_len (memory_at start es) source.address.0 source.size ∙ copy-size d source target is) (All-head May target [] may)
+    function-met (Some (Add64 number addend)) is may =
+        write-met number (to_le_bytes w64 ((number_in_memory start es number.address.0 + addend) % 2 ^ 64)) (sym (add-size d number addend is)) (All-head May number [] may)
+
+    result-met : May (result_range d) → All P (result_writes start es d)
+    result-met may = by_test (d.return_address.0 == 0) may
+      where
+        result : List ℕ
+        result = to_le_bytes w64 (function_result start es (function_of d))
+
+        by_test : (b : Bool) → May (bytes_at d.return_address.0 (if b then 0 else 8)) → All P (if b then [] else write_of d.return_address.0 result)
+        by_test true may = All-nil P
+        by_test false may = write-met (bytes_at d.return_address.0 8) result refl may
+
+    agent-met : All May (writes_of (packet.Agent d)) → All P (agent_writes start es d)
+    agent-met all =
+        All-append P _ _ (function-met (function_of d) refl (all-left May (ranges_written (function_of d)) _ all))
+        (result-met (All-head May (result_range d) [] (all-right May (ranges_written (function_of d)) _ all)))
+
+-- ---- releases
+
+module _ (P : Effect → Type 0) where
+  release-all : (o : Option InFlight) → ((f : InFlight) → o ≡ Some f → P (effect.Release f.queue f.id)) → All P (release_of o)
+  release-all None each = All-nil P
+  release-all (Some f) each = all-one P (effect.Release f.queue f.id) (each f refl)
+
+  poll-all : (start : Start) (es : List Entry) (told : Outcome) (effects : List Effect) (queue : QueueId) (id : PacketId) → ((f : InFlight) → in_flight start es queue id ≡ Some f → P (effect.Release queue id)) →
+      IsQuiet start es told effects ⊎ HasFailed start es told effects queue id → All P effects
+  poll-all start es told effects queue id each (inl quiet) = subst (All P) (sym quiet.effects_are) (All-nil P)
+  poll-all start es told effects queue id each (inr failed) = subst (All P) (sym failed.effects_are) (all-one P (effect.Release queue id) (each failed.flying failed.found))
+
+  -- a completion's change and its release
+  completed-all : (values : List ℤ) (s : SignalHandle) (queue : QueueId) (id : PacketId) →
+      ((v : ℤ) → (s.0 == 0) ≡ false → value_of values s.0 ≡ Some v → P (effect.Signal s v (applied (Subtract (pos 1)) v))) → P (effect.Release queue id) → All P (completed values s ++ effect.Release queue id ∷ [])
+  completed-all values s queue id changed released = All-append P (completed values s) _ (by_test (s.0 == 0) (value_of values s.0) refl refl) (all-one P (effect.Release queue id) released)
+    where
+      by_test : (b : Bool) (o : Option ℤ) → (s.0 == 0) ≡ b → value_of values s.0 ≡ o → All P (if b then [] else elim o [ None ↦ [] | Some v ↦ effect.Signal s v (applied (Subtract (pos 1)) v) ∷ [] ])
+      by_test true o null is = All-nil P
+      by_test false None null is = All-nil P
+      by_test false (Some v) null is = all-one P _ (changed v null is)
+
+  agent-writes : ((address : ℕ) (bytes : List ℕ) → P (effect.Write (record { 0 = address }) bytes)) → (start : Start) (es : List Entry) (d : AgentDispatch) → All P (agent_writes start es d)
+  agent-writes wrote start es d = All-append P _ _ (function-of (function_of d)) (by_test (d.return_address.0 == 0))
+    where
+      write-of : (address : ℕ) (bytes : List ℕ) → All P (write_of address bytes)
+      write-of address bytes = some (length bytes == 0)
+        where
+          some : (b : Bool) → All P (if b then [] else effect.Write (record { 0 = address }) bytes ∷ [])
+          some true = All-nil P
+          some false = all-one P _ (wrote address bytes)
+
+      function-of : (function : Option AgentFunction) → All P (function_writes start es function)
+      function-of None = All-nil P
+      function-of (Some (Fill target byte)) = write-of target.address.0 (replicate target.size byte)
+      function-of (Some (Copy source target)) = write-of target.address.0 (memory_from start es source.address.0 source.size)
+      function-of (Some (Add64 number addend)) = write-of number.address.0 (to_le_bytes w64 ((number_in_memory start es number.address.0 + addend) % 2 ^ 64))
+
+      by_test : (b : Bool) → All P (if b then [] else write_of d.return_address.0 (to_le_bytes w64 (function_result start es (function_of d))))
+      by_test true = All-nil P
+      by_test false = write-of d.return_address.0 (to_le_bytes w64 (function_result start es (function_of d)))
+
+-- ---- each change, by the event
+
+module _ (start : Start) (es : List Entry) (legal : IsLegal start es) where
+  -- what is found in flight is one of the packets in flight
+  flies : (queue : QueueId) (id : PacketId) (f : InFlight) → in_flight start es queue id ≡ Some f → Contains (flight start es) f
+  flies queue id f found = found-all (Contains (flight start es)) (is_packet queue id) (flight start es) f (All-contains_itself (flight start es)) found
+
+  named-release : (event : Event) (queue : QueueId) (id : PacketId) → ((f : InFlight) → queue ≡ f.queue → id ≡ f.id → Releases event f) → (f : InFlight) → in_flight start es queue id ≡ Some f → ReleaseIsDue start es event (effect.Release queue id)
+  named-release event queue id by f found =
+      let named = named-found start es queue id f found in
+      (f, flies queue id f found, named.0, named.1, by f (sym named.0) (sym named.1))
+
+  -- the changes of an event, given what holds of each kind of change
+  module _ (P : Event → Effect → Type 0)
+      (ran : (queue : QueueId) (id : PacketId) (s : InFlightSince start es queue id) (d : AgentDispatch) → s.flying.packet ≡ packet.Agent d → s.flying.groups_run < groups_of s.flying.packet → All (P (RunNext queue id)) (agent_writes start es d))
+      (completed_so : (queue : QueueId) (id : PacketId) (s : InFlightSince start es queue id) (v : ℤ) → ((completion s.flying.packet).0 == 0) ≡ false → value_of (signals start es) (completion s.flying.packet).0 ≡ Some v →
+      P (Finish queue id) (effect.Signal (completion s.flying.packet) v (applied (Subtract (pos 1)) v)))
+      (released : (event : Event) (queue : QueueId) (id : PacketId) → ReleaseIsDue start es event (effect.Release queue id) → P event (effect.Release queue id))
+      (wrote : (client : ClientId) (address : Address) (bytes : List ℕ) → 0 < length bytes → MayReach start es client right.Write address.0 (length bytes) → P (HostWrite client address bytes) (effect.Write address bytes))
+      (changed : (client : ClientId) (signal : SignalHandle) (operation : SignalOp) (old : ℤ) → value_of (signals start es) signal.0 ≡ Some old → in_force start es client (object.Signal signal) right.Change ≡ true →
+      P (ChangeSignal client signal operation) (effect.Signal signal old (applied operation old)))
+    where
+      quietly : (event : Event) (told : Outcome) (effects : List Effect) → IsQuiet start es told effects → All (P event) effects
+      quietly event told effects quiet = subst (All (P event)) (sym quiet.effects_are) (All-nil (P event))
+
+      stopped : (queue : QueueId) → All (P (Stop queue)) (stop_releases (flight_of start es queue))
+      stopped queue = release-all (P (Stop queue)) (find (λ f. is_barrier f.packet) (flight_of start es queue)) (λ f found.
+          let barrier : is_barrier f.packet ≡ true = found-passes (λ f. is_barrier f.packet) (flight_of start es queue) f found in
+          let own : (f.queue.0 == queue.0) ≡ true = found-all (λ g. (g.queue.0 == queue.0) ≡ true) (λ f. is_barrier f.packet) (flight_of start es queue) f (filter-passes (λ g. g.queue.0 == queue.0) (flight start es)) found in
+          let there : Contains (flight start es) f = found-all (Contains (flight start es)) (λ f. is_barrier f.packet) (flight_of start es queue) f (All-filter (λ g. g.queue.0 == queue.0) (Contains (flight start es)) (flight start es) (All-contains_itself (flight start es))) found in
+          released (Stop queue) f.queue f.id (f, there, refl, refl, (sym (eqb-true _ _ own), barrier)))
+
+      pub each-change : (event : Event) (told : Outcome) (effects : List Effect) → owed start es event ≡ enters told effects → All (P event) effects
+      each-change (Grant client on rights) told effects owing = quietly _ told effects (grant-effects start es told effects client on rights owing).0
+      each-change (Revoke client on rights) told effects owing = quietly _ told effects (revoke-effects start es told effects client on rights owing).is_quiet
+      each-change (OpenQueue client agent size) told effects owing = quietly _ told effects (open-effects start es told effects client agent size owing).is_quiet
+      each-change (Stop queue) told effects owing = subst (All (P (Stop queue))) (sym (stop-effects start es told effects queue owing).effects_are) (stopped queue)
+      each-change (Take queue id bytes) told effects owing = subst (All (P (Take queue id bytes))) (sym (take-decided start es told effects queue id bytes owing).effects_are) (All-nil _)
+      each-change (RunNext queue id) told effects owing =
+          let group = run-entered start es told effects queue id owing in
+          let since = flying-since start es legal queue id group.flying group.found in
+          subst (All (P (RunNext queue id))) (sym group.effects_are)
+          (ran queue id since.0 group.dispatch (ap (λ f. f.packet) since.1 ∙ group.is_agent) (subst (λ f. f.groups_run < groups_of f.packet) (sym since.1) group.is_left))
+      each-change (Poll queue id) told effects owing =
+          poll-all (P (Poll queue id)) start es told effects queue id (λ f found. released (Poll queue id) queue id (named-release (Poll queue id) queue id (λ f q i. (q, i)) f found)) (poll-entered start es told effects queue id owing)
+      each-change (Finish queue id) told effects owing =
+          let done = finish-entered start es told effects queue id owing in
+          let since = flying-since start es legal queue id done.flying done.found in
+          let s = since.0 in
+          subst (All (P (Finish queue id))) (sym (done.effects_are ∙ ap (λ f. completed (signals start es) (completion f.packet) ++ effect.Release queue id ∷ []) (sym since.1)))
+          (completed-all (P (Finish queue id)) (signals start es) (completion s.flying.packet) queue id (completed_so queue id s)
+          (released (Finish queue id) queue id (named-release (Finish queue id) queue id (λ f q i. (q, i)) done.flying done.found)))
+      each-change (HostWrite client address bytes) told effects owing =
+          let w = write-entered start es told effects client address bytes owing in
+          subst (All (P (HostWrite client address bytes))) (sym w.effects_are) (all-one (P (HostWrite client address bytes)) (effect.Write address bytes) (wrote client address bytes w.some (record { lies_whole = w.whole; granted = w.granted })))
+      each-change (ChangeSignal client signal operation) told effects owing =
+          let c = change-entered start es told effects client signal operation owing in
+          subst (All (P (ChangeSignal client signal operation))) (sym c.effects_are) (all-one (P (ChangeSignal client signal operation)) (effect.Signal signal c.old (applied operation c.old)) (changed client signal operation c.old c.was c.granted))
+
+  -- ---- writes, changes of signals, releases
+
+  group-writes : (queue : QueueId) (id : PacketId) (s : InFlightSince start es queue id) (d : AgentDispatch) → s.flying.packet ≡ packet.Agent d → s.flying.groups_run < groups_of s.flying.packet → All (WriteIsGranted start es (RunNext queue id)) (agent_writes start es d)
+  group-writes queue id s d is left =
+      agent-met (WriteIsGranted start es (RunNext queue id)) (MayReachRange start s.launch.before s.launch.opening.client right.Write)
+      (λ target bytes long some may. (some, inr (record { queue = queue; id = id; event_is = refl; packet = s; is_left = left; allowed = reached target bytes long some may })))
+      start es d (subst (λ p. All (MayReachRange start s.launch.before s.launch.opening.client right.Write) (writes_of p)) (s.packet_is ∙ is) s.launch.allowed.rights.writes)
+    where
+      reached : (target : Range) (bytes : List ℕ) → length bytes ≡ target.size → 0 < length bytes → MayReachRange start s.launch.before s.launch.opening.client right.Write target → MayReach start s.launch.before s.launch.opening.client right.Write target.address.0 (length bytes)
+      reached target bytes long some (inl empty) = absurd (omega (arith, long, some, empty))
+      reached target bytes long some (inr reach) = rw long reach
+
+  pub write-granted : (event : Event) (told : Outcome) (effects : List Effect) → owed start es event ≡ enters told effects → All (WriteIsGranted start es event) effects
+  write-granted = each-change (WriteIsGranted start es) group-writes (λ queue id s v null is. tt) (λ event queue id due. tt)
+      (λ client address bytes some reach. (some, inl (record { client = client; event_is = refl; allowed = reach }))) (λ client signal operation old was granted. tt)
+
+  pub change-granted : (event : Event) (told : Outcome) (effects : List Effect) → owed start es event ≡ enters told effects → All (ChangeIsGranted start es event) effects
+  change-granted = each-change (ChangeIsGranted start es) (λ queue id s d is left. agent-writes (ChangeIsGranted start es (RunNext queue id)) (λ address bytes. tt) start es d)
+      (λ queue id s v null is. (is, inr (record { queue = queue; id = id; event_is = refl; result = refl; packet = s; signal_is = refl; allowed = may_change queue id s null })))
+      (λ event queue id due. tt) (λ client address bytes some reach. tt)
+      (λ client signal operation old was granted. (was, inl (record { client = client; operation = operation; event_is = refl; result = refl; allowed = granted })))
+    where
+      may_change : (queue : QueueId) (id : PacketId) (s : InFlightSince start es queue id) → ((completion s.flying.packet).0 == 0) ≡ false → in_force start s.launch.before s.launch.opening.client (object.Signal (completion s.flying.packet)) right.Change ≡ true
+      may_change queue id s null = some (subst (λ p. MayUseSignal start s.launch.before s.launch.opening.client right.Change (completion p)) s.packet_is s.launch.allowed.rights.completes)
+        where
+          some : MayUseSignal start s.launch.before s.launch.opening.client right.Change (completion s.flying.packet) → in_force start s.launch.before s.launch.opening.client (object.Signal (completion s.flying.packet)) right.Change ≡ true
+          some (inl is) = let e : ((completion s.flying.packet).0 == 0) ≡ true = rw is refl in absurd cc
+          some (inr granted) = granted
+
+  pub release-due : (event : Event) (told : Outcome) (effects : List Effect) → owed start es event ≡ enters told effects → All (ReleaseIsDue start es event) effects
+  release-due = each-change (ReleaseIsDue start es) (λ queue id s d is left. agent-writes (ReleaseIsDue start es (RunNext queue id)) (λ address bytes. tt) start es d)
+      (λ queue id s v null is. tt) (λ event queue id due. due) (λ client address bytes some reach. tt) (λ client signal operation old was granted. tt)
+
+  -- ---- errors
+
+  -- an error that a fault tells
+  abbrev Faults : Outcome → QueueError → Type 0
+  Faults told error = (told ≡ outcome.Worked (worked.Faulted error)) ⊎ (told ≡ outcome.Polled (polled_as.Failed error))
+
+  error-told : (told : Outcome) (error : QueueError) → Faults told error → error_of told ≡ Some error
+  error-told told error (inl is) = ap error_of is
+  error-told told error (inr is) = ap error_of is
+
+  none-told : {X : Type 0} (told : Outcome) (error : QueueError) → error_of told ≡ Some error → error_of told ≡ None → X
+  none-told told error some none = let e : Some error ≡ None = sym some ∙ none in absurd cc
+
+  failed-error : (told : Outcome) (effects : List Effect) (error : QueueError) (queue : QueueId) (id : PacketId) → HasFailed start es told effects queue id → error_of told ≡ Some error → error_at queue id.0 B1 ≡ error
+  failed-error told effects error queue id failed told_is = let same : Some (error_at queue id.0 B1) ≡ Some error = sym (ap error_of failed.outcome_is) ∙ told_is in cc
+
+  abbrev named : QueueId → PacketId → Option (QueueId × PacketId)
+  named queue id = Some (queue, id)
+
+  pub error-named : (event : Event) (told : Outcome) (effects : List Effect) (error : QueueError) → owed start es event ≡ enters told effects → error_of told ≡ Some error → packet_named event ≡ named error.queue error.packet
+  error-named (Grant client on rights) told effects error owing is = none-told told error is (grant-effects start es told effects client on rights owing).0.no_error
+  error-named (Revoke client on rights) told effects error owing is = none-told told error is (revoke-effects start es told effects client on rights owing).is_quiet.no_error
+  error-named (OpenQueue client agent size) told effects error owing is = none-told told error is (open-effects start es told effects client agent size owing).is_quiet.no_error
+  error-named (Stop queue) told effects error owing is = none-told told error is (stop-effects start es told effects queue owing).no_error
+  error-named (Take queue id bytes) told effects error owing is =
+      let decided = take-decided start es told effects queue id bytes owing in
+      denied decided.verdict (sym (ap error_of decided.outcome_is) ∙ is)
+    where
+      denied : (verdict : Option Rule) → error_of (elim verdict [ None ↦ outcome.Taken taken.Launched | Some rule ↦ outcome.Taken (taken.Denied (error_at queue id.0 rule)) ]) ≡ Some error → named queue id ≡ named error.queue error.packet
+      denied None same = absurd cc
+      denied (Some rule) same = let e : error_at queue id.0 rule ≡ error = cc in ap (λ x. named x.queue x.packet) e
+  error-named (RunNext queue id) told effects error owing is = none-told told error is (ap error_of (run-entered start es told effects queue id owing).outcome_is)
+  error-named (Poll queue id) told effects error owing is = by_poll (poll-entered start es told effects queue id owing)
+    where
+      by_poll : IsQuiet start es told effects ⊎ HasFailed start es told effects queue id → named queue id ≡ named error.queue error.packet
+      by_poll (inl quiet) = none-told told error is quiet.no_error
+      by_poll (inr failed) = ap (λ x. named x.queue x.packet) (failed-error told effects error queue id failed is)
+  error-named (Finish queue id) told effects error owing is = none-told told error is (finish-entered start es told effects queue id owing).no_error
+  error-named (HostWrite client address bytes) told effects error owing is = none-told told error is (write-entered start es told effects client address bytes owing).no_error
+  error-named (ChangeSignal client signal operation) told effects error owing is = none-told told error is (change-entered start es told effects client signal operation owing).no_error
+
+  pub fault-released : (event : Event) (told : Outcome) (effects : List Effect) (error : QueueError) → owed start es event ≡ enters told effects → Faults told error → effects ≡ effect.Release error.queue error.packet ∷ []
+  fault-released (Grant client on rights) told effects error owing faults = none-told told error (error-told told error faults) (grant-effects start es told effects client on rights owing).0.no_error
+  fault-released (Revoke client on rights) told effects error owing faults = none-told told error (error-told told error faults) (revoke-effects start es told effects client on rights owing).is_quiet.no_error
+  fault-released (OpenQueue client agent size) told effects error owing faults = none-told told error (error-told told error faults) (open-effects start es told effects client agent size owing).is_quiet.no_error
+  fault-released (Stop queue) told effects error owing faults = none-told told error (error-told told error faults) (stop-effects start es told effects queue owing).no_error
+  fault-released (Take queue id bytes) told effects error owing faults = decided_so (take-decided start es told effects queue id bytes owing).verdict (take-decided start es told effects queue id bytes owing).outcome_is faults
+    where
+      decided_so : (verdict : Option Rule) → told ≡ (elim verdict [ None ↦ outcome.Taken taken.Launched | Some rule ↦ outcome.Taken (taken.Denied (error_at queue id.0 rule)) ]) → Faults told error → effects ≡ effect.Release error.queue error.packet ∷ []
+      decided_so None is (inl was) = let e : outcome.Taken taken.Launched ≡ outcome.Worked (worked.Faulted error) = sym is ∙ was in absurd cc
+      decided_so None is (inr was) = let e : outcome.Taken taken.Launched ≡ outcome.Polled (polled_as.Failed error) = sym is ∙ was in absurd cc
+      decided_so (Some rule) is (inl was) = let e : outcome.Taken (taken.Denied (error_at queue id.0 rule)) ≡ outcome.Worked (worked.Faulted error) = sym is ∙ was in absurd cc
+      decided_so (Some rule) is (inr was) = let e : outcome.Taken (taken.Denied (error_at queue id.0 rule)) ≡ outcome.Polled (polled_as.Failed error) = sym is ∙ was in absurd cc
+  fault-released (RunNext queue id) told effects error owing faults = none-told told error (error-told told error faults) (ap error_of (run-entered start es told effects queue id owing).outcome_is)
+  fault-released (Poll queue id) told effects error owing faults = by_poll (poll-entered start es told effects queue id owing)
+    where
+      by_poll : IsQuiet start es told effects ⊎ HasFailed start es told effects queue id → effects ≡ effect.Release error.queue error.packet ∷ []
+      by_poll (inl quiet) = none-told told error (error-told told error faults) quiet.no_error
+      by_poll (inr failed) = failed.effects_are ∙ ap (λ e. effect.Release e.queue e.packet ∷ []) (failed-error told effects error queue id failed (error-told told error faults))
+  fault-released (Finish queue id) told effects error owing faults = none-told told error (error-told told error faults) (finish-entered start es told effects queue id owing).no_error
+  fault-released (HostWrite client address bytes) told effects error owing faults = none-told told error (error-told told error faults) (write-entered start es told effects client address bytes owing).no_error
+  fault-released (ChangeSignal client signal operation) told effects error owing faults = none-told told error (error-told told error faults) (change-entered start es told effects client signal operation owing).no_error

@@ -1,0 +1,86 @@
+-- What is served keeps a history legal: its entries so far stay, and what comes behind them is owed.
+use Rattle.std.proofs.Common.{◌≡◌, List, [], ◌∷◌, ◌++◌, refl, sym, ◌∙◌, ap, subst, Bool, true, false, ◌⊎◌, inl, inr, append_assoc, Result, Err}
+use Rattle.std.specs.Prelude.{if◌then◌else◌}
+use Rattle.std.proofs.lemmas.List.{append-nil}
+use Rattle.core_model.specs.declared.event.Event.{Event}
+use Rattle.core_model.specs.declared.event.Request.{Request}
+use Rattle.core_model.specs.declared.event.Request.TheVariants as request
+use Rattle.core_model.specs.declared.outcome.Outcome.{Outcome}
+use Rattle.core_model.specs.declared.entry.Effect.{Effect}
+use Rattle.core_model.specs.declared.refusal.Refusal.{Refusal}
+use Rattle.core_model.specs.declared.refusal.Refusal.TheVariants as refusal
+use Rattle.core_model.specs.History.{History}
+use Rattle.core_model.specs.Owed.{Owed, owed, refuses, answers, enters}
+use Rattle.core_model.specs.Legal.{IsLegal, IsServed, MeetsOrLacks, Replying, AreReplies, after, as_reply, reply_of, due, entry_of, history_after, lacks_room, with_entry, within_room}
+use Rattle.core_model.specs.Headline.{GoesOn}
+use Rattle.core_model.proofs.Legality.{IsLegal-more}
+
+abbrev Legal : History → Type 0
+Legal history = IsLegal history.start history.entries
+
+stays : (old new : History) → Legal old → new ≡ old → GoesOn old new
+stays old new legal is = record {
+  start_is = ap (λ h. h.start) is;
+  capacity_is = ap (λ h. h.capacity) is;
+  more = [];
+  entries_are = ap (λ h. h.entries) is ∙ sym (append-nil old.entries);
+  legal = subst (λ h. IsLegal h.start h.entries) (sym is) legal;
+}
+
+-- one entry more, where there is room for it
+module _ (old : History) (legal : Legal old) (event : Event) where
+  entered : (owing : Owed) → owed old.start old.entries event ≡ owing → GoesOn old (history_after old event (within_room old event owing))
+  entered (refuses why) is = stays old old legal refl
+  entered (answers outcome) is = stays old old legal refl
+  entered (enters outcome effects) is = by_room (lacks_room old.capacity old.start (with_entry old.entries event outcome effects))
+    where
+      by_room : (b : Bool) → GoesOn old (history_after old event (if b then refuses refusal.AuditFull else enters outcome effects))
+      by_room true = stays old old legal refl
+      by_room false = record {
+        start_is = refl;
+        capacity_is = refl;
+        more = entry_of event outcome effects ∷ [];
+        entries_are = refl;
+        legal = IsLegal-more old.start old.entries event outcome effects legal is;
+      }
+
+  after-due : (new : History) → new ≡ history_after old event (due old event) → GoesOn old new
+  after-due new is = subst (GoesOn old) (sym is) (entered (owed old.start old.entries event) refl)
+
+  pub event-goes_on : (new : History) (reply : Result Outcome Refusal) → MeetsOrLacks event old new reply → GoesOn old new
+  event-goes_on new reply (inl meets) = after-due new meets.history_is
+  event-goes_on new reply (inr lacks) = stays old new legal lacks.history_is
+
+request-goes_on : (old new : History) (asked : Request) (reply : Replying) → Legal old → IsServed old asked reply new → GoesOn old new
+request-goes_on old new (request.Event event) reply legal (inl served) = after-due old legal event new served.1
+request-goes_on old new (request.Query query) reply legal (inl served) = stays old new legal served.1
+request-goes_on old new asked reply legal (inr lacked) = stays old new legal lacked.2
+
+through : (old mid new : History) → GoesOn old mid → GoesOn mid new → GoesOn old new
+through old mid new one two = record {
+  start_is = two.start_is ∙ one.start_is;
+  capacity_is = two.capacity_is ∙ one.capacity_is;
+  more = one.more ++ two.more;
+  entries_are = two.entries_are ∙ ap (λ es. es ++ two.more) one.entries_are ∙ append_assoc old.entries one.more two.more;
+  legal = two.legal;
+}
+
+pub list-goes_on : (old new : History) (requests : List Request) (replies : List Replying) → IsLegal old.start old.entries → AreReplies old requests replies new → GoesOn old new
+list-goes_on old new [] [] legal is = stays old new legal is
+list-goes_on old new (asked ∷ requests) (reply ∷ replies) legal are =
+    let one = request-goes_on old are.0 asked reply legal are.1 in
+    through old are.0 new one (list-goes_on are.0 new requests replies one.legal are.2)
+list-goes_on old new [] (reply ∷ replies) legal are = absurd are
+list-goes_on old new (asked ∷ requests) [] legal are = absurd are
+
+-- ---- what is refused
+
+refused-event : (old new : History) (event : Event) (why : Refusal) (owing : Owed) → Err why ≡ as_reply (reply_of owing) → new ≡ history_after old event owing → new ≡ old
+refused-event old new event why (refuses _) told is = is
+refused-event old new event why (answers outcome) told is = absurd cc
+refused-event old new event why (enters outcome effects) told is = absurd cc
+
+pub refused-stays : (old new : History) (asked : Request) (why : Refusal) → IsServed old asked (Err why) new → new ≡ old
+refused-stays old new (request.Event event) why (inl served) = refused-event old new event why (due old event) served.0 served.1
+refused-stays old new (request.Query query) why (inl served) = served.1
+refused-stays old new asked why (inr lacked) = lacked.2

@@ -1,0 +1,120 @@
+-- Packets are taken in turn, each id once; queues are opened in turn; and beginnings of legal histories are legal.
+use Rattle.std.proofs.Common.{rules, ◌≡◌, ◌<◌, ◌≤◌, ℕ, ◌+◌, ◌-◌, List, [], ◌∷◌, ◌++◌, length, refl, sym, ◌∙◌, ap, subst, Bool, true, false, Option, Some, None, arith, append_assoc, zero, suc}
+use Rattle.std.specs.Prelude.{slice_get, nat_lt, ◌&&◌, ◌||◌, ◌==◌, if◌then◌else◌}
+use Rattle.std.proofs.lemmas.Bool.{and_from, eq-eqb}
+use Rattle.aql_packet.specs.declared.ids.AgentHandle.{AgentHandle}
+use Rattle.aql_packet.specs.declared.ids.ClientId.{ClientId}
+use Rattle.aql_packet.specs.declared.ids.QueueId.{QueueId}
+use Rattle.aql_packet.specs.declared.ids.PacketId.{PacketId}
+use Rattle.aql_packet.specs.declared.packet.Packet.{Packet}
+use Rattle.aql_packet.specs.Reading.{decoded}
+use Rattle.policy.specs.Policy.{numbered}
+use Rattle.policy.specs.declared.object.Object.TheVariants as object
+use Rattle.policy.specs.declared.rights.Right.TheVariants as right
+use Rattle.core_model.specs.declared.event.Event.TheVariants.{OpenQueue, Take}
+use Rattle.core_model.specs.declared.outcome.Outcome.{Outcome}
+use Rattle.core_model.specs.declared.outcome.Outcome.TheVariants as outcome
+use Rattle.core_model.specs.declared.outcome.Taken.TheVariants.{Launched}
+use Rattle.core_model.specs.declared.entry.Effect.{Effect}
+use Rattle.core_model.specs.declared.entry.Entry.{Entry}
+use Rattle.core_model.specs.History.{Start}
+use Rattle.core_model.specs.Queues.{Opening, openings, owner, next_id}
+use Rattle.core_model.specs.Holds.{bytes_taken, launches}
+use Rattle.core_model.specs.Owed.{owed, enters}
+use Rattle.core_model.specs.Legal.{IsLegal, IsLegalAfter, entry_of}
+use Rattle.core_model.specs.Headline.{Launch, IsOpened}
+use Rattle.core_model.proofs.More.{openings-more}
+use Rattle.core_model.proofs.Launches.{was_launched, AreBelowNext-legal}
+use Rattle.core_model.proofs.Launching.{legal-at}
+use Rattle.core_model.proofs.Entered.{open-effects}
+
+-- ---- beginnings
+
+legal-before : (start : Start) (pre before more : List Entry) → IsLegalAfter start pre (before ++ more) → IsLegalAfter start pre before
+legal-before start pre [] more legal = tt
+legal-before start pre (x ∷ xs) more legal = (legal.0, legal-before start (pre ++ x ∷ []) xs more legal.1)
+
+pub legal-beginning : (start : Start) (before more : List Entry) → IsLegal start (before ++ more) → IsLegal start before
+legal-beginning start before more legal = legal-before start [] before more legal
+
+-- ---- a packet is launched once
+
+module _ (queue : QueueId) (id : PacketId) where
+  abbrev Launches : Entry → Type 0
+  Launches e = launches queue id e.event e.outcome ≡ true
+
+  -- two launches in one list, none before either, are one
+  same-place : (b1 b2 a1 a2 : List Entry) (e1 e2 : Entry) → b1 ++ e1 ∷ a1 ≡ b2 ++ e2 ∷ a2 → was_launched b1 queue id ≡ false → was_launched b2 queue id ≡ false → Launches e1 → Launches e2 → (b1 ≡ b2) × (e1 ≡ e2)
+  same-place [] [] a1 a2 e1 e2 same none1 none2 one two = (refl, cc)
+  same-place [] (y ∷ b2) a1 a2 e1 e2 same none1 none2 one two =
+      let here : e1 ≡ y = cc in
+      let launches-y : launches queue id y.event y.outcome ≡ true = subst Launches here one in
+      let some : was_launched (y ∷ b2) queue id ≡ true = rw launches-y refl in
+      let e : true ≡ false = sym some ∙ none2 in absurd cc
+  same-place (x ∷ b1) [] a1 a2 e1 e2 same none1 none2 one two =
+      let here : x ≡ e2 = cc in
+      let launches-x : launches queue id x.event x.outcome ≡ true = subst Launches (sym here) two in
+      let some : was_launched (x ∷ b1) queue id ≡ true = rw launches-x refl in
+      let e : true ≡ false = sym some ∙ none1 in absurd cc
+  same-place (x ∷ b1) (y ∷ b2) a1 a2 e1 e2 same none1 none2 one two =
+      let here : x ≡ y = cc in
+      let tails : b1 ++ e1 ∷ a1 ≡ b2 ++ e2 ∷ a2 = cc in
+      let rest = same-place b1 b2 a1 a2 e1 e2 tails (later (launches queue id x.event x.outcome) (was_launched b1 queue id) none1) (later (launches queue id y.event y.outcome) (was_launched b2 queue id) none2) one two in
+      ((λ i. here i ∷ rest.0 i), rest.1)
+    where
+      later : (b rest : Bool) → (b || rest) ≡ false → rest ≡ false
+      later true rest is = absurd cc
+      later false rest is = is
+
+  pub one-launch : (start : Start) (es : List Entry) → IsLegal start es → (one other : Launch start es queue id) → (one.before ≡ other.before) × (one.packet ≡ other.packet)
+  one-launch start es legal one other =
+      let same = same-place one.before other.before one.place.after other.place.after _ _ (sym one.place.whole ∙ other.place.whole) (none one) (none other) (now one.bytes) (now other.bytes) in
+      let bytes_are : one.bytes ≡ other.bytes = ap (λ e. bytes_taken e.event) same.1 in
+      let read : Some one.packet ≡ Some other.packet = sym one.allowed.is_read ∙ ap decoded bytes_are ∙ other.allowed.is_read in
+      (same.0, cc)
+    where
+      now : (bytes : List ℕ) → launches queue id (Take queue id bytes) (outcome.Taken Launched) ≡ true
+      now bytes = and_from _ _ (eq-eqb queue.0 queue.0 refl) (eq-eqb id.0 id.0 refl)
+
+      none : (l : Launch start es queue id) → was_launched l.before queue id ≡ false
+      none l = by_test (was_launched l.before queue id) refl
+        where
+          by_test : (b : Bool) → was_launched l.before queue id ≡ b → was_launched l.before queue id ≡ false
+          by_test true was =
+              let below : id.0 < next_id start l.before queue = AreBelowNext-legal start l.before (legal-at start es l.before _ legal l.place).0 queue id was in
+              let at = l.allowed.is_next in absurd (omega arith)
+          by_test false was = was
+
+-- ---- a queue that is opened is a new one, its opener's
+
+slice_get-end : {X : Type 0} (xs : List X) → slice_get xs (length xs) ≡ None
+slice_get-end [] = refl
+slice_get-end (x ∷ xs) = slice_get-end xs
+
+slice_get-last : {X : Type 0} (xs : List X) (x : X) → slice_get (xs ++ x ∷ []) (length xs) ≡ Some x
+slice_get-last [] x = refl
+slice_get-last (y ∷ xs) x = slice_get-last xs x
+
+numbered-next : {X : Type 0} (xs : List X) → numbered xs (length xs + 1) ≡ None
+numbered-next xs =
+    let positive : nat_lt 0 (length xs + 1) ≡ true = search rules in
+    let place : length xs + 1 - 1 ≡ length xs = omega arith in
+    rw (positive, place) (slice_get-end xs)
+
+numbered-new : {X : Type 0} (xs : List X) (x : X) → numbered (xs ++ x ∷ []) (length xs + 1) ≡ Some x
+numbered-new xs x =
+    let positive : nat_lt 0 (length xs + 1) ≡ true = search rules in
+    let place : length xs + 1 - 1 ≡ length xs = omega arith in
+    rw (positive, place) (slice_get-last xs x)
+
+pub queue-opened : (start : Start) (es : List Entry) (told : Outcome) (effects : List Effect) (client : ClientId) (agent : AgentHandle) (size : ℕ) → owed start es (OpenQueue client agent size) ≡ enters told effects →
+    IsOpened start es (entry_of (OpenQueue client agent size) told effects) client agent
+queue-opened start es told effects client agent size owing =
+    let made = open-effects start es told effects client agent size owing in
+    record {
+      queue = record { 0 = length (openings start es) + 1 };
+      outcome_is = made.outcome_is;
+      granted = made.granted;
+      is_new = numbered-next (openings start es);
+      owner_is = ap (λ os. numbered os (length (openings start es) + 1)) (openings-more start es (entry_of (OpenQueue client agent size) told effects)) ∙ numbered-new (openings start es) (record { client = client; agent = agent });
+    }
