@@ -9,3 +9,5 @@ mod across;
 mod load;
 #[cfg(test)]
 mod rows;
+#[cfg(test)]
+mod threads;
