@@ -14,7 +14,8 @@ use Rattle.ring_core.specs.Parts.{after_processing, collected_packet}
 use Rattle.ring_core.specs.Machine.{Machine, Leads, made, opened, read_index, is_ring_size, producers_of}
 use Rattle.ring_core.specs.Rule.{IsRule, IsRing}
 use Rattle.ring_core.proofs.Kept.{replays_keep}
-use Rattle.ring_core.proofs.States.{ring_size_bounds, raises, fits_by}
+use Rattle.ring_core.proofs.Sizes.{ring_size_bounds}
+use Rattle.ring_core.proofs.States.{raises, fits_by}
 use Rattle.ring.specs.declared.share.Numbered.{Numbered}
 use Rattle.ring.specs.Opening.{is_producer_count}
 use Rattle.ring.specs.Shares.{alone}

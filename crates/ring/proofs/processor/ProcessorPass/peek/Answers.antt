@@ -2,7 +2,7 @@ use Rattle.std.proofs.Common.{◌≡◌, ◌<◌, ◌∙◌, ℕ, List, sym, ap,
 use Rattle.std.specs.Prelude.{get_or, length, Some}
 use Rattle.ring_core.specs.declared.part.Part.TheVariants.{Processor}
 use Rattle.ring_core.specs.Words.{is_invalid}
-use Rattle.ring_core.proofs.States.{ring_size_bounds}
+use Rattle.ring_core.proofs.Sizes.{ring_size_bounds}
 use Rattle.ring.specs.Bytes.{words_of}
 use Rattle.ring.specs.Made.{Gained, showing}
 use Rattle.ring.specs.Passes.{ProcessorSeen, as_processor, only_part}
