@@ -26,7 +26,7 @@ use Rattle.ring.proofs.Facts.{ring_of, processor_at}
 use Rattle.ring.proofs.Gains.{gained_more}
 use Rattle.ring.proofs.Loading.{Gathered, gathering, gathered, eight_places, all_gathered}
 
-abbrev ME : Type 0
+abbrev pub ME : Type 0
 ME = List Numbered × List (ℕ × ⊤)
 
 pub record ProcessorSteps (size producers : ℕ) (q : ProcessorPart) (made : List Made) (r : ProcessorPart) (me' : ME) : Type 0 where

@@ -4,7 +4,7 @@ ghost use Rattle.std.specs.Prelude.{◌≡◌, ◌↔◌, ℕ, ◌+◌, [], ◌�
 ghost use Rattle.ring_core.specs.Machine.{is_ring_size};
 ghost use Rattle.ring.specs.Bytes.{words_of};
 ghost use Rattle.ring.specs.Made.{retiring};
-ghost use Rattle.ring.specs.Showing.{IsShownBy, ProcessorGains, HasPeeked, IsLoadable, HasLoaded};
+ghost use Rattle.ring.specs.Showing.{IsShownBy, ProcessorGains, HasPeeked, ShowsAgain, IsLoadable, HasLoaded};
 
 use crate::ring::Ring;
 use crate::share::RingSeat;
@@ -77,10 +77,11 @@ impl Ring {
 
 impl ProcessorPass {
     /// Shows the packet at the read index, if it is published: its header is loaded, and where that has a
-    /// type other than INVALID its seven body words.
+    /// type other than INVALID its seven body words. Until it is retired, it is shown again.
     pub fn peek(&mut self, ring: &Ring) -> Peeked
         requires ring { self.old.table ≡ ring.now.table }
         ensures peeked { HasPeeked ring.now self.old result self.new }
+        ensures again { ShowsAgain self.old result }
     {
         match ring.load_packet(&mut self.seat, self.next) {
             None => Peeked::Empty,
