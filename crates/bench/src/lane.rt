@@ -14,6 +14,9 @@ use std::thread::{Threads, yield_now};
 /// After so many looks in a row a thread lets others run.
 const SPINS: u64 = 16;
 
+/// How many threads send at the most: as many as a ring may have producers.
+const MOST_PRODUCERS: usize = 16;
+
 /// Waits a moment before a further look.
 fn rest(look: u64) {
     if look % SPINS == SPINS - 1 {
@@ -24,6 +27,7 @@ fn rest(look: u64) {
 }
 
 /// Publishes a packet under a ticket, as soon as a look shows room.
+#[inline(always)]
 fn publish(
     ring: &Ring,
     pass: &mut ProducerPass,
@@ -47,6 +51,7 @@ fn publish(
 }
 
 /// Reserves an id, and publishes a packet under it.
+#[inline(always)]
 pub fn send(ring: &Ring, pass: &mut ProducerPass, mark: Mark) -> Result<(), Fault>
     requires { pass.old.table ≡ ring.now.table }
     ensures { pass.new.table ≡ pass.old.table }
@@ -87,10 +92,8 @@ pub fn send_from_threads<R: Threads + Sync>(
     );
 }
 
-/// How many threads send at the most: as many as a ring may have producers.
-const MOST_PRODUCERS: usize = 16;
-
 /// Takes the next packet, as soon as a look shows it.
+#[inline(always)]
 pub fn take(ring: &Ring, pass: &mut ProcessorPass) -> Result<Mark, Fault>
     requires { pass.old.table ≡ ring.now.table }
     ensures { pass.new.table ≡ pass.old.table }
