@@ -5,8 +5,7 @@
 
 #[cfg(test)]
 mod across;
-#[cfg(test)]
-mod load;
+pub mod load;
 #[cfg(test)]
 mod rows;
 #[cfg(test)]

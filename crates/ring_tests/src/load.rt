@@ -1,9 +1,10 @@
 //! Packets that tell who sent them and in which turn, and the loops that send and take them.
 
-ghost use Rattle.std.specs.Prelude.{◌≡◌, ◌+◌, ◌*◌, ◌<◌, ◌≤◌, length};
+ghost use Rattle.std.specs.Prelude.{◌≡◌, ◌+◌, ◌*◌, ◌≤◌, length, All};
 ghost use Rattle.ring.specs.Publishing.{IsOpen};
 
-use ring::{Peeked, ProcessorPass, ProducerPass, Publication, Ring, Ticket};
+use ring::{Peeked, ProcessorPass, ProducerPass, Publication, Ring, Ticket, settle};
+use std::alloc::Global;
 use std::thread;
 
 /// How often a thread looks for room, or for a packet, before it gives up.
@@ -154,6 +155,26 @@ pub fn shows_nothing(ring: &Ring, pass: &mut ProcessorPass, looks: u64) -> bool
         thread::yield_now();
     }
     true
+}
+
+/// Settles two rings, each with its own passes. Answers how many ids were reserved in each.
+pub fn settle_two(
+    alloc: Global,
+    one: Ring,
+    ones: Vec<ProducerPass>,
+    first: ProcessorPass,
+    other: Ring,
+    others: Vec<ProducerPass>,
+    second: ProcessorPass,
+) -> Option<(u64, u64)>
+    requires ones { All (λ pass. pass.table ≡ one.table) ones.items }
+    requires first { first.table ≡ one.table }
+    requires others { All (λ pass. pass.table ≡ other.table) others.items }
+    requires second { second.table ≡ other.table }
+{
+    let one = settle(alloc, one, ones, first).ok()?;
+    let other = settle(alloc, other, others, second).ok()?;
+    Some((one.write_index, other.write_index))
 }
 
 /// The bytes of a slot, from the words of all slots.

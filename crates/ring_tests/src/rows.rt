@@ -2,7 +2,7 @@
 
 ghost use Rattle.std.specs.Prelude.{◌≡◌};
 
-use crate::load::{packet, publish_one, slot_bytes, take_shown};
+use crate::load::{packet, publish_one, settle_two, slot_bytes, take_shown};
 use aql_packet::PacketId;
 use ring::{
     Peeked, ProcessorPass, ProducerPass, Publication, Ring, RingFault, SettleFault, settle,
@@ -46,6 +46,24 @@ fn a_missing_pass_is_told_and_all_comes_back(rt: HostRuntime) -> Result<(), Fail
         panic!(rt; "all passes are there")
     };
     assert_eq!(rt; settled.write_index, 0);
+    Ok(())
+}
+
+#[test]
+fn rings_are_apart(rt: HostRuntime) -> Result<(), Fail> {
+    let Ok((one, mut ones, first)) = Ring::new(rt.alloc(), 2, 1) else {
+        panic!(rt; "a ring opens")
+    };
+    let Ok((other, others, second)) = Ring::new(rt.alloc(), 2, 1) else {
+        panic!(rt; "another opens")
+    };
+    let Some(mut pass) = ones.pop() else {
+        panic!(rt; "there is one")
+    };
+    assert!(rt; publish_one(&one, &mut pass, &packet(1, 0)));
+    ones.push(pass)?;
+    let reserved = settle_two(rt.alloc(), one, ones, first, other, others, second);
+    assert!(rt; reserved == Some((1, 0)));
     Ok(())
 }
 
