@@ -9,7 +9,7 @@ use Rattle.ring_core.specs.Words.{no_words}
 use Rattle.ring_core.specs.Parts.{nobody}
 use Rattle.ring.specs.declared.share.Numbered.{Numbered}
 use Rattle.ring.specs.declared.share.Shape.{Shape}
-use Rattle.ring_core.specs.Machine.{is_ring_size}
+use Rattle.ring_core.specs.Machine.{is_ring_size, word_count}
 use Rattle.ring.specs.Opening.{is_producer_count}
 use Rattle.ring.specs.Shares.{alone, shape_of}
 
@@ -22,7 +22,7 @@ pub record RingSeen : Type 0 where
 -- its table was made for this size and so many producers, and has eight words a slot and the two indices
 pub record IsRing (table : TableId) (shape : Shape) (size producers : ℕ) : Type 0 where
   pub made_for : shape ≡ shape_of size producers
-  pub words : table.words ≡ 2 + 8 * size
+  pub words : table.words ≡ word_count size
   pub no_slots : table.slots ≡ 0
   pub fits : is_ring_size size ≡ true
   pub few : is_producer_count producers ≡ true

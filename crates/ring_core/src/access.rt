@@ -12,6 +12,9 @@ pub const WRITE_PLACE: usize = 0;
 /// The place of the read index among a ring's words.
 pub const READ_PLACE: usize = 1;
 
+/// The place of the first slot's word 0 among a ring's words.
+pub const FIRST_SLOT: usize = 2;
+
 /// The place of word `place`, 0 to 7, of the packet with this id, in a ring of this size.
 #[tactic(auto, unfolding(crate::specs::Machine::word_place))]
 pub fn word_place(size: u64, id: u64, place: u64) -> usize
@@ -19,7 +22,7 @@ pub fn word_place(size: u64, id: u64, place: u64) -> usize
     requires named { place < 8 }
     ensures { result ≡ word_place size id place }
 {
-    (2 + 8 * slot_of(size, id) + place) as usize
+    FIRST_SLOT + (8 * slot_of(size, id) + place) as usize
 }
 
 /// The slot of the packet with this id: the id modulo the size, which is a power of two.
