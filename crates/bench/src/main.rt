@@ -11,14 +11,18 @@ use clap::builder::ValueParser;
 use clap::error::ErrorKind;
 use clap::{Arg, ArgAction, ArgMatches, Command, Error};
 use fault::Fault;
-use ring_speed::one_thread;
+use ring_speed::{many_threads, one_thread};
 use std::alloc::{AllocError, Global};
 use std::process::ExitCode;
+use std::thread::Threads;
 use std::time::{Clock, Duration};
 use std::{env, io};
 
 /// How many packets a producer sends at the most.
 const MOST_PACKETS: u64 = 1_000_000_000;
+
+/// With how many producers the ring is measured.
+const PRODUCERS: [u64; 5] = [1, 2, 4, 8, 16];
 
 /// How often everything is measured at the most.
 const MOST_RUNS: u64 = 1_000;
@@ -61,11 +65,10 @@ struct Request {
     runs: u64,
 }
 
-// Tells what so many packets took: nanoseconds a packet, to a tenth.
-fn tell(rt: &impl Eprint, what: &str, packets: u64, least: Duration) -> io::Result<()> {
+// Nanoseconds a packet, whole ones and tenths, where so many packets took so long.
+fn each(packets: u64, least: Duration) -> (u128, u128) {
     let tenths = least.as_nanos() * 10 / u128::from(packets.max(1));
-    let (whole, tenth) = (tenths / 10, tenths % 10);
-    eprintln!(rt; "{what}: {whole}.{tenth} ns a packet")
+    (tenths / 10, tenths % 10)
 }
 
 // Measures one thread.
@@ -79,13 +82,39 @@ fn measure_one<R: Print + Eprint + Clock + AllocGlobal>(
         least = least.min(one_thread(rt, rt.alloc(), packets)?);
     }
     println!(rt; "one thread: {packets} packets, each whole")?;
-    tell(rt, "one thread", packets, least)?;
+    let (whole, tenth) = each(packets, least);
+    eprintln!(rt; "one thread: {whole}.{tenth} ns a packet")?;
     Ok(())
 }
 
-// Measures the ring.
-fn measure<R: Print + Eprint + Clock + AllocGlobal>(rt: &R, request: Request) -> Result<(), Fault> {
-    measure_one(rt, request)
+// Measures so many producers, each on a thread, and the processor on another.
+fn measure_many<R: Print + Eprint + Clock + AllocGlobal + Threads + Sync>(
+    rt: &R,
+    request: Request,
+    producers: u64,
+) -> Result<(), Fault> {
+    let packets = request.packets;
+    let mut least = many_threads(rt, rt.alloc(), producers, packets)?;
+    for _ in 1..request.runs {
+        least = least.min(many_threads(rt, rt.alloc(), producers, packets)?);
+    }
+    let all = packets.saturating_mul(producers);
+    println!(rt; "producers {producers}: {all} packets, each whole and in order")?;
+    let (whole, tenth) = each(all, least);
+    eprintln!(rt; "producers {producers}: {whole}.{tenth} ns a packet")?;
+    Ok(())
+}
+
+// Measures the ring, with more and more threads.
+fn measure<R: Print + Eprint + Clock + AllocGlobal + Threads + Sync>(
+    rt: &R,
+    request: Request,
+) -> Result<(), Fault> {
+    measure_one(rt, request)?;
+    for producers in PRODUCERS {
+        measure_many(rt, request, producers)?;
+    }
+    Ok(())
 }
 
 // What a command line asks for; or else the exit status, after what it is refused for, or its help, is

@@ -10,7 +10,8 @@ use Rattle.ring_core.specs.Parts.{may_make, nobody}
 use Rattle.ring_core.specs.Machine.{Machine, part_at, found, place_of, word_after, read_index, is_allowed, is_ring_size, producers_of}
 use Rattle.ring_core.specs.Rule.{AreSeats, IsRule, IsRing, processor_of}
 use Rattle.ring_core.proofs.Kept.{producer_of, producers_all}
-use Rattle.ring_core.proofs.States.{ring_size_bounds, names_word, within, raises, fits_by}
+use Rattle.ring_core.proofs.Sizes.{ring_size_bounds}
+use Rattle.ring_core.proofs.States.{names_word, within, raises, fits_by}
 use Rattle.ring.specs.Opening.{is_producer_count}
 use Rattle.ring.specs.Steps.{KnowsIndex}
 
@@ -30,7 +31,7 @@ ring_of n size machine rule sized fits count =
     record {
       rule = subst (λ (k : ℕ). IsRule k machine) (sym d) rule;
       few_producers = let f = (few n count).1 in omega (arith, d, f);
-      few_slots = let b = (ring_size_bounds size fits).1 in omega (arith, sized, b);
+      ring_size = ap is_ring_size sized ∙ fits;
     }
 
 -- the processor's part is at seat 0 alone

@@ -12,7 +12,7 @@ use Rattle.ring_core.specs.declared.part.Part.{Part}
 use Rattle.ring_core.specs.Parts.{may_make, part_after, seen_by, nobody}
 use Rattle.ring_core.specs.Machine.{Machine, Makes, machine_of, part_at, touched, found, made, opened, word_after, place_of, read_index, is_allowed, is_ring_size}
 use Rattle.ring_core.specs.Rule.{IsRule, IsRing}
-use Rattle.ring_core.proofs.States.{ring_size_bounds}
+use Rattle.ring_core.proofs.Sizes.{ring_size_bounds}
 use Rattle.ring.specs.Opening.{is_producer_count}
 use Rattle.ring.specs.Passes.{RingSeen, only_part}
 use Rattle.ring.proofs.Facts.{ring_of, index_of, adds}

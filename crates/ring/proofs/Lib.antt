@@ -7,5 +7,6 @@ pub mod Gains
 pub mod Passes
 pub mod Loading
 pub mod Processing
+pub mod Again
 pub mod Dealing
 pub mod Settling

@@ -14,7 +14,8 @@ use Rattle.ring_core.specs.Parts.{after_processing, collected_packet}
 use Rattle.ring_core.specs.Machine.{Machine, Leads, made, opened, read_index, is_ring_size, producers_of}
 use Rattle.ring_core.specs.Rule.{IsRule, IsRing}
 use Rattle.ring_core.proofs.Kept.{replays_keep}
-use Rattle.ring_core.proofs.States.{ring_size_bounds, raises, fits_by}
+use Rattle.ring_core.proofs.Sizes.{ring_size_bounds}
+use Rattle.ring_core.proofs.States.{raises, fits_by}
 use Rattle.ring.specs.declared.share.Numbered.{Numbered}
 use Rattle.ring.specs.Opening.{is_producer_count}
 use Rattle.ring.specs.Shares.{alone}
@@ -25,7 +26,7 @@ use Rattle.ring.proofs.Facts.{ring_of, processor_at}
 use Rattle.ring.proofs.Gains.{gained_more}
 use Rattle.ring.proofs.Loading.{Gathered, gathering, gathered, eight_places, all_gathered}
 
-abbrev ME : Type 0
+abbrev pub ME : Type 0
 ME = List Numbered × List (ℕ × ⊤)
 
 pub record ProcessorSteps (size producers : ℕ) (q : ProcessorPart) (made : List Made) (r : ProcessorPart) (me' : ME) : Type 0 where

@@ -1,5 +1,5 @@
 -- What a contract sees of a ring and of its passes (own).
-use Rattle.std.specs.Prelude.{◌≡◌, ℕ, List, [], ◌∷◌, map, length, Option, Some, None, true, false, ◌+◌, ◌*◌, ⊤}
+use Rattle.std.specs.Prelude.{◌≡◌, ℕ, List, [], ◌∷◌, map, length, Option, Some, None, Bool, true, false, ⊤}
 use Rattle.atomic_table.specs.Seated.{TableId}
 use Rattle.ring_core.specs.declared.part.Part.{Part}
 use Rattle.ring_core.specs.declared.part.Part.TheVariants.{Producer, Processor}
@@ -9,7 +9,7 @@ use Rattle.ring_core.specs.Words.{no_words}
 use Rattle.ring_core.specs.Parts.{nobody}
 use Rattle.ring.specs.declared.share.Numbered.{Numbered}
 use Rattle.ring.specs.declared.share.Shape.{Shape}
-use Rattle.ring_core.specs.Machine.{is_ring_size}
+use Rattle.ring_core.specs.Machine.{is_ring_size, word_count}
 use Rattle.ring.specs.Opening.{is_producer_count}
 use Rattle.ring.specs.Shares.{alone, shape_of}
 
@@ -22,7 +22,7 @@ pub record RingSeen : Type 0 where
 -- its table was made for this size and so many producers, and has eight words a slot and the two indices
 pub record IsRing (table : TableId) (shape : Shape) (size producers : ℕ) : Type 0 where
   pub made_for : shape ≡ shape_of size producers
-  pub words : table.words ≡ 2 + 8 * size
+  pub words : table.words ≡ word_count size
   pub no_slots : table.slots ≡ 0
   pub fits : is_ring_size size ≡ true
   pub few : is_producer_count producers ≡ true
@@ -51,6 +51,11 @@ as_processor (Producer part) = record { retired = []; collected = no_words; rais
 abbrev pub only_part : List Numbered → Part
 only_part [] = nobody
 only_part (entry ∷ rest) = entry.part
+
+-- a packet's words, if they are kept
+abbrev pub packet_if : Bool → List ℕ → Option (List ℕ)
+packet_if true words = Some words
+packet_if false words = None
 
 -- the words collected of a packet that was shown, or of none
 abbrev pub collected_of : Option (List ℕ) → List (Option ℕ)

@@ -1,5 +1,5 @@
 -- What the processor's calls say of its pass (own).
-use Rattle.std.specs.Prelude.{◌≡◌, ℕ, true, false, List, [], ◌∷◌, length, get_or, Option, Some, None}
+use Rattle.std.specs.Prelude.{◌≡◌, ℕ, ◌<◌, true, false, List, [], ◌∷◌, length, get_or, slice_index, Option, Some, None}
 use Rattle.atomic_table.specs.Table.{Me}
 use Rattle.ring_core.specs.declared.access.Access.TheVariants.{LoadHeader}
 use Rattle.ring_core.specs.declared.access.Made.{Made}
@@ -37,6 +37,14 @@ HasPeeked ring old (peeked.Shown shown) new =
     × (shown.id.0 ≡ length old.part.retired)
     × ProcessorGains ring old (showing (words_of shown.bytes)) new
     × IsShownBy shown new
+
+-- 64 bytes
+abbrev pub AreBytes : List ℕ → Type 0
+AreBytes bytes = (length bytes ≡ 64) × ((place : ℕ) → slice_index bytes place < 256)
+
+-- a packet that the pass was shown, and has not retired, is shown again
+abbrev pub ShowsAgain : ProcessorSeen → Peeked → Type 0
+ShowsAgain old found = (shown : Shown) → AreBytes shown.bytes → IsShownBy shown old → found ≡ peeked.Shown shown
 
 -- a seat of the processor's part, which does not stand between clearing and raising
 pub record IsLoadable {S : Type 0} (me : Me S (List Numbered)) (next : ℕ) : Type 0 where

@@ -9,7 +9,7 @@ use crate::processor::ProcessorPass;
 use crate::producer::ProducerPass;
 use crate::ring::Ring;
 use crate::share::{RingSeat, Together};
-use ring_core::{READ_PLACE, WRITE_PLACE};
+use ring_core::{FIRST_SLOT, READ_PLACE, WRITE_PLACE};
 use sequences::Sequence;
 use std::alloc::Global;
 
@@ -87,7 +87,7 @@ impl Ring {
         let write_index = closed.word(WRITE_PLACE);
         let read_index = closed.word(READ_PLACE);
         for index in 0..slots.len() {
-            slots[index] = closed.word(2 + index);
+            slots[index] = closed.word(FIRST_SLOT + index);
         }
         closed.free();
         Settled {

@@ -4,7 +4,7 @@ ghost use Rattle.std.specs.Prelude.{◌≡◌, ◌↔◌, ℕ, ◌+◌, [], ◌�
 ghost use Rattle.ring_core.specs.Machine.{is_ring_size};
 ghost use Rattle.ring.specs.Bytes.{words_of};
 ghost use Rattle.ring.specs.Made.{retiring};
-ghost use Rattle.ring.specs.Showing.{IsShownBy, ProcessorGains, HasPeeked, IsLoadable, HasLoaded};
+ghost use Rattle.ring.specs.Showing.{IsShownBy, ProcessorGains, HasPeeked, ShowsAgain, IsLoadable, HasLoaded};
 
 use crate::ring::Ring;
 use crate::share::RingSeat;
@@ -36,17 +36,19 @@ pub enum Peeked {
 pub struct ProcessorPass {
     pub(crate) seat: RingSeat,
     pub(crate) next: u64,
-    pub(crate) packet: Option<[u64; 8]>,
+    /// Whether the words below are those of a packet that was shown and is not retired.
+    pub(crate) whole: bool,
+    pub(crate) packet: [u64; 8],
 }
 
 impl Model for ProcessorPass {
-    ghost use Rattle.ring.specs.Passes.{ProcessorSeen, IsProcessorPass, as_processor, only_part};
+    ghost use Rattle.ring.specs.Passes.{ProcessorSeen, IsProcessorPass, as_processor, only_part, packet_if};
 
     ghost Value = { ProcessorSeen };
 
     ghost view = { λ p. record { table = p.seat.table_id; part = as_processor (only_part p.seat.me.0) } };
 
-    ghost invariant = { λ p. IsProcessorPass p.next p.packet p.seat.me };
+    ghost invariant = { λ p. IsProcessorPass p.next (packet_if p.whole p.packet) p.seat.me };
 }
 
 impl Ring {
@@ -77,15 +79,17 @@ impl Ring {
 
 impl ProcessorPass {
     /// Shows the packet at the read index, if it is published: its header is loaded, and where that has a
-    /// type other than INVALID its seven body words.
+    /// type other than INVALID its seven body words. Until it is retired, it is shown again.
     pub fn peek(&mut self, ring: &Ring) -> Peeked
         requires ring { self.old.table ≡ ring.now.table }
         ensures peeked { HasPeeked ring.now self.old result self.new }
+        ensures again { ShowsAgain self.old result }
     {
         match ring.load_packet(&mut self.seat, self.next) {
             None => Peeked::Empty,
             Some(words) => {
-                self.packet = Some(words);
+                self.whole = true;
+                self.packet = words;
                 Peeked::Shown(Shown {
                     id: PacketId(self.next),
                     bytes: bytes_of(&words),
@@ -98,10 +102,7 @@ impl ProcessorPass {
     pub fn shows(&self, shown: &Shown) -> bool
         ensures { IsTrue result ↔ IsShownBy shown.now self.now }
     {
-        match self.packet {
-            None => false,
-            Some(words) => shown.id.0 == self.next && words_of(&shown.bytes) == words,
-        }
+        self.whole && shown.id.0 == self.next && words_of(&shown.bytes) == self.packet
     }
 
     /// Retires the packet that it was shown: the type INVALID is stored in its header, and 1 is added to
@@ -116,6 +117,6 @@ impl ProcessorPass {
         ring.store(&mut self.seat, Access::ClearHeader, slot, 1);
         let index = ring.add_one(&mut self.seat, Access::RaiseReadIndex, READ_PLACE);
         self.next = index + 1;
-        self.packet = None;
+        self.whole = false;
     }
 }

@@ -118,7 +118,8 @@ impl Ring {
         ProcessorPass {
             seat: self.cut(seat),
             next: 0,
-            packet: None,
+            whole: false,
+            packet: [0; 8],
         }
     }
 

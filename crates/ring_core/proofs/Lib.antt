@@ -2,5 +2,6 @@ pub mod Entries
 pub mod Tied
 pub mod Seats
 pub mod Places
+pub mod Sizes
 pub mod Kept
 pub mod States

@@ -15,12 +15,10 @@ use Rattle.ring_core.specs.Parts.{may_make, part_after, new_producer, nobody, se
 use Rattle.ring_core.specs.Machine.{Machine, Makes, Leads, Replays, StopsAt, slot_word, write_index, read_index, place_of, word_after, part_at, is_allowed, touched, found, made, opened, is_ring_size, producers_of, Fits64, NamesWord}
 use Rattle.ring_core.specs.Rule.{tickets_of, all_tickets, ticket_of, times, allowance_of, AreSeats, processor_of, IsRule, IsRing}
 use Rattle.ring_core.proofs.Places.{place_in}
+use Rattle.ring_core.proofs.Sizes.{ring_size_bounds}
 use Rattle.ring_core.proofs.Seats.{held_absent, all_below}
 use Rattle.ring_core.proofs.Tied.{some_of, collected_published}
 use Rattle.ring_core.proofs.Kept.{keeps, opens, seated, both, producer_of, producers_all}
-
-pub ring_size_bounds : (size : ℕ) → is_ring_size size ≡ true → (0 < size) × (size ≤ 4096)
-ring_size_bounds size h = grind (arith, nat_tests)
 
 -- a ring opens as a ring state
 pub ring_opens : (size producers : ℕ) → is_ring_size size ≡ true → producers ≤ 16 → IsRing (opened size producers)
@@ -30,7 +28,7 @@ ring_opens size producers fits few =
     record {
       rule = subst (λ (n : ℕ). IsRule n (opened size producers)) (sym e) (opens producers size b.0);
       few_producers = omega (arith, e);
-      few_slots = b.1;
+      ring_size = fits;
     }
 
 -- a step that is allowed leads from one ring state to another
@@ -40,7 +38,7 @@ ring_steps machine step h may =
     record {
       rule = subst (λ (n : ℕ). IsRule n (made machine step)) (sym e) (keeps (producers_of machine) machine step h.rule may);
       few_producers = omega (arith, e, h.few_producers);
-      few_slots = h.few_slots;
+      ring_size = h.ring_size;
     }
 
 -- an access that is allowed names one of the eight words, if it names one

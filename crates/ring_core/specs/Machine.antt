@@ -22,16 +22,22 @@ pub record Machine : Type 0 where
 abbrev pub machine_of : ℕ → List ℕ → List Part → Machine
 machine_of size words parts = record { size = size; words = words; parts = parts }
 
--- where the write index, the read index and word k of the packet with an id lie: eight words a slot,
--- behind the two indices (own)
+-- where the write index, the read index and the first slot lie (own)
 abbrev pub write_place : ℕ
 write_place = 0
 
 abbrev pub read_place : ℕ
 read_place = 1
 
+abbrev pub first_slot : ℕ
+first_slot = 2
+
+-- how many words a ring has, and where word k of the packet with an id lies: eight words a slot (own)
+abbrev pub word_count : ℕ → ℕ
+word_count size = first_slot + 8 * size
+
 unfoldable pub word_place : ℕ → ℕ → ℕ → ℕ
-word_place size id k = 2 + 8 * (id % size) + k
+word_place size id k = first_slot + 8 * (id % size) + k
 
 abbrev pub write_index : Machine → ℕ
 write_index machine = slice_index machine.words write_place

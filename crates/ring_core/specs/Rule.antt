@@ -8,7 +8,7 @@ use Rattle.ring_core.specs.declared.part.Part.{Part}
 use Rattle.ring_core.specs.declared.part.Part.TheVariants.{Producer, Processor}
 use Rattle.ring_core.specs.Words.{word, no_words, is_invalid}
 use Rattle.ring_core.specs.Tickets.{blank, is_published, shows_room, held}
-use Rattle.ring_core.specs.Machine.{Machine, write_index, read_index, slot_word, producers_of}
+use Rattle.ring_core.specs.Machine.{Machine, is_ring_size, word_count, write_index, read_index, slot_word, producers_of}
 
 -- the tickets that a part has, and those of all parts
 abbrev pub tickets_of : Part → List Reserved
@@ -105,7 +105,7 @@ IsTiedTo machine processor =
 -- the ring rule (own)
 pub record IsRule (producers : ℕ) (machine : Machine) : Type 0 where
   pub slots : 0 < machine.size
-  pub words : length machine.words ≡ 2 + 8 * machine.size
+  pub words : length machine.words ≡ word_count machine.size
   pub shared : IsShared producers (write_index machine) machine.parts
   pub tied : IsTiedTo machine (processor_of machine.parts)
 
@@ -113,4 +113,4 @@ pub record IsRule (producers : ℕ) (machine : Machine) : Type 0 where
 pub record IsRing (machine : Machine) : Type 0 where
   pub rule : IsRule (producers_of machine) machine
   pub few_producers : producers_of machine ≤ 16
-  pub few_slots : machine.size ≤ 4096
+  pub ring_size : is_ring_size machine.size ≡ true

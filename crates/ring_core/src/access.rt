@@ -1,7 +1,7 @@
 //! The eight steps, and what each reads and writes in a ring's words.
 
-ghost use Rattle.std.specs.Prelude.{◌≡◌, ◌≤◌, ◌<◌};
-ghost use Rattle.ring_core.specs.Machine.{word_place, place_of, word_after, Fits64, NamesWord};
+ghost use Rattle.std.specs.Prelude.{◌≡◌, ◌%◌, ◌<◌, true};
+ghost use Rattle.ring_core.specs.Machine.{is_ring_size, word_place, place_of, word_after, Fits64, NamesWord};
 ghost use Rattle.ring_core.specs.Parts.{seen_by};
 
 use aql_packet::PacketId;
@@ -12,15 +12,27 @@ pub const WRITE_PLACE: usize = 0;
 /// The place of the read index among a ring's words.
 pub const READ_PLACE: usize = 1;
 
+/// The place of the first slot's word 0 among a ring's words.
+pub const FIRST_SLOT: usize = 2;
+
 /// The place of word `place`, 0 to 7, of the packet with this id, in a ring of this size.
 #[tactic(auto, unfolding(crate::specs::Machine::word_place))]
 pub fn word_place(size: u64, id: u64, place: u64) -> usize
-    requires some { 0 < size }
-    requires few { size ≤ 4096 }
+    requires size { is_ring_size size ≡ true }
     requires named { place < 8 }
     ensures { result ≡ word_place size id place }
 {
-    (2 + 8 * (id % size) + place) as usize
+    FIRST_SLOT + (8 * slot_of(size, id) + place) as usize
+}
+
+/// The slot of the packet with this id: the id modulo the size, which is a power of two.
+#[tactic(auto, using(crate::proofs::Sizes::mask_is_remainder, crate::proofs::Sizes::ring_size_bounds))]
+fn slot_of(size: u64, id: u64) -> u64
+    requires { is_ring_size size ≡ true }
+    ensures slot { result ≡ id % size }
+    ensures few { result < 4096 }
+{
+    id & (size - 1)
 }
 
 /// One atomic access to a ring's words, with all that its maker decides (PSA, User Mode Queuing).
@@ -94,8 +106,7 @@ impl Access {
 
     /// The place of the word that the access touches, in a ring of this size with this read index.
     pub(crate) fn place(self, size: u64, read_index: u64) -> usize
-        requires some { 0 < size }
-        requires few { size ≤ 4096 }
+        requires size { is_ring_size size ≡ true }
         requires named { NamesWord self }
         ensures { result ≡ place_of size read_index self }
     {

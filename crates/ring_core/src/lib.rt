@@ -10,7 +10,7 @@ mod steps;
 mod ticket;
 mod tickets;
 
-pub use access::{Access, Made, READ_PLACE, Seen, Step, WRITE_PLACE, word_place};
+pub use access::{Access, FIRST_SLOT, Made, READ_PLACE, Seen, Step, WRITE_PLACE, word_place};
 pub use laws::{each_step_keeps_the_rule, every_run_meets_the_rule};
 pub use part::{ALLOWANCE, Part, ProcessorPart, ProducerPart};
 pub use state::{

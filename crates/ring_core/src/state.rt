@@ -137,7 +137,7 @@ impl RingState {
         if !self.allows(step) {
             return Err(StepFault::NotAStep);
         }
-        let place = step.access.place(self.size, self.words[1]);
+        let place = step.access.place(self.size, self.words[READ_PLACE]);
         let old = self.words[place];
         self.parts[step.seat as usize].record(step.access, old)?;
         self.words[place] = step.access.word_after(old);

@@ -5,7 +5,8 @@
 
 #[cfg(test)]
 mod across;
-#[cfg(test)]
-mod load;
+pub mod load;
 #[cfg(test)]
 mod rows;
+#[cfg(test)]
+mod threads;

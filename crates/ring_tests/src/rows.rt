@@ -1,9 +1,14 @@
 //! Rings used by one thread.
 
-use crate::load::{packet, publish_one, take_one};
+ghost use Rattle.std.specs.Prelude.{◌≡◌};
+
+use crate::load::{packet, publish_one, settle_two, slot_bytes, take_shown};
 use aql_packet::PacketId;
-use ring::{Peeked, Publication, Ring, RingFault, SettleFault, settle};
+use ring::{
+    Peeked, ProcessorPass, ProducerPass, Publication, Ring, RingFault, SettleFault, settle,
+};
 use std::alloc::Global;
+use std::process::Abort;
 use std::test::Fail;
 
 #[test]
@@ -45,21 +50,139 @@ fn a_missing_pass_is_told_and_all_comes_back(rt: HostRuntime) -> Result<(), Fail
 }
 
 #[test]
-fn an_open_ticket_is_a_gap(rt: HostRuntime) -> Result<(), Fail> {
-    let Ok((ring, mut producers, mut processor)) = Ring::new(rt.alloc(), 4, 2) else {
+fn rings_are_apart(rt: HostRuntime) -> Result<(), Fail> {
+    let Ok((one, mut ones, first)) = Ring::new(rt.alloc(), 2, 1) else {
+        panic!(rt; "a ring opens")
+    };
+    let Ok((other, others, second)) = Ring::new(rt.alloc(), 2, 1) else {
+        panic!(rt; "another opens")
+    };
+    let Some(mut pass) = ones.pop() else {
+        panic!(rt; "there is one")
+    };
+    assert!(rt; publish_one(&one, &mut pass, &packet(1, 0)));
+    ones.push(pass)?;
+    let reserved = settle_two(rt.alloc(), one, ones, first, other, others, second);
+    assert!(rt; reserved == Some((1, 0)));
+    Ok(())
+}
+
+/// The third id of a ring of two slots waits until slot 0 is free.
+fn check_two_producers(
+    rt: &impl Abort,
+    ring: &Ring,
+    first: &mut ProducerPass,
+    second: &mut ProducerPass,
+    processor: &mut ProcessorPass,
+)
+    requires first { first.old.table ≡ ring.now.table }
+    requires second { second.old.table ≡ ring.now.table }
+    requires processor { processor.old.table ≡ ring.now.table }
+    ensures first { first.new.table ≡ ring.now.table }
+    ensures second { second.new.table ≡ ring.now.table }
+    ensures processor { processor.new.table ≡ ring.now.table }
+{
+    let Ok(zero) = first.reserve(ring) else {
+        panic!(rt; "an id is left")
+    };
+    let Ok(one) = second.reserve(ring) else {
+        panic!(rt; "an id is left")
+    };
+    let Ok(two) = first.reserve(ring) else {
+        panic!(rt; "an id is left")
+    };
+    assert!(rt; (zero.id().0, one.id().0, two.id().0) == (0, 1, 2));
+    let published = first.publish(ring, zero, &packet(1, 0));
+    assert!(rt; published == Publication::Published(PacketId(0)));
+    let published = second.publish(ring, one, &packet(2, 0));
+    assert!(rt; published == Publication::Published(PacketId(1)));
+    let Publication::SlotBusy(two, read_index) = first.publish(ring, two, &packet(1, 1)) else {
+        panic!(rt; "slot 0 is taken")
+    };
+    assert!(rt; two.id() == PacketId(2) && read_index == 0);
+    assert!(rt; take_shown(ring, processor) == Some(packet(1, 0)));
+    let published = first.publish(ring, two, &packet(1, 1));
+    assert!(rt; published == Publication::Published(PacketId(2)));
+}
+
+#[test]
+fn two_producers_share_two_slots(rt: HostRuntime) -> Result<(), Fail> {
+    let Ok((ring, mut producers, mut processor)) = Ring::new(rt.alloc(), 2, 2) else {
         panic!(rt; "a ring opens")
     };
     let (Some(mut second), Some(mut first)) = (producers.pop(), producers.pop()) else {
         panic!(rt; "there are two")
     };
-    let Ok(ticket) = first.reserve(&ring) else {
+    check_two_producers(&rt, &ring, &mut first, &mut second, &mut processor);
+    producers.push(first)?;
+    producers.push(second)?;
+    let Ok(settled) = settle(rt.alloc(), ring, producers, processor) else {
+        panic!(rt; "all passes are there")
+    };
+    let slots = settled.slots.as_slice();
+    assert!(rt; slots.len() == 16);
+    assert!(rt; slot_bytes(slots, 0) == packet(1, 1));
+    Ok(())
+}
+
+/// A packet that is published behind an open ticket is not seen before the ticket's own.
+fn check_gap(
+    rt: &impl Abort,
+    ring: &Ring,
+    first: &mut ProducerPass,
+    second: &mut ProducerPass,
+    processor: &mut ProcessorPass,
+)
+    requires first { first.old.table ≡ ring.now.table }
+    requires second { second.old.table ≡ ring.now.table }
+    requires processor { processor.old.table ≡ ring.now.table }
+{
+    let Ok(ticket) = first.reserve(ring) else {
         panic!(rt; "an id is left")
     };
-    assert!(rt; publish_one(&ring, &mut second, &packet(2, 1)));
-    assert!(rt; processor.peek(&ring) == Peeked::Empty);
-    assert!(rt; first.publish(&ring, ticket, &packet(1, 0)) == Publication::Published(PacketId(0)));
-    assert!(rt; take_one(&ring, &mut processor) == Some(packet(1, 0)));
-    assert!(rt; take_one(&ring, &mut processor) == Some(packet(2, 1)));
-    assert!(rt; processor.peek(&ring) == Peeked::Empty);
-    Ok(())
+    assert!(rt; publish_one(ring, second, &packet(2, 0)));
+    assert!(rt; processor.peek(ring) == Peeked::Empty);
+    let published = first.publish(ring, ticket, &packet(1, 0));
+    assert!(rt; published == Publication::Published(PacketId(0)));
+    assert!(rt; take_shown(ring, processor) == Some(packet(1, 0)));
+    assert!(rt; take_shown(ring, processor) == Some(packet(2, 0)));
+    assert!(rt; take_shown(ring, processor) == None);
+}
+
+#[test]
+fn an_open_ticket_is_a_gap(rt: HostRuntime) {
+    let Ok((ring, mut producers, mut processor)) = Ring::new(rt.alloc(), 2, 2) else {
+        panic!(rt; "a ring opens")
+    };
+    let (Some(mut second), Some(mut first)) = (producers.pop(), producers.pop()) else {
+        panic!(rt; "there are two")
+    };
+    check_gap(&rt, &ring, &mut first, &mut second, &mut processor);
+}
+
+/// A packet of type INVALID is not published, and its ticket stays open.
+fn check_invalid_type(rt: &impl Abort, ring: &Ring, pass: &mut ProducerPass)
+    requires { pass.old.table ≡ ring.now.table }
+{
+    let Ok(ticket) = pass.reserve(ring) else {
+        panic!(rt; "an id is left")
+    };
+    let mut invalid = packet(1, 0);
+    invalid[0] = 1;
+    let Publication::NotPublishable(ticket) = pass.publish(ring, ticket, &invalid) else {
+        panic!(rt; "its type is INVALID")
+    };
+    let published = pass.publish(ring, ticket, &packet(1, 0));
+    assert!(rt; published == Publication::Published(PacketId(0)));
+}
+
+#[test]
+fn an_invalid_type_is_not_publishable(rt: HostRuntime) {
+    let Ok((ring, mut producers, _processor)) = Ring::new(rt.alloc(), 2, 1) else {
+        panic!(rt; "a ring opens")
+    };
+    let Some(mut pass) = producers.pop() else {
+        panic!(rt; "there is one")
+    };
+    check_invalid_type(&rt, &ring, &mut pass);
 }

@@ -1,6 +1,7 @@
 use Rattle.std.proofs.Common.{ap, ◌∙◌}
 use Rattle.std.specs.Prelude.{Err}
-use Rattle.ring_core.proofs.States.{leads_more, leads_all, stops_here, ring_size_bounds}
+use Rattle.ring_core.proofs.Sizes.{ring_size_bounds}
+use Rattle.ring_core.proofs.States.{leads_more, leads_all, stops_here}
 use Rattle.ring_core.proofs.Kept.{replays_keep}
 use Rattle.ring_core.proofs.state.replay.Goals as goal
 

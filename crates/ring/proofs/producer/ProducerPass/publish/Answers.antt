@@ -5,7 +5,7 @@ use Rattle.ring_core.specs.declared.part.Part.TheVariants.{Producer}
 use Rattle.ring_core.specs.Words.{is_invalid}
 use Rattle.ring_core.specs.Machine.{is_ring_size}
 use Rattle.ring_core.specs.Tickets.{open_ticket}
-use Rattle.ring_core.proofs.States.{ring_size_bounds}
+use Rattle.ring_core.proofs.Sizes.{ring_size_bounds}
 use Rattle.ring.specs.Bytes.{words_of}
 use Rattle.ring.specs.Made.{Gained, publication}
 use Rattle.ring.specs.Passes.{ProducerSeen, as_producer, only_part}

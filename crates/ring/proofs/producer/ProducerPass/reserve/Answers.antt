@@ -4,7 +4,7 @@ use Rattle.ring_core.specs.declared.access.Access.TheVariants.{Reserve}
 use Rattle.ring_core.specs.declared.part.ProducerPart.{ProducerPart}
 use Rattle.ring_core.specs.Tickets.{open_ticket}
 use Rattle.ring_core.specs.Parts.{after_producing}
-use Rattle.ring_core.proofs.States.{ring_size_bounds}
+use Rattle.ring_core.proofs.Sizes.{ring_size_bounds}
 use Rattle.ring.specs.Made.{read}
 use Rattle.ring.specs.Passes.{as_producer, only_part}
 use Rattle.ring.proofs.Passes.{ProducerSteps, producer_steps, producer_ready, some_left, opens_new, keeps_open}

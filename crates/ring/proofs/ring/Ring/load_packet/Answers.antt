@@ -4,7 +4,7 @@ use Rattle.ring_core.specs.declared.access.Made.{Made}
 use Rattle.ring_core.specs.Words.{is_invalid}
 use Rattle.ring_core.specs.Machine.{word_place, is_ring_size}
 use Rattle.ring_core.proofs.Places.{place_in}
-use Rattle.ring_core.proofs.States.{ring_size_bounds}
+use Rattle.ring_core.proofs.Sizes.{ring_size_bounds}
 use Rattle.ring.specs.Made.{body_read, read}
 use Rattle.ring.specs.Steps.{HasGained}
 use Rattle.ring.proofs.Gains.{gained_none, gained_more, one_after}

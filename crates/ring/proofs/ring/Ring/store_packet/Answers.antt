@@ -2,7 +2,7 @@ use Rattle.std.proofs.Common.{◌≡◌, ◌+◌, ◌*◌, ◌<◌, ◌≤◌, �
 use Rattle.ring_core.specs.declared.access.Made.{Made}
 use Rattle.ring_core.specs.Machine.{word_place}
 use Rattle.ring_core.proofs.Places.{place_in}
-use Rattle.ring_core.proofs.States.{ring_size_bounds}
+use Rattle.ring_core.proofs.Sizes.{ring_size_bounds}
 use Rattle.ring.specs.Made.{body_stored}
 use Rattle.ring.specs.Steps.{HasGained}
 use Rattle.ring.proofs.Gains.{ready_body, ready_header, body_more, gained_more}
