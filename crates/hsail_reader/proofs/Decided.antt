@@ -1,13 +1,13 @@
 -- Each line of the grammar decides its choices by the next token.
 use Rattle.std.proofs.Common.{◌≡◌, ℕ, ⊎_elim, inl, inr, List, [], ◌∷◌, Bool, true, false, Option, None, refl, sym, ap, subst, ◌∙◌}
 use Rattle.std.specs.Option.{option_map}
-use Rattle.hsail_reader.specs.Grammar.{signed, constant, source, next_source, offset, place, place_inside, index, address_inside, address, unary, binary, ternary, load, store, branch, conditional_branch, identify, operands, labelled, performed, unlabelled, item, items, body, alignment, kernarg_flaw, argument, next_argument, some_arguments, signature, kernel_begin, kernel, is_none_left, kernels, fields, module_text}
+use Rattle.hsail_reader.specs.Grammar.{signed, constant, source, next_source, offset, place, place_inside, index, address_inside, address, unary, binary, ternary, load, store, branch, conditional_branch, identify, operands_of, labelled, performed, unlabelled, item, items, body, alignment, kernarg_flaw, argument, next_argument, some_arguments, signature, kernel_begin, kernel, is_none_left, kernels, fields, module_text}
 use Rattle.hsail_reader.specs.Grammars.{spells, begun_by, begins, read}
 use Rattle.hsail_reader.specs.Terminals.{mark_of, number_of, register_of, variable_of, label_of, word_at, picked, is_prog, align_of, align, semicolon, close_parenthesis, close_brace, syntax, at_begin, behind_align}
 use Rattle.hsail_reader.specs.TextTokens.{PlacedToken}
-use Rattle.hsail_reader.specs.Nouns.{Argument, Constant, Item, Kernel, Opcode, Place, TokenKind}
+use Rattle.hsail_reader.specs.Nouns.{Argument, Constant, DataType, Form, Item, Kernel, Modifiers, Place, TokenKind}
 use Rattle.hsail_reader.specs.declared.token.TokenKind.TheVariants as kinds
-use Rattle.hsail_reader.specs.declared.words.Opcode.TheVariants as opcode
+use Rattle.hsail_reader.specs.declared.rows.Form.TheVariants as forms
 use Rattle.hsail_reader.specs.declared.words.Word.TheVariants as words
 use Rattle.hsail_reader.proofs.Grammars.{Front, Next, Takes, Decides, shortens}
 use Rattle.hsail_reader.proofs.Loop.{Shortens}
@@ -143,24 +143,25 @@ unfolding address
 addresses F law = (marks 91, λ one. addresses_inside F law)
 
 -- the operands, before the semicolon of their instruction
-operations : (code : Opcode) (F : Front) → BeforeSemicolon F → Decides (operands code) F
+operations : (form : Form) (modifiers : Modifiers) (kind : DataType) (F : Front) → BeforeSemicolon F →
+    Decides (operands_of form modifiers kind) F
 unfolding unary binary ternary load store branch conditional_branch identify
-operations (opcode.Unary op kind) F law = (registers, λ d. (next_sources _, λ a. tt))
-operations (opcode.Binary op kind) F law = (registers, λ d. (next_sources _, λ a. (next_sources _, λ b. tt)))
-operations (opcode.Ternary op kind) F law =
+operations (forms.Unary op) modifiers kind F law = (registers, λ d. (next_sources _, λ a. tt))
+operations (forms.Binary op) modifiers kind F law = (registers, λ d. (next_sources _, λ a. (next_sources _, λ b. tt)))
+operations (forms.Ternary op) modifiers kind F law =
     (registers, λ d. (next_sources _, λ a. (next_sources _, λ b. (next_sources _, λ c. tt))))
-operations (opcode.Load segment modifiers kind) F law = (
+operations (forms.Load segment) modifiers kind F law = (
   registers,
   λ d. (marks 44, λ one. (addresses _ (λ to b. subst (FirstIs (kinds.Mark 59)) (sym b.3.0) (law b.2 b.4)), λ a. tt)),
 )
-operations (opcode.Store bytes kind) F law = (
+operations forms.Store modifiers kind F law = (
   sources _,
   λ s. (marks 44, λ one. (addresses _ (λ to b. subst (FirstIs (kinds.Mark 59)) (sym b.3.0) (law b.2 b.4)), λ a. tt)),
 )
-operations opcode.Branch F law = (labels, λ x. tt)
-operations (opcode.ConditionalBranch width) F law = (sources _, λ a. (marks 44, λ one. (labels, λ x. tt)))
-operations opcode.Return F law = tt
-operations (opcode.Identify query kind) F law = (registers, λ d. (marks 44, λ one. (numbers, λ k. tt)))
+operations forms.Branch modifiers kind F law = (labels, λ x. tt)
+operations forms.ConditionalBranch modifiers kind F law = (sources _, λ a. (marks 44, λ one. (labels, λ x. tt)))
+operations forms.Return modifiers kind F law = tt
+operations (forms.Identify query) modifiers kind F law = (registers, λ d. (marks 44, λ one. (numbers, λ k. tt)))
 
 labelleds : (F : Front) → Decides labelled F
 unfolding labelled
@@ -169,7 +170,7 @@ labelleds F line = (labels, λ x. (marks 58, λ one. tt))
 performeds : (F : Front) → Decides performed F
 unfolding performed
 performeds F line =
-    (opcodes, λ code. (operations code _ (λ to b. (b.3.2.0, b.3.1, b.3.2.1, b.3.2.2)), λ x. (marks 59, λ one. tt)))
+    (opcodes, λ code. (operations code.form code.modifiers code.kind _ (λ to b. (b.3.2.0, b.3.1, b.3.2.1, b.3.2.2)), λ x. (marks 59, λ one. tt)))
 
 -- an instruction begins with its word
 performed_first : (i : Item) (from to : List PlacedToken) → spells performed i from to →

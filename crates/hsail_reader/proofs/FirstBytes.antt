@@ -8,15 +8,11 @@ use Rattle.std.specs.List.{list_any}
 use Rattle.hsail_reader.specs.Lexemes.{lexed, number_at, word_at, lexeme_at}
 use Rattle.hsail_reader.specs.Spelling.{AllPass, is_name_start, is_blank, is_mark}
 use Rattle.hsail_reader.specs.declared.token.TokenKind.TheVariants as token
-use Rattle.hsail_reader.proofs.Reaches.{true_is_not_false}
+use Rattle.hsail_reader.proofs.Options.{true_is_not_false}
+use Rattle.hsail_reader.proofs.Runs.{differs}
 use Rattle.hsail_reader.specs.Nouns.{Blank, Token}
 
--- a byte that passes a test is none that doesn't
-pub differs : (test : ℕ → Bool) (b c : ℕ) → test b ≡ true → test c ≡ false → (b == c) ≡ false
-differs test b c passes fails =
-    ⊎_elim (λ w. true_is_not_false (test b) passes (ap test w.1 ∙ fails)) (λ w. w.0) (eqb_tells b c)
-
--- nor is it one of some that all fail it
+-- a byte that passes a test is none of some that all fail it
 is_none_of : (test : ℕ → Bool) (b : ℕ) (cs : List ℕ) → test b ≡ true → AllPass (λ c. not (test c)) cs →
     list_any (λ m. m == b) cs ≡ false
 is_none_of test b [] passes fail = refl

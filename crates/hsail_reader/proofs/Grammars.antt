@@ -5,6 +5,7 @@ use Rattle.hsail_reader.specs.Grammars.{Grammar, give, token, behind, either, ma
 use Rattle.hsail_reader.specs.TextTokens.{PlacedToken}
 use Rattle.hsail_reader.specs.Nouns.{Flaw, Refusal}
 use Rattle.hsail_reader.specs.declared.fault.Flaw.TheVariants.{Syntax}
+use Rattle.hsail_reader.proofs.Options.{chosen}
 
 -- what tokens begin with
 abbrev pub Front : Type 1
@@ -152,11 +153,6 @@ pub bound : {A B : Type 0} (read : Result A Refusal) (f : A → Result B Refusal
     (x : A) × (read ≡ Ok x) × (f x ≡ Ok y)
 bound (Ok x) f y is = (x, refl, is)
 bound (Err r) f y is = cc
-
-chosen : {A : Type 0} (b : Bool) (x y z : A) → (if b then x else y) ≡ z →
-    ((b ≡ true) × (x ≡ z)) ⊎ ((b ≡ false) × (y ≡ z))
-chosen true x y z is = inl (refl, is)
-chosen false x y z is = inr (refl, is)
 
 token_sound : {X : Type 0} (Is : X → PlacedToken → Type 0) (test : PlacedToken → Option X) (flaw : PlacedToken → Flaw) →
     ((x : X) (t : PlacedToken) → test t ≡ Some x → Is x t) → (from : List PlacedToken) (y : X × List PlacedToken) →

@@ -1,16 +1,13 @@
 -- A text is cut into tokens just where these are its tokens by their spelling.
-use Rattle.std.proofs.Common.{◌≡◌, ℕ, zero, suc, ◌+◌, ◌<◌, ◌≤◌, inl, inr, List, [], ◌∷◌, ◌++◌, length, drop, Result, Ok, Err, Option, Some, None, refl, sym, ap, subst, ◌∙◌, length-append, arith}
+use Rattle.std.proofs.Common.{◌≡◌, ℕ, zero, suc, ◌+◌, ◌<◌, ◌≤◌, List, [], ◌∷◌, ◌++◌, length, drop, Result, Ok, Err, Option, Some, None, refl, sym, ap, subst, ◌∙◌, length-append, arith}
 use Rattle.std.proofs.Math.Seq.{take-append_seam, drop-append_seam}
 use Rattle.hsail_reader.specs.Faults.{refusal, with_front}
 use Rattle.hsail_reader.specs.Lexemes.{lexed, lexeme_at}
-use Rattle.hsail_reader.specs.TextTokens.{IsLexeme, IsLongestFront, AreTokens, none, lexeme, header_name, PlacedToken, kept, line_after, line_behind}
+use Rattle.hsail_reader.specs.TextTokens.{IsLongestFront, AreTokens, none, lexeme, PlacedToken, kept, line_after, line_behind}
 use Rattle.hsail_reader.specs.Tokens.{tokens_from, further, before_rest}
 use Rattle.hsail_reader.specs.declared.fault.Flaw.TheVariants as flaw
-use Rattle.hsail_reader.specs.Nouns.{Header, Lexeme, LexemeKind, Refusal, Base, Blank, Comment, Token}
-use Rattle.hsail_reader.specs.declared.token.TokenKind.TheVariants as token
-use Rattle.hsail_reader.proofs.LexemeFound.{longest_is_found}
-use Rattle.hsail_reader.proofs.LexemeFronts.{number_first, word_first, lexeme_reaches}
-use Rattle.hsail_reader.proofs.LexemeSpellings.{FoundSpelled, class_length, found_is_lexeme}
+use Rattle.hsail_reader.specs.Nouns.{Lexeme, LexemeKind, Refusal}
+use Rattle.hsail_reader.proofs.LexemeFronts.{FoundSpelled, found_is_lexeme, lexeme_is_some, lexeme_reaches, longest_is_found}
 use Rattle.hsail_reader.proofs.Lexing.{tokens_from_step}
 
 -- the tokens behind a lexeme that is found, by its front and what stands behind it
@@ -28,28 +25,6 @@ step place line kind front behind some is =
     (tokens_from 0 (place + length front) (line_after line front) xs))
     (drop-append_seam front behind)
 
--- a word of the header has a byte at least
-header_is_some : (h : Header) → 0 < length (header_name h)
-header_is_some Base = omega arith
-header_is_some _ = omega arith
-
--- a lexeme has a byte at least
-lexeme_is_some : (kind : LexemeKind) (front : List ℕ) → IsLexeme kind front → 0 < length front
-lexeme_is_some Blank front (b, e, blank) = omega (arith, ap length e)
-lexeme_is_some Comment front (rest, e, spelled) = omega (arith, ap length e)
-lexeme_is_some (Token token.Global) front (rest, e, spelled) = omega (arith, ap length e)
-lexeme_is_some (Token token.Variable) front (rest, e, spelled) = omega (arith, ap length e)
-lexeme_is_some (Token token.Label) front (rest, e, spelled) = omega (arith, ap length e)
-lexeme_is_some (Token (token.Register r)) front (digits, e, spelled) =
-    omega (arith, ap length e, class_length r.class digits)
-lexeme_is_some (Token (token.Header h)) front e = omega (arith, ap length e, header_is_some h)
-lexeme_is_some (Token (token.Number n)) front (inl spelled) =
-    omega (arith, ap length (number_first front (inl spelled.0)).2)
-lexeme_is_some (Token (token.Number n)) front (inr spelled) =
-    omega (arith, ap length (number_first front (inr spelled.0)).2)
-lexeme_is_some (Token (token.Mark b)) front (e, mark) = omega (arith, ap length e)
-lexeme_is_some (Token token.Word) front spelled = omega (arith, ap length (word_first front spelled).2)
-
 -- tokens by their spelling are those that are cut
 tokens_are_cut : (place line : ℕ) (bytes : List ℕ) (tokens : List PlacedToken) → AreTokens place line bytes tokens →
     tokens_from 0 place line bytes ≡ Ok tokens
@@ -58,7 +33,7 @@ tokens_are_cut _ _ _ _ (lexeme place line kind bytes front behind tokens parts i
     let Long : List ℕ → Type 0 = λ xs. IsLongestFront front xs in
     let found = longest_is_found kind front behind is within (subst Long parts longest) in
     ap (tokens_from 0 place line) parts
-    ∙ step place line kind front behind (lexeme_is_some kind front is) found
+    ∙ step place line kind front behind (lexeme_is_some kind front is within) found
     ∙ ap (with_front (kept kind front place line))
     (tokens_are_cut (place + length front) (line_after line front) behind tokens rest)
 
@@ -94,7 +69,7 @@ found_goes_on place line bytes tokens found at' is (front, behind, parts, counts
     let At : List ℕ → Type 0 = λ xs. lexeme_at xs ≡ Some found in
     let there : lexeme_at (front ++ behind) ≡ Some (lexed found.kind (length front)) =
     subst At parts at' ∙ ap (λ n. Some (lexed found.kind n)) (sym counts) in
-    let some = lexeme_is_some found.kind front spelled in
+    let some = lexeme_is_some found.kind front spelled within in
     let whole = sym (step place line found.kind front behind some there)
     ∙ ap (tokens_from 0 place line) (sym parts) ∙ is in
     let later = behind_some (kept found.kind front place line) tokens

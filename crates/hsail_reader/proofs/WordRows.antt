@@ -3,12 +3,13 @@
 use Rattle.std.proofs.Common.{◌≡◌, ℕ, zero, suc, ◌⊎◌, inl, inr, ⊎_elim, List, [], ◌∷◌, ◌++◌, Bool, true, false, ◌&&◌, ◌||◌, not, ◌==◌, if◌then◌else◌, Option, Some, None, refl, sym, ap, subst, ◌∙◌, codes, append-nil, arith}
 use Rattle.std.proofs.lemmas.Bool.Decides.{eqb_tells}
 use Rattle.std.specs.List.{Contains}
-use Rattle.hsail_reader.specs.Bytes.{behind, or_else, first_of}
+use Rattle.hsail_reader.specs.Bytes.{behind, or_else, first_of, ◌>>=◌}
 use Rattle.hsail_reader.specs.Rows.{types_of, type_name}
 use Rattle.hsail_reader.specs.Words.{is_end, is_spelled, type_among, type_at}
-use Rattle.hsail_reader.specs.Nouns.{DataType, TypeSet, Bit}
-use Rattle.hsail_reader.proofs.Reaches.{bound, chosen, true_is_not_false, same_some}
-use Rattle.hsail_reader.proofs.Spelled.{behind_parts, nothing}
+use Rattle.hsail_reader.specs.WordSpelling.{SpellsType}
+use Rattle.hsail_reader.specs.Nouns.{DataType, TypeSet, B1, Bit, Untyped}
+use Rattle.hsail_reader.proofs.Options.{bound, chosen, nothing, same_some, true_is_not_false}
+use Rattle.hsail_reader.proofs.Runs.{behind_front, behind_parts}
 
 -- the texts differ at a place that both have
 abbrev pub clash : List ℕ → List ℕ → Bool
@@ -25,12 +26,6 @@ clash_not_behind (f ∷ front) (b ∷ text) rest e =
     (λ w. let later : clash front text ≡ true = rw w.0 at e in rw w.0 (clash_not_behind front text rest later))
     (λ w. rw w.0 refl)
     (eqb_tells b f)
-
--- behind a front stands what was put there
-pub behind_front : (front rest : List ℕ) → behind front (front ++ rest) ≡ Some rest
-behind_front [] rest = refl
-behind_front (f ∷ front) rest =
-    ⊎_elim (λ w. rw w.0 (behind_front front rest)) (λ w. absurd (w.1 refl)) (eqb_tells f f)
 
 -- an element of a list is its first, or one of the others
 pub contains_cases : {A : Type 0} (y x : A) (ys : List A) → Contains (y ∷ ys) x → (y ≡ x) ⊎ Contains ys x
@@ -124,17 +119,17 @@ abbrev type_spelled : DataType → List ℕ → Option DataType
 type_spelled t text = if is_spelled (type_name t) text then Some t else None
 
 -- a type of a set is read where its name stands
-pub type_is_read : (set : TypeSet) (t : DataType) → Contains (types_of set) t →
+pub name_is_read : (set : TypeSet) (t : DataType) → Contains (types_of set) t →
     type_among (types_of set) (type_name t) ≡ Some t
-type_is_read set t c =
+name_is_read set t c =
     ap (type_among (types_of set)) (sym (append-nil (type_name t)))
     ∙ first_is_read type_name type_spelled (λ t text e. ap (λ o. if is_end o then Some t else None) e) (types_of set) t [] t
     (types_differ set) c (ap (λ o. if is_end o then Some t else None) (behind_front (type_name t) []))
 
 -- a type is read where its name stands
-pub type_is_found : (types : List DataType) (text : List ℕ) (t : DataType) → type_among types text ≡ Some t →
+pub name_is_found : (types : List DataType) (text : List ℕ) (t : DataType) → type_among types text ≡ Some t →
     (text ≡ type_name t) × Contains types t
-type_is_found types text t is =
+name_is_found types text t is =
     let f = first_is_found type_spelled types text t is in
     ⊎_elim
     (λ w. let same : f.0 ≡ t = same_some f.0 t w.1 in
@@ -142,10 +137,20 @@ type_is_found types text t is =
     (λ w. nothing t w.1)
     (chosen (is_spelled (type_name f.0) text) (Some f.0) None (Some t) f.2)
 
--- `_` and the name of a type, to the end
-pub type_behind_bar : (set : TypeSet) (bytes : List ℕ) (t : DataType) → type_at set bytes ≡ Some t →
+-- a type is read where it is spelled
+pub type_is_read : (set : TypeSet) (t : DataType) (text : List ℕ) → SpellsType set t text → type_at set text ≡ Some t
+type_is_read Untyped t text (e, is) = ap (type_at Untyped) e ∙ ap Some (sym is)
+type_is_read set t text (e, c) = ap (type_at set) e ∙ name_is_read set t c
+
+-- a type that is read is spelled
+named_type : (set : TypeSet) (bytes : List ℕ) (t : DataType) → (behind (codes "_") bytes >>= type_among (types_of set)) ≡ Some t →
     (bytes ≡ codes "_" ++ type_name t) × Contains (types_of set) t
-type_behind_bar set bytes t is =
+named_type set bytes t is =
     let b = bound (behind (codes "_") bytes) (type_among (types_of set)) t is in
-    let f = type_is_found (types_of set) b.0 t b.2 in
+    let f = name_is_found (types_of set) b.0 t b.2 in
     (behind_parts (codes "_") bytes b.0 b.1 ∙ ap (λ xs. codes "_" ++ xs) f.0, f.1)
+
+pub type_is_found : (set : TypeSet) (bytes : List ℕ) (t : DataType) → type_at set bytes ≡ Some t → SpellsType set t bytes
+type_is_found Untyped [] t is = (refl, sym (same_some B1 t is))
+type_is_found Untyped (b ∷ bytes) t is = absurd (contains_none t (named_type Untyped (b ∷ bytes) t is).1)
+type_is_found set bytes t is = named_type set bytes t is
