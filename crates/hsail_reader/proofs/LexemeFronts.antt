@@ -1,25 +1,87 @@
 -- Where a lexeme is spelled, one is found that has it as its front: one law for each kind, from which follow that what
 -- is found is a lexeme, that none there is longer, and that the longest is found.
-use Rattle.std.proofs.Common.{◌≡◌, ℕ, ◌+◌, ◌<◌, ◌≤◌, ◌⊎◌, inl, inr, ⊎_elim, List, [], ◌∷◌, ◌++◌, length, true, false, if◌then◌else◌, Option, Some, None, refl, sym, ap, subst, ◌∙◌, append_assoc, append-nil, length-append, arith}
+use Rattle.std.proofs.Common.{◌≡◌, ℕ, ⊎_elim, List, [], ◌∷◌, Bool, true, false, not, ◌==◌, ◌<◌, Some, refl, ap, ◌∙◌, codes, arith, ◌+◌, ◌≤◌, ◌⊎◌, inl, inr, ◌++◌, length, if◌then◌else◌, Option, None, sym, subst, append_assoc, append-nil, length-append}
+use Rattle.std.proofs.lemmas.Bool.Decides.{eqb_tells, nat_tests}
+use Rattle.std.proofs.lemmas.Str.Parse.{digit_from_value}
+use Rattle.std.specs.Char.{is_digit, digit_value}
+use Rattle.std.specs.Int.{IsInRange}
+use Rattle.std.specs.List.{list_any, prefix_len}
+use Rattle.hsail_reader.specs.Lexemes.{lexed, number_at, word_at, lexeme_at, HeaderWord, comment_at, name_at, class_at, register, register_at, header_words, header_among, dollar_at}
+use Rattle.hsail_reader.specs.Spelling.{AllPass, is_name_start, is_blank, is_mark, IsDecimal, IsName, IsRestOfComment, is_name_byte, is_not_line_feed}
+use Rattle.hsail_reader.proofs.Options.{not_false, true_is_not_false, nothing, same_some, mapped, bound, either, some_rest}
+use Rattle.hsail_reader.proofs.Runs.{differs, run_of, run_length, pass_append, closing_is_read, closing_is_spelled, behind_parts, no_more}
+use Rattle.hsail_reader.specs.Nouns.{Blank, Token, Header, Lexeme, LexemeKind, RegisterClass, Spelled, TokenKind, Base, Comment, Control, Double, Single}
 use Rattle.std.proofs.lemmas.Bool.{cases_Bool}
-use Rattle.std.proofs.lemmas.Bool.Decides.{eqb_tells}
-use Rattle.std.specs.Char.{is_digit}
-use Rattle.std.specs.List.{prefix_len}
 use Rattle.std.specs.Option.{is_some, option_map}
 use Rattle.std.specs.Str.Parse.{digits_value}
 use Rattle.hsail_reader.specs.Bytes.{behind, closing_at, decimal_at, numeral_at, ◌>>=◌, or_else}
-use Rattle.hsail_reader.specs.Lexemes.{HeaderWord, lexed, comment_at, name_at, class_at, register, register_at, header_words, header_among, dollar_at, number_at, word_at, lexeme_at}
-use Rattle.hsail_reader.specs.Spelling.{IsDecimal, IsName, IsRestOfComment, is_name_byte, is_name_start, is_not_line_feed, is_blank, is_mark}
 use Rattle.hsail_reader.specs.WordLexemes.{IsWord, none}
 use Rattle.hsail_reader.specs.TextTokens.{IsLexeme, IsWithin64Bits, IsLongestFront, class_name, header_name}
 use Rattle.hsail_reader.specs.WordSpelling.{SpellsDecimal}
-use Rattle.hsail_reader.specs.Nouns.{Header, Lexeme, LexemeKind, RegisterClass, Spelled, TokenKind, Base, Blank, Comment, Control, Double, Single, Token}
-use Rattle.hsail_reader.specs.declared.token.TokenKind.TheVariants as token
-use Rattle.hsail_reader.proofs.FirstBytes.{at_blank, at_mark, at_name_start, at_digit}
 use Rattle.hsail_reader.proofs.Numbers.{SpellsAny, fitted, decimal_told, number_told, same_number, number_begins, digit_is_decimal}
-use Rattle.hsail_reader.proofs.Options.{nothing, same_some, mapped, bound, either, some_rest}
-use Rattle.hsail_reader.proofs.Runs.{run_of, run_length, pass_append, closing_is_read, closing_is_spelled, behind_parts, differs, no_more}
 use Rattle.hsail_reader.proofs.WordFronts.{name_start_continues, word_told}
+use Rattle.hsail_reader.specs.declared.token.TokenKind.TheVariants as token
+
+-- a byte that passes a test is none of some that all fail it
+is_none_of : (test : ℕ → Bool) (b : ℕ) (cs : List ℕ) → test b ≡ true → AllPass (λ c. not (test c)) cs →
+    list_any (λ m. m == b) cs ≡ false
+is_none_of test b [] passes fail = refl
+is_none_of test b (c ∷ cs) passes fail =
+    ⊎_elim
+    (λ w. true_is_not_false (not (test c)) fail.0 (ap (λ x. not (test x)) w.1 ∙ ap not passes))
+    (λ w. rw w.0 (is_none_of test b cs passes fail.1))
+    (eqb_tells c b)
+
+-- behind a blank, just the blank is found
+at_blank : (b : ℕ) (bytes : List ℕ) → is_blank b ≡ true → lexeme_at (b ∷ bytes) ≡ Some (lexed Blank 1)
+at_blank b bytes blank = rw blank refl
+
+-- where none of some bytes passes a test, each fails it
+none_pass : (test : ℕ → Bool) (cs : List ℕ) → list_any test cs ≡ false → AllPass (λ c. not (test c)) cs
+none_pass test [] e = tt
+none_pass test (c ∷ cs) e =
+    ⊎_elim
+    (λ yes'. true_is_not_false true refl (rw yes' at e))
+    (λ no'. (ap not no', none_pass test cs (rw no' at e)))
+    (cases_Bool (test c))
+
+-- a byte that passes a test which no blank and no sign passes is looked at as a mark, a name or a number
+plain_byte : (test : ℕ → Bool) (b : ℕ) (bytes : List ℕ) → test b ≡ true → list_any test (codes " \t\n\r/&%@$") ≡ false →
+    lexeme_at (b ∷ bytes)
+    ≡ (if is_mark b then Some (lexed (Token (token.Mark b)) 1)
+    else if is_name_start b then Some (word_at (b ∷ bytes))
+    else number_at (b ∷ bytes))
+plain_byte test b bytes passes none' =
+    let f = none_pass test (codes " \t\n\r/&%@$") none' in
+    let d = λ (c : ℕ) (fails : not (test c) ≡ true). differs test b c passes (not_false (test c) fails) in
+    rw (d 32 f.0, d 9 f.1.0, d 10 f.1.1.0, d 13 f.1.1.1.0, d 47 f.1.1.1.1.0, d 38 f.1.1.1.1.1.0, d 37 f.1.1.1.1.1.1.0, d 64 f.1.1.1.1.1.1.1.0, d 36 f.1.1.1.1.1.1.1.1.0)
+    refl
+
+-- behind a mark, just the mark is found
+at_mark : (b : ℕ) (bytes : List ℕ) → is_mark b ≡ true → lexeme_at (b ∷ bytes) ≡ Some (lexed (Token (token.Mark b)) 1)
+at_mark b bytes mark = plain_byte is_mark b bytes mark refl ∙ rw mark refl
+
+-- a byte that passes a test which no mark passes is no mark
+no_mark : (test : ℕ → Bool) (b : ℕ) → test b ≡ true → list_any test (codes "(){}[],;:+-") ≡ false → is_mark b ≡ false
+no_mark test b passes none' = is_none_of test b (codes "(){}[],;:+-") passes (none_pass test (codes "(){}[],;:+-") none')
+
+-- behind a letter or `_`, a word is found
+at_name_start : (b : ℕ) (bytes : List ℕ) → is_name_start b ≡ true → lexeme_at (b ∷ bytes) ≡ Some (word_at (b ∷ bytes))
+at_name_start b bytes starts =
+    plain_byte is_name_start b bytes starts refl ∙ rw (no_mark is_name_start b starts refl, starts) refl
+
+-- a digit begins no name
+digit_is_no_start : (b : ℕ) → is_digit b 10 ≡ true → is_name_start b ≡ false
+digit_is_no_start b digit =
+    let small : digit_value b < 10 = grind (arith, nat_tests) in
+    let range : IsInRange 48 57 b = digit_from_value b small in
+    grind (arith, nat_tests)
+
+-- behind a digit, a number is looked for
+at_digit : (b : ℕ) (bytes : List ℕ) → is_digit b 10 ≡ true → lexeme_at (b ∷ bytes) ≡ number_at (b ∷ bytes)
+at_digit b bytes digit =
+    let test : ℕ → Bool = λ c. is_digit c 10 in
+    plain_byte test b bytes digit refl ∙ rw (no_mark test b digit refl, digit_is_no_start b digit) refl
 
 -- what is answered where a lexeme of so many bytes stands: that one, unless its number passes 64 bits
 abbrev Answered : LexemeKind → ℕ → Option Lexeme → Type 0
@@ -389,3 +451,10 @@ found_is_lexeme bytes found is =
     (h.1 ++ t.1, t.2, h.3 ∙ ap (λ xs. h.1 ++ xs) t.3 ∙ sym (append_assoc h.1 t.1 t.2), refl, t.4, w.0))
     (λ w. nothing found (sym w.1 ∙ there))
     t.6
+
+-- what is found takes a byte at least, and no more than there are
+pub found_takes : (bytes : List ℕ) (found : Lexeme) → lexeme_at bytes ≡ Some found →
+    (0 < found.length) × (found.length ≤ length bytes)
+found_takes bytes found is =
+    let f = found_is_lexeme bytes found is in
+    (omega (arith, f.3, lexeme_is_some found.kind f.0 f.4 f.5), omega (arith, ap length f.2, f.3, length-append f.0 f.1))

@@ -5,7 +5,6 @@ pub mod Bracketed
 pub mod WordFronts
 pub mod RowWords
 pub mod Pieces
-pub mod Lexing
 pub mod Grammars
 pub mod Terminals
 pub mod Decided
@@ -13,8 +12,6 @@ pub mod Loop
 pub mod Located
 pub mod WordRows
 pub mod WordSpellings
-pub mod FirstBytes
 pub mod LexemeFronts
 pub mod TextCut
 pub mod TextSpelled
-pub mod SampleSpelled

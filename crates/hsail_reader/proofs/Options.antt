@@ -1,5 +1,5 @@
 -- What an answer that was found tells of what it was found by.
-use Rattle.std.proofs.Common.{◌≡◌, ◌⊎◌, inl, inr, List, ℕ, Bool, true, false, if◌then◌else◌, Option, Some, None, refl, sym, ◌∙◌}
+use Rattle.std.proofs.Common.{◌≡◌, ◌⊎◌, inl, inr, List, ℕ, Bool, true, false, not, if◌then◌else◌, Option, Some, None, refl, sym, ◌∙◌}
 use Rattle.std.specs.Option.{is_some, option_map}
 use Rattle.hsail_reader.specs.Bytes.{◌>>=◌, or_else}
 
@@ -14,6 +14,10 @@ true_is_not_false p yes' no' = absurd (contradiction (sym yes' ∙ no'))
   where
     contradiction : true ≡ false → ⊥
     contradiction e = cc
+
+pub not_false : (p : Bool) → not p ≡ true → p ≡ false
+not_false true e = sym e
+not_false false e = refl
 
 pub mapped : {A B : Type 0} (f : A → B) (o : Option A) (y : B) → option_map f o ≡ Some y →
     (x : A) × (o ≡ Some x) × (Some (f x) ≡ Some y)

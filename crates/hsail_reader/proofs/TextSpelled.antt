@@ -1,8 +1,8 @@
 -- A text is read as a module just where the grammar has it as a text of that module.
-use Rattle.std.proofs.Common.{◌≡◌, ℕ, ◌<◌, ◌≤◌, ⊎_elim, List, [], ◌∷◌, length, true, false, nat_lt, if◌then◌else◌, Result, Ok, Err, sym, ap, subst, ◌∙◌, arith}
+use Rattle.std.proofs.Common.{◌≡◌, ℕ, ◌<◌, ◌≤◌, ⊎_elim, List, [], ◌∷◌, length, true, false, nat_lt, if◌then◌else◌, Result, Ok, Err, sym, ap, subst, ◌∙◌, arith, refl}
 use Rattle.std.proofs.lemmas.Bool.{cases_Bool, cases_lt, ltb-true, lt-ltb}
 use Rattle.hsail_reader.specs.Faults.{too_long}
-use Rattle.hsail_reader.specs.Grammar.{is_none_left, kernels, module_text, SpellModule, IsTextOf}
+use Rattle.hsail_reader.specs.Grammar.{is_none_left, kernels, module_text, SpellModule, IsTextOf, place_inside, index, address_inside, address, load, performed, labelled, unlabelled, item, items, body, alignment, argument, next_argument, some_arguments, signature, kernel_begin, kernel, fields}
 use Rattle.hsail_reader.specs.Grammars.{spells, read, ◌>>=◌}
 use Rattle.hsail_reader.specs.TextTokens.{PlacedToken}
 use Rattle.hsail_reader.specs.Syntax.{module_at, read_at, located, reading}
@@ -11,6 +11,8 @@ use Rattle.hsail_reader.specs.Nouns.{Module, ReadFault, Refusal}
 use Rattle.hsail_reader.proofs.Decided.{module_decides}
 use Rattle.hsail_reader.proofs.Grammars.{Front, complete, sound, bound}
 use Rattle.hsail_reader.proofs.TextCut.{cut, spelled}
+use Rattle.hsail_reader.specs.Sample.{sample, sample_module}
+use Rattle.hsail_reader.specs.Words.{instruction_at}
 
 abbrev anything : Front
 anything to = Unit {0}
@@ -117,3 +119,10 @@ text_is_spelled text m is =
   where
     not_read : ◌≡◌ {A = Result Module ReadFault} (Err too_long) (Ok m) → IsTextOf text m
     not_read e = cc
+
+sample_is_read : reading sample ≡ Ok sample_module
+unfolding sample sample_module reading module_at module_text fields kernels kernel kernel_begin body signature some_arguments next_argument argument alignment items item labelled unlabelled performed load index place_inside address_inside address instruction_at
+sample_is_read = refl
+
+pub sample_is_text : IsTextOf sample sample_module
+sample_is_text = text_is_spelled sample sample_module sample_is_read

@@ -14,7 +14,7 @@ use Rattle.hsail_reader.specs.Nouns.{Lexeme, Spelled, Token, Width}
 use Rattle.hsail_reader.specs.declared.token.TokenKind.TheVariants as token
 use Rattle.hsail_reader.proofs.Bracketed.{named_is_read, named_is_found, value_is_read, value_is_found}
 use Rattle.hsail_reader.proofs.Numbers.{number_before_bracket_is_read, number_is_spelled}
-use Rattle.hsail_reader.proofs.Options.{nothing, same_some, true_is_not_false}
+use Rattle.hsail_reader.proofs.Options.{not_false, nothing, same_some, true_is_not_false}
 use Rattle.hsail_reader.proofs.Pieces.{pieces_length_step}
 use Rattle.hsail_reader.proofs.Runs.{heads, tails, front_of}
 
@@ -119,33 +119,25 @@ stuck (f ∷ front) (b ∷ rest) more after plain other pieces e =
     let later = stuck front rest more after plain.1 (λ all. other (subst Name same i.0, all)) i.1
     (tails b f (rest ++ more) (front ++ after) e) in
     omega (arith, later)
-  where
-    not_false : (p : Bool) → not p ≡ true → p ≡ false
-    not_false true e = sym e
-    not_false false e = refl
+
+bracket : is_name_byte 40 ≡ true → ⊥
+bracket e = cc
 
 -- pieces end in the name of a modifier
 align_stuck : (rest more after : List ℕ) → ArePieces rest → rest ++ more ≡ codes "align(" ++ after → length rest < 6
 align_stuck rest more after pieces e =
     stuck (codes "align(") rest more after (refl, (refl, (refl, (refl, (refl, (refl, tt)))))) (λ all. bracket all.1.1.1.1.1.0) pieces e
-  where
-    bracket : is_name_byte 40 ≡ true → ⊥
-    bracket e = cc
 
 modifier_stuck : (b : ℕ) (rest more m after : List ℕ) → ArePieces rest → b ∷ rest ++ more ≡ m ++ after → IsModifier m →
     length (b ∷ rest) ≤ length m
 modifier_stuck b rest more m after pieces e (inl (n, (inside, f, s))) =
-    let there = e ∙ ap (λ xs. xs ++ after) f in
-    let short = align_stuck rest more ((inside ++ codes ")") ++ after) pieces (tails b 95 (rest ++ more) _ there) in
+    let short = align_stuck rest more ((inside ++ codes ")") ++ after) pieces (tails b 95 (rest ++ more) _ (e ∙ ap (λ xs. xs ++ after) f)) in
     omega (arith, short, modifier_is_long m (inl (n, (inside, f, s))))
 modifier_stuck b rest more m after pieces e (inr (w, (inside, f, s))) =
-    let there = e ∙ ap (λ xs. xs ++ after) f in
     let short = stuck (codes "width(") rest more ((inside ++ codes ")") ++ after)
-    (refl, (refl, (refl, (refl, (refl, (refl, tt)))))) (λ all. bracket all.1.1.1.1.1.0) pieces (tails b 95 (rest ++ more) _ there) in
+    (refl, (refl, (refl, (refl, (refl, (refl, tt)))))) (λ all. bracket all.1.1.1.1.1.0) pieces
+    (tails b 95 (rest ++ more) _ (e ∙ ap (λ xs. xs ++ after) f)) in
     omega (arith, short, modifier_is_long m (inr (w, (inside, f, s))))
-  where
-    bracket : is_name_byte 40 ≡ true → ⊥
-    bracket e = cc
 
 piece_if : (m x : ℕ) → ((m ≡ 0) × ((if 0 == m then x else m) ≡ x)) ⊎ ((0 < m) × ((if 0 == m then x else m) ≡ m))
 piece_if zero x = inl (refl, refl)

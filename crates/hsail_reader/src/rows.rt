@@ -158,35 +158,19 @@ pub fn table() -> &'static [Row]
     &ROWS
 }
 
-const BIT: [DataType; 1] = [B1];
-
-const BITS: [DataType; 3] = [B1, B32, B64];
-
-const INTEGERS: [DataType; 4] = [U32, S32, U64, S64];
-
-const BITS_AND_INTEGERS: [DataType; 7] = [B1, B32, B64, U32, S32, U64, S64];
-
-const CONVERTIBLE: [DataType; 9] = [B1, U8, U16, U32, U64, S8, S16, S32, S64];
-
-const MEMORY: [DataType; 12] = [U8, U16, U32, U64, S8, S16, S32, S64, B8, B16, B32, B64];
-
-const UNSIGNED_32: [DataType; 1] = [U32];
-
-const UNSIGNED_32_AND_64: [DataType; 2] = [U32, U64];
-
 /// The types of a set.
 pub fn types(set: TypeSet) -> &'static [DataType]
     ensures { result.now ≡ types_of set }
 {
     match set {
-        TypeSet::Bit => &BIT,
-        TypeSet::Bits => &BITS,
-        TypeSet::Integers => &INTEGERS,
-        TypeSet::BitsAndIntegers => &BITS_AND_INTEGERS,
-        TypeSet::Convertible => &CONVERTIBLE,
-        TypeSet::Memory => &MEMORY,
-        TypeSet::Unsigned32 => &UNSIGNED_32,
-        TypeSet::Unsigned32And64 => &UNSIGNED_32_AND_64,
+        TypeSet::Bit => &[B1],
+        TypeSet::Bits => &[B1, B32, B64],
+        TypeSet::Integers => &[U32, S32, U64, S64],
+        TypeSet::BitsAndIntegers => &[B1, B32, B64, U32, S32, U64, S64],
+        TypeSet::Convertible => &[B1, U8, U16, U32, U64, S8, S16, S32, S64],
+        TypeSet::Memory => &[U8, U16, U32, U64, S8, S16, S32, S64, B8, B16, B32, B64],
+        TypeSet::Unsigned32 => &[U32],
+        TypeSet::Unsigned32And64 => &[U32, U64],
         TypeSet::Untyped => &[],
     }
 }
