@@ -1,5 +1,5 @@
 -- What an answer that was found tells of what it was found by.
-use Rattle.std.proofs.Common.{◌≡◌, ◌⊎◌, inl, inr, List, ℕ, Bool, true, false, not, if◌then◌else◌, Option, Some, None, refl, sym, ◌∙◌}
+use Rattle.std.proofs.Common.{◌≡◌, ◌⊎◌, inl, inr, List, ℕ, Bool, true, false, not, if◌then◌else◌, Option, Some, None, Result, Ok, Err, refl, sym, ◌∙◌}
 use Rattle.std.specs.Option.{is_some, option_map}
 use Rattle.hsail_reader.specs.Bytes.{◌>>=◌, or_else}
 
@@ -8,6 +8,12 @@ nothing x e = cc
 
 pub same_some : {A : Type 0} (x y : A) → Some x ≡ Some y → x ≡ y
 same_some x y e = cc
+
+pub same_ok : {A E : Type 0} (x y : A) → ◌≡◌ {A = Result A E} (Ok x) (Ok y) → x ≡ y
+same_ok x y is = cc
+
+pub no_ok : {A B E : Type 0} (e : E) (x : B) → ◌≡◌ {A = Result B E} (Err e) (Ok x) → A
+no_ok e x is = cc
 
 pub true_is_not_false : {A : Type 0} (p : Bool) → p ≡ true → p ≡ false → A
 true_is_not_false p yes' no' = absurd (contradiction (sym yes' ∙ no'))

@@ -4,7 +4,7 @@ use Rattle.std.proofs.lemmas.Bool.{lt-ltb, ltb-true}
 use Rattle.std.proofs.lemmas.Bool.Decides.{eqb_tells}
 use Rattle.std.specs.Option.{option_map}
 use Rattle.hsail_reader.specs.Grammars.{Grammar, begun_by}
-use Rattle.hsail_reader.specs.Terminals.{of_kind, found, mark_of, mark, register_of, register, number_of, number, major_of, major, minor_of, minor, profile_header, profile_of, profile, large_of, large, rounding_header, rounding_of, rounding, same_kind, name_of, word_kind, word_at, picked, word, same_word, this_word, align_of, align, kernarg_of, kernarg, opcode_of, opcode, outside, syntax, at_begin}
+use Rattle.hsail_reader.specs.Terminals.{of_kind, found, mark_of, mark, register_of, register, number_of, number, major_of, major, minor_of, minor, profile_header, profile_of, profile, large, rounding_header, rounding_of, rounding, same_kind, name_of, word_kind, word_at, picked, word, same_word, this_word, align_of, align, kernarg_of, kernarg, opcode_of, opcode, outside, syntax, at_begin}
 use Rattle.hsail_reader.specs.TextTokens.{PlacedToken}
 use Rattle.hsail_reader.specs.Types.{alignment_bytes}
 use Rattle.hsail_reader.specs.WordSpelling.{SpellsWord, stands_in_modules}
@@ -100,13 +100,16 @@ profiles_found = kind_finds (λ p. kinds.Header (profile_header p)) profile_of t
     back (kinds.Header _) p is = cc
     back _ p is = cc
 
+-- a kind without a value is found, and no other is taken for it
+kind_there : (kind k : TokenKind) (one : Unit {0}) → same_kind kind k ≡ Some one → k ≡ kind
+kind_there kinds.Global kinds.Global one is = refl
+kind_there kinds.Variable kinds.Variable one is = refl
+kind_there kinds.Label kinds.Label one is = refl
+kind_there (kinds.Header headers.Large) (kinds.Header headers.Large) one is = refl
+kind_there _ _ one is = cc
+
 pub large_found : Finds large
-large_found = kind_finds (λ one. kinds.Header headers.Large) large_of (λ one. refl) back
-  where
-    back : (k : TokenKind) (one : Unit {0}) → large_of k ≡ Some one → k ≡ kinds.Header headers.Large
-    back (kinds.Header headers.Large) one is = refl
-    back (kinds.Header _) one is = cc
-    back _ one is = cc
+large_found = kind_finds (λ one. kinds.Header headers.Large) (same_kind (kinds.Header headers.Large)) (λ one. refl) (kind_there (kinds.Header headers.Large))
 
 pub roundings_found : Finds rounding
 roundings_found = kind_finds (λ r. kinds.Header (rounding_header r)) rounding_of there back
@@ -121,13 +124,6 @@ roundings_found = kind_finds (λ r. kinds.Header (rounding_header r)) rounding_o
     back (kinds.Header headers.Near) roundings.Near is = refl
     back (kinds.Header _) r is = cc
     back _ r is = cc
-
--- a kind without a value is found, and no other is taken for it
-kind_there : (kind k : TokenKind) (one : Unit {0}) → same_kind kind k ≡ Some one → k ≡ kind
-kind_there kinds.Global kinds.Global one is = refl
-kind_there kinds.Variable kinds.Variable one is = refl
-kind_there kinds.Label kinds.Label one is = refl
-kind_there _ _ one is = cc
 
 pub names : (kind : TokenKind) → same_kind kind kind ≡ Some tt → Finds (name_of kind)
 names kind there name t =

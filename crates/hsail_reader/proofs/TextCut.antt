@@ -6,6 +6,7 @@ use Rattle.hsail_reader.specs.Tokens.{tokens_from, further, before_rest}
 use Rattle.hsail_reader.specs.TextTokens.{PlacedToken, kept, line_after, line_behind, IsLongestFront, AreTokens, none, lexeme}
 use Rattle.hsail_reader.specs.Nouns.{Lexeme, Refusal, LexemeKind}
 use Rattle.std.proofs.Math.Seq.{take-append_seam, drop-append_seam}
+use Rattle.hsail_reader.proofs.Options.{same_ok, no_ok}
 use Rattle.hsail_reader.proofs.LexemeFronts.{FoundSpelled, found_is_lexeme, lexeme_is_some, lexeme_reaches, longest_is_found}
 use Rattle.hsail_reader.specs.declared.fault.Flaw.TheVariants as flaw
 
@@ -98,23 +99,11 @@ tokens_are_cut _ _ _ _ (lexeme place line kind bytes front behind tokens parts i
 pub cut : (text : List ℕ) (tokens : List PlacedToken) → AreTokens 0 1 text tokens → tokens_from 0 0 1 text ≡ Ok tokens
 cut text tokens are = tokens_are_cut 0 1 text tokens are
 
--- the tokens, as reading them gives them
-abbrev read_as : List PlacedToken → Result (List PlacedToken) Refusal
-read_as tokens = Ok tokens
-
--- tokens that are read alike are the same
-same_tokens : (a b : List PlacedToken) → read_as a ≡ read_as b → a ≡ b
-same_tokens a b e = cc
-
--- a text is not both refused and read
-not_both : {A : Type 0} (r : Refusal) (tokens : List PlacedToken) → Err r ≡ Ok tokens → A
-not_both r tokens e = cc
-
 -- the tokens behind some, where all are read
 behind_some : (front tokens : List PlacedToken) (rest : Result (List PlacedToken) Refusal) → with_front front rest ≡ Ok tokens →
     (later : List PlacedToken) × (rest ≡ Ok later) × (front ++ later ≡ tokens)
-behind_some front tokens (Ok later) is = (later, refl, same_tokens (front ++ later) tokens is)
-behind_some front tokens (Err r) is = not_both r tokens is
+behind_some front tokens (Ok later) is = (later, refl, same_ok (front ++ later) tokens is)
+behind_some front tokens (Err r) is = no_ok r tokens is
 
 -- where the tokens behind it are spelled, so are those of the lexeme found and of what stands behind it
 found_goes_on : (place line : ℕ) (bytes : List ℕ) (tokens : List PlacedToken) (found : Lexeme) →
@@ -148,7 +137,7 @@ cut_goes_on None place line b bytes tokens e is goes_on =
     let P : Option Lexeme → Type 0 = λ o.
     before_rest o (b ∷ bytes) place line (tokens_from (further o) (place + 1) (line_behind line b) bytes)
     ≡ Ok tokens in
-    not_both (refusal (Some place) flaw.Lexeme) tokens (subst P e is)
+    no_ok (refusal (Some place) flaw.Lexeme) tokens (subst P e is)
 cut_goes_on (Some found) place line b bytes tokens e is goes_on =
     found_goes_on place line (b ∷ bytes) tokens found e is (found_is_lexeme (b ∷ bytes) found e) goes_on
 
@@ -156,7 +145,7 @@ cut_goes_on (Some found) place line b bytes tokens e is goes_on =
 cut_is_spelled : (fuel place line : ℕ) (bytes : List ℕ) (tokens : List PlacedToken) → length bytes ≤ fuel →
     tokens_from 0 place line bytes ≡ Ok tokens → AreTokens place line bytes tokens
 cut_is_spelled fuel place line [] tokens fits is =
-    subst (AreTokens place line []) (same_tokens [] tokens is) (none place line)
+    subst (AreTokens place line []) (same_ok [] tokens is) (none place line)
 cut_is_spelled zero place line (b ∷ bytes) tokens fits is = absurd (omega arith)
 cut_is_spelled (suc fuel) place line (b ∷ bytes) tokens fits is =
     cut_goes_on (lexeme_at (b ∷ bytes)) place line b bytes tokens refl is

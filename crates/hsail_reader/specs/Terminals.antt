@@ -124,13 +124,17 @@ profile_of _ = None
 abbrev pub profile : Grammar Profile
 profile = of_kind (λ p. kinds.Header (profile_header p)) profile_of
 
-abbrev pub large_of : TokenKind → Option (Unit {0})
-large_of (kinds.Header headers.Large) = Some tt
-large_of _ = None
+-- a kind of tokens without a value
+abbrev pub same_kind : TokenKind → TokenKind → Option (Unit {0})
+same_kind kinds.Global kinds.Global = Some tt
+same_kind kinds.Variable kinds.Variable = Some tt
+same_kind kinds.Label kinds.Label = Some tt
+same_kind (kinds.Header headers.Large) (kinds.Header headers.Large) = Some tt
+same_kind _ _ = None
 
 -- $large
 abbrev pub large : Grammar (Unit {0})
-large = of_kind (λ one. kinds.Header headers.Large) large_of
+large = of_kind (λ one. kinds.Header headers.Large) (same_kind (kinds.Header headers.Large))
 
 abbrev pub rounding_header : Rounding → Header
 rounding_header roundings.Default = headers.Default
@@ -146,13 +150,6 @@ rounding_of _ = None
 -- $default, $zero or $near
 abbrev pub rounding : Grammar Rounding
 rounding = of_kind (λ r. kinds.Header (rounding_header r)) rounding_of
-
--- a kind of tokens without a value
-abbrev pub same_kind : TokenKind → TokenKind → Option (Unit {0})
-same_kind kinds.Global kinds.Global = Some tt
-same_kind kinds.Variable kinds.Variable = Some tt
-same_kind kinds.Label kinds.Label = Some tt
-same_kind _ _ = None
 
 -- a token of this kind, by all its bytes
 abbrev pub name_of : TokenKind → Grammar (List ℕ)
