@@ -26,9 +26,6 @@ fitted value length =
     (λ large. inr (λ lt. true_is_not_false (nat_lt value (2 ^ 64)) (lt-ltb value (2 ^ 64) lt) large, rw large refl))
     (cases_Bool (nat_lt value (2 ^ 64)))
 
-pub fits : (value length : ℕ) → value < 2 ^ 64 → fitting value length ≡ Some (spelled value length)
-fits value length small = rw (lt-ltb value (2 ^ 64) small) refl
-
 -- the value of digits is at least that of the digits before them
 value_grows : (radix value : ℕ) (digits : List ℕ) → 1 ≤ radix → value ≤ digits_value_after radix value digits
 value_grows radix value [] some = omega arith
@@ -106,9 +103,6 @@ decimal_told (b ∷ digits) more is =
 abbrev pub SpellsAny : ℕ → List ℕ → Type 0
 SpellsAny n text = SpellsDecimal n text ⊎ SpellsHexadecimal n text
 
-taken : {A : Type 0} (p : Bool) (x y : A) → p ≡ true → (if p then x else y) ≡ x
-taken p x y e = rw e refl
-
 hexadecimal_told : (d : ℕ) (digits more : List ℕ) → is_digit d 16 ≡ true → AllPass (λ d. is_digit d 16) digits →
     Told numeral_at SpellsAny (48 ∷ 120 ∷ d ∷ digits) more
 hexadecimal_told d digits more first all =
@@ -121,7 +115,7 @@ hexadecimal_told d digits more first all =
       r.1,
       r.2,
       inr ((d, ds, refl, first, pass), (d ∷ ds, refl, refl)),
-      taken (is_digit d 16) (digits_at 16 0 2 (d ∷ digits ++ more)) (decimal_at (48 ∷ 120 ∷ d ∷ digits ++ more)) first
+      ap (λ b. if b then digits_at 16 0 2 (d ∷ digits ++ more) else decimal_at (48 ∷ 120 ∷ d ∷ digits ++ more)) first
           ∙ ap (λ xs. digits_at 16 0 2 (d ∷ xs)) (parts digits r.0 r.1 more r.2)
           ∙ digits_are_read 16 0 2 (d ∷ ds) r.1 (first, pass) r.4 (omega arith) (omega arith)
           ∙ ap (fitting (digits_value 16 (d ∷ ds))) count,
@@ -169,17 +163,13 @@ not_both (b ∷ rest) decimal (d, digits, e, first, pass) =
     let none = decimal.2 (heads b 48 rest (120 ∷ d ∷ digits) e) in
     absurd (omega (arith, ap length e, ap length none))
 
--- the digits behind `0x` are what stands there
-same_digits : (x y : List ℕ) → 48 ∷ 120 ∷ x ≡ 48 ∷ 120 ∷ y → x ≡ y
-same_digits x y e = cc
-
 -- a text spells one number
 pub same_number : (n m : ℕ) (text : List ℕ) → SpellsAny n text → SpellsAny m text → n ≡ m
 same_number n m text (inl a) (inl b) = a.1 ∙ sym b.1
 same_number n m text (inl a) (inr b) = not_both text a.0 b.0
 same_number n m text (inr a) (inl b) = not_both text b.0 a.0
 same_number n m text (inr (h, (ds, e, v))) (inr (k, (es, f, w))) =
-    v ∙ ap (digits_value 16) (same_digits ds es (sym e ∙ f)) ∙ sym w
+    v ∙ ap (digits_value 16) (tails 120 120 ds es (tails 48 48 (120 ∷ ds) (120 ∷ es) (sym e ∙ f))) ∙ sym w
 
 -- a number has no bracket
 no_bracket : (n : ℕ) (xs ys : List ℕ) → SpellsAny n (xs ++ 41 ∷ ys) → ⊥
@@ -210,7 +200,7 @@ number_before_bracket_is_read n text more (small, number) =
     by m [] rest e whole is =
         let all = append-nil text in
         let same = same_number n m text number (subst (SpellsAny m) all whole) in
-        is ∙ ap (λ xs. fitting m (length xs)) all ∙ ap (λ v. fitting v (length text)) (sym same) ∙ fits n (length text) small
+        is ∙ ap (λ xs. fitting m (length xs)) all ∙ ap (λ v. fitting v (length text)) (sym same) ∙ ap (λ b. if b then Some (spelled n (length text)) else None) (lt-ltb n (2 ^ 64) small)
     by m (c ∷ extra) rest e whole is =
         let P : ℕ → Type 0 = λ x. SpellsAny m (text ++ x ∷ extra) in
         absurd (no_bracket m text extra (subst P (sym (heads 41 c more (extra ++ rest) e)) whole))

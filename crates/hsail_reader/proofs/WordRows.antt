@@ -36,14 +36,6 @@ contains_cases y x ys (suc k, lt, e) = inr (k, omega arith, e)
 pub contains_none : {A : Type 0} (x : A) → Contains [] x → ⊥
 contains_none x c = omega (arith, c.1)
 
--- a list has its first element
-contains_first : {A : Type 0} (y : A) (ys : List A) → Contains (y ∷ ys) y
-contains_first y ys = (0, omega arith, refl)
-
--- a list has the elements of its rest
-contains_later : {A : Type 0} (y x : A) (ys : List A) → Contains ys x → Contains (y ∷ ys) x
-contains_later y x ys c = (suc c.0, omega (arith, c.1), c.2)
-
 -- a conjunction holds where both of its parts do
 both : (p q : Bool) → (p && q) ≡ true → (p ≡ true) × (q ≡ true)
 both true q e = (refl, e)
@@ -97,8 +89,8 @@ first_is_found {A} {B} read (x ∷ others) text y is = by (read x text) refl is 
         (first_of read others text ≡ Some y → (z : A) × Contains others z × (read z text ≡ Some y)) →
         (z : A) × Contains (x ∷ others) z × (read z text ≡ Some y)
     by None e is later =
-        let f = later is in (f.0, contains_later x f.0 others f.1, f.2)
-    by (Some z) e is later = (x, contains_first x others, e ∙ is)
+        let f = later is in (f.0, (suc f.1.0, omega (arith, f.1.1), f.1.2), f.2)
+    by (Some z) e is later = (x, (0, omega arith, refl), e ∙ is)
 
 -- a whole text is spelled so just where it is that text
 pub spelled_is : (spelling text : List ℕ) → is_spelled spelling text ≡ true → text ≡ spelling

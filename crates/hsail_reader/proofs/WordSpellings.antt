@@ -1,7 +1,6 @@
 -- A text is read as the word that it spells, and as no other.
 use Rattle.std.proofs.Common.{◌≡◌, ℕ, ◌+◌, ⊎_elim, List, [], ◌++◌, length, true, false, ◌==◌, if◌then◌else◌, Option, Some, None, refl, sym, ap, subst, ◌∙◌, codes, append-nil, length-append, arith}
-use Rattle.std.proofs.lemmas.Bool.{eqb-true}
-use Rattle.std.proofs.lemmas.Bool.Decides.{eqb_tells}
+use Rattle.std.proofs.lemmas.Bool.{eq-eqb, eqb-true}
 use Rattle.std.specs.List.{Contains}
 use Rattle.std.specs.Option.{is_some}
 use Rattle.hsail_reader.specs.Bytes.{behind, align_at, numeral_at, ◌>>=◌}
@@ -17,10 +16,6 @@ use Rattle.hsail_reader.proofs.Options.{bound, chosen, true_is_not_false}
 use Rattle.hsail_reader.proofs.Runs.{behind_front, behind_parts, no_more}
 use Rattle.hsail_reader.proofs.WordRows.{clashes_all, clashes_not_behind, first_is_read, first_is_found, spelled_is, name_is_read, name_is_found}
 
--- equal numbers pass the test
-same_tested : (a b : ℕ) → a ≡ b → (a == b) ≡ true
-same_tested a b e = ⊎_elim (λ w. w.0) (λ w. absurd (w.1 e)) (eqb_tells a b)
-
 -- align(n) is read as a word
 align_word : (n : ℕ) (number : List ℕ) → SpellsNumber n number →
     word_of (codes "align(" ++ (number ++ codes ")")) ≡ word.Align n
@@ -30,7 +25,7 @@ align_word n number spelled =
     ap (λ o. named_word o text)
     (ap (λ xs. align_at (codes "align(" ++ xs)) (sym (append-nil (number ++ codes ")")))
     ∙ named_is_read (codes "align(") numeral_at SpellsNumber number_before_bracket_is_read n number [] spelled)
-    ∙ ap (λ p. if p then word.Align n else word.Unknown) (same_tested (length number + 7) (length text) whole)
+    ∙ ap (λ p. if p then word.Align n else word.Unknown) (eq-eqb (length number + 7) (length text) whole)
 
 -- the tests before the words of instructions
 word_steps : (text : List ℕ) (w : Word) → is_spelled (codes "module") text ≡ false →

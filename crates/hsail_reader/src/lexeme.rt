@@ -12,19 +12,17 @@ use crate::scan::{
 use crate::token::{Header, HeaderName, Lexeme, LexemeKind, TokenKind};
 use crate::types::{Register, RegisterClass};
 
-const HEADER_NAMES: [HeaderName; 6] = [
-    HeaderName("base", Header::Base),
-    HeaderName("full", Header::Full),
-    HeaderName("large", Header::Large),
-    HeaderName("default", Header::Default),
-    HeaderName("zero", Header::Zero),
-    HeaderName("near", Header::Near),
-];
-
 fn header_names() -> &'static [HeaderName]
     ensures { map header_view result.now ≡ header_words }
 {
-    &HEADER_NAMES
+    &[
+        HeaderName("base", Header::Base),
+        HeaderName("full", Header::Full),
+        HeaderName("large", Header::Large),
+        HeaderName("default", Header::Default),
+        HeaderName("zero", Header::Zero),
+        HeaderName("near", Header::Near),
+    ]
 }
 
 fn blank(byte: u8) -> bool
