@@ -1,17 +1,17 @@
 -- Each line of the grammar decides its choices by the next token.
 use Rattle.std.proofs.Common.{◌≡◌, ℕ, ⊎_elim, inl, inr, List, [], ◌∷◌, Bool, true, false, Option, None, refl, sym, ap, subst, ◌∙◌}
 use Rattle.std.specs.Option.{option_map}
-use Rattle.hsail_reader.specs.Grammar.{signed, constant, source, next_source, offset, place, place_inside, index, address_inside, address, unary, binary, ternary, load, store, branch, conditional_branch, identify, operands, labelled, performed, unlabelled, item, items, body, alignment, kernarg_flaw, argument, next_argument, some_arguments, signature, kernel_begin, kernel, is_none_left, kernels, fields, module_text}
+use Rattle.hsail_reader.specs.Grammar.{signed, constant, source, next_source, offset, place, place_inside, index, address_inside, address, unary, binary, ternary, load, store, branch, conditional_branch, identify, operands_of, labelled, performed, unlabelled, item, items, body, alignment, kernarg_flaw, argument, next_argument, some_arguments, signature, kernel_begin, kernel, is_none_left, kernels, fields, module_text}
 use Rattle.hsail_reader.specs.Grammars.{spells, begun_by, begins, read}
-use Rattle.hsail_reader.specs.Terminals.{mark_of, number_of, register_of, variable_of, label_of, word_at, picked, is_prog, align_of, align, semicolon, close_parenthesis, close_brace, syntax, at_begin, behind_align}
+use Rattle.hsail_reader.specs.Terminals.{mark_of, number_of, register_of, same_kind, same_word, word_at, picked, align_of, align, semicolon, close_parenthesis, close_brace, syntax, at_begin, behind_align}
 use Rattle.hsail_reader.specs.TextTokens.{PlacedToken}
-use Rattle.hsail_reader.specs.Nouns.{Argument, Constant, Item, Kernel, Opcode, Place, TokenKind}
+use Rattle.hsail_reader.specs.Nouns.{Argument, Constant, DataType, Form, Item, Kernel, Modifiers, Place, TokenKind}
 use Rattle.hsail_reader.specs.declared.token.TokenKind.TheVariants as kinds
-use Rattle.hsail_reader.specs.declared.words.Opcode.TheVariants as opcode
+use Rattle.hsail_reader.specs.declared.rows.Form.TheVariants as forms
 use Rattle.hsail_reader.specs.declared.words.Word.TheVariants as words
 use Rattle.hsail_reader.proofs.Grammars.{Front, Next, Takes, Decides, shortens}
 use Rattle.hsail_reader.proofs.Loop.{Shortens}
-use Rattle.hsail_reader.proofs.Terminals.{unbegun, marks, registers, numbers, majors, minors, profiles_found, large_found, roundings_found, globals, variables, labels, word_there, module_words, progs, kernel_words, aligns, kernargs, opcodes, outsides}
+use Rattle.hsail_reader.proofs.Terminals.{unbegun, marks, registers, numbers, majors, minors, profiles_found, large_found, roundings_found, names, these_words, word_there, aligns, kernargs, opcodes, outsides}
 
 -- the first token is of this kind
 abbrev pub FirstIs : TokenKind → Front
@@ -101,12 +101,12 @@ places F law = (
 
 -- a place begins with no variable
 place_first : (p : Place) (from to : List PlacedToken) → spells place p from to →
-    begun_by (λ t. option_map (λ one. t.text) (variable_of t.kind)) from ≡ false
+    begun_by (λ t. option_map (λ one. t.text) (same_kind kinds.Variable t.kind)) from ≡ false
 unfolding place
 place_first p from to s =
     ⊎_elim
-    (λ n. no_name variable_of (kinds.Number n.0) from (n.2.0, n.1, n.2.1, n.2.2) refl)
-    (λ r. no_name variable_of (kinds.Register r.0) from (r.2.0, r.1, r.2.1, r.2.2) refl)
+    (λ n. no_name (same_kind kinds.Variable) (kinds.Number n.0) from (n.2.0, n.1, n.2.1, n.2.2) refl)
+    (λ r. no_name (same_kind kinds.Variable) (kinds.Register r.0) from (r.2.0, r.1, r.2.1, r.2.2) refl)
     s
 
 places_inside : (F : Front) → Decides place_inside F
@@ -114,7 +114,7 @@ unfolding place_inside
 places_inside F = (places _ (λ to b. (b.3.2.0, b.3.1, b.3.2.1, b.3.2.2)), λ p. (marks 93, λ one. tt))
 
 place_inside_first : (p : Place) (from to : List PlacedToken) → spells place_inside p from to →
-    begun_by (λ t. option_map (λ one. t.text) (variable_of t.kind)) from ≡ false
+    begun_by (λ t. option_map (λ one. t.text) (same_kind kinds.Variable t.kind)) from ≡ false
 unfolding place_inside
 place_inside_first p from to s = place_first s.0 from s.1 s.2
 
@@ -133,7 +133,7 @@ indices x F law = (
 addresses_inside : (F : Front) → BeforeSemicolon F → Decides address_inside F
 unfolding address_inside
 addresses_inside F law = (
-  (variables, λ x. (marks 93, λ one. indices x F law)),
+  (names kinds.Variable refl, λ x. (marks 93, λ one. indices x F law)),
   (places_inside _, λ p. tt),
   λ a from to s may. place_inside_first s.0 from s.1 s.2,
 )
@@ -143,33 +143,34 @@ unfolding address
 addresses F law = (marks 91, λ one. addresses_inside F law)
 
 -- the operands, before the semicolon of their instruction
-operations : (code : Opcode) (F : Front) → BeforeSemicolon F → Decides (operands code) F
+operations : (form : Form) (modifiers : Modifiers) (kind : DataType) (F : Front) → BeforeSemicolon F →
+    Decides (operands_of form modifiers kind) F
 unfolding unary binary ternary load store branch conditional_branch identify
-operations (opcode.Unary op kind) F law = (registers, λ d. (next_sources _, λ a. tt))
-operations (opcode.Binary op kind) F law = (registers, λ d. (next_sources _, λ a. (next_sources _, λ b. tt)))
-operations (opcode.Ternary op kind) F law =
+operations (forms.Unary op) modifiers kind F law = (registers, λ d. (next_sources _, λ a. tt))
+operations (forms.Binary op) modifiers kind F law = (registers, λ d. (next_sources _, λ a. (next_sources _, λ b. tt)))
+operations (forms.Ternary op) modifiers kind F law =
     (registers, λ d. (next_sources _, λ a. (next_sources _, λ b. (next_sources _, λ c. tt))))
-operations (opcode.Load segment modifiers kind) F law = (
+operations (forms.Load segment) modifiers kind F law = (
   registers,
   λ d. (marks 44, λ one. (addresses _ (λ to b. subst (FirstIs (kinds.Mark 59)) (sym b.3.0) (law b.2 b.4)), λ a. tt)),
 )
-operations (opcode.Store bytes kind) F law = (
+operations forms.Store modifiers kind F law = (
   sources _,
   λ s. (marks 44, λ one. (addresses _ (λ to b. subst (FirstIs (kinds.Mark 59)) (sym b.3.0) (law b.2 b.4)), λ a. tt)),
 )
-operations opcode.Branch F law = (labels, λ x. tt)
-operations (opcode.ConditionalBranch width) F law = (sources _, λ a. (marks 44, λ one. (labels, λ x. tt)))
-operations opcode.Return F law = tt
-operations (opcode.Identify query kind) F law = (registers, λ d. (marks 44, λ one. (numbers, λ k. tt)))
+operations forms.Branch modifiers kind F law = (names kinds.Label refl, λ x. tt)
+operations forms.ConditionalBranch modifiers kind F law = (sources _, λ a. (marks 44, λ one. (names kinds.Label refl, λ x. tt)))
+operations forms.Return modifiers kind F law = tt
+operations (forms.Identify query) modifiers kind F law = (registers, λ d. (marks 44, λ one. (numbers, λ k. tt)))
 
 labelleds : (F : Front) → Decides labelled F
 unfolding labelled
-labelleds F line = (labels, λ x. (marks 58, λ one. tt))
+labelleds F line = (names kinds.Label refl, λ x. (marks 58, λ one. tt))
 
 performeds : (F : Front) → Decides performed F
 unfolding performed
 performeds F line =
-    (opcodes, λ code. (operations code _ (λ to b. (b.3.2.0, b.3.1, b.3.2.1, b.3.2.2)), λ x. (marks 59, λ one. tt)))
+    (opcodes, λ code. (operations code.form code.modifiers code.kind _ (λ to b. (b.3.2.0, b.3.1, b.3.2.1, b.3.2.2)), λ x. (marks 59, λ one. tt)))
 
 -- an instruction begins with its word
 performed_first : (i : Item) (from to : List PlacedToken) → spells performed i from to →
@@ -197,7 +198,7 @@ unfolding item labelled
 item_decides F = (
   labelleds F,
   unlabelleds F,
-  λ i from to s may. no_name label_of kinds.Word from (unlabelled_first i from to s) refl,
+  λ i from to s may. no_name (same_kind kinds.Label) kinds.Word from (unlabelled_first i from to s) refl,
 )
 
 item_takes : Takes item
@@ -247,7 +248,7 @@ arguments F line = (
   alignments _
       (λ to b. let s = b.3 in
       unbegun (λ t. picked align_of (word_at t)) s.2.0 to s.1 s.2.1 (word_there align_of (words.Argument s.0) s.2.0 s.2.2)),
-  λ a. (kernargs (kernarg_flaw a), λ kind. (variables, λ x. tt)),
+  λ a. (kernargs (kernarg_flaw a), λ kind. (names kinds.Variable refl, λ x. tt)),
 )
 
 -- an argument begins with a word
@@ -293,9 +294,9 @@ signatures F = (
 kernel_begins : (F : Front) → Decides kernel_begin F
 unfolding kernel_begin
 kernel_begins F = (
-  (progs, λ one. kernel_words syntax),
-  kernel_words at_begin,
-  λ x from to s may. unbegun (λ t. picked is_prog (word_at t)) s.0 from to s.1 (word_there is_prog words.Kernel s.0 s.2),
+  (these_words words.Prog syntax refl refl, λ one. these_words words.Kernel syntax refl refl),
+  these_words words.Kernel at_begin refl refl,
+  λ x from to s may. unbegun (λ t. picked (same_word words.Prog) (word_at t)) s.0 from to s.1 (word_there (same_word words.Prog) words.Kernel s.0 s.2),
 )
 
 kernel_decides : (F : Front) → BeforeNoSemicolon F → Decides kernel F
@@ -303,7 +304,7 @@ unfolding kernel
 kernel_decides F law line = (
   kernel_begins _,
   λ one. (
-    globals,
+    names kinds.Global refl,
     λ x. (
       signatures _,
       λ xs. (bodies _ (λ to b. subst (λ ts. begins semicolon ts ≡ false) (sym b.3.0) (law b.2 b.4)), λ ys. tt),
@@ -353,7 +354,7 @@ fields_decide F = (
 
 pub module_decides : (F : Front) → Decides module_text F
 unfolding module_text
-module_decides F = (module_words, λ one. (globals, λ x. (fields_decide _, λ f. (kernels_decide _, λ ks. tt))))
+module_decides F = (these_words words.Module syntax refl refl, λ one. (names kinds.Global refl, λ x. (fields_decide _, λ f. (kernels_decide _, λ ks. tt))))
 
 -- each of several takes a token at least
 pub item_shortens : Shortens (read item)

@@ -5,6 +5,7 @@ use Rattle.hsail_reader.specs.Grammars.{Grammar, give, token, behind, either, ma
 use Rattle.hsail_reader.specs.TextTokens.{PlacedToken}
 use Rattle.hsail_reader.specs.Nouns.{Flaw, Refusal}
 use Rattle.hsail_reader.specs.declared.fault.Flaw.TheVariants.{Syntax}
+use Rattle.hsail_reader.proofs.Options.{chosen, same_ok}
 
 -- what tokens begin with
 abbrev pub Front : Type 1
@@ -137,12 +138,9 @@ complete (many stops g) F d xs from to s may =
     (suc (length from)) xs from to s.0 s.1 enough
 complete (on_line f) F d x from to s may = complete (f (line_of from)) F (d (line_of from)) x from to s may
 
-same : {A : Type 0} (x y : A) → ◌≡◌ {A = Result A Refusal} (Ok x) (Ok y) → x ≡ y
-same x y is = cc
-
 -- what holds of one reading holds of the same reading
 carried : {A : Type 0} (P : A → Type 0) (x y : A) → ◌≡◌ {A = Result A Refusal} (Ok x) (Ok y) → P x → P y
-carried P x y is p = subst P (same x y is) p
+carried P x y is p = subst P (same_ok x y is) p
 
 -- a refusal is no reading, whatever its flaw
 no_reading : {A B : Type 0} (tokens : List PlacedToken) (flaw : Flaw) (y : B) → refuse {X = B} tokens flaw ≡ Ok y → A
@@ -152,11 +150,6 @@ pub bound : {A B : Type 0} (read : Result A Refusal) (f : A → Result B Refusal
     (x : A) × (read ≡ Ok x) × (f x ≡ Ok y)
 bound (Ok x) f y is = (x, refl, is)
 bound (Err r) f y is = cc
-
-chosen : {A : Type 0} (b : Bool) (x y z : A) → (if b then x else y) ≡ z →
-    ((b ≡ true) × (x ≡ z)) ⊎ ((b ≡ false) × (y ≡ z))
-chosen true x y z is = inl (refl, is)
-chosen false x y z is = inr (refl, is)
 
 token_sound : {X : Type 0} (Is : X → PlacedToken → Type 0) (test : PlacedToken → Option X) (flaw : PlacedToken → Flaw) →
     ((x : X) (t : PlacedToken) → test t ≡ Some x → Is x t) → (from : List PlacedToken) (y : X × List PlacedToken) →
@@ -194,7 +187,7 @@ many_sound stops g law (suc n) from y is =
 pub sound : {X : Type 0} (g : Grammar X) (F : Front) → Decides g F → (from : List PlacedToken) (y : X × List PlacedToken) →
     read g from ≡ Ok y → spells g y.0 from y.1
 sound {X} (give x) F d from y is =
-    let e = same (x, from) y is in (ap (λ q. q.1) e, ap (λ q. q.0) e)
+    let e = same_ok (x, from) y is in (ap (λ q. q.1) e, ap (λ q. q.0) e)
 sound (token Is test flaw) F d from y is = token_sound Is test flaw (λ x t. (d x t).1) from y is
 sound (behind g f) F d from y is =
     let a = bound (read g from) (λ a. read (f a.0) a.1) y is in

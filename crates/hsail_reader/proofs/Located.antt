@@ -1,21 +1,17 @@
 -- A fault that was found in the text isn't that the text is too long.
-use Rattle.std.proofs.Common.{◌≡◌, ℕ, ◌+◌, List, [], ◌∷◌, ◌==◌, Bool, true, false, Result, Err, refl, ap, sym, ◌∙◌, if◌then◌else◌}
+use Rattle.std.proofs.Common.{◌≡◌, ℕ, ◌+◌, List, [], ◌∷◌, ◌==◌, Result, Err, ⊎_elim, refl, ap, sym, ◌∙◌}
+use Rattle.std.proofs.lemmas.Bool.{cases_Bool}
 use Rattle.hsail_reader.specs.Faults.{fault_at, fault_of, before_place, cause_of, too_long}
 use Rattle.hsail_reader.specs.Nouns.{Cause, Flaw, Module, ReadError, ReadFault, Refusal}
 use Rattle.hsail_reader.specs.declared.fault.Cause.TheVariants.{TooLong}
 use Rattle.hsail_reader.specs.declared.fault.Flaw.TheVariants as flaw
 use Rattle.hsail_reader.specs.declared.fault.ReadError.TheVariants as error
 
-if_same : (b : Bool) (x y : ReadFault) (cause : Cause) → x.cause ≡ cause → y.cause ≡ cause →
-    (if b then x else y).cause ≡ cause
-if_same true x y cause p q = p
-if_same false x y cause p q = q
-
 fault_at_cause : (line column : ℕ) (before : List ℕ) (cause : Cause) → (fault_at line column before cause).cause ≡ cause
 fault_at_cause line column [] cause = refl
 fault_at_cause line column (b ∷ before) cause =
-    if_same (b == 10) (fault_at (line + 1) 1 before cause) (fault_at line (column + 1) before cause) cause
-    (fault_at_cause (line + 1) 1 before cause) (fault_at_cause line (column + 1) before cause)
+    ⊎_elim (λ y. rw y (fault_at_cause (line + 1) 1 before cause)) (λ n. rw n (fault_at_cause line (column + 1) before cause))
+    (cases_Bool (b == 10))
 
 not_too_long : (f : Flaw) → cause_of f ≡ TooLong → ⊥
 not_too_long flaw.Lexeme e = cc

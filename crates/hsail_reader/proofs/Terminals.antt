@@ -4,7 +4,7 @@ use Rattle.std.proofs.lemmas.Bool.{lt-ltb, ltb-true}
 use Rattle.std.proofs.lemmas.Bool.Decides.{eqb_tells}
 use Rattle.std.specs.Option.{option_map}
 use Rattle.hsail_reader.specs.Grammars.{Grammar, begun_by}
-use Rattle.hsail_reader.specs.Terminals.{of_kind, found, mark_of, mark, register_of, register, number_of, number, major_of, major, minor_of, minor, profile_header, profile_of, profile, large_of, large, rounding_header, rounding_of, rounding, name_of, global_of, global, variable_of, variable, label_of, label, word_kind, word_at, picked, word, is_module, module_word, is_prog, prog, is_kernel, kernel_word, align_of, align, kernarg_of, kernarg, opcode_of, opcode, outside, syntax, at_begin}
+use Rattle.hsail_reader.specs.Terminals.{of_kind, found, mark_of, mark, register_of, register, number_of, number, major_of, major, minor_of, minor, profile_header, profile_of, profile, large, rounding_header, rounding_of, rounding, same_kind, name_of, word_kind, word_at, picked, word, same_word, this_word, align_of, align, kernarg_of, kernarg, opcode_of, opcode, outside, syntax, at_begin}
 use Rattle.hsail_reader.specs.TextTokens.{PlacedToken}
 use Rattle.hsail_reader.specs.Types.{alignment_bytes}
 use Rattle.hsail_reader.specs.WordSpelling.{SpellsWord, stands_in_modules}
@@ -100,13 +100,16 @@ profiles_found = kind_finds (λ p. kinds.Header (profile_header p)) profile_of t
     back (kinds.Header _) p is = cc
     back _ p is = cc
 
+-- a kind without a value is found, and no other is taken for it
+kind_there : (kind k : TokenKind) (one : Unit {0}) → same_kind kind k ≡ Some one → k ≡ kind
+kind_there kinds.Global kinds.Global one is = refl
+kind_there kinds.Variable kinds.Variable one is = refl
+kind_there kinds.Label kinds.Label one is = refl
+kind_there (kinds.Header headers.Large) (kinds.Header headers.Large) one is = refl
+kind_there _ _ one is = cc
+
 pub large_found : Finds large
-large_found = kind_finds (λ one. kinds.Header headers.Large) large_of (λ one. refl) back
-  where
-    back : (k : TokenKind) (one : Unit {0}) → large_of k ≡ Some one → k ≡ kinds.Header headers.Large
-    back (kinds.Header headers.Large) one is = refl
-    back (kinds.Header _) one is = cc
-    back _ one is = cc
+large_found = kind_finds (λ one. kinds.Header headers.Large) (same_kind (kinds.Header headers.Large)) (λ one. refl) (kind_there (kinds.Header headers.Large))
 
 pub roundings_found : Finds rounding
 roundings_found = kind_finds (λ r. kinds.Header (rounding_header r)) rounding_of there back
@@ -122,35 +125,13 @@ roundings_found = kind_finds (λ r. kinds.Header (rounding_header r)) rounding_o
     back (kinds.Header _) r is = cc
     back _ r is = cc
 
-name_finds : (kind : TokenKind) (pick : TokenKind → Option (Unit {0})) → pick kind ≡ Some tt →
-    ((k : TokenKind) (one : Unit {0}) → pick k ≡ Some one → k ≡ kind) → Finds (name_of kind pick)
-name_finds kind pick there back name t =
-    (λ is. ap (λ k. option_map (λ one. t.text) (pick k)) is.0 ∙ ap (option_map (λ one. t.text)) there ∙ ap Some is.1, by (pick t.kind) refl)
+pub names : (kind : TokenKind) → same_kind kind kind ≡ Some tt → Finds (name_of kind)
+names kind there name t =
+    (λ is. ap (λ k. option_map (λ one. t.text) (same_kind kind k)) is.0 ∙ ap (option_map (λ one. t.text)) there ∙ ap Some is.1, by (same_kind kind t.kind) refl)
   where
-    by : (o : Option (Unit {0})) → pick t.kind ≡ o → option_map (λ one. t.text) o ≡ Some name → (t.kind ≡ kind) × (t.text ≡ name)
-    by (Some one) e is = (back t.kind one e, cc)
+    by : (o : Option (Unit {0})) → same_kind kind t.kind ≡ o → option_map (λ one. t.text) o ≡ Some name → (t.kind ≡ kind) × (t.text ≡ name)
+    by (Some one) e is = (kind_there kind t.kind one e, cc)
     by None e is = cc
-
-pub globals : Finds global
-globals = name_finds kinds.Global global_of refl back
-  where
-    back : (k : TokenKind) (one : Unit {0}) → global_of k ≡ Some one → k ≡ kinds.Global
-    back kinds.Global one is = refl
-    back _ one is = cc
-
-pub variables : Finds variable
-variables = name_finds kinds.Variable variable_of refl back
-  where
-    back : (k : TokenKind) (one : Unit {0}) → variable_of k ≡ Some one → k ≡ kinds.Variable
-    back kinds.Variable one is = refl
-    back _ one is = cc
-
-pub labels : Finds label
-labels = name_finds kinds.Label label_of refl back
-  where
-    back : (k : TokenKind) (one : Unit {0}) → label_of k ≡ Some one → k ≡ kinds.Label
-    back kinds.Label one is = refl
-    back _ one is = cc
 
 -- what is picked of a token that spells a word
 pub word_there : {X : Type 0} (pick : Word → Option X) (w : Word) (t : PlacedToken) → (t.kind ≡ kinds.Word) × SpellsWord w t.text →
@@ -167,26 +148,16 @@ word_finds {X} spelled pick flaw there back stands x t =
     by kinds.Word text is = (refl, word_is_spelled (spelled x) text (back (word_of text) x is) (stands x))
     by _ text is = cc
 
-pub module_words : Finds module_word
-module_words = word_finds (λ one. words.Module) is_module syntax (λ one. refl) back (λ one. refl)
-  where
-    back : (w : Word) (one : Unit {0}) → is_module w ≡ Some one → w ≡ words.Module
-    back words.Module one is = refl
-    back _ one is = cc
+-- a word without a value is found, and no other is taken for it
+same_words : (v w : Word) (one : Unit {0}) → same_word v w ≡ Some one → w ≡ v
+same_words words.Module words.Module one is = refl
+same_words words.Prog words.Prog one is = refl
+same_words words.Kernel words.Kernel one is = refl
+same_words _ _ one is = cc
 
-pub progs : Finds prog
-progs = word_finds (λ one. words.Prog) is_prog syntax (λ one. refl) back (λ one. refl)
-  where
-    back : (w : Word) (one : Unit {0}) → is_prog w ≡ Some one → w ≡ words.Prog
-    back words.Prog one is = refl
-    back _ one is = cc
-
-pub kernel_words : (flaw : PlacedToken → Flaw) → Finds (kernel_word flaw)
-kernel_words flaw = word_finds (λ one. words.Kernel) is_kernel flaw (λ one. refl) back (λ one. refl)
-  where
-    back : (w : Word) (one : Unit {0}) → is_kernel w ≡ Some one → w ≡ words.Kernel
-    back words.Kernel one is = refl
-    back _ one is = cc
+pub these_words : (w : Word) (flaw : PlacedToken → Flaw) → same_word w w ≡ Some tt → stands_in_modules w ≡ true →
+    Finds (this_word w flaw)
+these_words w flaw there stands = word_finds (λ one. w) (same_word w) flaw (λ one. there) (λ v one is. same_words w v one is) (λ one. stands)
 
 -- the first n of several that is an alignment
 first_bytes : (n m : ℕ) (a : Alignment) (other : Option Alignment) (b : Alignment) → alignment_bytes a ≡ m →

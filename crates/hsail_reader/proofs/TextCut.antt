@@ -1,17 +1,72 @@
 -- A text is cut into tokens just where these are its tokens by their spelling.
-use Rattle.std.proofs.Common.{◌≡◌, ℕ, zero, suc, ◌+◌, ◌<◌, ◌≤◌, inl, inr, List, [], ◌∷◌, ◌++◌, length, drop, Result, Ok, Err, Option, Some, None, refl, sym, ap, subst, ◌∙◌, length-append, arith}
-use Rattle.std.proofs.Math.Seq.{take-append_seam, drop-append_seam}
-use Rattle.hsail_reader.specs.Faults.{refusal, with_front}
-use Rattle.hsail_reader.specs.Lexemes.{lexed, lexeme_at}
-use Rattle.hsail_reader.specs.TextTokens.{IsLexeme, IsLongestFront, AreTokens, none, lexeme, header_name, PlacedToken, kept, line_after, line_behind}
+use Rattle.std.proofs.Common.{◌≡◌, ℕ, zero, suc, ◌+◌, ◌-◌, ◌<◌, ◌≤◌, List, [], ◌∷◌, ◌++◌, length, take, drop, Result, Ok, Err, Option, Some, refl, ap, subst, sym, ◌∙◌, append_assoc, arith, None, length-append}
+use Rattle.hsail_reader.specs.Faults.{with_front, refusal}
+use Rattle.hsail_reader.specs.Lexemes.{lexeme_at, lexed}
 use Rattle.hsail_reader.specs.Tokens.{tokens_from, further, before_rest}
+use Rattle.hsail_reader.specs.TextTokens.{PlacedToken, kept, line_after, line_behind, IsLongestFront, AreTokens, none, lexeme}
+use Rattle.hsail_reader.specs.Nouns.{Lexeme, Refusal, LexemeKind}
+use Rattle.std.proofs.Math.Seq.{take-append_seam, drop-append_seam}
+use Rattle.hsail_reader.proofs.Options.{same_ok, no_ok}
+use Rattle.hsail_reader.proofs.LexemeFronts.{FoundSpelled, found_is_lexeme, lexeme_is_some, lexeme_reaches, longest_is_found}
 use Rattle.hsail_reader.specs.declared.fault.Flaw.TheVariants as flaw
-use Rattle.hsail_reader.specs.Nouns.{Header, Lexeme, LexemeKind, Refusal, Base, Blank, Comment, Token}
-use Rattle.hsail_reader.specs.declared.token.TokenKind.TheVariants as token
-use Rattle.hsail_reader.proofs.LexemeFound.{longest_is_found}
-use Rattle.hsail_reader.proofs.LexemeFronts.{number_first, word_first, lexeme_reaches}
-use Rattle.hsail_reader.proofs.LexemeSpellings.{FoundSpelled, class_length, found_is_lexeme}
-use Rattle.hsail_reader.proofs.Lexing.{tokens_from_step}
+
+pub with_front_append : (a b : List PlacedToken) (r : Result (List PlacedToken) Refusal) →
+    with_front (a ++ b) r ≡ with_front a (with_front b r)
+with_front_append a b (Ok items) = ap (λ (x : List PlacedToken). Ok x) (simp append_assoc)
+with_front_append a b (Err r) = refl
+
+-- to go on after k bytes is to go on there
+pub tokens_from_drop : (k place line : ℕ) (bytes : List ℕ) → k ≤ length bytes →
+    tokens_from k place line bytes
+    ≡ tokens_from 0 (place + k) (line_after line (take k bytes)) (drop k bytes)
+tokens_from_drop zero place line bytes fits = ap (λ p. tokens_from 0 p line bytes) (omega arith)
+tokens_from_drop (suc k) place line [] fits = absurd (omega arith)
+tokens_from_drop (suc k) place line (b ∷ bytes) fits =
+    tokens_from_drop k (place + 1) (line_behind line b) bytes (omega arith)
+    ∙ ap (λ p. tokens_from 0 p (line_after (line_behind line b) (take k bytes)) (drop k bytes)) (omega arith)
+
+behind_first : (n place line b : ℕ) (bytes : List ℕ) → 0 < n → n ≤ length (b ∷ bytes) →
+    tokens_from (n - 1) (place + 1) (line_behind line b) bytes
+    ≡ tokens_from 0 (place + n) (line_after line (take n (b ∷ bytes))) (drop n (b ∷ bytes))
+behind_first zero place line b bytes some fits = absurd (omega arith)
+behind_first (suc k) place line b bytes some fits =
+    let one : suc k - 1 ≡ k = omega arith in
+    ap (λ j. tokens_from j (place + 1) (line_behind line b) bytes) one
+    ∙ tokens_from_drop (suc k) place line (b ∷ bytes) fits
+
+-- the lexeme at the front, and what stands behind it
+pub tokens_from_step : (place line : ℕ) (bytes : List ℕ) (found : Lexeme) → lexeme_at bytes ≡ Some found →
+    0 < found.length → found.length ≤ length bytes →
+    tokens_from 0 place line bytes
+    ≡ with_front (kept found.kind (take found.length bytes) place line)
+    (tokens_from 0 (place + found.length) (line_after line (take found.length bytes)) (drop found.length bytes))
+tokens_from_step place line [] found is some fits = cc
+tokens_from_step place line (b ∷ bytes) found is some fits =
+    let whole = with_front (kept found.kind (take found.length (b ∷ bytes)) place line)
+    (tokens_from 0 (place + found.length) (line_after line (take found.length (b ∷ bytes)))
+    (drop found.length (b ∷ bytes))) in
+    let P : Option Lexeme → Type 0 = λ o.
+    before_rest o (b ∷ bytes) place line
+    (tokens_from (further o) (place + 1) (line_behind line b) bytes) ≡ whole in
+    subst P (sym is)
+    (ap (with_front (kept found.kind (take found.length (b ∷ bytes)) place line))
+    (behind_first found.length place line b bytes some fits))
+
+-- one turn of the loop over the lexemes
+pub goes_on : (front after : List PlacedToken) (place line : ℕ) (bytes : List ℕ) (found : Lexeme) (whole : Result (List PlacedToken) Refusal) →
+    lexeme_at bytes ≡ Some found → 0 < found.length → found.length ≤ length bytes →
+    after ≡ front ++ kept found.kind (take found.length bytes) place line →
+    with_front front (tokens_from 0 place line bytes) ≡ whole →
+    with_front after
+    (tokens_from 0 (place + found.length) (line_after line (take found.length bytes)) (drop found.length bytes))
+    ≡ whole
+goes_on front after place line bytes found whole is some fits pushed so_far =
+    let rest = tokens_from 0 (place + found.length) (line_after line (take found.length bytes)) (drop found.length bytes) in
+    let new = kept found.kind (take found.length bytes) place line in
+    ap (λ f. with_front f rest) pushed
+    ∙ with_front_append front new rest
+    ∙ ap (with_front front) (sym (tokens_from_step place line bytes found is some fits))
+    ∙ so_far
 
 -- the tokens behind a lexeme that is found, by its front and what stands behind it
 step : (place line : ℕ) (kind : LexemeKind) (front behind : List ℕ) → 0 < length front →
@@ -28,28 +83,6 @@ step place line kind front behind some is =
     (tokens_from 0 (place + length front) (line_after line front) xs))
     (drop-append_seam front behind)
 
--- a word of the header has a byte at least
-header_is_some : (h : Header) → 0 < length (header_name h)
-header_is_some Base = omega arith
-header_is_some _ = omega arith
-
--- a lexeme has a byte at least
-lexeme_is_some : (kind : LexemeKind) (front : List ℕ) → IsLexeme kind front → 0 < length front
-lexeme_is_some Blank front (b, e, blank) = omega (arith, ap length e)
-lexeme_is_some Comment front (rest, e, spelled) = omega (arith, ap length e)
-lexeme_is_some (Token token.Global) front (rest, e, spelled) = omega (arith, ap length e)
-lexeme_is_some (Token token.Variable) front (rest, e, spelled) = omega (arith, ap length e)
-lexeme_is_some (Token token.Label) front (rest, e, spelled) = omega (arith, ap length e)
-lexeme_is_some (Token (token.Register r)) front (digits, e, spelled) =
-    omega (arith, ap length e, class_length r.class digits)
-lexeme_is_some (Token (token.Header h)) front e = omega (arith, ap length e, header_is_some h)
-lexeme_is_some (Token (token.Number n)) front (inl spelled) =
-    omega (arith, ap length (number_first front (inl spelled.0)).2)
-lexeme_is_some (Token (token.Number n)) front (inr spelled) =
-    omega (arith, ap length (number_first front (inr spelled.0)).2)
-lexeme_is_some (Token (token.Mark b)) front (e, mark) = omega (arith, ap length e)
-lexeme_is_some (Token token.Word) front spelled = omega (arith, ap length (word_first front spelled).2)
-
 -- tokens by their spelling are those that are cut
 tokens_are_cut : (place line : ℕ) (bytes : List ℕ) (tokens : List PlacedToken) → AreTokens place line bytes tokens →
     tokens_from 0 place line bytes ≡ Ok tokens
@@ -58,7 +91,7 @@ tokens_are_cut _ _ _ _ (lexeme place line kind bytes front behind tokens parts i
     let Long : List ℕ → Type 0 = λ xs. IsLongestFront front xs in
     let found = longest_is_found kind front behind is within (subst Long parts longest) in
     ap (tokens_from 0 place line) parts
-    ∙ step place line kind front behind (lexeme_is_some kind front is) found
+    ∙ step place line kind front behind (lexeme_is_some kind front is within) found
     ∙ ap (with_front (kept kind front place line))
     (tokens_are_cut (place + length front) (line_after line front) behind tokens rest)
 
@@ -66,23 +99,11 @@ tokens_are_cut _ _ _ _ (lexeme place line kind bytes front behind tokens parts i
 pub cut : (text : List ℕ) (tokens : List PlacedToken) → AreTokens 0 1 text tokens → tokens_from 0 0 1 text ≡ Ok tokens
 cut text tokens are = tokens_are_cut 0 1 text tokens are
 
--- the tokens, as reading them gives them
-abbrev read_as : List PlacedToken → Result (List PlacedToken) Refusal
-read_as tokens = Ok tokens
-
--- tokens that are read alike are the same
-same_tokens : (a b : List PlacedToken) → read_as a ≡ read_as b → a ≡ b
-same_tokens a b e = cc
-
--- a text is not both refused and read
-not_both : {A : Type 0} (r : Refusal) (tokens : List PlacedToken) → Err r ≡ Ok tokens → A
-not_both r tokens e = cc
-
 -- the tokens behind some, where all are read
 behind_some : (front tokens : List PlacedToken) (rest : Result (List PlacedToken) Refusal) → with_front front rest ≡ Ok tokens →
     (later : List PlacedToken) × (rest ≡ Ok later) × (front ++ later ≡ tokens)
-behind_some front tokens (Ok later) is = (later, refl, same_tokens (front ++ later) tokens is)
-behind_some front tokens (Err r) is = not_both r tokens is
+behind_some front tokens (Ok later) is = (later, refl, same_ok (front ++ later) tokens is)
+behind_some front tokens (Err r) is = no_ok r tokens is
 
 -- where the tokens behind it are spelled, so are those of the lexeme found and of what stands behind it
 found_goes_on : (place line : ℕ) (bytes : List ℕ) (tokens : List PlacedToken) (found : Lexeme) →
@@ -94,7 +115,7 @@ found_goes_on place line bytes tokens found at' is (front, behind, parts, counts
     let At : List ℕ → Type 0 = λ xs. lexeme_at xs ≡ Some found in
     let there : lexeme_at (front ++ behind) ≡ Some (lexed found.kind (length front)) =
     subst At parts at' ∙ ap (λ n. Some (lexed found.kind n)) (sym counts) in
-    let some = lexeme_is_some found.kind front spelled in
+    let some = lexeme_is_some found.kind front spelled within in
     let whole = sym (step place line found.kind front behind some there)
     ∙ ap (tokens_from 0 place line) (sym parts) ∙ is in
     let later = behind_some (kept found.kind front place line) tokens
@@ -116,7 +137,7 @@ cut_goes_on None place line b bytes tokens e is goes_on =
     let P : Option Lexeme → Type 0 = λ o.
     before_rest o (b ∷ bytes) place line (tokens_from (further o) (place + 1) (line_behind line b) bytes)
     ≡ Ok tokens in
-    not_both (refusal (Some place) flaw.Lexeme) tokens (subst P e is)
+    no_ok (refusal (Some place) flaw.Lexeme) tokens (subst P e is)
 cut_goes_on (Some found) place line b bytes tokens e is goes_on =
     found_goes_on place line (b ∷ bytes) tokens found e is (found_is_lexeme (b ∷ bytes) found e) goes_on
 
@@ -124,7 +145,7 @@ cut_goes_on (Some found) place line b bytes tokens e is goes_on =
 cut_is_spelled : (fuel place line : ℕ) (bytes : List ℕ) (tokens : List PlacedToken) → length bytes ≤ fuel →
     tokens_from 0 place line bytes ≡ Ok tokens → AreTokens place line bytes tokens
 cut_is_spelled fuel place line [] tokens fits is =
-    subst (AreTokens place line []) (same_tokens [] tokens is) (none place line)
+    subst (AreTokens place line []) (same_ok [] tokens is) (none place line)
 cut_is_spelled zero place line (b ∷ bytes) tokens fits is = absurd (omega arith)
 cut_is_spelled (suc fuel) place line (b ∷ bytes) tokens fits is =
     cut_goes_on (lexeme_at (b ∷ bytes)) place line b bytes tokens refl is

@@ -1,16 +1,20 @@
 -- A text is read as a module just where the grammar has it as a text of that module.
-use Rattle.std.proofs.Common.{◌≡◌, ℕ, ◌<◌, ◌≤◌, ⊎_elim, List, [], ◌∷◌, length, true, false, nat_lt, if◌then◌else◌, Result, Ok, Err, sym, ap, subst, ◌∙◌, arith}
-use Rattle.std.proofs.lemmas.Bool.{cases_Bool, cases_lt, ltb-true, lt-ltb}
+use Rattle.std.proofs.Common.{◌≡◌, ℕ, ◌<◌, ◌≤◌, ⊎_elim, List, [], ◌∷◌, length, true, false, nat_lt, if◌then◌else◌, Result, Ok, Err, sym, ap, subst, ◌∙◌, arith, refl}
+use Rattle.std.proofs.lemmas.Bool.{cases_Bool}
+use Rattle.std.proofs.lemmas.Bool.Decides.{nat_tests}
+use Rattle.hsail_reader.proofs.Options.{no_ok, same_ok}
 use Rattle.hsail_reader.specs.Faults.{too_long}
-use Rattle.hsail_reader.specs.Grammar.{is_none_left, kernels, module_text, SpellModule, IsTextOf}
+use Rattle.hsail_reader.specs.Grammar.{is_none_left, kernels, module_text, SpellModule, IsTextOf, place_inside, index, address_inside, address, load, performed, labelled, unlabelled, item, items, body, alignment, argument, next_argument, some_arguments, signature, kernel_begin, kernel, fields}
 use Rattle.hsail_reader.specs.Grammars.{spells, read, ◌>>=◌}
 use Rattle.hsail_reader.specs.TextTokens.{PlacedToken}
 use Rattle.hsail_reader.specs.Syntax.{module_at, read_at, located, reading}
 use Rattle.hsail_reader.specs.Tokens.{tokens_of}
-use Rattle.hsail_reader.specs.Nouns.{Module, ReadFault, Refusal}
+use Rattle.hsail_reader.specs.Nouns.{Module, Refusal}
 use Rattle.hsail_reader.proofs.Decided.{module_decides}
 use Rattle.hsail_reader.proofs.Grammars.{Front, complete, sound, bound}
 use Rattle.hsail_reader.proofs.TextCut.{cut, spelled}
+use Rattle.hsail_reader.specs.Sample.{sample, sample_module}
+use Rattle.hsail_reader.specs.Words.{instruction_at}
 
 abbrev anything : Front
 anything to = Unit {0}
@@ -37,26 +41,15 @@ unfolding module_at
 module_spelled tokens m is =
     let y = bound (read module_text tokens) (λ m. Ok m.0) m is in
     let s = sound module_text anything (module_decides anything) tokens y.0 y.1 in
-    let same : y.0.0 ≡ m = one y.0.0 y.2 in
+    let same : y.0.0 ≡ m = same_ok y.0.0 m y.2 in
     let end = none_left y.0.0 tokens y.0.1 s in
     subst (λ m. SpellModule tokens m) same (subst (λ to. spells module_text y.0.0 tokens to) end s)
-  where
-    one : (n : Module) → ◌≡◌ {A = Result Module Refusal} (Ok n) (Ok m) → n ≡ m
-    one n e = cc
 
 short : (n : ℕ) → n ≤ 65536 → nat_lt 65536 n ≡ false
-short n within =
-    ⊎_elim
-    (λ over. let more = ltb-true 65536 n over in absurd (omega (arith, more, within)))
-    (λ not_over. not_over)
-    (cases_Bool (nat_lt 65536 n))
+short n fits = grind (arith, nat_tests)
 
 within : (n : ℕ) → nat_lt 65536 n ≡ false → n ≤ 65536
-within n not_over =
-    ⊎_elim (λ over. absurd (contradiction (sym (lt-ltb 65536 n over) ∙ not_over))) (λ fits. fits) (cases_lt 65536 n)
-  where
-    contradiction : true ≡ false → ⊥
-    contradiction e = cc
+within n not_over = grind (arith, nat_tests)
 
 -- a text over the limit is a text of no module
 pub long_is_no_text : (text : List ℕ) → 65536 < length text → (m : Module) → IsTextOf text m → ⊥
@@ -78,10 +71,7 @@ short_is_text text m fits is =
 
 -- what is refused is a text of no module
 pub refused_is_no_text : (text : List ℕ) (r : Refusal) → read_at text ≡ Err r → (m : Module) → IsTextOf text m → ⊥
-refused_is_no_text text r is m s = contradiction (sym is ∙ text_at text m s)
-  where
-    contradiction : ◌≡◌ {A = Result Module Refusal} (Err r) (Ok m) → ⊥
-    contradiction e = cc
+refused_is_no_text text r is m s = no_ok r m (sym is ∙ text_at text m s)
 
 fits_of : (text : List ℕ) (m : Module) → IsTextOf text m → length text ≤ 65536
 unfolding IsTextOf
@@ -100,20 +90,21 @@ located_is text (Err r) m is = cc
 
 -- a text is a text of one module at most
 pub one_module : (text : List ℕ) (a b : Module) → IsTextOf text a → IsTextOf text b → a ≡ b
-one_module text a b x y = same_module (sym (text_is_read text a x) ∙ text_is_read text b y)
-  where
-    same_module : ◌≡◌ {A = Result Module ReadFault} (Ok a) (Ok b) → a ≡ b
-    same_module e = cc
+one_module text a b x y = same_ok a b (sym (text_is_read text a x) ∙ text_is_read text b y)
 
 -- what is read as a module is a text of it
 pub text_is_spelled : (text : List ℕ) (m : Module) → reading text ≡ Ok m → IsTextOf text m
 unfolding reading
 text_is_spelled text m is =
     ⊎_elim
-    (λ over. not_read (rw over at is))
+    (λ over. no_ok too_long m (rw over at is))
     (λ not_over. short_is_text text m (within (length text) not_over)
     (located_is text (read_at text) m (rw not_over at is)))
     (cases_Bool (nat_lt 65536 (length text)))
-  where
-    not_read : ◌≡◌ {A = Result Module ReadFault} (Err too_long) (Ok m) → IsTextOf text m
-    not_read e = cc
+
+sample_is_read : reading sample ≡ Ok sample_module
+unfolding sample sample_module reading module_at module_text fields kernels kernel kernel_begin body signature some_arguments next_argument argument alignment items item labelled unlabelled performed load index place_inside address_inside address instruction_at
+sample_is_read = refl
+
+pub sample_is_text : IsTextOf sample sample_module
+sample_is_text = text_is_spelled sample sample_module sample_is_read

@@ -3,12 +3,13 @@
 use Rattle.std.proofs.Common.{◌≡◌, ℕ, zero, suc, ◌⊎◌, inl, inr, ⊎_elim, List, [], ◌∷◌, ◌++◌, Bool, true, false, ◌&&◌, ◌||◌, not, ◌==◌, if◌then◌else◌, Option, Some, None, refl, sym, ap, subst, ◌∙◌, codes, append-nil, arith}
 use Rattle.std.proofs.lemmas.Bool.Decides.{eqb_tells}
 use Rattle.std.specs.List.{Contains}
-use Rattle.hsail_reader.specs.Bytes.{behind, or_else, first_of}
+use Rattle.hsail_reader.specs.Bytes.{behind, or_else, first_of, ◌>>=◌}
 use Rattle.hsail_reader.specs.Rows.{types_of, type_name}
 use Rattle.hsail_reader.specs.Words.{is_end, is_spelled, type_among, type_at}
-use Rattle.hsail_reader.specs.Nouns.{DataType, TypeSet, Bit}
-use Rattle.hsail_reader.proofs.Reaches.{bound, chosen, true_is_not_false, same_some}
-use Rattle.hsail_reader.proofs.Spelled.{behind_parts, nothing}
+use Rattle.hsail_reader.specs.WordSpelling.{SpellsType}
+use Rattle.hsail_reader.specs.Nouns.{DataType, TypeSet, B1, Bit, Untyped}
+use Rattle.hsail_reader.proofs.Options.{bound, chosen, nothing, same_some, true_is_not_false}
+use Rattle.hsail_reader.proofs.Runs.{behind_front, behind_parts}
 
 -- the texts differ at a place that both have
 abbrev pub clash : List ℕ → List ℕ → Bool
@@ -26,12 +27,6 @@ clash_not_behind (f ∷ front) (b ∷ text) rest e =
     (λ w. rw w.0 refl)
     (eqb_tells b f)
 
--- behind a front stands what was put there
-pub behind_front : (front rest : List ℕ) → behind front (front ++ rest) ≡ Some rest
-behind_front [] rest = refl
-behind_front (f ∷ front) rest =
-    ⊎_elim (λ w. rw w.0 (behind_front front rest)) (λ w. absurd (w.1 refl)) (eqb_tells f f)
-
 -- an element of a list is its first, or one of the others
 pub contains_cases : {A : Type 0} (y x : A) (ys : List A) → Contains (y ∷ ys) x → (y ≡ x) ⊎ Contains ys x
 contains_cases y x ys (zero, lt, e) = inl e
@@ -40,14 +35,6 @@ contains_cases y x ys (suc k, lt, e) = inr (k, omega arith, e)
 -- the empty list has no elements
 pub contains_none : {A : Type 0} (x : A) → Contains [] x → ⊥
 contains_none x c = omega (arith, c.1)
-
--- a list has its first element
-contains_first : {A : Type 0} (y : A) (ys : List A) → Contains (y ∷ ys) y
-contains_first y ys = (0, omega arith, refl)
-
--- a list has the elements of its rest
-contains_later : {A : Type 0} (y x : A) (ys : List A) → Contains ys x → Contains (y ∷ ys) x
-contains_later y x ys c = (suc c.0, omega (arith, c.1), c.2)
 
 -- a conjunction holds where both of its parts do
 both : (p q : Bool) → (p && q) ≡ true → (p ≡ true) × (q ≡ true)
@@ -102,8 +89,8 @@ first_is_found {A} {B} read (x ∷ others) text y is = by (read x text) refl is 
         (first_of read others text ≡ Some y → (z : A) × Contains others z × (read z text ≡ Some y)) →
         (z : A) × Contains (x ∷ others) z × (read z text ≡ Some y)
     by None e is later =
-        let f = later is in (f.0, contains_later x f.0 others f.1, f.2)
-    by (Some z) e is later = (x, contains_first x others, e ∙ is)
+        let f = later is in (f.0, (suc f.1.0, omega (arith, f.1.1), f.1.2), f.2)
+    by (Some z) e is later = (x, (0, omega arith, refl), e ∙ is)
 
 -- a whole text is spelled so just where it is that text
 pub spelled_is : (spelling text : List ℕ) → is_spelled spelling text ≡ true → text ≡ spelling
@@ -124,17 +111,17 @@ abbrev type_spelled : DataType → List ℕ → Option DataType
 type_spelled t text = if is_spelled (type_name t) text then Some t else None
 
 -- a type of a set is read where its name stands
-pub type_is_read : (set : TypeSet) (t : DataType) → Contains (types_of set) t →
+pub name_is_read : (set : TypeSet) (t : DataType) → Contains (types_of set) t →
     type_among (types_of set) (type_name t) ≡ Some t
-type_is_read set t c =
+name_is_read set t c =
     ap (type_among (types_of set)) (sym (append-nil (type_name t)))
     ∙ first_is_read type_name type_spelled (λ t text e. ap (λ o. if is_end o then Some t else None) e) (types_of set) t [] t
     (types_differ set) c (ap (λ o. if is_end o then Some t else None) (behind_front (type_name t) []))
 
 -- a type is read where its name stands
-pub type_is_found : (types : List DataType) (text : List ℕ) (t : DataType) → type_among types text ≡ Some t →
+pub name_is_found : (types : List DataType) (text : List ℕ) (t : DataType) → type_among types text ≡ Some t →
     (text ≡ type_name t) × Contains types t
-type_is_found types text t is =
+name_is_found types text t is =
     let f = first_is_found type_spelled types text t is in
     ⊎_elim
     (λ w. let same : f.0 ≡ t = same_some f.0 t w.1 in
@@ -142,10 +129,20 @@ type_is_found types text t is =
     (λ w. nothing t w.1)
     (chosen (is_spelled (type_name f.0) text) (Some f.0) None (Some t) f.2)
 
--- `_` and the name of a type, to the end
-pub type_behind_bar : (set : TypeSet) (bytes : List ℕ) (t : DataType) → type_at set bytes ≡ Some t →
+-- a type is read where it is spelled
+pub type_is_read : (set : TypeSet) (t : DataType) (text : List ℕ) → SpellsType set t text → type_at set text ≡ Some t
+type_is_read Untyped t text (e, is) = ap (type_at Untyped) e ∙ ap Some (sym is)
+type_is_read set t text (e, c) = ap (type_at set) e ∙ name_is_read set t c
+
+-- a type that is read is spelled
+named_type : (set : TypeSet) (bytes : List ℕ) (t : DataType) → (behind (codes "_") bytes >>= type_among (types_of set)) ≡ Some t →
     (bytes ≡ codes "_" ++ type_name t) × Contains (types_of set) t
-type_behind_bar set bytes t is =
+named_type set bytes t is =
     let b = bound (behind (codes "_") bytes) (type_among (types_of set)) t is in
-    let f = type_is_found (types_of set) b.0 t b.2 in
+    let f = name_is_found (types_of set) b.0 t b.2 in
     (behind_parts (codes "_") bytes b.0 b.1 ∙ ap (λ xs. codes "_" ++ xs) f.0, f.1)
+
+pub type_is_found : (set : TypeSet) (bytes : List ℕ) (t : DataType) → type_at set bytes ≡ Some t → SpellsType set t bytes
+type_is_found Untyped [] t is = (refl, sym (same_some B1 t is))
+type_is_found Untyped (b ∷ bytes) t is = absurd (contains_none t (named_type Untyped (b ∷ bytes) t is).1)
+type_is_found set bytes t is = named_type set bytes t is

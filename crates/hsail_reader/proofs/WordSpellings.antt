@@ -1,25 +1,20 @@
 -- A text is read as the word that it spells, and as no other.
-use Rattle.std.proofs.Common.{◌≡◌, ℕ, ◌+◌, ⊎_elim, List, [], ◌∷◌, ◌++◌, length, true, false, ◌==◌, if◌then◌else◌, Option, Some, None, refl, sym, ap, subst, ◌∙◌, codes, append-nil, length-append, arith}
-use Rattle.std.proofs.lemmas.Bool.{eqb-true}
-use Rattle.std.proofs.lemmas.Bool.Decides.{eqb_tells}
+use Rattle.std.proofs.Common.{◌≡◌, ℕ, ◌+◌, ⊎_elim, List, [], ◌++◌, length, true, false, ◌==◌, if◌then◌else◌, Option, Some, None, refl, sym, ap, subst, ◌∙◌, codes, append-nil, length-append, arith}
+use Rattle.std.proofs.lemmas.Bool.{eq-eqb, eqb-true}
 use Rattle.std.specs.List.{Contains}
 use Rattle.std.specs.Option.{is_some}
-use Rattle.hsail_reader.specs.Bytes.{behind, align_at, ◌>>=◌}
+use Rattle.hsail_reader.specs.Bytes.{behind, align_at, numeral_at, ◌>>=◌}
 use Rattle.hsail_reader.specs.Rows.{InstructionRow, rows, types_of}
 use Rattle.hsail_reader.specs.Words.{is_spelled, is_end, type_among, opcode_at, opcode_among, instruction_at, argument_word, instruction_word, other_word, named_word, word_of}
 use Rattle.hsail_reader.specs.WordSpelling.{SpellsNumber, SpellsBehindStem, SpellsWord, stands_in_modules}
-use Rattle.hsail_reader.specs.Nouns.{DataType, Numeral, Opcode, Word, Memory}
+use Rattle.hsail_reader.specs.Nouns.{DataType, Opcode, Spelled, Word, Memory}
 use Rattle.hsail_reader.specs.declared.words.Word.TheVariants as word
-use Rattle.hsail_reader.proofs.FormSpelling.{form_is_read, form_is_spelled}
-use Rattle.hsail_reader.proofs.BracketSpelling.{align_is_read}
-use Rattle.hsail_reader.proofs.BracketSpelling.{align_is_spelled}
-use Rattle.hsail_reader.proofs.Reaches.{bound, chosen, true_is_not_false}
-use Rattle.hsail_reader.proofs.Spelled.{behind_parts}
-use Rattle.hsail_reader.proofs.WordRows.{behind_front, clashes_all, clashes_not_behind, first_is_read, first_is_found, spelled_is, type_is_read, type_is_found}
-
--- equal numbers pass the test
-same_tested : (a b : ℕ) → a ≡ b → (a == b) ≡ true
-same_tested a b e = ⊎_elim (λ w. w.0) (λ w. absurd (w.1 e)) (eqb_tells a b)
+use Rattle.hsail_reader.proofs.RowWords.{row_is_read, row_is_spelled}
+use Rattle.hsail_reader.proofs.Bracketed.{named_is_read, named_is_found}
+use Rattle.hsail_reader.proofs.Numbers.{number_before_bracket_is_read, number_is_spelled}
+use Rattle.hsail_reader.proofs.Options.{bound, chosen, true_is_not_false}
+use Rattle.hsail_reader.proofs.Runs.{behind_front, behind_parts, no_more}
+use Rattle.hsail_reader.proofs.WordRows.{clashes_all, clashes_not_behind, first_is_read, first_is_found, spelled_is, name_is_read, name_is_found}
 
 -- align(n) is read as a word
 align_word : (n : ℕ) (number : List ℕ) → SpellsNumber n number →
@@ -29,8 +24,8 @@ align_word n number spelled =
     let whole : length number + 7 ≡ length text = omega (arith, length-append number (codes ")")) in
     ap (λ o. named_word o text)
     (ap (λ xs. align_at (codes "align(" ++ xs)) (sym (append-nil (number ++ codes ")")))
-    ∙ align_is_read n number [] spelled)
-    ∙ ap (λ p. if p then word.Align n else word.Unknown) (same_tested (length number + 7) (length text) whole)
+    ∙ named_is_read (codes "align(") numeral_at SpellsNumber number_before_bracket_is_read n number [] spelled)
+    ∙ ap (λ p. if p then word.Align n else word.Unknown) (eq-eqb (length number + 7) (length text) whole)
 
 -- the tests before the words of instructions
 word_steps : (text : List ℕ) (w : Word) → is_spelled (codes "module") text ≡ false →
@@ -41,12 +36,12 @@ word_steps text w m p k a r g is = rw (m, p, k, a, r, g) is
 
 -- the row that spells the word of an instruction reads it
 instruction_steps : (row : InstructionRow) (rest : List ℕ) (code : Opcode) → Contains rows row →
-    SpellsBehindStem row.form code rest → instruction_at (row.stem ++ rest) ≡ Some code
+    SpellsBehindStem row code rest → instruction_at (row.stem ++ rest) ≡ Some code
 unfolding instruction_at
 instruction_steps row rest code c spelled =
-    first_is_read (λ r. r.stem) (λ r text. behind r.stem text >>= opcode_at r.form)
-    (λ r text e. ap (λ o. o >>= opcode_at r.form) e) rows row rest code refl c
-    (ap (λ o. o >>= opcode_at row.form) (behind_front row.stem rest) ∙ form_is_read row.form code rest spelled)
+    first_is_read (λ r. r.stem) (λ r text. behind r.stem text >>= opcode_at r)
+    (λ r text e. ap (λ o. o >>= opcode_at r) e) rows row rest code refl c
+    (ap (λ o. o >>= opcode_at row) (behind_front row.stem rest) ∙ row_is_read row code rest spelled)
 
 -- no align(n) is read where its name does not stand
 no_align : (bytes : List ℕ) → behind (codes "align(") bytes ≡ None → align_at bytes ≡ None
@@ -54,7 +49,7 @@ no_align bytes e = rw e
 
 -- the word of an instruction is read
 instruction_is_read : (row : InstructionRow) (rest : List ℕ) (code : Opcode) → Contains rows row →
-    SpellsBehindStem row.form code rest → word_of (row.stem ++ rest) ≡ word.Instruction code
+    SpellsBehindStem row code rest → word_of (row.stem ++ rest) ≡ word.Instruction code
 instruction_is_read row rest code c spelled =
     let not_behind =
     λ (front : List ℕ) (e : clashes_all (λ r. r.stem) front rows ≡ true). clashes_not_behind (λ r. r.stem) front rows row rest e c in
@@ -73,7 +68,7 @@ word_is_read word.Module text e = ap word_of e
 word_is_read word.Prog text e = ap word_of e
 word_is_read word.Kernel text e = ap word_of e
 word_is_read (word.Align n) text (number, e, spelled) = ap word_of e ∙ align_word n number spelled
-word_is_read (word.Argument t) text (e, c) = ap word_of e ∙ ap argument_word (type_is_read Memory t c)
+word_is_read (word.Argument t) text (e, c) = ap word_of e ∙ ap argument_word (name_is_read Memory t c)
 word_is_read (word.Instruction code) text (row, rest, c, e, spelled) =
     ap word_of e ∙ instruction_is_read row rest code c spelled
 word_is_read word.Outside text spelled = absurd spelled
@@ -88,16 +83,11 @@ outside : (w other : Word) (text : List ℕ) → stands_in_modules w ≡ false �
     SpellsWord other text
 outside w other text no' e stands = true_is_not_false (stands_in_modules w) (ap stands_in_modules e ∙ stands) no'
 
--- a list of length 0 is empty
-no_more : (xs : List ℕ) → length xs ≡ 0 → xs ≡ []
-no_more [] e = refl
-no_more (x ∷ xs) e = absurd (omega (arith, e))
-
 -- align(n) as a word is spelled
-align_is_word : (text : List ℕ) (m : Numeral) → align_at text ≡ Some m → m.length ≡ length text →
+align_is_word : (text : List ℕ) (m : Spelled ℕ) → align_at text ≡ Some m → m.length ≡ length text →
     SpellsWord (word.Align m.value) text
 align_is_word text m is whole =
-    let r = align_is_spelled text m is in
+    let r = named_is_found (codes "align(") numeral_at SpellsNumber number_is_spelled text m is in
     let inside = r.0 ++ codes ")" in
     let long = length-append inside r.1 in
     let none : length r.1 ≡ 0 = omega (arith, whole, r.3, ap length r.2, long, length-append r.0 (codes ")")) in
@@ -112,7 +102,7 @@ argument_is_spelled : (text rest : List ℕ) (o : Option DataType) (w : Word) �
     type_among (types_of Memory) rest ≡ o → argument_word o ≡ w → stands_in_modules w ≡ true → SpellsWord w text
 argument_is_spelled text rest None w parts found e stands = outside word.Outside w text refl e stands
 argument_is_spelled text rest (Some t) w parts found e stands =
-    let f = type_is_found (types_of Memory) rest t found in
+    let f = name_is_found (types_of Memory) rest t found in
     spelled_of (word.Argument t) w text (parts ∙ ap (λ xs. codes "kernarg_" ++ xs) f.0, f.1) e
 
 -- the word of an instruction is spelled
@@ -120,10 +110,10 @@ instruction_is_spelled : (text : List ℕ) (o : Option Opcode) (w : Word) → op
     instruction_word o ≡ w → stands_in_modules w ≡ true → SpellsWord w text
 instruction_is_spelled text None w found e stands = outside word.Unknown w text refl e stands
 instruction_is_spelled text (Some code) w found e stands =
-    let f = first_is_found (λ r text. behind r.stem text >>= opcode_at r.form) rows text code found in
-    let b = bound (behind f.0.stem text) (opcode_at f.0.form) code f.2 in
+    let f = first_is_found (λ r text. behind r.stem text >>= opcode_at r) rows text code found in
+    let b = bound (behind f.0.stem text) (opcode_at f.0) code f.2 in
     spelled_of (word.Instruction code) w text
-    (f.0, b.0, f.1, behind_parts f.0.stem text b.0 b.1, form_is_spelled f.0.form code b.0 b.2) e
+    (f.0, b.0, f.1, behind_parts f.0.stem text b.0 b.1, row_is_spelled f.0 code b.0 b.2) e
 
 -- a word that is not align(n) is spelled
 other_is_spelled : (o : Option (List ℕ)) (text : List ℕ) (w : Word) → behind (codes "kernarg_") text ≡ o →
@@ -139,7 +129,7 @@ other_is_spelled None text w found e stands =
     (chosen (is_some (behind (codes "group_") text)) word.Outside (instruction_word (instruction_at text)) w e)
 
 -- a word that is not one of a module's beginning is spelled
-named_is_spelled : (o : Option Numeral) (text : List ℕ) (w : Word) → align_at text ≡ o → named_word o text ≡ w →
+named_is_spelled : (o : Option (Spelled ℕ)) (text : List ℕ) (w : Word) → align_at text ≡ o → named_word o text ≡ w →
     stands_in_modules w ≡ true → SpellsWord w text
 named_is_spelled (Some n) text w found e stands =
     ⊎_elim

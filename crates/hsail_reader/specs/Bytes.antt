@@ -1,14 +1,9 @@
 -- What is read at the front of some bytes (PRM, Source Text Format).
-use Rattle.std.specs.Prelude.{ℕ, ◌+◌, ◌*◌, ◌^◌, List, [], ◌∷◌, Bool, false, ◌&&◌, ◌==◌, nat_lt, if◌then◌else◌, Option, Some, None, codes, length, drop}
+use Rattle.std.specs.Prelude.{ℕ, ◌+◌, ◌*◌, ◌^◌, List, [], ◌∷◌, ◌&&◌, ◌==◌, nat_lt, if◌then◌else◌, Option, Some, None, codes, length, drop}
 use Rattle.std.specs.Char.{is_digit, digit_value}
 use Rattle.std.specs.Option.{is_some, option_map}
-use Rattle.hsail_reader.specs.Spelling.{is_name_start, begins_with}
-use Rattle.hsail_reader.specs.Nouns.{Numeral, SpelledWidth, Width, All, Number, WaveSize}
-
--- the first byte begins a name
-abbrev pub begins_name : List ℕ → Bool
-begins_name [] = false
-begins_name (b ∷ bytes) = is_name_start b
+use Rattle.hsail_reader.specs.Spelling.{first_passes}
+use Rattle.hsail_reader.specs.Nouns.{Spelled, Width, All, Number, WaveSize}
 
 -- the bytes behind this front, where it is their front
 abbrev pub behind : List ℕ → List ℕ → Option (List ℕ)
@@ -20,41 +15,38 @@ behind (f ∷ front) (b ∷ bytes) = if b == f then behind front bytes else None
 abbrev pub closing_at : ℕ → List ℕ → Option ℕ
 closing_at before [] = None
 closing_at before (b ∷ bytes) =
-    if b == 42 && begins_with 47 bytes then Some (before + 2) else closing_at (before + 1) bytes
+    if b == 42 && first_passes (λ c. c == 47) bytes then Some (before + 2) else closing_at (before + 1) bytes
 
-abbrev pub numeral : ℕ → ℕ → Numeral
-numeral value length = record { value = value; length = length }
+-- what is read at the front, and how many bytes spell it
+abbrev pub spelled : {X : Type 0} → X → ℕ → Spelled X
+spelled x length = record { value = x; length = length }
 
 -- the number that the digits at the front spell, behind `length` digits that spell `value`;
 -- nothing where it passes 64 bits
-abbrev pub digits_at : ℕ → ℕ → ℕ → List ℕ → Option Numeral
-digits_at radix value length [] = Some (numeral value length)
+abbrev pub digits_at : ℕ → ℕ → ℕ → List ℕ → Option (Spelled ℕ)
+digits_at radix value length [] = Some (spelled value length)
 digits_at radix value length (b ∷ bytes) =
     if is_digit b radix
     then (if nat_lt (value * radix + digit_value b) (2 ^ 64)
     then digits_at radix (value * radix + digit_value b) (length + 1) bytes
     else None)
-    else Some (numeral value length)
-
-abbrev pub begins_digit : ℕ → List ℕ → Bool
-begins_digit radix [] = false
-begins_digit radix (b ∷ bytes) = is_digit b radix
+    else Some (spelled value length)
 
 -- the decimal number at the front: 0, or digits without a leading zero
-abbrev pub decimal_at : List ℕ → Option Numeral
+abbrev pub decimal_at : List ℕ → Option (Spelled ℕ)
 decimal_at [] = None
 decimal_at (b ∷ bytes) =
     if is_digit b 10 then
-    (if b == 48 then Some (numeral 0 1) else digits_at 10 (digit_value b) 1 bytes)
+    (if b == 48 then Some (spelled 0 1) else digits_at 10 (digit_value b) 1 bytes)
     else None
 
 -- where `0x` stands before these bytes, and otherwise
-abbrev pub numeral_behind : Option (List ℕ) → List ℕ → Option Numeral
+abbrev pub numeral_behind : Option (List ℕ) → List ℕ → Option (Spelled ℕ)
 numeral_behind None bytes = decimal_at bytes
-numeral_behind (Some rest) bytes = if begins_digit 16 rest then digits_at 16 0 2 rest else decimal_at bytes
+numeral_behind (Some rest) bytes = if first_passes (λ d. is_digit d 16) rest then digits_at 16 0 2 rest else decimal_at bytes
 
 -- the number at the front: `0x` and hexadecimal digits, or decimal
-abbrev pub numeral_at : List ℕ → Option Numeral
+abbrev pub numeral_at : List ℕ → Option (Spelled ℕ)
 numeral_at bytes = numeral_behind (behind (codes "0x") bytes) bytes
 
 infixl 10 ◌>>=◌
@@ -71,28 +63,25 @@ abbrev pub first_of : {A B : Type 0} → (A → List ℕ → Option B) → List 
 first_of read [] text = None
 first_of read (x ∷ others) text = or_else (read x text) (first_of read others text)
 
--- align(n)
-abbrev pub align_at : List ℕ → Option Numeral
-align_at bytes = do
-  inside ← behind (codes "align(") bytes
-  n ← numeral_at inside
-  rest ← behind (codes ")") (drop n.length inside)
-  Some (numeral n.value (n.length + 7))
+-- a name of five letters with its bracket, what stands behind that, and the other bracket
+abbrev pub bracketed_at : {X : Type 0} → List ℕ → (List ℕ → Option (Spelled X)) → List ℕ → Option (Spelled X)
+bracketed_at name inside_at bytes = do
+  inside ← behind name bytes
+  x ← inside_at inside
+  rest ← behind (codes ")") (drop x.length inside)
+  Some (spelled x.value (x.length + 7))
 
-abbrev pub spelled_width : Width → ℕ → SpelledWidth
-spelled_width w length = record { width = w; length = length }
+-- align(n)
+abbrev pub align_at : List ℕ → Option (Spelled ℕ)
+align_at bytes = bracketed_at (codes "align(") numeral_at bytes
 
 -- a number, `all` or `WAVESIZE`
-abbrev pub width_value_at : List ℕ → Option SpelledWidth
+abbrev pub width_value_at : List ℕ → Option (Spelled Width)
 width_value_at bytes =
-    if is_some (behind (codes "all") bytes) then Some (spelled_width All 3)
-    else if is_some (behind (codes "WAVESIZE") bytes) then Some (spelled_width WaveSize 8)
-    else option_map (λ (n : Numeral). spelled_width (Number n.value) n.length) (numeral_at bytes)
+    if is_some (behind (codes "all") bytes) then Some (spelled All 3)
+    else if is_some (behind (codes "WAVESIZE") bytes) then Some (spelled WaveSize 8)
+    else option_map (λ (n : Spelled ℕ). spelled (Number n.value) n.length) (numeral_at bytes)
 
 -- width(w)
-abbrev pub width_at : List ℕ → Option SpelledWidth
-width_at bytes = do
-  inside ← behind (codes "width(") bytes
-  w ← width_value_at inside
-  rest ← behind (codes ")") (drop w.length inside)
-  Some (spelled_width w.width (w.length + 7))
+abbrev pub width_at : List ℕ → Option (Spelled Width)
+width_at bytes = bracketed_at (codes "width(") width_value_at bytes

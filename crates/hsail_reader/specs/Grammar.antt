@@ -6,14 +6,14 @@ use Rattle.std.specs.Prelude.{ℕ, ◌≤◌, List, [], ◌∷◌, Bool, true, f
 use Rattle.hsail_reader.specs.Grammars.{Grammar, give, either, many, on_line, spells, begins}
 use Rattle.hsail_reader.specs.Terminals.{◌>>=◌, ◌>>◌, optional, open_parenthesis, close_parenthesis, open_bracket, close_bracket, open_brace, close_brace, plus, minus, comma, colon, semicolon, register, number, global, variable, label, major, minor, profile, large, rounding, module_word, prog, kernel_word, align, kernarg, opcode, outside, syntax, at_begin, behind_align}
 use Rattle.hsail_reader.specs.TextTokens.{AreTokens, PlacedToken}
-use Rattle.hsail_reader.specs.Nouns.{Address, Alignment, Argument, BinaryOperation, Constant, DataType, Fields, Flaw, Item, Kernel, Modifiers, Module, Opcode, Operation, Place, Query, ReadError, Segment, Source, TernaryOperation, UnaryOperation, Width}
+use Rattle.hsail_reader.specs.Nouns.{Address, Alignment, Argument, BinaryOperation, Constant, DataType, Fields, Flaw, Form, Item, Kernel, Modifiers, Module, Opcode, Operation, Place, Query, ReadError, Segment, Source, TernaryOperation, UnaryOperation, Width}
 use Rattle.hsail_reader.specs.declared.fault.ReadError.TheVariants as error
 use Rattle.hsail_reader.specs.declared.module.Address.TheVariants as addresses
 use Rattle.hsail_reader.specs.declared.module.Item.TheVariants as an_item
 use Rattle.hsail_reader.specs.declared.module.Operation.TheVariants as operations
 use Rattle.hsail_reader.specs.declared.module.Place.TheVariants as places
 use Rattle.hsail_reader.specs.declared.types.Source.TheVariants as sources
-use Rattle.hsail_reader.specs.declared.words.Opcode.TheVariants as opcodes
+use Rattle.hsail_reader.specs.declared.rows.Form.TheVariants as forms
 
 -- a number, with the sign that stood before it
 unfoldable pub signed : Bool → Grammar Constant
@@ -132,18 +132,21 @@ identify query kind = do
   k ← number
   give (operations.Identify (record { query = query; kind = kind; target = d; dimension = k }))
 
--- the operands behind a word, by its row (the check asks for registers' classes and numbers, for the range
--- of constants, and that a dimension is 0, 1 or 2)
+-- the operands of a form, behind a word with modifiers and a type (the check asks for registers' classes and
+-- numbers, for the range of constants, and that a dimension is 0, 1 or 2)
+abbrev pub operands_of : Form → Modifiers → DataType → Grammar Operation
+operands_of (forms.Unary op) modifiers kind = unary op kind
+operands_of (forms.Binary op) modifiers kind = binary op kind
+operands_of (forms.Ternary op) modifiers kind = ternary op kind
+operands_of (forms.Load segment) modifiers kind = load segment modifiers kind
+operands_of forms.Store modifiers kind = store modifiers.align kind
+operands_of forms.Branch modifiers kind = branch
+operands_of forms.ConditionalBranch modifiers kind = conditional_branch modifiers.width
+operands_of forms.Return modifiers kind = give operations.Return
+operands_of (forms.Identify query) modifiers kind = identify query kind
+
 abbrev pub operands : Opcode → Grammar Operation
-operands (opcodes.Unary op kind) = unary op kind
-operands (opcodes.Binary op kind) = binary op kind
-operands (opcodes.Ternary op kind) = ternary op kind
-operands (opcodes.Load segment modifiers kind) = load segment modifiers kind
-operands (opcodes.Store align kind) = store align kind
-operands opcodes.Branch = branch
-operands (opcodes.ConditionalBranch width) = conditional_branch width
-operands opcodes.Return = give operations.Return
-operands (opcodes.Identify query kind) = identify query kind
+operands code = operands_of code.form code.modifiers code.kind
 
 -- a label: @name :
 unfoldable pub labelled : Grammar Item

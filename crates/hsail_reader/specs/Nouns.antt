@@ -16,14 +16,14 @@ pub use Rattle.hsail_reader.specs.declared.module.Profile.{Profile}
 pub use Rattle.hsail_reader.specs.declared.module.Rounding.{Rounding}
 pub use Rattle.hsail_reader.specs.declared.reading.Fields.{Fields}
 pub use Rattle.hsail_reader.specs.declared.rows.Form.{Form}
+pub use Rattle.hsail_reader.specs.declared.rows.ModifierSet.{ModifierSet}
 pub use Rattle.hsail_reader.specs.declared.rows.Row.{Row}
 pub use Rattle.hsail_reader.specs.declared.rows.TypeSet.{TypeSet}
 pub use Rattle.hsail_reader.specs.declared.token.Header.{Header}
 pub use Rattle.hsail_reader.specs.declared.token.HeaderName.{HeaderName}
 pub use Rattle.hsail_reader.specs.declared.token.Lexeme.{Lexeme}
 pub use Rattle.hsail_reader.specs.declared.token.LexemeKind.{LexemeKind}
-pub use Rattle.hsail_reader.specs.declared.token.Numeral.{Numeral}
-pub use Rattle.hsail_reader.specs.declared.token.SpelledWidth.{SpelledWidth}
+pub use Rattle.hsail_reader.specs.declared.token.Spelled.{Spelled}
 pub use Rattle.hsail_reader.specs.declared.token.TokenKind.{TokenKind}
 pub use Rattle.hsail_reader.specs.declared.types.Alignment.{Alignment}
 pub use Rattle.hsail_reader.specs.declared.types.BinaryOperation.{BinaryOperation}
@@ -42,7 +42,7 @@ pub use Rattle.hsail_reader.specs.declared.words.Opcode.{Opcode}
 pub use Rattle.hsail_reader.specs.declared.words.Word.{Word}
 pub use Rattle.hsail_reader.specs.declared.types.RegisterClass.TheVariants.{Control, Double, Single}
 pub use Rattle.hsail_reader.specs.declared.types.DataType.TheVariants.{B1, B16, B32, B64, B8, S16, S32, S64, S8, U16, U32, U64, U8}
-pub use Rattle.hsail_reader.specs.declared.rows.TypeSet.TheVariants.{Bit, Bits, BitsAndIntegers, Convertible, Integers, Memory, Unsigned32, Unsigned32And64}
+pub use Rattle.hsail_reader.specs.declared.rows.TypeSet.TheVariants.{Bit, Bits, BitsAndIntegers, Convertible, Integers, Memory, Unsigned32, Unsigned32And64, Untyped}
 pub use Rattle.hsail_reader.specs.declared.types.Alignment.TheVariants.{Eight, Four, One, Sixteen, Two}
 pub use Rattle.hsail_reader.specs.declared.types.Width.TheVariants.{All, Number, WaveSize}
 pub use Rattle.hsail_reader.specs.declared.token.Header.TheVariants.{Base, Default, Full, Large, Near, Zero}

@@ -1,7 +1,8 @@
 -- The table of instructions (PRM, the chapters on instructions; which rows and types there are is (own)).
-use Rattle.std.specs.Prelude.{ℕ, List, [], ◌∷◌, codes}
-use Rattle.hsail_reader.specs.Nouns.{DataType, Form, Row, TypeSet, Bit, Bits, BitsAndIntegers, Convertible, Integers, Memory, Unsigned32, Unsigned32And64}
+use Rattle.std.specs.Prelude.{ℕ, List, [], ◌∷◌, Bool, true, ◌&&◌, codes, is_none}
+use Rattle.hsail_reader.specs.Nouns.{DataType, Form, Modifiers, ModifierSet, Row, TypeSet, Bit, Bits, BitsAndIntegers, Convertible, Integers, Memory, Unsigned32, Unsigned32And64, Untyped}
 use Rattle.hsail_reader.specs.declared.rows.Form.TheVariants as form
+use Rattle.hsail_reader.specs.declared.rows.ModifierSet.TheVariants.{Align, AlignAndWidth, Plain, Width}
 use Rattle.hsail_reader.specs.declared.types.DataType.TheVariants as type
 use Rattle.hsail_reader.specs.declared.types.UnaryOperation.TheVariants as unary
 use Rattle.hsail_reader.specs.declared.types.BinaryOperation.TheVariants as binary
@@ -10,13 +11,15 @@ use Rattle.hsail_reader.specs.declared.types.Comparison.TheVariants as compariso
 use Rattle.hsail_reader.specs.declared.types.Segment.TheVariants as segment
 use Rattle.hsail_reader.specs.declared.types.Query.TheVariants as query
 
--- a row: the front of its words, and what it does
+-- a row: the front of its words, the modifiers and the types that may stand behind it, and what it does
 pub record InstructionRow : Type 0 where
   pub stem : List ℕ
+  pub modifiers : ModifierSet
+  pub types : TypeSet
   pub form : Form
 
-abbrev pub row : List ℕ → Form → InstructionRow
-row stem form = record { stem = stem; form = form }
+abbrev pub row : List ℕ → ModifierSet → TypeSet → Form → InstructionRow
+row stem modifiers types form = record { stem = stem; modifiers = modifiers; types = types; form = form }
 
 -- the types of a set
 abbrev pub types_of : TypeSet → List DataType
@@ -32,6 +35,14 @@ types_of Memory =
     ∷ type.B8 ∷ type.B16 ∷ type.B32 ∷ type.B64 ∷ []
 types_of Unsigned32 = type.U32 ∷ []
 types_of Unsigned32And64 = type.U32 ∷ type.U64 ∷ []
+types_of Untyped = []
+
+-- whether a row takes these modifiers
+abbrev pub allows : ModifierSet → Modifiers → Bool
+allows Plain m = is_none m.align && is_none m.width
+allows Align m = is_none m.width
+allows Width m = is_none m.align
+allows AlignAndWidth m = true
 
 -- how a type is spelled (PRM, Data Types)
 abbrev pub type_name : DataType → List ℕ
@@ -49,53 +60,53 @@ type_name type.S16 = codes "s16"
 type_name type.S32 = codes "s32"
 type_name type.S64 = codes "s64"
 
--- the table: ld and st take the types of Memory, cbr takes b1; modifiers stand by the form
+-- the table, in the order of the format
 abbrev pub rows : List InstructionRow
 rows =
-    row (codes "mov") (form.Unary unary.Move BitsAndIntegers)
-    ∷ row (codes "add") (form.Binary binary.Add Integers)
-    ∷ row (codes "sub") (form.Binary binary.Subtract Integers)
-    ∷ row (codes "mul") (form.Binary binary.Multiply Integers)
-    ∷ row (codes "mad") (form.Ternary ternary.MultiplyAdd Integers)
-    ∷ row (codes "div") (form.Binary binary.Divide Integers)
-    ∷ row (codes "rem") (form.Binary binary.Remainder Integers)
-    ∷ row (codes "min") (form.Binary binary.Minimum Integers)
-    ∷ row (codes "max") (form.Binary binary.Maximum Integers)
-    ∷ row (codes "and") (form.Binary binary.And Bits)
-    ∷ row (codes "or") (form.Binary binary.Or Bits)
-    ∷ row (codes "xor") (form.Binary binary.Xor Bits)
-    ∷ row (codes "not") (form.Unary unary.Not Bits)
-    ∷ row (codes "shl") (form.Binary binary.ShiftLeft Integers)
-    ∷ row (codes "shr") (form.Binary binary.ShiftRight Integers)
-    ∷ row (codes "cmp_eq_b1") (form.Binary (binary.Compare comparison.Equal) BitsAndIntegers)
-    ∷ row (codes "cmp_ne_b1") (form.Binary (binary.Compare comparison.NotEqual) BitsAndIntegers)
-    ∷ row (codes "cmp_lt_b1") (form.Binary (binary.Compare comparison.Less) Integers)
-    ∷ row (codes "cmp_le_b1") (form.Binary (binary.Compare comparison.LessOrEqual) Integers)
-    ∷ row (codes "cmp_gt_b1") (form.Binary (binary.Compare comparison.Greater) Integers)
-    ∷ row (codes "cmp_ge_b1") (form.Binary (binary.Compare comparison.GreaterOrEqual) Integers)
-    ∷ row (codes "cmov") (form.Ternary ternary.ConditionalMove Bits)
-    ∷ row (codes "cvt_b1") (form.Unary (unary.Convert type.B1) Convertible)
-    ∷ row (codes "cvt_u8") (form.Unary (unary.Convert type.U8) Convertible)
-    ∷ row (codes "cvt_u16") (form.Unary (unary.Convert type.U16) Convertible)
-    ∷ row (codes "cvt_u32") (form.Unary (unary.Convert type.U32) Convertible)
-    ∷ row (codes "cvt_u64") (form.Unary (unary.Convert type.U64) Convertible)
-    ∷ row (codes "cvt_s8") (form.Unary (unary.Convert type.S8) Convertible)
-    ∷ row (codes "cvt_s16") (form.Unary (unary.Convert type.S16) Convertible)
-    ∷ row (codes "cvt_s32") (form.Unary (unary.Convert type.S32) Convertible)
-    ∷ row (codes "cvt_s64") (form.Unary (unary.Convert type.S64) Convertible)
-    ∷ row (codes "ld_kernarg") (form.Load segment.Kernarg)
-    ∷ row (codes "ld_global") (form.Load segment.Global)
-    ∷ row (codes "st_global") form.Store
-    ∷ row (codes "br") form.Branch
-    ∷ row (codes "cbr") form.ConditionalBranch
-    ∷ row (codes "ret") form.Return
-    ∷ row (codes "workitemid") (form.Identify query.WorkItemId Unsigned32)
-    ∷ row (codes "workgroupid") (form.Identify query.WorkGroupId Unsigned32)
-    ∷ row (codes "workgroupsize") (form.Identify query.WorkGroupSize Unsigned32)
-    ∷ row (codes "currentworkgroupsize") (form.Identify query.CurrentWorkGroupSize Unsigned32)
-    ∷ row (codes "workitemabsid") (form.Identify query.WorkItemAbsoluteId Unsigned32And64)
-    ∷ row (codes "gridsize") (form.Identify query.GridSize Unsigned32And64) ∷ []
+    row (codes "mov") Plain BitsAndIntegers (form.Unary unary.Move)
+    ∷ row (codes "add") Plain Integers (form.Binary binary.Add)
+    ∷ row (codes "sub") Plain Integers (form.Binary binary.Subtract)
+    ∷ row (codes "mul") Plain Integers (form.Binary binary.Multiply)
+    ∷ row (codes "mad") Plain Integers (form.Ternary ternary.MultiplyAdd)
+    ∷ row (codes "div") Plain Integers (form.Binary binary.Divide)
+    ∷ row (codes "rem") Plain Integers (form.Binary binary.Remainder)
+    ∷ row (codes "min") Plain Integers (form.Binary binary.Minimum)
+    ∷ row (codes "max") Plain Integers (form.Binary binary.Maximum)
+    ∷ row (codes "and") Plain Bits (form.Binary binary.And)
+    ∷ row (codes "or") Plain Bits (form.Binary binary.Or)
+    ∷ row (codes "xor") Plain Bits (form.Binary binary.Xor)
+    ∷ row (codes "not") Plain Bits (form.Unary unary.Not)
+    ∷ row (codes "shl") Plain Integers (form.Binary binary.ShiftLeft)
+    ∷ row (codes "shr") Plain Integers (form.Binary binary.ShiftRight)
+    ∷ row (codes "cmp_eq_b1") Plain BitsAndIntegers (form.Binary (binary.Compare comparison.Equal))
+    ∷ row (codes "cmp_ne_b1") Plain BitsAndIntegers (form.Binary (binary.Compare comparison.NotEqual))
+    ∷ row (codes "cmp_lt_b1") Plain Integers (form.Binary (binary.Compare comparison.Less))
+    ∷ row (codes "cmp_le_b1") Plain Integers (form.Binary (binary.Compare comparison.LessOrEqual))
+    ∷ row (codes "cmp_gt_b1") Plain Integers (form.Binary (binary.Compare comparison.Greater))
+    ∷ row (codes "cmp_ge_b1") Plain Integers (form.Binary (binary.Compare comparison.GreaterOrEqual))
+    ∷ row (codes "cmov") Plain Bits (form.Ternary ternary.ConditionalMove)
+    ∷ row (codes "cvt_b1") Plain Convertible (form.Unary (unary.Convert type.B1))
+    ∷ row (codes "cvt_u8") Plain Convertible (form.Unary (unary.Convert type.U8))
+    ∷ row (codes "cvt_u16") Plain Convertible (form.Unary (unary.Convert type.U16))
+    ∷ row (codes "cvt_u32") Plain Convertible (form.Unary (unary.Convert type.U32))
+    ∷ row (codes "cvt_u64") Plain Convertible (form.Unary (unary.Convert type.U64))
+    ∷ row (codes "cvt_s8") Plain Convertible (form.Unary (unary.Convert type.S8))
+    ∷ row (codes "cvt_s16") Plain Convertible (form.Unary (unary.Convert type.S16))
+    ∷ row (codes "cvt_s32") Plain Convertible (form.Unary (unary.Convert type.S32))
+    ∷ row (codes "cvt_s64") Plain Convertible (form.Unary (unary.Convert type.S64))
+    ∷ row (codes "ld_kernarg") AlignAndWidth Memory (form.Load segment.Kernarg)
+    ∷ row (codes "ld_global") AlignAndWidth Memory (form.Load segment.Global)
+    ∷ row (codes "st_global") Align Memory form.Store
+    ∷ row (codes "br") Plain Untyped form.Branch
+    ∷ row (codes "cbr") Width Bit form.ConditionalBranch
+    ∷ row (codes "ret") Plain Untyped form.Return
+    ∷ row (codes "workitemid") Plain Unsigned32 (form.Identify query.WorkItemId)
+    ∷ row (codes "workgroupid") Plain Unsigned32 (form.Identify query.WorkGroupId)
+    ∷ row (codes "workgroupsize") Plain Unsigned32 (form.Identify query.WorkGroupSize)
+    ∷ row (codes "currentworkgroupsize") Plain Unsigned32 (form.Identify query.CurrentWorkGroupSize)
+    ∷ row (codes "workitemabsid") Plain Unsigned32And64 (form.Identify query.WorkItemAbsoluteId)
+    ∷ row (codes "gridsize") Plain Unsigned32And64 (form.Identify query.GridSize) ∷ []
 
 -- a row of the code, with its stem as bytes
 abbrev pub row_view : Row → InstructionRow
-row_view r = row r.0.now r.1
+row_view r = row r.0.now r.1 r.2 r.3

@@ -23,10 +23,10 @@ is_name_byte b = is_ascii_alphanumeric b || b == 95
 abbrev pub is_not_line_feed : ℕ → Bool
 is_not_line_feed b = not (b == 10)
 
--- the first byte is this one
-abbrev pub begins_with : ℕ → List ℕ → Bool
-begins_with f [] = false
-begins_with f (b ∷ bytes) = b == f
+-- the first byte passes the test
+abbrev pub first_passes : (ℕ → Bool) → List ℕ → Bool
+first_passes test [] = false
+first_passes test (b ∷ bytes) = test b
 
 -- each byte passes the test
 abbrev pub AllPass : (ℕ → Bool) → List ℕ → Type 0
@@ -58,7 +58,7 @@ IsRestOfLineComment text = (line : List ℕ) × (text ≡ 47 ∷ line) × AllPas
 abbrev pub IsClosed : List ℕ → Type 0
 IsClosed [] = ⊥
 IsClosed (b ∷ bytes) =
-    ((b ∷ bytes) ≡ 42 ∷ 47 ∷ []) ⊎ (((b == 42 && begins_with 47 bytes) ≡ false) × IsClosed bytes)
+    ((b ∷ bytes) ≡ 42 ∷ 47 ∷ []) ⊎ (((b == 42 && first_passes (λ c. c == 47) bytes) ≡ false) × IsClosed bytes)
 
 -- behind the first slash of a comment: a star, and all up to the first `*/` behind it
 abbrev pub IsRestOfBlockComment : List ℕ → Type 0

@@ -124,13 +124,17 @@ profile_of _ = None
 abbrev pub profile : Grammar Profile
 profile = of_kind (λ p. kinds.Header (profile_header p)) profile_of
 
-abbrev pub large_of : TokenKind → Option (Unit {0})
-large_of (kinds.Header headers.Large) = Some tt
-large_of _ = None
+-- a kind of tokens without a value
+abbrev pub same_kind : TokenKind → TokenKind → Option (Unit {0})
+same_kind kinds.Global kinds.Global = Some tt
+same_kind kinds.Variable kinds.Variable = Some tt
+same_kind kinds.Label kinds.Label = Some tt
+same_kind (kinds.Header headers.Large) (kinds.Header headers.Large) = Some tt
+same_kind _ _ = None
 
 -- $large
 abbrev pub large : Grammar (Unit {0})
-large = of_kind (λ one. kinds.Header headers.Large) large_of
+large = of_kind (λ one. kinds.Header headers.Large) (same_kind (kinds.Header headers.Large))
 
 abbrev pub rounding_header : Rounding → Header
 rounding_header roundings.Default = headers.Default
@@ -148,33 +152,21 @@ abbrev pub rounding : Grammar Rounding
 rounding = of_kind (λ r. kinds.Header (rounding_header r)) rounding_of
 
 -- a token of this kind, by all its bytes
-abbrev pub name_of : TokenKind → (TokenKind → Option (Unit {0})) → Grammar (List ℕ)
-name_of kind pick =
-    token (λ name t. (t.kind ≡ kind) × (t.text ≡ name)) (λ t. option_map (λ one. t.text) (pick t.kind)) syntax
-
-abbrev pub global_of : TokenKind → Option (Unit {0})
-global_of kinds.Global = Some tt
-global_of _ = None
+abbrev pub name_of : TokenKind → Grammar (List ℕ)
+name_of kind =
+    token (λ name t. (t.kind ≡ kind) × (t.text ≡ name)) (λ t. option_map (λ one. t.text) (same_kind kind t.kind)) syntax
 
 -- &name
 abbrev pub global : Grammar (List ℕ)
-global = name_of kinds.Global global_of
-
-abbrev pub variable_of : TokenKind → Option (Unit {0})
-variable_of kinds.Variable = Some tt
-variable_of _ = None
+global = name_of kinds.Global
 
 -- %name
 abbrev pub variable : Grammar (List ℕ)
-variable = name_of kinds.Variable variable_of
-
-abbrev pub label_of : TokenKind → Option (Unit {0})
-label_of kinds.Label = Some tt
-label_of _ = None
+variable = name_of kinds.Variable
 
 -- @name
 abbrev pub label : Grammar (List ℕ)
-label = name_of kinds.Label label_of
+label = name_of kinds.Label
 
 abbrev pub word_kind : TokenKind → List ℕ → Option Word
 word_kind kinds.Word text = Some (word_of text)
@@ -210,26 +202,24 @@ flaw_behind_align _ = Syntax
 abbrev pub behind_align : PlacedToken → Flaw
 behind_align t = flaw_behind_align (word_at t)
 
-abbrev pub is_module : Word → Option (Unit {0})
-is_module words.Module = Some tt
-is_module _ = None
+-- a word without a value
+abbrev pub same_word : Word → Word → Option (Unit {0})
+same_word words.Module words.Module = Some tt
+same_word words.Prog words.Prog = Some tt
+same_word words.Kernel words.Kernel = Some tt
+same_word _ _ = None
+
+abbrev pub this_word : Word → (PlacedToken → Flaw) → Grammar (Unit {0})
+this_word w flaw = word (λ one. w) (same_word w) flaw
 
 abbrev pub module_word : Grammar (Unit {0})
-module_word = word (λ one. words.Module) is_module syntax
-
-abbrev pub is_prog : Word → Option (Unit {0})
-is_prog words.Prog = Some tt
-is_prog _ = None
+module_word = this_word words.Module syntax
 
 abbrev pub prog : Grammar (Unit {0})
-prog = word (λ one. words.Prog) is_prog syntax
-
-abbrev pub is_kernel : Word → Option (Unit {0})
-is_kernel words.Kernel = Some tt
-is_kernel _ = None
+prog = this_word words.Prog syntax
 
 abbrev pub kernel_word : (PlacedToken → Flaw) → Grammar (Unit {0})
-kernel_word flaw = word (λ one. words.Kernel) is_kernel flaw
+kernel_word flaw = this_word words.Kernel flaw
 
 abbrev pub align_of : Word → Option Alignment
 align_of (words.Align n) = alignment_of n

@@ -1,17 +1,17 @@
 -- Which whole texts are words: names with modifiers inside or at their end, and align(n)
 -- (PRM, Source Text Format; that modifiers belong to a word is (own)).
-use Rattle.std.specs.Prelude.{◌≡◌, ℕ, ◌⊎◌, List, [], ◌∷◌, ◌++◌, true, Some, codes}
+use Rattle.std.specs.Prelude.{◌≡◌, ℕ, ◌⊎◌, List, [], ◌∷◌, ◌++◌, true, codes}
 use Rattle.hsail_reader.specs.Spelling.{is_name_byte, is_name_start}
-use Rattle.hsail_reader.specs.WordSpelling.{SpellsNumberIn, SpellsAlign, SpellsWidth}
+use Rattle.hsail_reader.specs.WordSpelling.{SpellsNamed, SpellsNumber, SpellsAlign, SpellsWidth}
 use Rattle.hsail_reader.specs.Nouns.{Width}
 
 -- align(n)
 abbrev pub IsAlign : List ℕ → Type 0
-IsAlign text = (n : ℕ) × SpellsNumberIn (codes "align(") n (codes ")") text
+IsAlign text = (n : ℕ) × SpellsNamed (codes "align(") SpellsNumber n text
 
 -- _align(n) or _width(w)
 abbrev pub IsModifier : List ℕ → Type 0
-IsModifier text = ((n : ℕ) × SpellsAlign (Some n) text) ⊎ ((w : Width) × SpellsWidth (Some w) text)
+IsModifier text = ((n : ℕ) × SpellsAlign n text) ⊎ ((w : Width) × SpellsWidth w text)
 
 -- the parts of a name behind its first byte: its bytes, and modifiers between them
 pub data ArePieces : List ℕ → Type 0 where

@@ -3,10 +3,8 @@
 use Rattle.std.specs.Prelude.{ℕ, List, [], ◌∷◌, Bool, true, false, ◌==◌, if◌then◌else◌, Option, Some, None, codes, drop, is_some, length}
 use Rattle.std.specs.Option.{option_map}
 use Rattle.hsail_reader.specs.Bytes.{behind, first_of, align_at, width_at, ◌>>=◌}
-use Rattle.hsail_reader.specs.Rows.{InstructionRow, rows, types_of, type_name}
-use Rattle.hsail_reader.specs.Nouns.{Alignment, DataType, Form, Modifiers, Numeral, Opcode, SpelledWidth, TypeSet, Width, Word, Bit, Eight, Four, Memory, One, Sixteen, Two}
-use Rattle.hsail_reader.specs.declared.rows.Form.TheVariants as form
-use Rattle.hsail_reader.specs.declared.words.Opcode.TheVariants as opcode
+use Rattle.hsail_reader.specs.Rows.{InstructionRow, allows, rows, types_of, type_name}
+use Rattle.hsail_reader.specs.Nouns.{Alignment, DataType, Form, Modifiers, Opcode, Spelled, TypeSet, Width, Word, B1, Eight, Four, Memory, One, Sixteen, Two, Untyped}
 use Rattle.hsail_reader.specs.declared.words.Word.TheVariants as word
 
 -- nothing stands behind
@@ -22,29 +20,20 @@ is_spelled spelling text = is_end (behind spelling text)
 abbrev pub type_among : List DataType → List ℕ → Option DataType
 type_among types text = first_of (λ t text. if is_spelled (type_name t) text then Some t else None) types text
 
--- `_` and a type of the set, to the end of the word
+-- `_` and a type of the set, to the end of the word; or nothing, where there are no types, and b1 for it
 abbrev pub type_at : TypeSet → List ℕ → Option DataType
+type_at Untyped [] = Some B1
 type_at set bytes = behind (codes "_") bytes >>= type_among (types_of set)
 
--- `_align(n)` at the front, if it stands there, and what stands behind it
-abbrev pub align_behind : Option Numeral → List ℕ → List ℕ → Option ℕ × List ℕ
-align_behind None inside bytes = (None, bytes)
-align_behind (Some n) inside bytes = (Some n.value, drop n.length inside)
+-- a modifier at the front, `_` and its name with brackets, if it stands there; and what stands behind it
+abbrev pub part_behind : {X : Type 0} → Option (Spelled X) → List ℕ → List ℕ → Option X × List ℕ
+part_behind None inside bytes = (None, bytes)
+part_behind (Some x) inside bytes = (Some x.value, drop x.length inside)
 
-abbrev pub align_part : List ℕ → Option ℕ × List ℕ
-align_part [] = (None, [])
-align_part (b ∷ bytes) =
-    if b == 95 then align_behind (align_at bytes) bytes (b ∷ bytes) else (None, b ∷ bytes)
-
--- `_width(w)` at the front, if it stands there, and what stands behind it
-abbrev pub width_behind : Option SpelledWidth → List ℕ → List ℕ → Option Width × List ℕ
-width_behind None inside bytes = (None, bytes)
-width_behind (Some w) inside bytes = (Some w.width, drop w.length inside)
-
-abbrev pub width_part : List ℕ → Option Width × List ℕ
-width_part [] = (None, [])
-width_part (b ∷ bytes) =
-    if b == 95 then width_behind (width_at bytes) bytes (b ∷ bytes) else (None, b ∷ bytes)
+abbrev pub part_at : {X : Type 0} → (List ℕ → Option (Spelled X)) → List ℕ → Option X × List ℕ
+part_at named_at [] = (None, [])
+part_at named_at (b ∷ bytes) =
+    if b == 95 then part_behind (named_at bytes) bytes (b ∷ bytes) else (None, b ∷ bytes)
 
 abbrev pub modifiers : Option ℕ → Option Width → Modifiers
 modifiers align width = record { align = align; width = width }
@@ -53,33 +42,25 @@ modifiers align width = record { align = align; width = width }
 abbrev pub modifiers_behind : Option ℕ × List ℕ → Option Width × List ℕ → Modifiers × List ℕ
 modifiers_behind a w =
     if is_some a.0 then (modifiers a.0 w.0, w.1)
-    else (modifiers (align_part w.1).0 w.0, (align_part w.1).1)
+    else (modifiers (part_at align_at w.1).0 w.0, (part_at align_at w.1).1)
 
 abbrev pub modifiers_at : List ℕ → Modifiers × List ℕ
-modifiers_at bytes = modifiers_behind (align_part bytes) (width_part (align_part bytes).1)
+modifiers_at bytes = modifiers_behind (part_at align_at bytes) (part_at width_at (part_at align_at bytes).1)
 
-abbrev pub at_end : Opcode → List ℕ → Option Opcode
-at_end code [] = Some code
-at_end code (b ∷ rest) = None
+abbrev pub opcode : Form → Modifiers → DataType → Opcode
+opcode form modifiers kind = record { form = form; modifiers = modifiers; kind = kind }
 
--- the rest of a word behind the stem of a row: the modifiers that the row allows, and the type
-abbrev pub opcode_at : Form → List ℕ → Option Opcode
-opcode_at (form.Unary op set) rest = option_map (opcode.Unary op) (type_at set rest)
-opcode_at (form.Binary op set) rest = option_map (opcode.Binary op) (type_at set rest)
-opcode_at (form.Ternary op set) rest = option_map (opcode.Ternary op) (type_at set rest)
-opcode_at (form.Load segment) rest =
-    option_map (opcode.Load segment (modifiers_at rest).0) (type_at Memory (modifiers_at rest).1)
-opcode_at form.Store rest =
-    option_map (opcode.Store (align_part rest).0) (type_at Memory (align_part rest).1)
-opcode_at form.Branch rest = at_end opcode.Branch rest
-opcode_at form.ConditionalBranch rest =
-    option_map (λ _. opcode.ConditionalBranch (width_part rest).0) (type_at Bit (width_part rest).1)
-opcode_at form.Return rest = at_end opcode.Return rest
-opcode_at (form.Identify query set) rest = option_map (opcode.Identify query) (type_at set rest)
+-- the rest of a word behind the stem of a row: the modifiers that the row allows, and its type
+abbrev pub opcode_behind : InstructionRow → Modifiers × List ℕ → Option Opcode
+opcode_behind row m =
+    if allows row.modifiers m.0 then option_map (opcode row.form m.0) (type_at row.types m.1) else None
+
+abbrev pub opcode_at : InstructionRow → List ℕ → Option Opcode
+opcode_at row rest = opcode_behind row (modifiers_at rest)
 
 -- the word of an instruction, by the first of some rows that spells it
 abbrev pub opcode_among : List InstructionRow → List ℕ → Option Opcode
-opcode_among rows text = first_of (λ r text. behind r.stem text >>= opcode_at r.form) rows text
+opcode_among rows text = first_of (λ r text. behind r.stem text >>= opcode_at r) rows text
 
 -- the word of an instruction, by the first row of the table that spells it
 unfoldable pub instruction_at : List ℕ → Option Opcode
@@ -106,7 +87,7 @@ other_word None text =
     if is_some (behind (codes "group_") text) then word.Outside
     else instruction_word (instruction_at text)
 
-abbrev pub named_word : Option Numeral → List ℕ → Word
+abbrev pub named_word : Option (Spelled ℕ) → List ℕ → Word
 named_word (Some n) text = if n.length == length text then word.Align n.value else word.Unknown
 named_word None text = other_word (behind (codes "kernarg_") text) text
 

@@ -64,7 +64,7 @@ pub enum ReadError {
 }
 
 /// What is wrong with a text that isn't too long.
-#[derive(Clone, Copy, Debug)]
+#[derive(Clone, Copy)]
 pub enum Flaw {
     Lexeme,
     Syntax,
@@ -85,14 +85,14 @@ impl Flaw {
 
 /// A fault before its line and column are counted: how many bytes stand before it, or `None` at the
 /// end of the text.
-#[derive(Clone, Copy, Debug)]
+#[derive(Clone, Copy)]
 pub struct Refusal {
     pub place: Option<usize>,
     pub flaw: Flaw,
 }
 
 /// Why a part of the text was not read.
-#[derive(Clone, Copy, Debug)]
+#[derive(Clone, Copy)]
 pub enum Stop {
     OutOfMemory,
     Refused(Refusal),

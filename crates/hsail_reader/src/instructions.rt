@@ -7,6 +7,7 @@ ghost use Rattle.hsail_reader.specs.Grammars.{read};
 
 use crate::module::{Binary, ConditionalBranch, Identify, Load, Operation, Store, Ternary, Unary};
 use crate::operands::{Read, Tokens, address, label, mark, number, register, source};
+use crate::rows::Form;
 use crate::types::{
     BinaryOperation, DataType, Modifiers, Query, Segment, Source, TernaryOperation, UnaryOperation,
     Width,
@@ -193,17 +194,17 @@ pub fn operands<'a, 't>(
 ) -> Read<'a, 't, Operation>
     ensures { Gives (λ x. (x.0, token_views x.1.now)) result (read (grammar.operands opcode) (token_views tokens.now)) }
 {
-    match opcode {
-        Opcode::Unary(operation, kind) => read_unary(operation, kind, tokens),
-        Opcode::Binary(operation, kind) => read_binary(operation, kind, tokens),
-        Opcode::Ternary(operation, kind) => read_ternary(operation, kind, tokens),
-        Opcode::Load(segment, modifiers, kind) => {
-            read_load(alloc, segment, modifiers, kind, tokens)
-        }
-        Opcode::Store(align, kind) => read_store(alloc, align, kind, tokens),
-        Opcode::Branch => read_branch(alloc, tokens),
-        Opcode::ConditionalBranch(width) => read_conditional_branch(alloc, width, tokens),
-        Opcode::Return => Ok((Operation::Return, tokens)),
-        Opcode::Identify(query, kind) => read_identify(query, kind, tokens),
+    let kind = opcode.kind;
+    let modifiers = opcode.modifiers;
+    match opcode.form {
+        Form::Unary(operation) => read_unary(operation, kind, tokens),
+        Form::Binary(operation) => read_binary(operation, kind, tokens),
+        Form::Ternary(operation) => read_ternary(operation, kind, tokens),
+        Form::Load(segment) => read_load(alloc, segment, modifiers, kind, tokens),
+        Form::Store => read_store(alloc, modifiers.align, kind, tokens),
+        Form::Branch => read_branch(alloc, tokens),
+        Form::ConditionalBranch => read_conditional_branch(alloc, modifiers.width, tokens),
+        Form::Return => Ok((Operation::Return, tokens)),
+        Form::Identify(query) => read_identify(query, kind, tokens),
     }
 }

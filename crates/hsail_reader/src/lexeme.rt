@@ -1,6 +1,7 @@
 //! The lexeme at the front of some bytes, the longest of its kind.
 
 ghost use Rattle.std.specs.Prelude.{◌≡◌, ◌+◌, ◌<◌, ◌≤◌, length, map, IfSome, Some};
+ghost use Rattle.hsail_reader.specs.Lexemes as specified;
 ghost use Rattle.hsail_reader.specs.Lexemes.{comment_at, name_at, class_at, register_at, header_words, header_view, header_among, dollar_at, number_at, modifier_length, piece_length, pieces_length, word_at, lexeme_at};
 ghost use Rattle.hsail_reader.specs.Spelling.{is_blank, is_mark};
 
@@ -11,19 +12,17 @@ use crate::scan::{
 use crate::token::{Header, HeaderName, Lexeme, LexemeKind, TokenKind};
 use crate::types::{Register, RegisterClass};
 
-const HEADER_NAMES: [HeaderName; 6] = [
-    HeaderName("base", Header::Base),
-    HeaderName("full", Header::Full),
-    HeaderName("large", Header::Large),
-    HeaderName("default", Header::Default),
-    HeaderName("zero", Header::Zero),
-    HeaderName("near", Header::Near),
-];
-
 fn header_names() -> &'static [HeaderName]
     ensures { map header_view result.now ≡ header_words }
 {
-    &HEADER_NAMES
+    &[
+        HeaderName("base", Header::Base),
+        HeaderName("full", Header::Full),
+        HeaderName("large", Header::Large),
+        HeaderName("default", Header::Default),
+        HeaderName("zero", Header::Zero),
+        HeaderName("near", Header::Near),
+    ]
 }
 
 fn blank(byte: u8) -> bool
@@ -38,38 +37,31 @@ fn mark(byte: u8) -> bool
     b"(){}[],;:+-".contains(&byte)
 }
 
+fn lexed(kind: LexemeKind, length: usize) -> Lexeme
+    ensures { result ≡ specified.lexed kind length }
+{
+    Lexeme { kind, length }
+}
+
 /// A comment, behind its first slash.
 fn comment(bytes: &[u8]) -> Option<Lexeme>
-    ensures value { result ≡ comment_at bytes.now }
-    ensures bound { IfSome result (λ lexeme. lexeme.length ≤ length bytes.now + 1) }
-    ensures some { IfSome result (λ lexeme. 0 < lexeme.length) }
+    ensures { result ≡ comment_at bytes.now }
 {
     match bytes {
-        [b'/', line @ ..] => Some(Lexeme {
-            kind: LexemeKind::Comment,
-            length: line_run(line) + 2,
-        }),
-        [b'*', inside @ ..] => Some(Lexeme {
-            kind: LexemeKind::Comment,
-            length: closing(inside)? + 2,
-        }),
+        [b'/', line @ ..] => Some(lexed(LexemeKind::Comment, line_run(line) + 2)),
+        [b'*', inside @ ..] => Some(lexed(LexemeKind::Comment, closing(inside)? + 2)),
         _ => None,
     }
 }
 
 /// A name behind its first byte `&`, `%` or `@`.
 fn name(kind: TokenKind, bytes: &[u8]) -> Option<Lexeme>
-    ensures value { result ≡ name_at kind bytes.now }
-    ensures bound { IfSome result (λ lexeme. lexeme.length ≤ length bytes.now + 1) }
-    ensures some { IfSome result (λ lexeme. 0 < lexeme.length) }
+    ensures { result ≡ name_at kind bytes.now }
 {
     if !has_name(bytes) {
         return None;
     }
-    Some(Lexeme {
-        kind: LexemeKind::Token(kind),
-        length: name_run(bytes) + 1,
-    })
+    Some(lexed(LexemeKind::Token(kind), name_run(bytes) + 1))
 }
 
 /// The class whose letter stands at the front.
@@ -86,9 +78,7 @@ fn class(bytes: &[u8]) -> Option<RegisterClass>
 
 /// A register behind its dollar.
 fn register(bytes: &[u8]) -> Option<Lexeme>
-    ensures value { result ≡ register_at bytes.now }
-    ensures bound { IfSome result (λ lexeme. lexeme.length ≤ length bytes.now + 1) }
-    ensures some { IfSome result (λ lexeme. 0 < lexeme.length) }
+    ensures { result ≡ register_at bytes.now }
 {
     let class = class(bytes)?;
     let (_, digits) = bytes.split_first()?;
@@ -97,25 +87,19 @@ fn register(bytes: &[u8]) -> Option<Lexeme>
         class,
         number: number.value,
     };
-    Some(Lexeme {
-        kind: LexemeKind::Token(TokenKind::Register(register)),
-        length: number.length + 2,
-    })
+    let kind = LexemeKind::Token(TokenKind::Register(register));
+    Some(lexed(kind, number.length + 2))
 }
 
 /// A word of the header behind its dollar.
 fn header(bytes: &[u8]) -> Option<Lexeme>
-    ensures value { result ≡ header_among header_words bytes.now }
-    ensures bound { IfSome result (λ lexeme. lexeme.length ≤ length bytes.now + 1) }
-    ensures some { IfSome result (λ lexeme. 0 < lexeme.length) }
+    ensures { result ≡ header_among header_words bytes.now }
 {
     let mut names = header_names();
     while let [HeaderName(name, header), others @ ..] = names {
         if strip(name.as_bytes(), bytes).is_some() {
-            return Some(Lexeme {
-                kind: LexemeKind::Token(TokenKind::Header(*header)),
-                length: name.len() + 1,
-            });
+            let kind = LexemeKind::Token(TokenKind::Header(*header));
+            return Some(lexed(kind, name.len() + 1));
         }
         names = others;
     }
@@ -124,9 +108,7 @@ fn header(bytes: &[u8]) -> Option<Lexeme>
 
 /// What stands behind a dollar.
 fn dollar(bytes: &[u8]) -> Option<Lexeme>
-    ensures value { result ≡ dollar_at bytes.now }
-    ensures bound { IfSome result (λ lexeme. lexeme.length ≤ length bytes.now + 1) }
-    ensures some { IfSome result (λ lexeme. 0 < lexeme.length) }
+    ensures { result ≡ dollar_at bytes.now }
 {
     match register(bytes) {
         Some(found) => Some(found),
@@ -135,15 +117,11 @@ fn dollar(bytes: &[u8]) -> Option<Lexeme>
 }
 
 fn numeral(bytes: &[u8]) -> Option<Lexeme>
-    ensures value { result ≡ number_at bytes.now }
-    ensures bound { IfSome result (λ lexeme. lexeme.length ≤ length bytes.now) }
-    ensures some { IfSome result (λ lexeme. 0 < lexeme.length) }
+    ensures { result ≡ number_at bytes.now }
 {
     let number = number(bytes)?;
-    Some(Lexeme {
-        kind: LexemeKind::Token(TokenKind::Number(number.value)),
-        length: number.length,
-    })
+    let kind = LexemeKind::Token(TokenKind::Number(number.value));
+    Some(lexed(kind, number.length))
 }
 
 /// How many bytes the modifier at the front takes, or 0.
@@ -182,7 +160,6 @@ fn piece(bytes: &[u8]) -> usize
 fn pieces(bytes: &[u8]) -> usize
     ensures value { result ≡ pieces_length 0 1 bytes.now }
     ensures bound { result ≤ length bytes.now + 1 }
-    ensures some { 0 < result }
 {
     let mut rest = bytes;
     let mut length = 1;
@@ -199,43 +176,30 @@ fn pieces(bytes: &[u8]) -> usize
 /// The word at the front, whose first byte begins a name.
 fn word(bytes: &[u8]) -> Lexeme
     requires { 0 < length bytes.now }
-    ensures value { result ≡ word_at bytes.now }
-    ensures bound { result.length ≤ length bytes.now }
-    ensures some { 0 < result.length }
+    ensures { result ≡ word_at bytes.now }
 {
     let length = match align(bytes) {
         Some(align) => align.length,
         None => pieces(bytes.split_at(1).1),
     };
-    Lexeme {
-        kind: LexemeKind::Token(TokenKind::Word),
-        length,
-    }
+    lexed(LexemeKind::Token(TokenKind::Word), length)
 }
 
-/// The lexeme at the front, if there is one; it takes at least one byte.
+/// The lexeme at the front, if there is one.
 pub fn lexeme(bytes: &[u8]) -> Option<Lexeme>
-    ensures value { result ≡ lexeme_at bytes.now }
-    ensures bound { IfSome result (λ lexeme. lexeme.length ≤ length bytes.now) }
-    ensures some { IfSome result (λ lexeme. 0 < lexeme.length) }
+    ensures { result ≡ lexeme_at bytes.now }
 {
     let [first, rest @ ..] = bytes else {
         return None;
     };
     match *first {
-        b if blank(b) => Some(Lexeme {
-            kind: LexemeKind::Blank,
-            length: 1,
-        }),
+        b if blank(b) => Some(lexed(LexemeKind::Blank, 1)),
         b'/' => comment(rest),
         b'&' => name(TokenKind::Global, rest),
         b'%' => name(TokenKind::Variable, rest),
         b'@' => name(TokenKind::Label, rest),
         b'$' => dollar(rest),
-        b if mark(b) => Some(Lexeme {
-            kind: LexemeKind::Token(TokenKind::Mark(b)),
-            length: 1,
-        }),
+        b if mark(b) => Some(lexed(LexemeKind::Token(TokenKind::Mark(b)), 1)),
         b if starts_name(b) => Some(word(bytes)),
         _ => numeral(bytes),
     }

@@ -21,7 +21,7 @@ use std::alloc::Global;
 const MAX_TEXT: usize = 65536;
 
 /// What the module's line says behind the name.
-#[derive(Clone, Copy, Debug)]
+#[derive(Clone, Copy)]
 pub struct Fields {
     pub minor: u8,
     pub profile: Profile,

@@ -15,34 +15,49 @@ use crate::types::TernaryOperation::{ConditionalMove, MultiplyAdd};
 use crate::types::UnaryOperation::{Convert, Move, Not};
 use crate::types::{BinaryOperation, DataType, Query, Segment, TernaryOperation, UnaryOperation};
 use Form::{Binary, Branch, ConditionalBranch, Identify, Load, Return, Store, Ternary, Unary};
-use TypeSet::{Bits, BitsAndIntegers, Convertible, Integers, Unsigned32, Unsigned32And64};
+use ModifierSet::{Align, AlignAndWidth, Plain, Width};
+use TypeSet::{
+    Bit, Bits, BitsAndIntegers, Convertible, Integers, Memory, Unsigned32, Unsigned32And64, Untyped,
+};
 
-/// What a row does, by the family of its operands, with the types in the place of its T
-/// (PRM, HSAIL Instructions).
-#[derive(Clone, Copy, Debug)]
+/// What a row does, by the family of its operands, with T for the type of its word (PRM, HSAIL
+/// Instructions).
+#[derive(Clone, Copy)]
 pub enum Form {
     /// `OP_T d, a`
-    Unary(UnaryOperation, TypeSet),
+    Unary(UnaryOperation),
     /// `OP_T d, a, b`
-    Binary(BinaryOperation, TypeSet),
+    Binary(BinaryOperation),
     /// `OP_T d, a, b, c`
-    Ternary(TernaryOperation, TypeSet),
-    /// `ld_SEG_T d, [address]`, with both modifiers behind SEG
+    Ternary(TernaryOperation),
+    /// `ld_SEG_T d, [address]`
     Load(Segment),
-    /// `st_SEG_T a, [address]`, with `_align(n)` behind SEG
+    /// `st_SEG_T a, [address]`
     Store,
     /// `br @x`
     Branch,
-    /// `cbr_b1 a, @x`, with `_width(n)` behind `cbr`
+    /// `cbr_b1 a, @x`
     ConditionalBranch,
     /// `ret`
     Return,
     /// `OP_T d, k`
-    Identify(Query, TypeSet),
+    Identify(Query),
+}
+
+/// Modifiers that a row takes, behind its stem and before its type.
+#[derive(Clone, Copy)]
+pub enum ModifierSet {
+    Plain,
+    /// `_align(n)`
+    Align,
+    /// `_width(w)`
+    Width,
+    /// both, in either order
+    AlignAndWidth,
 }
 
 /// Types that a row takes.
-#[derive(Clone, Copy, Debug)]
+#[derive(Clone, Copy)]
 pub enum TypeSet {
     /// b1
     Bit,
@@ -60,63 +75,80 @@ pub enum TypeSet {
     Unsigned32,
     /// u32, u64
     Unsigned32And64,
+    /// no type: nothing stands behind the stem, and the word counts as one of type b1
+    Untyped,
 }
 
-/// A row of the table of instructions: the front of its words, and what it does.
-#[derive(Clone, Copy, Debug)]
-pub struct Row(pub &'static str, pub Form);
+/// A row of the table of instructions: the front of its words, the modifiers and the types that may
+/// stand behind it, and what it does.
+#[derive(Clone, Copy)]
+pub struct Row(pub &'static str, pub ModifierSet, pub TypeSet, pub Form);
 
 /// The table of instructions, in the order of the format.
 const ROWS: [Row; 43] = [
-    Row("mov", Unary(Move, BitsAndIntegers)),
-    Row("add", Binary(Add, Integers)),
-    Row("sub", Binary(Subtract, Integers)),
-    Row("mul", Binary(Multiply, Integers)),
-    Row("mad", Ternary(MultiplyAdd, Integers)),
-    Row("div", Binary(Divide, Integers)),
-    Row("rem", Binary(Remainder, Integers)),
-    Row("min", Binary(Minimum, Integers)),
-    Row("max", Binary(Maximum, Integers)),
-    Row("and", Binary(And, Bits)),
-    Row("or", Binary(Or, Bits)),
-    Row("xor", Binary(Xor, Bits)),
-    Row("not", Unary(Not, Bits)),
-    Row("shl", Binary(ShiftLeft, Integers)),
-    Row("shr", Binary(ShiftRight, Integers)),
-    Row("cmp_eq_b1", Binary(Compare(Equal), BitsAndIntegers)),
-    Row("cmp_ne_b1", Binary(Compare(NotEqual), BitsAndIntegers)),
-    Row("cmp_lt_b1", Binary(Compare(Less), Integers)),
-    Row("cmp_le_b1", Binary(Compare(LessOrEqual), Integers)),
-    Row("cmp_gt_b1", Binary(Compare(Greater), Integers)),
-    Row("cmp_ge_b1", Binary(Compare(GreaterOrEqual), Integers)),
-    Row("cmov", Ternary(ConditionalMove, Bits)),
-    Row("cvt_b1", Unary(Convert(B1), Convertible)),
-    Row("cvt_u8", Unary(Convert(U8), Convertible)),
-    Row("cvt_u16", Unary(Convert(U16), Convertible)),
-    Row("cvt_u32", Unary(Convert(U32), Convertible)),
-    Row("cvt_u64", Unary(Convert(U64), Convertible)),
-    Row("cvt_s8", Unary(Convert(S8), Convertible)),
-    Row("cvt_s16", Unary(Convert(S16), Convertible)),
-    Row("cvt_s32", Unary(Convert(S32), Convertible)),
-    Row("cvt_s64", Unary(Convert(S64), Convertible)),
-    Row("ld_kernarg", Load(Kernarg)),
-    Row("ld_global", Load(Global)),
-    Row("st_global", Store),
-    Row("br", Branch),
-    Row("cbr", ConditionalBranch),
-    Row("ret", Return),
-    Row("workitemid", Identify(WorkItemId, Unsigned32)),
-    Row("workgroupid", Identify(WorkGroupId, Unsigned32)),
-    Row("workgroupsize", Identify(WorkGroupSize, Unsigned32)),
+    Row("mov", Plain, BitsAndIntegers, Unary(Move)),
+    Row("add", Plain, Integers, Binary(Add)),
+    Row("sub", Plain, Integers, Binary(Subtract)),
+    Row("mul", Plain, Integers, Binary(Multiply)),
+    Row("mad", Plain, Integers, Ternary(MultiplyAdd)),
+    Row("div", Plain, Integers, Binary(Divide)),
+    Row("rem", Plain, Integers, Binary(Remainder)),
+    Row("min", Plain, Integers, Binary(Minimum)),
+    Row("max", Plain, Integers, Binary(Maximum)),
+    Row("and", Plain, Bits, Binary(And)),
+    Row("or", Plain, Bits, Binary(Or)),
+    Row("xor", Plain, Bits, Binary(Xor)),
+    Row("not", Plain, Bits, Unary(Not)),
+    Row("shl", Plain, Integers, Binary(ShiftLeft)),
+    Row("shr", Plain, Integers, Binary(ShiftRight)),
+    Row("cmp_eq_b1", Plain, BitsAndIntegers, Binary(Compare(Equal))),
+    Row(
+        "cmp_ne_b1",
+        Plain,
+        BitsAndIntegers,
+        Binary(Compare(NotEqual)),
+    ),
+    Row("cmp_lt_b1", Plain, Integers, Binary(Compare(Less))),
+    Row("cmp_le_b1", Plain, Integers, Binary(Compare(LessOrEqual))),
+    Row("cmp_gt_b1", Plain, Integers, Binary(Compare(Greater))),
+    Row(
+        "cmp_ge_b1",
+        Plain,
+        Integers,
+        Binary(Compare(GreaterOrEqual)),
+    ),
+    Row("cmov", Plain, Bits, Ternary(ConditionalMove)),
+    Row("cvt_b1", Plain, Convertible, Unary(Convert(B1))),
+    Row("cvt_u8", Plain, Convertible, Unary(Convert(U8))),
+    Row("cvt_u16", Plain, Convertible, Unary(Convert(U16))),
+    Row("cvt_u32", Plain, Convertible, Unary(Convert(U32))),
+    Row("cvt_u64", Plain, Convertible, Unary(Convert(U64))),
+    Row("cvt_s8", Plain, Convertible, Unary(Convert(S8))),
+    Row("cvt_s16", Plain, Convertible, Unary(Convert(S16))),
+    Row("cvt_s32", Plain, Convertible, Unary(Convert(S32))),
+    Row("cvt_s64", Plain, Convertible, Unary(Convert(S64))),
+    Row("ld_kernarg", AlignAndWidth, Memory, Load(Kernarg)),
+    Row("ld_global", AlignAndWidth, Memory, Load(Global)),
+    Row("st_global", Align, Memory, Store),
+    Row("br", Plain, Untyped, Branch),
+    Row("cbr", Width, Bit, ConditionalBranch),
+    Row("ret", Plain, Untyped, Return),
+    Row("workitemid", Plain, Unsigned32, Identify(WorkItemId)),
+    Row("workgroupid", Plain, Unsigned32, Identify(WorkGroupId)),
+    Row("workgroupsize", Plain, Unsigned32, Identify(WorkGroupSize)),
     Row(
         "currentworkgroupsize",
-        Identify(CurrentWorkGroupSize, Unsigned32),
+        Plain,
+        Unsigned32,
+        Identify(CurrentWorkGroupSize),
     ),
     Row(
         "workitemabsid",
-        Identify(WorkItemAbsoluteId, Unsigned32And64),
+        Plain,
+        Unsigned32And64,
+        Identify(WorkItemAbsoluteId),
     ),
-    Row("gridsize", Identify(GridSize, Unsigned32And64)),
+    Row("gridsize", Plain, Unsigned32And64, Identify(GridSize)),
 ];
 
 /// The rows of the table.
@@ -126,35 +158,20 @@ pub fn table() -> &'static [Row]
     &ROWS
 }
 
-const BIT: [DataType; 1] = [B1];
-
-const BITS: [DataType; 3] = [B1, B32, B64];
-
-const INTEGERS: [DataType; 4] = [U32, S32, U64, S64];
-
-const BITS_AND_INTEGERS: [DataType; 7] = [B1, B32, B64, U32, S32, U64, S64];
-
-const CONVERTIBLE: [DataType; 9] = [B1, U8, U16, U32, U64, S8, S16, S32, S64];
-
-const MEMORY: [DataType; 12] = [U8, U16, U32, U64, S8, S16, S32, S64, B8, B16, B32, B64];
-
-const UNSIGNED_32: [DataType; 1] = [U32];
-
-const UNSIGNED_32_AND_64: [DataType; 2] = [U32, U64];
-
 /// The types of a set.
 pub fn types(set: TypeSet) -> &'static [DataType]
     ensures { result.now ≡ types_of set }
 {
     match set {
-        TypeSet::Bit => &BIT,
-        TypeSet::Bits => &BITS,
-        TypeSet::Integers => &INTEGERS,
-        TypeSet::BitsAndIntegers => &BITS_AND_INTEGERS,
-        TypeSet::Convertible => &CONVERTIBLE,
-        TypeSet::Memory => &MEMORY,
-        TypeSet::Unsigned32 => &UNSIGNED_32,
-        TypeSet::Unsigned32And64 => &UNSIGNED_32_AND_64,
+        TypeSet::Bit => &[B1],
+        TypeSet::Bits => &[B1, B32, B64],
+        TypeSet::Integers => &[U32, S32, U64, S64],
+        TypeSet::BitsAndIntegers => &[B1, B32, B64, U32, S32, U64, S64],
+        TypeSet::Convertible => &[B1, U8, U16, U32, U64, S8, S16, S32, S64],
+        TypeSet::Memory => &[U8, U16, U32, U64, S8, S16, S32, S64, B8, B16, B32, B64],
+        TypeSet::Unsigned32 => &[U32],
+        TypeSet::Unsigned32And64 => &[U32, U64],
+        TypeSet::Untyped => &[],
     }
 }
 

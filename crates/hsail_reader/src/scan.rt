@@ -2,11 +2,13 @@
 
 ghost use Rattle.std.specs.Prelude.{◌≡◌, ◌+◌, ◌<◌, ◌≤◌, length, IfSome};
 ghost use Rattle.std.specs.List.{prefix_len};
+ghost use Rattle.std.specs.Char.{is_digit};
 ghost use Rattle.std.specs.Option.{option_copied};
-ghost use Rattle.hsail_reader.specs.Bytes.{begins_name, begins_digit, behind, closing_at, digits_at, decimal_at, numeral_at, align_at, width_value_at, width_at};
-ghost use Rattle.hsail_reader.specs.Spelling.{is_name_byte, is_name_start, is_not_line_feed};
+ghost use Rattle.hsail_reader.specs.Bytes as specified;
+ghost use Rattle.hsail_reader.specs.Bytes.{behind, closing_at, digits_at, decimal_at, numeral_at, align_at, width_value_at, width_at};
+ghost use Rattle.hsail_reader.specs.Spelling.{first_passes, is_name_byte, is_name_start, is_not_line_feed};
 
-use crate::token::{Numeral, SpelledWidth};
+use crate::token::Spelled;
 use crate::types::Width;
 
 /// Whether a byte may begin a name: a letter or `_`.
@@ -25,12 +27,9 @@ pub fn continues_name(byte: u8) -> bool
 
 /// Whether the bytes begin with a name.
 pub fn has_name(bytes: &[u8]) -> bool
-    ensures { result ≡ begins_name bytes.now }
+    ensures { result ≡ first_passes is_name_start bytes.now }
 {
-    match bytes {
-        [] => false,
-        [first, ..] => starts_name(*first),
-    }
+    matches!(bytes, [first, ..] if starts_name(*first))
 }
 
 /// How many bytes from the front may stand in a name.
@@ -90,27 +89,29 @@ pub fn closing(bytes: &[u8]) -> Option<usize>
     None
 }
 
+fn spelled<X>(value: X, length: usize) -> Spelled<X>
+    ensures { result ≡ specified.spelled value length }
+{
+    Spelled { value, length }
+}
+
 /// Whether the bytes begin with a digit.
 fn has_digit(radix: u32, bytes: &[u8]) -> bool
     requires low { 2 ≤ radix }
     requires high { radix ≤ 16 }
-    ensures { result ≡ begins_digit radix bytes.now }
+    ensures { result ≡ first_passes (λ d. is_digit d radix) bytes.now }
 {
-    match bytes {
-        [] => false,
-        [first, ..] => char::from(*first).is_digit(radix),
-    }
+    matches!(bytes, [first, ..] if char::from(*first).is_digit(radix))
 }
 
 /// The number that the digits at the front spell, behind `before` bytes that spell `value`; nothing
 /// where the number passes 64 bits.
-fn digits(radix: u32, value: u64, before: usize, bytes: &[u8]) -> Option<Numeral>
+fn digits(radix: u32, value: u64, before: usize, bytes: &[u8]) -> Option<Spelled<u64>>
     requires low { 2 ≤ radix }
     requires high { radix ≤ 16 }
     requires short { before ≤ 2 }
     ensures value { result ≡ digits_at radix value before bytes.now }
     ensures bound { IfSome result (λ n. n.length ≤ before + length bytes.now) }
-    ensures some { IfSome result (λ n. before ≤ n.length) }
 {
     let mut rest = bytes;
     let mut total = value;
@@ -125,36 +126,28 @@ fn digits(radix: u32, value: u64, before: usize, bytes: &[u8]) -> Option<Numeral
         length += 1;
         rest = tail;
     }
-    Some(Numeral {
-        value: total,
-        length,
-    })
+    Some(spelled(total, length))
 }
 
 /// The decimal number at the front: 0, or digits without a leading zero.
-pub fn decimal(bytes: &[u8]) -> Option<Numeral>
+pub fn decimal(bytes: &[u8]) -> Option<Spelled<u64>>
     ensures value { result ≡ decimal_at bytes.now }
     ensures bound { IfSome result (λ n. n.length ≤ length bytes.now) }
-    ensures some { IfSome result (λ n. 0 < n.length) }
 {
     let [first, rest @ ..] = bytes else {
         return None;
     };
     let digit = char::from(*first).to_digit(10)?;
     if digit == 0 {
-        return Some(Numeral {
-            value: 0,
-            length: 1,
-        });
+        return Some(spelled(0, 1));
     }
     digits(10, u64::from(digit), 1, rest)
 }
 
 /// The number at the front: `0x` and hexadecimal digits, or decimal.
-pub fn number(bytes: &[u8]) -> Option<Numeral>
+pub fn number(bytes: &[u8]) -> Option<Spelled<u64>>
     ensures value { result ≡ numeral_at bytes.now }
     ensures bound { IfSome result (λ n. n.length ≤ length bytes.now) }
-    ensures some { IfSome result (λ n. 0 < n.length) }
 {
     match strip(b"0x", bytes) {
         Some(rest) if has_digit(16, rest) => digits(16, 0, 2, rest),
@@ -163,55 +156,38 @@ pub fn number(bytes: &[u8]) -> Option<Numeral>
 }
 
 /// `align(n)` at the front.
-pub fn align(bytes: &[u8]) -> Option<Numeral>
+pub fn align(bytes: &[u8]) -> Option<Spelled<u64>>
     ensures value { result ≡ align_at bytes.now }
     ensures bound { IfSome result (λ n. n.length ≤ length bytes.now) }
-    ensures some { IfSome result (λ n. 0 < n.length) }
 {
     let inside = strip(b"align(", bytes)?;
     let number = number(inside)?;
     strip(b")", inside.split_at(number.length).1)?;
-    Some(Numeral {
-        value: number.value,
-        length: number.length + 7,
-    })
+    Some(spelled(number.value, number.length + 7))
 }
 
 /// A number, `all` or `WAVESIZE` at the front.
-fn width_value(bytes: &[u8]) -> Option<SpelledWidth>
+fn width_value(bytes: &[u8]) -> Option<Spelled<Width>>
     ensures value { result ≡ width_value_at bytes.now }
     ensures bound { IfSome result (λ w. w.length ≤ length bytes.now) }
 {
     if strip(b"all", bytes).is_some() {
-        return Some(SpelledWidth {
-            width: Width::All,
-            length: 3,
-        });
+        return Some(spelled(Width::All, 3));
     }
     if strip(b"WAVESIZE", bytes).is_some() {
-        return Some(SpelledWidth {
-            width: Width::WaveSize,
-            length: 8,
-        });
+        return Some(spelled(Width::WaveSize, 8));
     }
     let number = number(bytes)?;
-    Some(SpelledWidth {
-        width: Width::Number(number.value),
-        length: number.length,
-    })
+    Some(spelled(Width::Number(number.value), number.length))
 }
 
 /// `width(n)`, `width(all)` or `width(WAVESIZE)` at the front.
-pub fn width(bytes: &[u8]) -> Option<SpelledWidth>
+pub fn width(bytes: &[u8]) -> Option<Spelled<Width>>
     ensures value { result ≡ width_at bytes.now }
     ensures bound { IfSome result (λ w. w.length ≤ length bytes.now) }
-    ensures some { IfSome result (λ w. 0 < w.length) }
 {
     let inside = strip(b"width(", bytes)?;
     let value = width_value(inside)?;
     strip(b")", inside.split_at(value.length).1)?;
-    Some(SpelledWidth {
-        width: value.width,
-        length: value.length + 7,
-    })
+    Some(spelled(value.value, value.length + 7))
 }

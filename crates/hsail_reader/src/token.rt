@@ -1,14 +1,14 @@
-use crate::types::{Register, Width};
+use crate::types::Register;
 
 /// A lexeme at the front of some bytes: what it is, and how many bytes it takes.
-#[derive(Clone, Copy, Debug)]
+#[derive(Clone, Copy)]
 pub struct Lexeme {
     pub kind: LexemeKind,
     pub length: usize,
 }
 
 /// Blanks and comments only separate; the others are tokens.
-#[derive(Clone, Copy, Debug)]
+#[derive(Clone, Copy)]
 pub enum LexemeKind {
     /// A space, a tab, a carriage return or a line feed.
     Blank,
@@ -18,7 +18,7 @@ pub enum LexemeKind {
 }
 
 /// What a token is (PRM, Lexical Elements).
-#[derive(Clone, Copy, Debug)]
+#[derive(Clone, Copy)]
 pub enum TokenKind {
     /// `&name`: a module or a kernel.
     Global,
@@ -39,7 +39,7 @@ pub enum TokenKind {
 }
 
 /// The words of a module's header (PRM, Module Header).
-#[derive(Clone, Copy, Debug)]
+#[derive(Clone, Copy)]
 pub enum Header {
     Base,
     Full,
@@ -51,7 +51,7 @@ pub enum Header {
 
 /// A token of a text: what it is, the slice of the text that it is, how many bytes stand before it,
 /// and its line, from 1.
-#[derive(Clone, Copy, Debug)]
+#[derive(Clone, Copy)]
 pub struct Token<'a> {
     pub kind: TokenKind,
     pub text: &'a [u8],
@@ -59,20 +59,14 @@ pub struct Token<'a> {
     pub line: u32,
 }
 
-/// A number at the front of some bytes: its value, and how many bytes spell it.
-#[derive(Clone, Copy, Debug)]
-pub struct Numeral {
-    pub value: u64,
-    pub length: usize,
-}
-
-/// What stands in the parentheses of `width(..)`, and how many bytes spell it or the whole.
-#[derive(Clone, Copy, Debug)]
-pub struct SpelledWidth {
-    pub width: Width,
+/// What stands at the front of some bytes, as a number or what is in brackets: its value, and how many
+/// bytes spell it.
+#[derive(Clone, Copy)]
+pub struct Spelled<X> {
+    pub value: X,
     pub length: usize,
 }
 
 /// A word of the header without its dollar, and what it is.
-#[derive(Clone, Copy, Debug)]
+#[derive(Clone, Copy)]
 pub struct HeaderName(pub &'static str, pub Header);

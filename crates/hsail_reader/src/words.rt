@@ -1,19 +1,16 @@
 //! What a word is: the rows' spellings, with types and modifiers.
 
-ghost use Rattle.std.specs.Prelude.{◌≡◌, map};
-ghost use Rattle.std.specs.Option.{option_map, option_copied};
-ghost use Rattle.hsail_reader.specs.Rows.{types_of};
-ghost use Rattle.hsail_reader.specs.Words.{is_spelled, type_among, type_at, align_part, width_part, modifiers_at, opcode_at, instruction_at, alignment_of, word_of};
+ghost use Rattle.std.specs.Prelude.{◌≡◌};
+ghost use Rattle.hsail_reader.specs.Bytes.{align_at, width_at};
+ghost use Rattle.hsail_reader.specs.Rows.{allows, row_view};
+ghost use Rattle.hsail_reader.specs.Words.{is_spelled, type_among, type_at, part_at, modifiers_at, opcode_at, instruction_at, alignment_of, word_of};
 
-use crate::rows::{Form, Row, TypeSet, spelling, table, types};
+use crate::rows::{Form, ModifierSet, Row, TypeSet, spelling, table, types};
 use crate::scan::{align, strip, width};
-use crate::types::{
-    Alignment, BinaryOperation, DataType, Modifiers, Query, Segment, TernaryOperation,
-    UnaryOperation, Width,
-};
+use crate::types::{Alignment, DataType, Modifiers, Width};
 
 /// What a word is.
-#[derive(Clone, Copy, Debug)]
+#[derive(Clone, Copy)]
 pub enum Word {
     Module,
     Prog,
@@ -30,18 +27,12 @@ pub enum Word {
     Unknown,
 }
 
-/// The word of an instruction: a row's operation, with the type and the modifiers of the word.
-#[derive(Clone, Copy, Debug)]
-pub enum Opcode {
-    Unary(UnaryOperation, DataType),
-    Binary(BinaryOperation, DataType),
-    Ternary(TernaryOperation, DataType),
-    Load(Segment, Modifiers, DataType),
-    Store(Option<u64>, DataType),
-    Branch,
-    ConditionalBranch(Option<Width>),
-    Return,
-    Identify(Query, DataType),
+/// The word of an instruction: what its row does, and the modifiers and the type of the word.
+#[derive(Clone, Copy)]
+pub struct Opcode {
+    pub form: Form,
+    pub modifiers: Modifiers,
+    pub kind: DataType,
 }
 
 /// Whether the text is this spelling.
@@ -65,16 +56,19 @@ fn among(kinds: &[DataType], text: &[u8]) -> Option<DataType>
     None
 }
 
-/// `_` and a type of a set, to the end of a word.
+/// `_` and a type of a set, to the end of a word; or nothing, where there are no types.
 fn kind(set: TypeSet, bytes: &[u8]) -> Option<DataType>
     ensures { result ≡ type_at set bytes.now }
 {
-    among(types(set), strip(b"_", bytes)?)
+    match (set, bytes) {
+        (TypeSet::Untyped, []) => Some(DataType::B1),
+        _ => among(types(set), strip(b"_", bytes)?),
+    }
 }
 
 /// `_align(n)` at the front, if it stands there, and what stands behind it.
 fn alignment(bytes: &[u8]) -> (Option<u64>, &[u8])
-    ensures { (result.0, result.1.now) ≡ align_part bytes.now }
+    ensures { (result.0, result.1.now) ≡ part_at align_at bytes.now }
 {
     let [b'_', inside @ ..] = bytes else {
         return (None, bytes);
@@ -87,13 +81,13 @@ fn alignment(bytes: &[u8]) -> (Option<u64>, &[u8])
 
 /// `_width(w)` at the front, if it stands there, and what stands behind it.
 fn widening(bytes: &[u8]) -> (Option<Width>, &[u8])
-    ensures { (result.0, result.1.now) ≡ width_part bytes.now }
+    ensures { (result.0, result.1.now) ≡ part_at width_at bytes.now }
 {
     let [b'_', inside @ ..] = bytes else {
         return (None, bytes);
     };
     match width(inside) {
-        Some(found) => (Some(found.width), inside.split_at(found.length).1),
+        Some(found) => (Some(found.value), inside.split_at(found.length).1),
         None => (None, bytes),
     }
 }
@@ -112,33 +106,33 @@ fn modifiers(bytes: &[u8]) -> (Modifiers, &[u8])
     (Modifiers { align, width }, rest)
 }
 
-/// The rest of a word behind the stem of a row.
-fn finish(form: Form, rest: &[u8]) -> Option<Opcode>
-    ensures { result ≡ opcode_at form rest.now }
+/// Whether a row takes these modifiers.
+fn allowed(set: ModifierSet, modifiers: Modifiers) -> bool
+    ensures { result ≡ allows set modifiers }
 {
-    match form {
-        Form::Unary(operation, set) => Some(Opcode::Unary(operation, kind(set, rest)?)),
-        Form::Binary(operation, set) => Some(Opcode::Binary(operation, kind(set, rest)?)),
-        Form::Ternary(operation, set) => Some(Opcode::Ternary(operation, kind(set, rest)?)),
-        Form::Load(segment) => {
-            let (modifiers, rest) = modifiers(rest);
-            Some(Opcode::Load(segment, modifiers, kind(TypeSet::Memory, rest)?))
-        }
-        Form::Store => {
-            let (align, rest) = alignment(rest);
-            Some(Opcode::Store(align, kind(TypeSet::Memory, rest)?))
-        }
-        Form::Branch if rest.is_empty() => Some(Opcode::Branch),
-        Form::Branch => None,
-        Form::ConditionalBranch => {
-            let (width, rest) = widening(rest);
-            kind(TypeSet::Bit, rest)?;
-            Some(Opcode::ConditionalBranch(width))
-        }
-        Form::Return if rest.is_empty() => Some(Opcode::Return),
-        Form::Return => None,
-        Form::Identify(query, set) => Some(Opcode::Identify(query, kind(set, rest)?)),
+    match set {
+        ModifierSet::Plain => modifiers.align.is_none() && modifiers.width.is_none(),
+        ModifierSet::Align => modifiers.width.is_none(),
+        ModifierSet::Width => modifiers.align.is_none(),
+        ModifierSet::AlignAndWidth => true,
     }
+}
+
+/// The rest of a word behind the stem of a row.
+fn finish(row: Row, rest: &[u8]) -> Option<Opcode>
+    ensures { result ≡ opcode_at (row_view row) rest.now }
+{
+    let Row(_, set, types, form) = row;
+    let (modifiers, rest) = modifiers(rest);
+    if !allowed(set, modifiers) {
+        return None;
+    }
+    let kind = kind(types, rest)?;
+    Some(Opcode {
+        form,
+        modifiers,
+        kind,
+    })
 }
 
 /// The word of an instruction, by the first row that spells it.
@@ -147,9 +141,9 @@ fn instruction(text: &[u8]) -> Option<Opcode>
     ensures { result ≡ instruction_at text.now }
 {
     let mut rows = table();
-    while let [Row(stem, form), others @ ..] = rows {
-        if let Some(rest) = strip(stem.as_bytes(), text) {
-            if let Some(opcode) = finish(*form, rest) {
+    while let [row, others @ ..] = rows {
+        if let Some(rest) = strip(row.0.as_bytes(), text) {
+            if let Some(opcode) = finish(*row, rest) {
                 return Some(opcode);
             }
         }

@@ -1,16 +1,14 @@
 -- The laws of the check.
-use Rattle.std.proofs.Common.{◌≡◌, ℕ, Bool, true, false, ◌||◌, is_none, nat_le, List, [], ◌∷◌, Option, Some, None, unwrap_or, if◌then◌else◌, arith, refl, ap, subst}
+use Rattle.std.proofs.Common.{◌≡◌, ℕ, Bool, true, false, ◌||◌, is_none, nat_le, nat_lt, ◌≤◌, List, [], ◌∷◌, Option, Some, None, unwrap_or, if◌then◌else◌, arith, refl, ap, subst}
 use Rattle.std.specs.List.{All}
 use Rattle.std.proofs.lemmas.Bool.Decides.{nat_tests}
 use Rattle.std.proofs.lemmas.List.Elements.{All-nil, All-cons}
 use Rattle.hsail_reader.specs.declared.module.Address.{Address}
 use Rattle.hsail_reader.specs.declared.module.Address.TheVariants as address
 use Rattle.hsail_reader.specs.declared.module.Operation.{Operation}
-use Rattle.hsail_reader.specs.declared.module.Operation.TheVariants as operation
 use Rattle.hsail_reader.specs.declared.module.Place.{Place}
 use Rattle.hsail_reader.specs.declared.module.Place.TheVariants as place
 use Rattle.hsail_reader.specs.declared.types.DataType.{DataType}
-use Rattle.hsail_reader.specs.declared.types.DataType.TheVariants as type
 use Rattle.hsail_reader.specs.declared.types.Register.{Register}
 use Rattle.hsail_reader.specs.declared.types.Segment.{Segment}
 use Rattle.hsail_reader.specs.declared.types.Segment.TheVariants as segment
@@ -18,8 +16,9 @@ use Rattle.hsail_reader.specs.declared.types.Source.{Source}
 use Rattle.hsail_reader.specs.declared.types.Source.TheVariants as source
 use Rattle.kernel_check.specs.Causes.{instruction_fails, is_far_address, is_far_place, names_unknown, is_bad, has_far_address, has_far_dimension}
 use Rattle.kernel_check.specs.Faults.{Checkpoint, first_fault, fault_or, least_cause, first_cause}
-use Rattle.kernel_check.specs.Laws.{IsFirst, IsEarliest, IsKept, IsKeptSource, IsKeptPlace, IsGlobal, IsArgument, IsReached, IsFaithful}
-use Rattle.kernel_check.specs.Operands.{is_far, is_over, is_over_source, passes, any_operand, operands_of, binary_right, ternary_first}
+use Rattle.kernel_check.specs.Laws.{IsFirst, IsEarliest, IfThere, IsKept, IsKeptOperand, IsKeptSource, IsKeptPlace, IsGlobal, IsArgument, IsReached, IsThere, IsFaithful}
+use Rattle.kernel_check.specs.Operands.{MemoryAccess, access_of, asked_dimension, label_of, is_far, is_over, is_over_source, passes, any_operand, operands_of}
+use Rattle.kernel_check.specs.declared.operands.Typed.{Typed}
 use Rattle.kernel_check.specs.declared.operands.Operands.{Operands}
 use Rattle.kernel_check.specs.declared.fault.Cause.{Cause}
 use Rattle.kernel_check.specs.declared.fault.Cause.TheVariants as cause
@@ -78,6 +77,14 @@ kept_source : (kind : DataType) (s : Source) → is_over_source kind s ≡ false
 kept_source kind (source.Register r) near = kept r near
 kept_source kind (source.Constant c) near = tt
 
+kept_operand : (o : Option Typed) → passes is_over o ≡ false → IsKeptOperand o
+kept_operand None near = tt
+kept_operand (Some t) near = kept_source t.kind t.source near
+
+dimension_fits : (o : Option ℕ) → passes (nat_lt 2) o ≡ false → IfThere (λ d. d ≤ 2) o
+dimension_fits None near = tt
+dimension_fits (Some d) near = grind (arith, nat_tests)
+
 kept_place : (p : Place) → is_far_place p ≡ false → IsKeptPlace p
 kept_place (place.Absolute n) near = tt
 kept_place (place.Relative r) near = kept r.register near
@@ -105,6 +112,16 @@ module _ (arguments : List ℕ → Option Placed) (labels : List ℕ → Option 
   reached segment.Kernarg a near there good = in_block a there good
   reached segment.Global a near there good = global a near good
 
+  accessed : (o : Option MemoryAccess) → passes (λ a. is_far_address a.address) o ≡ false
+      → passes (λ a. names_unknown arguments a.address) o ≡ false → passes (λ a. is_bad a.segment a.address) o ≡ false
+      → IfThere (λ a. IsReached arguments a.segment a.address) o
+  accessed None near known good = tt
+  accessed (Some a) near known good = reached a.segment a.address near known good
+
+  there : (o : Option (List ℕ)) → passes (λ x. is_none (labels x)) o ≡ false → IfThere (IsThere labels) o
+  there None known = tt
+  there (Some x) known = found (labels x) known
+
   -- what is too large in no way: operands, address and dimension
   sizes : (number : ℕ) (op : Operation) → least_cause (instruction_fails arguments labels number op) ≡ None
       → (any_operand is_over (operands_of op) ≡ false) × (has_far_address op ≡ false) × (has_far_dimension op ≡ false)
@@ -115,37 +132,19 @@ module _ (arguments : List ℕ → Option Placed) (labels : List ℕ → Option 
 
   pub faithful : (number : ℕ) (op : Operation) → least_cause (instruction_fails arguments labels number op) ≡ None
       → IsFaithful arguments labels op
-  faithful number (operation.Unary u) none =
-      let p = operands_fine (operands_of (operation.Unary u)) (sizes number (operation.Unary u) none).0 in
-      (kept u.target p.0, kept_source u.kind u.source p.1)
-  faithful number (operation.Binary b) none =
-      let p = operands_fine (operands_of (operation.Binary b)) (sizes number (operation.Binary b) none).0 in
-      (kept b.target p.0, kept_source b.kind b.left p.1, kept_source (binary_right b.operation b.kind) b.right p.2)
-  faithful number (operation.Ternary t) none =
-      let p = operands_fine (operands_of (operation.Ternary t)) (sizes number (operation.Ternary t) none).0 in
-      (kept t.target p.0, kept_source (ternary_first t.operation t.kind) t.first p.1, kept_source t.kind t.second p.2, kept_source t.kind t.third p.3)
-  faithful number (operation.Load l) none =
-      let s = sizes number (operation.Load l) none in
-      let p = operands_fine (operands_of (operation.Load l)) s.0 in
-      let fine = none_fails (instruction_fails arguments labels number (operation.Load l)) none in
-      (kept l.target p.0, reached l.segment l.address s.1 (fine cause.UnknownArgument) (fine cause.BadAddress))
-  faithful number (operation.Store x) none =
-      let s = sizes number (operation.Store x) none in
-      let p = operands_fine (operands_of (operation.Store x)) s.0 in
-      let fine = none_fails (instruction_fails arguments labels number (operation.Store x)) none in
-      (kept_source x.kind x.source p.1, global x.address s.1 (fine cause.BadAddress))
-  faithful number (operation.Branch x) none =
-      found (labels x) (none_fails (instruction_fails arguments labels number (operation.Branch x)) none cause.UnknownLabel)
-  faithful number (operation.ConditionalBranch b) none =
-      let p = operands_fine (operands_of (operation.ConditionalBranch b)) (sizes number (operation.ConditionalBranch b) none).0 in (
-        kept_source type.B1 b.condition p.1,
-        found (labels b.label) (none_fails (instruction_fails arguments labels number (operation.ConditionalBranch b)) none cause.UnknownLabel),
-      )
-  faithful number operation.Return none = tt
-  faithful number (operation.Identify i) none =
-      let s = sizes number (operation.Identify i) none in
-      let p = operands_fine (operands_of (operation.Identify i)) s.0 in
-      (kept i.target p.0, grind (arith, nat_tests, s.2))
+  faithful number op none =
+      let s = sizes number op none in
+      let p = operands_fine (operands_of op) s.0 in
+      let fine = none_fails (instruction_fails arguments labels number op) none in
+      record {
+        target = kept_operand (operands_of op).target p.0;
+        first = kept_operand (operands_of op).first p.1;
+        second = kept_operand (operands_of op).second p.2;
+        third = kept_operand (operands_of op).third p.3;
+        access = accessed (access_of op) s.1 (fine cause.UnknownArgument) (fine cause.BadAddress);
+        label = there (label_of op) (fine cause.UnknownLabel);
+        dimension = dimension_fits (asked_dimension op) s.2;
+      }
 
 -- the first of some causes by which an item fails
 first_at : (fails : Cause → Bool) (x : Cause) (others : List Cause) (c : Cause) (b : Bool) → fails x ≡ b

@@ -172,17 +172,12 @@ module _ (arguments : List ℕ → Option Placed) (labels : List ℕ → Option 
   -- the step of an instruction in which nothing fails
   pub step_within : (number : ℕ) (op : Operation) → least_cause (instruction_fails arguments labels number op) ≡ None
       → StaysWithin count bytes (step_of arguments labels op)
-  step_within number (operation.Unary u) none = tt
-  step_within number (operation.Binary b) none = tt
-  step_within number (operation.Ternary t) none = tt
   step_within number (operation.Load l) none =
       let fine = none_fails (instruction_fails arguments labels number (operation.Load l)) none in
       load_within l l.segment (fine cause.WrongType) (fine cause.UnknownArgument) (fine cause.BadAddress)
-  step_within number (operation.Store s) none = tt
   step_within number (operation.Branch x) none = next_within x (labels x) refl
   step_within number (operation.ConditionalBranch b) none = next_within b.label (labels b.label) refl
-  step_within number operation.Return none = tt
-  step_within number (operation.Identify i) none = tt
+  step_within number _ none = tt
 
   -- the steps of items in which nothing fails
   pub steps_within : (before : Known ℕ) (n : ℕ) (items : List Item) → first_fault (item_checks arguments labels before n items) ≡ None

@@ -3,7 +3,7 @@
 use Rattle.std.specs.Prelude.{ℕ, List, Bool, true, false, not, ◌||◌, ◌==◌, nat_lt, nat_le, Option, Some, None, is_some, is_none, length}
 use Rattle.kernel_check.specs.Layout.{end_behind}
 use Rattle.kernel_check.specs.Names.{Known, find}
-use Rattle.kernel_check.specs.Operands.{operands_of, any_operand, is_wrong, is_over, is_far}
+use Rattle.kernel_check.specs.Operands.{access_of, asked_dimension, label_of, operands_of, any_operand, is_wrong, is_over, is_far, passes}
 use Rattle.kernel_check.specs.declared.fault.Cause.{Cause}
 use Rattle.kernel_check.specs.declared.fault.Cause.TheVariants.{UnknownLabel, DoubleName, WrongRegister, WrongType, UnknownArgument, TooLarge, BadAddress}
 use Rattle.kernel_check.specs.declared.layout.Placed.{Placed}
@@ -12,7 +12,6 @@ use Rattle.hsail_reader.specs.declared.module.Address.{Address}
 use Rattle.hsail_reader.specs.declared.module.Address.TheVariants as address
 use Rattle.hsail_reader.specs.declared.module.Argument.{Argument}
 use Rattle.hsail_reader.specs.declared.module.Operation.{Operation}
-use Rattle.hsail_reader.specs.declared.module.Operation.TheVariants as operation
 use Rattle.hsail_reader.specs.declared.module.Place.{Place}
 use Rattle.hsail_reader.specs.declared.module.Place.TheVariants as place
 use Rattle.hsail_reader.specs.declared.types.DataType.{DataType}
@@ -23,9 +22,7 @@ use Rattle.hsail_reader.specs.declared.types.Segment.TheVariants as segment
 
 -- a branch to a label that the kernel doesn't have
 abbrev pub misses_label : (List ℕ → Option ℕ) → Operation → Bool
-misses_label labels (operation.Branch x) = is_none (labels x)
-misses_label labels (operation.ConditionalBranch b) = is_none (labels b.label)
-misses_label labels _ = false
+misses_label labels op = passes (λ x. is_none (labels x)) (label_of op)
 
 -- an argument of another width
 abbrev pub differs : DataType → Option Placed → Bool
@@ -38,8 +35,7 @@ is_of_other_width arguments kind _ _ = false
 
 -- a load of an argument by a type of another width
 abbrev pub has_wrong_type : (List ℕ → Option Placed) → Operation → Bool
-has_wrong_type arguments (operation.Load l) = is_of_other_width arguments l.kind l.segment l.address
-has_wrong_type arguments _ = false
+has_wrong_type arguments op = passes (λ a. is_of_other_width arguments a.kind a.segment a.address) (access_of op)
 
 -- a variable in brackets that the kernel doesn't declare
 abbrev pub names_unknown : (List ℕ → Option Placed) → Address → Bool
@@ -48,9 +44,7 @@ names_unknown arguments (address.Indexed i) = is_none (arguments i.variable)
 names_unknown arguments (address.Place p) = false
 
 abbrev pub misses_argument : (List ℕ → Option Placed) → Operation → Bool
-misses_argument arguments (operation.Load l) = names_unknown arguments l.address
-misses_argument arguments (operation.Store s) = names_unknown arguments s.address
-misses_argument arguments _ = false
+misses_argument arguments op = passes (λ a. names_unknown arguments a.address) (access_of op)
 
 -- a register in brackets whose number is over 63
 abbrev pub is_far_place : Place → Bool
@@ -63,14 +57,11 @@ is_far_address (address.Place p) = is_far_place p
 is_far_address (address.Indexed i) = is_far_place i.place
 
 abbrev pub has_far_address : Operation → Bool
-has_far_address (operation.Load l) = is_far_address l.address
-has_far_address (operation.Store s) = is_far_address s.address
-has_far_address _ = false
+has_far_address op = passes (λ a. is_far_address a.address) (access_of op)
 
 -- a dimension over 2
 abbrev pub has_far_dimension : Operation → Bool
-has_far_dimension (operation.Identify i) = nat_lt 2 i.dimension
-has_far_dimension _ = false
+has_far_dimension op = passes (nat_lt 2) (asked_dimension op)
 
 -- more than 4,096 instructions, or a number in it too large
 abbrev pub is_too_large : ℕ → Operation → Bool
@@ -95,9 +86,7 @@ is_bad segment.Global (address.Place p) = is_bad_place p
 is_bad segment.Global _ = true
 
 abbrev pub has_bad_address : Operation → Bool
-has_bad_address (operation.Load l) = is_bad l.segment l.address
-has_bad_address (operation.Store s) = is_bad segment.Global s.address
-has_bad_address _ = false
+has_bad_address op = passes (λ a. is_bad a.segment a.address) (access_of op)
 
 -- by which causes an instruction fails that stands behind these many
 abbrev pub instruction_fails : (List ℕ → Option Placed) → (List ℕ → Option ℕ) → ℕ → Operation → Cause → Bool

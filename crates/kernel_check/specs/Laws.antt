@@ -2,14 +2,15 @@
 use Rattle.std.specs.Prelude.{◌≡◌, ℕ, ◌≤◌, List, ◌∷◌, ◌++◌, Bool, true, false, Option, Some, None}
 use Rattle.std.specs.List.{All}
 use Rattle.kernel_check.specs.Faults.{Checkpoint, fault_at}
+use Rattle.kernel_check.specs.Operands.{access_of, asked_dimension, label_of, operands_of}
 use Rattle.kernel_check.specs.Steps.{slot_of, next_of}
+use Rattle.kernel_check.specs.declared.operands.Typed.{Typed}
 use Rattle.kernel_check.specs.declared.fault.Cause.{Cause}
 use Rattle.kernel_check.specs.declared.fault.CheckFault.{CheckFault}
 use Rattle.kernel_check.specs.declared.layout.Placed.{Placed}
 use Rattle.hsail_reader.specs.declared.module.Address.{Address}
 use Rattle.hsail_reader.specs.declared.module.Address.TheVariants as address
 use Rattle.hsail_reader.specs.declared.module.Operation.{Operation}
-use Rattle.hsail_reader.specs.declared.module.Operation.TheVariants as operation
 use Rattle.hsail_reader.specs.declared.module.Place.{Place}
 use Rattle.hsail_reader.specs.declared.module.Place.TheVariants as place
 use Rattle.hsail_reader.specs.declared.types.Register.{Register}
@@ -65,15 +66,21 @@ IsReached arguments segment.Global a = IsGlobal a
 abbrev pub IsThere : (List ℕ → Option ℕ) → List ℕ → Type 0
 IsThere labels x = labels x ≡ Some (next_of labels x)
 
--- the step of an instruction makes nothing up: each number is kept, and each name stands for something
-abbrev pub IsFaithful : (List ℕ → Option Placed) → (List ℕ → Option ℕ) → Operation → Type 0
-IsFaithful arguments labels (operation.Unary u) = IsKept u.target × IsKeptSource u.source
-IsFaithful arguments labels (operation.Binary b) = IsKept b.target × IsKeptSource b.left × IsKeptSource b.right
-IsFaithful arguments labels (operation.Ternary t) =
-    IsKept t.target × IsKeptSource t.first × IsKeptSource t.second × IsKeptSource t.third
-IsFaithful arguments labels (operation.Load l) = IsKept l.target × IsReached arguments l.segment l.address
-IsFaithful arguments labels (operation.Store s) = IsKeptSource s.source × IsGlobal s.address
-IsFaithful arguments labels (operation.Branch x) = IsThere labels x
-IsFaithful arguments labels (operation.ConditionalBranch b) = IsKeptSource b.condition × IsThere labels b.label
-IsFaithful arguments labels operation.Return = Unit {0}
-IsFaithful arguments labels (operation.Identify i) = IsKept i.target × (i.dimension ≤ 2)
+-- what is there is so
+abbrev pub IfThere : {X : Type 0} → (X → Type 0) → Option X → Type 0
+IfThere Is None = Unit {0}
+IfThere Is (Some x) = Is x
+
+abbrev pub IsKeptOperand : Option Typed → Type 0
+IsKeptOperand o = IfThere (λ t. IsKeptSource t.source) o
+
+-- the step of an instruction makes nothing up: each number is kept, each name stands for something, and the
+-- dimension is 0, 1 or 2
+pub record IsFaithful (arguments : List ℕ → Option Placed) (labels : List ℕ → Option ℕ) (op : Operation) : Type 0 where
+  pub target : IsKeptOperand (operands_of op).target
+  pub first : IsKeptOperand (operands_of op).first
+  pub second : IsKeptOperand (operands_of op).second
+  pub third : IsKeptOperand (operands_of op).third
+  pub access : IfThere (λ a. IsReached arguments a.segment a.address) (access_of op)
+  pub label : IfThere (IsThere labels) (label_of op)
+  pub dimension : IfThere (λ d. d ≤ 2) (asked_dimension op)

@@ -1,9 +1,11 @@
 -- The operands of an operation, each with the type at its place (PRM, Operands; Registers).
-use Rattle.std.specs.Prelude.{Bool, true, false, not, ◌||◌, nat_lt, Option, Some, None}
+use Rattle.std.specs.Prelude.{ℕ, List, Bool, true, false, not, ◌||◌, nat_lt, Option, Some, None}
 use Rattle.kernel_check.specs.Constants.{is_in_range}
+use Rattle.kernel_check.specs.declared.operands.Access.{Access}
 use Rattle.kernel_check.specs.declared.operands.Operands.{Operands}
 use Rattle.kernel_check.specs.declared.operands.Typed.{Typed}
 use Rattle.hsail_reader.specs.Types.{type_class}
+use Rattle.hsail_reader.specs.declared.module.Address.{Address}
 use Rattle.hsail_reader.specs.declared.module.Operation.{Operation}
 use Rattle.hsail_reader.specs.declared.module.Operation.TheVariants as operation
 use Rattle.hsail_reader.specs.declared.types.BinaryOperation.{BinaryOperation}
@@ -13,6 +15,8 @@ use Rattle.hsail_reader.specs.declared.types.DataType.TheVariants.{B1, U32}
 use Rattle.hsail_reader.specs.declared.types.Register.{Register}
 use Rattle.hsail_reader.specs.declared.types.RegisterClass.{RegisterClass}
 use Rattle.hsail_reader.specs.declared.types.RegisterClass.TheVariants.{Control, Single, Double}
+use Rattle.hsail_reader.specs.declared.types.Segment.{Segment}
+use Rattle.hsail_reader.specs.declared.types.Segment.TheVariants as segment
 use Rattle.hsail_reader.specs.declared.types.Source.{Source}
 use Rattle.hsail_reader.specs.declared.types.Source.TheVariants as source
 use Rattle.hsail_reader.specs.declared.types.TernaryOperation.{TernaryOperation}
@@ -69,6 +73,35 @@ operands_of (operation.ConditionalBranch b) = all_operands None (Some (typed B1 
 operands_of operation.Return = all_operands None None None None
 operands_of (operation.Identify i) = all_operands (register i.kind i.target) None None None
 
+-- an access to memory: the segment, the type, and the address in the brackets
+pub record MemoryAccess : Type 0 where
+  pub segment : Segment
+  pub kind : DataType
+  pub address : Address
+
+abbrev pub memory_access : Segment → DataType → Address → MemoryAccess
+memory_access segment kind address = record { segment = segment; kind = kind; address = address }
+
+abbrev pub access_view : Access → MemoryAccess
+access_view a = memory_access a.segment a.kind a.address.now
+
+-- the access that an operation makes
+abbrev pub access_of : Operation → Option MemoryAccess
+access_of (operation.Load l) = Some (memory_access l.segment l.kind l.address)
+access_of (operation.Store s) = Some (memory_access segment.Global s.kind s.address)
+access_of _ = None
+
+-- the label that an operation names
+abbrev pub label_of : Operation → Option (List ℕ)
+label_of (operation.Branch x) = Some x
+label_of (operation.ConditionalBranch b) = Some b.label
+label_of _ = None
+
+-- the number of the dimension that an operation asks for
+abbrev pub asked_dimension : Operation → Option ℕ
+asked_dimension (operation.Identify i) = Some i.dimension
+asked_dimension _ = None
+
 abbrev pub is_same_class : RegisterClass → RegisterClass → Bool
 is_same_class Control Control = true
 is_same_class Single Single = true
@@ -95,9 +128,10 @@ is_over_source kind (source.Constant c) = not (is_in_range kind c)
 abbrev pub is_over : Typed → Bool
 is_over o = is_over_source o.kind o.source
 
-abbrev pub passes : (Typed → Bool) → Option Typed → Bool
+-- what is there passes a test
+abbrev pub passes : {X : Type 0} → (X → Bool) → Option X → Bool
 passes test None = false
-passes test (Some o) = test o
+passes test (Some x) = test x
 
 -- some operand passes a test
 abbrev pub any_operand : (Typed → Bool) → Operands → Bool

@@ -9,7 +9,9 @@ ghost use Rattle.kernel_check.specs.Causes.{misses_label, differs, has_wrong_typ
 use crate::fault::Cause;
 use crate::layout::{Placed, end};
 use crate::names::Names;
-use crate::operands::{any_over, any_wrong, far, typed_operands};
+use crate::operands::{
+    any_over, any_wrong, asked_dimension, far, find_access, label, typed_operands,
+};
 use hsail_reader::{Address, Argument, DataType, Operation, Place, RegisterClass, Segment};
 
 /// The most instructions of a kernel.
@@ -28,10 +30,9 @@ const MAX_DIMENSION: u64 = 2;
 fn unknown_label(labels: &Names<'_, usize>, operation: &Operation) -> bool
     ensures { result ≡ misses_label (find labels.now) operation.now }
 {
-    match operation {
-        Operation::Branch(label) => labels.get(label.as_slice()).is_none(),
-        Operation::ConditionalBranch(branch) => labels.get(branch.label.as_slice()).is_none(),
-        _ => false,
+    match label(operation) {
+        Some(name) => labels.get(name).is_none(),
+        None => false,
     }
 }
 
@@ -49,12 +50,12 @@ fn other_width(kind: DataType, argument: Option<Placed>) -> bool
 fn wrong_type(arguments: &Names<'_, Placed>, operation: &Operation) -> bool
     ensures { result ≡ has_wrong_type (find arguments.now) operation.now }
 {
-    let Operation::Load(load) = operation else {
+    let Some(access) = find_access(operation) else {
         return false;
     };
-    match (load.segment, &load.address) {
+    match (access.segment, access.address) {
         (Segment::Kernarg, Address::Variable(name)) => {
-            other_width(load.kind, arguments.get(name.as_slice()))
+            other_width(access.kind, arguments.get(name.as_slice()))
         }
         _ => false,
     }
@@ -75,10 +76,9 @@ fn unknown_variable(arguments: &Names<'_, Placed>, address: &Address) -> bool
 fn unknown_argument(arguments: &Names<'_, Placed>, operation: &Operation) -> bool
     ensures { result ≡ misses_argument (find arguments.now) operation.now }
 {
-    match operation {
-        Operation::Load(load) => unknown_variable(arguments, &load.address),
-        Operation::Store(store) => unknown_variable(arguments, &store.address),
-        _ => false,
+    match find_access(operation) {
+        Some(access) => unknown_variable(arguments, access.address),
+        None => false,
     }
 }
 
@@ -107,10 +107,9 @@ fn far_in_brackets(address: &Address) -> bool
 fn far_address(operation: &Operation) -> bool
     ensures { result ≡ has_far_address operation.now }
 {
-    match operation {
-        Operation::Load(load) => far_in_brackets(&load.address),
-        Operation::Store(store) => far_in_brackets(&store.address),
-        _ => false,
+    match find_access(operation) {
+        Some(access) => far_in_brackets(access.address),
+        None => false,
     }
 }
 
@@ -118,9 +117,9 @@ fn far_address(operation: &Operation) -> bool
 fn far_dimension(operation: &Operation) -> bool
     ensures { result ≡ has_far_dimension operation.now }
 {
-    match operation {
-        Operation::Identify(identify) => identify.dimension > MAX_DIMENSION,
-        _ => false,
+    match asked_dimension(operation) {
+        Some(dimension) => dimension > MAX_DIMENSION,
+        None => false,
     }
 }
 
@@ -164,10 +163,9 @@ fn bad_in_brackets(segment: Segment, address: &Address) -> bool
 fn bad_address(operation: &Operation) -> bool
     ensures { result ≡ has_bad_address operation.now }
 {
-    match operation {
-        Operation::Load(load) => bad_in_brackets(load.segment, &load.address),
-        Operation::Store(store) => bad_in_brackets(Segment::Global, &store.address),
-        _ => false,
+    match find_access(operation) {
+        Some(access) => bad_in_brackets(access.segment, access.address),
+        None => false,
     }
 }
 

@@ -1,14 +1,16 @@
 //! The operands of an operation, each with the type at its place, and what may be wrong with them.
 
 ghost use Rattle.std.specs.Prelude.{◌≡◌, Some, None};
-ghost use Rattle.kernel_check.specs.Operands.{typed, unary_target, binary_target, binary_right, ternary_first, all_operands, operands_of, is_same_class, is_wrong, is_far, is_over, passes, any_operand};
+ghost use Rattle.std.specs.Option.{option_copied, option_map};
+ghost use Rattle.kernel_check.specs.Operands as specified;
+ghost use Rattle.kernel_check.specs.Operands.{access_of, access_view, label_of, typed, unary_target, binary_target, binary_right, ternary_first, all_operands, operands_of, is_same_class, is_wrong, is_far, is_over, passes, any_operand};
 ghost use Rattle.hsail_reader.specs.declared.module.Operation.TheVariants as operation;
 ghost use Rattle.hsail_reader.specs.declared.types.Source.TheVariants as source;
 
 use crate::constants::in_range;
 use hsail_reader::{
-    Binary, BinaryOperation, DataType, Operation, Register, RegisterClass, Source, Ternary,
-    TernaryOperation, Unary, UnaryOperation,
+    Address, Binary, BinaryOperation, DataType, Operation, Register, RegisterClass, Segment,
+    Source, Ternary, TernaryOperation, Unary, UnaryOperation,
 };
 
 /// A register or a constant, with the type at its place.
@@ -25,6 +27,54 @@ pub struct Operands {
     pub first: Option<Typed>,
     pub second: Option<Typed>,
     pub third: Option<Typed>,
+}
+
+/// An access to memory: the segment, the type, and the address in the brackets.
+#[derive(Clone, Copy)]
+pub struct Access<'a> {
+    pub segment: Segment,
+    pub kind: DataType,
+    pub address: &'a Address,
+}
+
+/// The access that an operation makes.
+pub fn find_access(operation: &Operation) -> Option<Access<'_>>
+    ensures { option_map access_view result ≡ access_of operation.now }
+{
+    match operation {
+        Operation::Load(load) => Some(Access {
+            segment: load.segment,
+            kind: load.kind,
+            address: &load.address,
+        }),
+        Operation::Store(store) => Some(Access {
+            segment: Segment::Global,
+            kind: store.kind,
+            address: &store.address,
+        }),
+        _ => None,
+    }
+}
+
+/// The label that an operation names.
+pub fn label(operation: &Operation) -> Option<&[u8]>
+    ensures { option_copied result ≡ label_of operation.now }
+{
+    match operation {
+        Operation::Branch(label) => Some(label.as_slice()),
+        Operation::ConditionalBranch(branch) => Some(branch.label.as_slice()),
+        _ => None,
+    }
+}
+
+/// The number of the dimension that an operation asks for.
+pub fn asked_dimension(operation: &Operation) -> Option<u64>
+    ensures { result ≡ specified.asked_dimension operation.now }
+{
+    match operation {
+        Operation::Identify(identify) => Some(identify.dimension),
+        _ => None,
+    }
 }
 
 /// The type of the target of an operation on one source.
