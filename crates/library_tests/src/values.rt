@@ -17,7 +17,7 @@ fn check_all(rt: &impl Abort, signals: Signals) {
 }
 
 #[test]
-fn signals_are_told_by_their_numbers(rt: HostRuntime) -> Result<(), Fail> {
+fn signals_are_counted_and_tested(rt: HostRuntime) -> Result<(), Fail> {
     check_all(&rt, Signals::new(rt.alloc(), &[1, 0])?);
     Ok(())
 }
