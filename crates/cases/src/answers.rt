@@ -30,26 +30,21 @@ fn text_of(bytes: Vec<u8>) -> Result<String, Error> {
 }
 
 // Adds each line of what was written to standard error, and the status, if it is another than 0.
-fn add_ending(
-    alloc: Global,
-    answer: &mut String,
-    fault: &str,
-    status: Status,
-) -> Result<(), AllocError> {
+fn add_ending(answer: &mut String, fault: &str, status: Status) -> Result<(), AllocError> {
     for line in fault.lines() {
-        answer.push_str(format!(in alloc; "error: {line}\n")?.as_str())?;
+        writeln!(answer, "error: {line}")?;
     }
     match status.number() {
         0 => Ok(()),
-        number => answer.push_str(format!(in alloc; "status: {number}\n")?.as_str()),
+        number => writeln!(answer, "status: {number}"),
     }
 }
 
 // What was written to standard output, and below it how the run ended.
-fn written(alloc: Global, out: Vec<u8>, err: Vec<u8>, status: Status) -> Result<String, Error> {
+fn written(out: Vec<u8>, err: Vec<u8>, status: Status) -> Result<String, Error> {
     let mut answer = text_of(out)?;
     let fault = text_of(err)?;
-    add_ending(alloc, &mut answer, fault.as_str(), status)?;
+    add_ending(&mut answer, fault.as_str(), status)?;
     Ok(answer)
 }
 
@@ -65,7 +60,7 @@ fn script_answer(
     let mut reader = script;
     let policy = policy.as_bytes();
     let status = run_policy(alloc, policy, places, &mut reader, &mut out, &mut err);
-    written(alloc, out, err, status)
+    written(out, err, status)
 }
 
 // The counts of a policy, or its fault.
@@ -73,7 +68,7 @@ fn policy_answer(alloc: Global, policy: &[u8]) -> Result<String, Error> {
     let mut out = Vec::new(alloc);
     let mut err = Vec::new(alloc);
     let status = check_policy(alloc, policy, &mut out, &mut err);
-    written(alloc, out, err, status)
+    written(out, err, status)
 }
 
 /// What a case's settings change: the policy, and how many entries the audit has place for.

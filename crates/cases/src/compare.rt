@@ -141,6 +141,34 @@ fn push_wanted(
     Ok(())
 }
 
+// The lines that are wanted of a case behind its front.
+fn wanted_of(
+    alloc: Global,
+    setting: &Setting<'_>,
+    front: &Case<'_>,
+    case: &Case<'_>,
+) -> Result<Vec<Line>, Error> {
+    let mut wanted = Vec::new(alloc);
+    push_all_wanted(alloc, &mut wanted, setting, front)?;
+    push_all_wanted(alloc, &mut wanted, setting, case)?;
+    Ok(wanted)
+}
+
+// What comes of a text behind a front.
+fn answer_to(
+    alloc: Global,
+    setting: &Setting<'_>,
+    front: &Case<'_>,
+    settings: &Settings,
+    behind: &str,
+) -> Result<String, Error> {
+    let mut asked = joined(alloc, front.asked.as_slice())?;
+    asked.push_str(behind)?;
+    let asked = setting.names.spelled(alloc, asked.as_str())?;
+    let bytes = bytes_of(alloc, asked.as_str())?;
+    answer(alloc, setting.kind, settings, bytes.as_slice())
+}
+
 fn push_all_wanted(
     alloc: Global,
     lines: &mut Vec<Line>,
@@ -228,20 +256,12 @@ fn try_choice(
     choice: usize,
 ) -> Result<bool, Error> {
     let alloc = rt.alloc();
-    let mut asked = joined(alloc, front.asked.as_slice())?;
     let behind = asked_of(alloc, setting, case, choice)?;
-    asked.push_str(behind.as_str())?;
-    let bytes = bytes_of(
-        alloc,
-        setting.names.spelled(alloc, asked.as_str())?.as_str(),
-    )?;
-    let answer = answer(alloc, setting.kind, settings, bytes.as_slice())?;
+    let answer = answer_to(alloc, setting, front, settings, behind.as_str())?;
     if is_accepted(case, answer.as_str()) {
         return Ok(true);
     }
-    let mut wanted = Vec::new(alloc);
-    push_all_wanted(alloc, &mut wanted, setting, front)?;
-    push_all_wanted(alloc, &mut wanted, setting, case)?;
+    let wanted = wanted_of(alloc, setting, front, case)?;
     let came = compared(case, answer.as_str());
     match first_difference(wanted.as_slice(), came, case.last_line()) {
         None => Ok(true),

@@ -8,16 +8,16 @@ use std::alloc::{AllocError, Global};
 
 // A kernel's layout in a line, as `kernel &inc kernarg 8 group 0 wide 0`: the bytes of its arguments and of its
 // group variables, and the offsets of its arguments of 64 bits.
-fn push_layout(alloc: Global, whole: &mut String, program: &Program) -> Result<(), AllocError> {
+fn push_layout(whole: &mut String, program: &Program) -> Result<(), AllocError> {
     let bytes = program.kernarg_bytes();
     let group = program.group_bytes();
     whole.push_str("kernel ")?;
     for letter in program.name() {
         whole.push(char::from(*letter))?;
     }
-    whole.push_str(format!(in alloc; " kernarg {bytes} group {group} wide")?.as_str())?;
+    write!(whole, " kernarg {bytes} group {group} wide")?;
     for offset in program.wide_arguments() {
-        whole.push_str(format!(in alloc; " {offset}")?.as_str())?;
+        write!(whole, " {offset}")?;
     }
     whole.push_str("\n")
 }
@@ -26,7 +26,7 @@ fn push_layout(alloc: Global, whole: &mut String, program: &Program) -> Result<(
 fn push_steps(alloc: Global, whole: &mut String, program: &Program) -> Result<(), AllocError> {
     for lined in program.steps() {
         let line = lined.line;
-        whole.push_str(format!(in alloc; "{line} ")?.as_str())?;
+        write!(whole, "{line} ")?;
         push_step(alloc, whole, &lined.step)?;
         whole.push_str("\n")?;
     }
@@ -38,7 +38,7 @@ fn kernels_of(alloc: Global, checked: &Checked) -> Result<String, AllocError> {
     let mut whole = String::new(alloc);
     for index in 0..checked.count() {
         let program = checked.kernel(index);
-        push_layout(alloc, &mut whole, program)?;
+        push_layout(&mut whole, program)?;
         push_steps(alloc, &mut whole, program)?;
     }
     whole.push_str("ok\n")?;

@@ -14,7 +14,7 @@ mod steps;
 
 use crate::answers::Setting;
 use crate::compare::Tally;
-use crate::file::{CaseFile, read_cases};
+use crate::file::{CaseFile, Head, read_cases};
 use crate::names::Names;
 use anyhow::{Context, Error};
 use std::process::ExitCode;
@@ -43,15 +43,21 @@ fn read_named(rt: &HostRuntime, path: &str, name: Option<&str>) -> Result<String
     }
 }
 
-// Tries the cases of a file, and prints how they differ.
-fn try_cases(rt: &HostRuntime, path: &str, cases: &CaseFile<'_>) -> Result<Tally, Error> {
-    let names = read_named(rt, path, cases.head.names)?;
-    let over = read_named(rt, path, cases.head.over)?;
-    let before = read_named(rt, path, cases.head.before)?;
-    let mut names = Names::read(rt.alloc(), names.as_str())?;
-    for name in &cases.head.texts {
+// The names that a head's file of names and its texts define.
+fn read_names(rt: &HostRuntime, path: &str, head: &Head<'_>) -> Result<Names, Error> {
+    let text = read_named(rt, path, head.names)?;
+    let mut names = Names::read(rt.alloc(), text.as_str())?;
+    for name in &head.texts {
         names.define(rt.alloc(), name, read_beside(rt, path, name)?)?;
     }
+    Ok(names)
+}
+
+// Tries the cases of a file, and prints how they differ.
+fn try_cases(rt: &HostRuntime, path: &str, cases: &CaseFile<'_>) -> Result<Tally, Error> {
+    let names = read_names(rt, path, &cases.head)?;
+    let over = read_named(rt, path, cases.head.over)?;
+    let before = read_named(rt, path, cases.head.before)?;
     let setting = Setting {
         kind: cases.head.kind,
         over: over.as_str(),
@@ -70,11 +76,16 @@ fn title(path: &str) -> &str {
     name.strip_suffix(".case").unwrap_or(name)
 }
 
+// Tries the cases of a file's text.
+fn try_text(rt: &HostRuntime, path: &str, text: &str) -> Result<Tally, Error> {
+    let cases = read_cases(rt.alloc(), text)?;
+    try_cases(rt, path, &cases)
+}
+
 // Tries a file's cases and prints the line of the file. Tells whether all came as wanted.
 fn try_file(rt: &HostRuntime, path: &str) -> Result<bool, Error> {
     let text = fs::read_to_string(rt, path).context(format_args!("reading {path}"))?;
-    let cases = read_cases(rt.alloc(), text.as_str())?;
-    let tally = try_cases(rt, path, &cases)?;
+    let tally = try_text(rt, path, text.as_str())?;
     let title = title(path);
     println!(rt; "{title}: {tally}")?;
     Ok(tally.differ == 0)

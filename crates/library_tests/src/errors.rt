@@ -1,6 +1,6 @@
 //! What queue errors print.
 
-use aql_packet::{CodecRule, PacketId, QueueId};
+use aql_packet::{PacketId, QueueId};
 use queue_error::{Place, QueueError, Rule};
 use std::test::*;
 
@@ -83,16 +83,4 @@ fn an_error_prints_with_and_without_a_place(rt: HostRuntime) -> Result<(), Fail>
         "group 1 item 1 line 9"
     );
     Ok(())
-}
-
-#[test]
-fn a_rule_of_the_layout_is_the_rule_of_that_name(rt: HostRuntime) {
-    let rows = [
-        (CodecRule::L1, Rule::L1),
-        (CodecRule::L2, Rule::L2),
-        (CodecRule::L3, Rule::L3),
-    ];
-    for (layout, rule) in rows {
-        assert_eq!(rt; Rule::from(layout), rule);
-    }
 }

@@ -2,7 +2,6 @@
 use aql_packet::{Address, RegionHandle};
 use regions::{RegionFault, Regions};
 use std::alloc::{AllocError, Global};
-use std::process::Abort;
 use std::test::Fail;
 
 const FIRST: u64 = 0x1_0000_0000;
@@ -57,8 +56,8 @@ fn tells_the_length_of_each_region(rt: HostRuntime) -> Result<(), Fail> {
 fn reads_what_was_written_and_zeros_beside_it(rt: HostRuntime) -> Result<(), Fail> {
     let mut memory = two_regions(rt.alloc())?;
     assert_eq!(rt; memory.write(Address(FIRST + 6), &[0xab, 0xcd]), Ok(()));
-    check_bytes(&rt, &memory, FIRST, &[0, 0, 0, 0, 0, 0, 0xab, 0xcd]);
-    check_bytes(&rt, &memory, SECOND, &[0, 0, 0, 0]);
+    assert!(rt; shows(&memory, FIRST, &[0, 0, 0, 0, 0, 0, 0xab, 0xcd]));
+    assert!(rt; shows(&memory, SECOND, &[0, 0, 0, 0]));
     Ok(())
 }
 
@@ -85,7 +84,7 @@ fn refuses_what_lies_in_no_region_and_what_leaves_one(rt: HostRuntime) -> Result
         memory.write(Address(FIRST + 8), &[1]),
         Err(RegionFault::NoRegion)
     );
-    check_bytes(&rt, &memory, FIRST, &[0; 8]);
+    assert!(rt; shows(&memory, FIRST, &[0; 8]));
     Ok(())
 }
 
@@ -93,7 +92,7 @@ fn refuses_what_lies_in_no_region_and_what_leaves_one(rt: HostRuntime) -> Result
 fn fills_up_to_the_end_of_a_region(rt: HostRuntime) -> Result<(), Fail> {
     let mut memory = two_regions(rt.alloc())?;
     assert_eq!(rt; memory.fill(Address(SECOND + 1), 3, 0xee), Ok(()));
-    check_bytes(&rt, &memory, SECOND, &[0, 0xee, 0xee, 0xee]);
+    assert!(rt; shows(&memory, SECOND, &[0, 0xee, 0xee, 0xee]));
     Ok(())
 }
 
@@ -115,8 +114,8 @@ fn copies_as_if_by_a_copy_aside(rt: HostRuntime) -> Result<(), Fail> {
             memory.copy_within(Address(source), Address(target), length),
             Ok(())
         );
-        check_bytes(&rt, &memory, FIRST, &first);
-        check_bytes(&rt, &memory, SECOND, &second);
+        assert!(rt; shows(&memory, FIRST, &first));
+        assert!(rt; shows(&memory, SECOND, &second));
     }
     Ok(())
 }
@@ -151,10 +150,7 @@ fn says_why_in_words(rt: HostRuntime) -> Result<(), Fail> {
     Ok(())
 }
 
-/// All the bytes from an address on are these.
-fn check_bytes(rt: &impl Abort, memory: &Regions, address: u64, bytes: &[u8]) {
-    match memory.read(Address(address), bytes.len() as u64) {
-        Ok(read) => assert!(rt; read == bytes),
-        Err(fault) => assert!(rt; false, "{fault:?}"),
-    }
+/// Whether the bytes from an address on are these.
+fn shows(memory: &Regions, address: u64, bytes: &[u8]) -> bool {
+    memory.read(Address(address), bytes.len() as u64) == Ok(bytes)
 }

@@ -281,15 +281,6 @@ fn faults_are_told_by_line_column_and_number(rt: HostRuntime) -> Result<(), Fail
     Ok(())
 }
 
-/// Where a text's first brace stands, and its last.
-fn body_of(text: &str) -> Option<(usize, usize)> {
-    let (_, body) = text.split_once("{")?;
-    let (_, end) = text.split_once("}")?;
-    let first = text.len() - body.len().min(text.len());
-    let last = text.len() - end.len().min(text.len());
-    Some((first, last))
-}
-
 fn check_beginning(
     rt: &(impl Abort + AllocGlobal),
     text: &[u8],
@@ -300,16 +291,17 @@ fn check_beginning(
     Ok(())
 }
 
-fn check_beginnings(rt: &(impl Abort + AllocGlobal), text: &str) -> Result<(), Fail> {
-    let (first, last) = body_of(text).ok_or("a body")?;
-    for length in first..last {
+/// Each beginning that has more than the module's line, and not the last brace, is no module.
+fn check_beginnings(rt: &(impl Abort + AllocGlobal), text: &str, line: usize) -> Result<(), Fail> {
+    for length in line.saturating_add(2)..text.len().saturating_sub(2) {
         check_beginning(rt, text.as_bytes(), length)?;
     }
-    assert!(rt; last.saturating_sub(first) > 100);
     Ok(())
 }
 
 #[test]
 fn beginnings_of_a_body_are_refused(rt: HostRuntime) -> Result<(), Fail> {
-    check_beginnings(&rt, inc())
+    let (line, _) = inc().split_once("\n").ok_or("a line")?;
+    assert!(rt; inc().ends_with("\n};\n"));
+    check_beginnings(&rt, inc(), line.len())
 }

@@ -1,5 +1,6 @@
 pub mod NameLemmas
 pub mod RightsLemmas
+pub mod ArrayLemmas
 pub mod CoverLemmas
 pub mod ValueLemmas
 pub mod FileLemmas

@@ -157,7 +157,7 @@ pub enum ReadPolicyError {
 }
 
 // Why a row isn't read.
-#[derive(Clone, Copy, Debug, PartialEq, Eq)]
+#[derive(Clone, Copy)]
 pub enum RowError {
     // There was no memory for it.
     OutOfMemory,

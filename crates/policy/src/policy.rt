@@ -19,7 +19,6 @@ use std::marker::Model;
 
 /// What a policy declares, in the order of its rows. Clients and the objects of each kind are
 /// numbered from 1.
-#[derive(Drop)]
 pub struct Policy {
     clients: Table<()>,
     agents: Table<Takes>,
@@ -27,6 +26,20 @@ pub struct Policy {
     signals: Table<i64>,
     kernels: Table<KernelSource>,
     allows: Sequence<AllowRow>,
+}
+
+// Written out for the same reason as that of `Table`.
+impl Drop for Policy {
+    fn drop(self) {
+        let Policy {
+            clients: _,
+            agents: _,
+            regions: _,
+            signals: _,
+            kernels: _,
+            allows: _,
+        } = self;
+    }
 }
 
 impl Model for Policy {

@@ -11,9 +11,15 @@ use std::alloc::{AllocError, Global};
 use std::marker::Model;
 
 /// Rows in order, each with a name of its own. Numbers count from 1.
-#[derive(Drop)]
 pub struct Table<V> {
     rows: IndexMap<String, V>,
+}
+
+// Written out, so that where a table ends stands one call, and not what ends each of its parts.
+impl<V: Drop> Drop for Table<V> {
+    fn drop(self) {
+        let Table { rows: _ } = self;
+    }
 }
 
 impl<V> Model for Table<V> {

@@ -6,7 +6,7 @@ use policy::Policy;
 use std::alloc::Global;
 
 /// What a line of a script asks.
-#[derive(Debug, Drop, PartialEq, Eq)]
+#[derive(Drop)]
 pub enum Command {
     /// A call of the core, other than to open a queue or to hand over a packet.
     Core(Request),
@@ -30,7 +30,7 @@ pub enum Command {
 }
 
 /// What a command is told.
-#[derive(Debug, Drop)]
+#[derive(Drop)]
 pub enum Told {
     /// What the core replied.
     Core(Reply),

@@ -8,7 +8,7 @@ use crate::command::Command;
 use crate::numbers::{address, bytes, condition, decimal, kind, packet, rights, signed};
 use crate::verbs::{Verb, verb_named};
 use crate::words::{
-    five_words, four_words, no_words, one_word, split_word, three_words, two_words,
+    five_words, four_words, is_word, no_words, one_word, split_word, three_words, two_words,
 };
 use aql_packet::{AgentHandle, ClientId, PacketId, QueueId, SignalHandle};
 use core_model::{Event, Query, Request};
@@ -21,7 +21,7 @@ use std::alloc::{AllocError, Global};
 pub const LONGEST_LINE: usize = 16_384;
 
 /// What a line stands for.
-#[derive(Debug, Drop, PartialEq, Eq)]
+#[derive(Drop)]
 pub enum Line {
     /// Nothing: no word, or a comment.
     Quiet,
@@ -204,19 +204,19 @@ fn read(policy: &Policy, line: &[u8]) -> Option<Command>
 fn operation(word: &[u8], value: i64) -> Option<SignalOp>
     ensures { result ≡ operation_of word.now value }
 {
-    if word == "store".as_bytes() {
+    if is_word(word, "store") {
         Some(SignalOp::Store(value))
-    } else if word == "add".as_bytes() {
+    } else if is_word(word, "add") {
         Some(SignalOp::Add(value))
-    } else if word == "subtract".as_bytes() {
+    } else if is_word(word, "subtract") {
         Some(SignalOp::Subtract(value))
-    } else if word == "and".as_bytes() {
+    } else if is_word(word, "and") {
         Some(SignalOp::And(value))
-    } else if word == "or".as_bytes() {
+    } else if is_word(word, "or") {
         Some(SignalOp::Or(value))
-    } else if word == "xor".as_bytes() {
+    } else if is_word(word, "xor") {
         Some(SignalOp::Xor(value))
-    } else if word == "exchange".as_bytes() {
+    } else if is_word(word, "exchange") {
         Some(SignalOp::Exchange(value))
     } else {
         None
@@ -242,7 +242,7 @@ fn cas_operation(policy: &Policy, line: &[u8]) -> Option<Command>
     ensures { result ≡ cas_operation policy.now (words line.now) }
 {
     let (changer, name, word, expected, value) = five_words(line)?;
-    if word != "cas".as_bytes() {
+    if !is_word(word, "cas") {
         return None;
     }
     let expected = signed(expected)?;

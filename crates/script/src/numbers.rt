@@ -3,6 +3,7 @@
 ghost use Rattle.std.specs.Prelude.{◌≡◌, ◌∷◌, [], ◌<◌, IfOk, IfSome, option_map, length};
 ghost use Rattle.script.specs.Words.{digit_of, with_digit, number_from, decimal_word, negative, positive, signed_word, address_word, byte_of, bytes_word, packet_word, items_from, items_behind, right_of, with_right, rights_with, rights_word, kind_word, condition_word};
 
+use crate::words::is_word;
 use aql_packet::Address;
 use bitflags::Flags;
 use policy::{Kind, Right, Rights};
@@ -149,17 +150,17 @@ pub fn packet(alloc: Global, word: &[u8]) -> Result<Option<[u8; 64]>, AllocError
 fn right_named(word: &[u8]) -> Option<Right>
     ensures { result ≡ right_of word.now }
 {
-    if word == "USE".as_bytes() {
+    if is_word(word, "USE") {
         Some(Right::Use)
-    } else if word == "READ".as_bytes() {
+    } else if is_word(word, "READ") {
         Some(Right::Read)
-    } else if word == "WRITE".as_bytes() {
+    } else if is_word(word, "WRITE") {
         Some(Right::Write)
-    } else if word == "WAIT".as_bytes() {
+    } else if is_word(word, "WAIT") {
         Some(Right::Wait)
-    } else if word == "CHANGE".as_bytes() {
+    } else if is_word(word, "CHANGE") {
         Some(Right::Change)
-    } else if word == "LAUNCH".as_bytes() {
+    } else if is_word(word, "LAUNCH") {
         Some(Right::Launch)
     } else {
         None
@@ -204,7 +205,7 @@ fn rights_with(rights: Rights, word: &[u8]) -> Option<Rights>
 pub fn rights(word: &[u8]) -> Option<Rights>
     ensures { result ≡ rights_word word.now }
 {
-    if word == "-".as_bytes() {
+    if is_word(word, "-") {
         return Some(Rights::NONE);
     }
     rights_with(Rights::NONE, word)
@@ -214,13 +215,13 @@ pub fn rights(word: &[u8]) -> Option<Rights>
 pub fn kind(word: &[u8]) -> Option<Kind>
     ensures { result ≡ kind_word word.now }
 {
-    if word == "agent".as_bytes() {
+    if is_word(word, "agent") {
         Some(Kind::Agent)
-    } else if word == "region".as_bytes() {
+    } else if is_word(word, "region") {
         Some(Kind::Region)
-    } else if word == "signal".as_bytes() {
+    } else if is_word(word, "signal") {
         Some(Kind::Signal)
-    } else if word == "kernel".as_bytes() {
+    } else if is_word(word, "kernel") {
         Some(Kind::Kernel)
     } else {
         None
@@ -231,13 +232,13 @@ pub fn kind(word: &[u8]) -> Option<Kind>
 pub fn condition(word: &[u8]) -> Option<Condition>
     ensures { result ≡ condition_word word.now }
 {
-    if word == "EQ".as_bytes() {
+    if is_word(word, "EQ") {
         Some(Condition::Eq)
-    } else if word == "NE".as_bytes() {
+    } else if is_word(word, "NE") {
         Some(Condition::Ne)
-    } else if word == "LT".as_bytes() {
+    } else if is_word(word, "LT") {
         Some(Condition::Lt)
-    } else if word == "GTE".as_bytes() {
+    } else if is_word(word, "GTE") {
         Some(Condition::Gte)
     } else {
         None

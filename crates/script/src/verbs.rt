@@ -3,8 +3,10 @@
 ghost use Rattle.std.specs.Prelude.{◌≡◌};
 ghost use Rattle.script.specs.Lines.{verb_of, client_verb_of};
 
+use crate::words::is_word;
+
 /// What the first word of a line says.
-#[derive(Clone, Copy, Debug, PartialEq, Eq)]
+#[derive(Clone, Copy)]
 pub enum Verb {
     Grant,
     Revoke,
@@ -29,23 +31,23 @@ pub enum Verb {
 pub fn verb_named(word: &[u8]) -> Option<Verb>
     ensures { result ≡ verb_of word.now }
 {
-    if word == "grant".as_bytes() {
+    if is_word(word, "grant") {
         Some(Verb::Grant)
-    } else if word == "revoke".as_bytes() {
+    } else if is_word(word, "revoke") {
         Some(Verb::Revoke)
-    } else if word == "queue".as_bytes() {
+    } else if is_word(word, "queue") {
         Some(Verb::Queue)
-    } else if word == "stop".as_bytes() {
+    } else if is_word(word, "stop") {
         Some(Verb::Stop)
-    } else if word == "submit".as_bytes() {
+    } else if is_word(word, "submit") {
         Some(Verb::Submit)
-    } else if word == "serve".as_bytes() {
+    } else if is_word(word, "serve") {
         Some(Verb::Serve)
-    } else if word == "run".as_bytes() {
+    } else if is_word(word, "run") {
         Some(Verb::Run)
-    } else if word == "poll".as_bytes() {
+    } else if is_word(word, "poll") {
         Some(Verb::Poll)
-    } else if word == "finish".as_bytes() {
+    } else if is_word(word, "finish") {
         Some(Verb::Finish)
     } else {
         client_verb(word)
@@ -56,21 +58,21 @@ pub fn verb_named(word: &[u8]) -> Option<Verb>
 fn client_verb(word: &[u8]) -> Option<Verb>
     ensures { result ≡ client_verb_of word.now }
 {
-    if word == "write".as_bytes() {
+    if is_word(word, "write") {
         Some(Verb::Write)
-    } else if word == "read".as_bytes() {
+    } else if is_word(word, "read") {
         Some(Verb::Read)
-    } else if word == "signal".as_bytes() {
+    } else if is_word(word, "signal") {
         Some(Verb::Signal)
-    } else if word == "load".as_bytes() {
+    } else if is_word(word, "load") {
         Some(Verb::Load)
-    } else if word == "test".as_bytes() {
+    } else if is_word(word, "test") {
         Some(Verb::Test)
-    } else if word == "list".as_bytes() {
+    } else if is_word(word, "list") {
         Some(Verb::List)
-    } else if word == "errors".as_bytes() {
+    } else if is_word(word, "errors") {
         Some(Verb::Errors)
-    } else if word == "audit".as_bytes() {
+    } else if is_word(word, "audit") {
         Some(Verb::Audit)
     } else {
         None

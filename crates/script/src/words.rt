@@ -39,6 +39,13 @@ pub fn split_word(line: &[u8]) -> Option<(&[u8], &[u8])>
     Some((text, &[]))
 }
 
+/// Whether a word is spelled so.
+pub fn is_word(word: &[u8], spelled: &str) -> bool
+    ensures { result ≡ bytes_eq word.now spelled.now }
+{
+    word == spelled.as_bytes()
+}
+
 /// Whether there is no word.
 pub fn no_words(line: &[u8]) -> bool
     ensures { result ≡ no_words (words line.now) }

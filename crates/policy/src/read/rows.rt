@@ -120,9 +120,7 @@ fn length_at(row: &Table) -> Result<u32, Cause>
 fn initial_at(row: &Table) -> Result<i64, Cause>
     ensures { result ≡ initial_value (table_view row.now) }
 {
-    value_at(row, "initial")?
-        .as_integer()
-        .ok_or(Cause::BadValue)
+    values::a_number(value_at(row, "initial")?).ok_or(Cause::BadValue)
 }
 
 // The name of a kernel's entry.
@@ -136,7 +134,7 @@ fn entry_at(row: &Table) -> Result<&str, Cause>
 fn text_at(row: &Table) -> Result<&str, Cause>
     ensures { seen (λ s. s.now) result ≡ key (codes "text") a_text (table_view row.now) }
 {
-    value_at(row, "text")?.as_str().ok_or(Cause::BadValue)
+    values::a_text(value_at(row, "text")?).ok_or(Cause::BadValue)
 }
 
 // A name, or "*", at a key.

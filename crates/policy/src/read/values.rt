@@ -8,7 +8,7 @@ ghost use Rattle.toml.specs.View.{view, table_view};
 ghost use Rattle.policy.specs.Object.{same_kind};
 ghost use Rattle.policy.specs.RightNames.{name_of_right};
 ghost use Rattle.policy.specs.Choice.{chosen};
-ghost use Rattle.policy.specs.Format.{is_name_byte, is_name, a_name, an_entry, a_length, length_of_number, is_text, items_in, dispatches_in, some_dispatches, kind_named, a_kind, kind_of_right, names_right, rights_in, some_rights, a_choice, choice_of};
+ghost use Rattle.policy.specs.Format.{is_name_byte, is_name, a_name, a_text, a_number, an_entry, a_length, length_of_number, is_text, items_in, dispatches_in, some_dispatches, kind_named, a_kind, kind_of_right, names_right, rights_in, some_rights, a_choice, choice_of};
 
 use crate::object::Kind;
 use crate::rights::{Right, Rights};
@@ -50,6 +50,20 @@ pub fn a_name(value: &Value) -> Option<&str>
         Some(text) if is_name(text) => Some(text),
         _ => None,
     }
+}
+
+/// A text.
+pub fn a_text(value: &Value) -> Option<&str>
+    ensures { option_copied result ≡ a_text (view value.now) }
+{
+    value.as_str()
+}
+
+/// A number.
+pub fn a_number(value: &Value) -> Option<i64>
+    ensures { result ≡ a_number (view value.now) }
+{
+    value.as_integer()
 }
 
 /// A text beginning with `&`.
