@@ -1,3 +1,4 @@
 pub mod More
 pub mod Meeting
 pub mod Legality
+mod FlightLaw
