@@ -1,6 +1,6 @@
 -- What a grant and a revocation are owed, by the grants that are kept.
-use Rattle.std.proofs.Common.{◌≡◌, List, refl, sym, ◌∙◌, ap, subst, Bool, true, false, Option, Some, None, Ok, Err}
-use Rattle.std.specs.Prelude.{◌==◌, ◌&&◌, [], Result, filter, if◌then◌else◌, not}
+use Rattle.std.proofs.Common.{◌≡◌, refl, sym, ◌∙◌, ap, Bool, true, false, Option, Some, None, Ok, Err}
+use Rattle.std.specs.Prelude.{◌&&◌, [], Result, if◌then◌else◌, not}
 use Rattle.grants.specs.Rules as rules_kept
 use Rattle.aql_packet.specs.declared.ids.ClientId.{ClientId}
 use Rattle.aql_packet.specs.declared.ids.QueueId.{QueueId}
@@ -10,16 +10,16 @@ use Rattle.policy.specs.declared.rights.Rights.{Rights}
 use Rattle.policy.specs.Policy.{declares_client, declares, allows}
 use Rattle.grants.specs.declared.refusal.Refusal.{Refusal as Why}
 use Rattle.grants.specs.declared.refusal.Refusal.TheVariants as why
-use Rattle.grants.specs.Holders.{IsFirstTo, IsUpTo}
+use Rattle.grants.specs.Holders.{IsFirstTo}
 use Rattle.grants.specs.Rules.{Rules, rules_of, knows_client, knows}
 use Rattle.grants.specs.Ledger.{grant_due, RevokeAnswers, is_holder, rules_in}
 use Rattle.core_model.specs.declared.event.Event.TheVariants.{Grant, Revoke}
 use Rattle.core_model.specs.declared.outcome.Outcome.TheVariants as outcome
 use Rattle.core_model.specs.declared.refusal.Refusal.TheVariants as refusal
 use Rattle.core_model.specs.declared.flight.InFlight.{InFlight}
-use Rattle.core_model.specs.Holds.{holder, holders, is_owned, holds_one_of, least}
-use Rattle.core_model.specs.Flight.{flight, is_packet}
-use Rattle.core_model.specs.Owed.{Owed, owed, enters, refuses, refuse_unless, refuse_if_held}
+use Rattle.core_model.specs.Holds.{holder, is_owned, holds_one_of}
+use Rattle.core_model.specs.Flight.{flight}
+use Rattle.core_model.specs.Owed.{owed, enters, refuses, refuse_unless}
 use Rattle.access_core.specs.declared.access.AccessCore.TheInside.{Inside}
 use Rattle.access_core.specs.Kept.{IsKept, start_of}
 use Rattle.access_core.specs.Granting.{refusal_of}
@@ -66,11 +66,11 @@ module _ (a : Inside) (kept : IsKept a) (client : ClientId) (on : Object) (right
   abbrev holding : InFlight → Bool
   holding f = is_owned (start_of a) a.audit.items client f.queue && holds_one_of (start_of a) a.audit.items on rights f
 
-  same_test : (queue : QueueId) (id : PacketId) → is_holder a.grants client on rights queue id ≡ passes holding a.flight queue id
+  same_test : (queue : QueueId) (id : PacketId) → is_holder a.grants client on rights queue id ≡ passes holding (flight (start_of a) a.audit.items) queue id
   same_test queue id =
-      is_holder-history client on rights (start_of a) a.audit.items a.grants a.flight (rw kept.flight (AreHeld-legal (start_of a) a.audit.items kept.legal)) kept.held queue id
+      is_holder-history client on rights (start_of a) a.audit.items a.grants (flight (start_of a) a.audit.items) (AreHeld-legal (start_of a) a.audit.items kept.legal) kept.held queue id
 
-  first-test : (o : Option (QueueId × PacketId)) → IsFirstTo (is_holder a.grants client on rights) o → IsFirstTo (passes holding a.flight) o
+  first-test : (o : Option (QueueId × PacketId)) → IsFirstTo (is_holder a.grants client on rights) o → IsFirstTo (passes holding (flight (start_of a) a.audit.items)) o
   first-test None none = λ queue id. sym (same_test queue id) ∙ none queue id
   first-test (Some first) is = (sym (same_test first.0 first.1) ∙ is.0, λ queue id passing. is.1 queue id (same_test queue id ∙ passing))
 
@@ -80,7 +80,7 @@ module _ (a : Inside) (kept : IsKept a) (client : ClientId) (on : Object) (right
   revoke-owed answers =
       let known : declares_client a.policy client ≡ true = sym (ap (λ (rules : Rules). knows_client rules client) rules_is) ∙ answers.0 in
       let there : declares a.policy on ≡ true = sym (ap (λ (rules : Rules). knows rules on) rules_is) ∙ answers.1 in
-      let none : holder (start_of a) a.audit.items client on rights ≡ None = ap (λ (fs : List InFlight). least (filter holding fs)) (sym kept.flight) ∙ least-none holding a.flight (first-test None answers.2) in
+      let none : holder (start_of a) a.audit.items client on rights ≡ None = least-none holding (flight (start_of a) a.audit.items) (first-test None answers.2) in
       rw (known, there, none) refl
 
   -- one that grants refuse is owed the refusal
@@ -97,6 +97,6 @@ module _ (a : Inside) (kept : IsKept a) (client : ClientId) (on : Object) (right
   revoke-refused (why.Busy queue id) answers =
       let known : declares_client a.policy client ≡ true = sym (ap (λ (rules : Rules). knows_client rules client) rules_is) ∙ answers.0 in
       let there : declares a.policy on ≡ true = sym (ap (λ (rules : Rules). knows rules on) rules_is) ∙ answers.1 in
-      let first = least-first holding a.flight queue id (first-test (Some (queue, id)) answers.2) in
-      let found : holder (start_of a) a.audit.items client on rights ≡ Some first.one = ap (λ (fs : List InFlight). least (filter holding fs)) (sym kept.flight) ∙ first.is in
+      let first = least-first holding (flight (start_of a) a.audit.items) queue id (first-test (Some (queue, id)) answers.2) in
+      let found : holder (start_of a) a.audit.items client on rights ≡ Some first.one = first.is in
       rw (known, there, found) (ap (λ (q : QueueId). refuses (refusal.Busy q first.one.id)) first.queue_is ∙ ap (λ (i : PacketId). refuses (refusal.Busy queue i)) first.id_is)

@@ -1,6 +1,6 @@
 -- What packets hold moves along with what is in flight.
 use Rattle.std.proofs.Common.{◌≡◌, List, [], ◌∷◌, ◌++◌, refl, sym, ◌∙◌, ap, Bool, true, false, Option, Some, None, arith}
-use Rattle.std.specs.Prelude.{All, ℕ, ◌+◌, ◌&&◌, ◌||◌, ◌==◌, not, map, filter, fold, if◌then◌else◌}
+use Rattle.std.specs.Prelude.{All, ℕ, ◌&&◌, ◌||◌, ◌==◌, not, map, filter, if◌then◌else◌}
 use Rattle.std.specs.List.{list_all, list_any}
 use Rattle.std.proofs.lemmas.List.Elements.{All-head, All-tail}
 use Rattle.std.proofs.lemmas.List.Folds.{list_any-append}
@@ -23,25 +23,22 @@ use Rattle.core_model.specs.declared.entry.Effect.{Effect}
 use Rattle.core_model.specs.declared.entry.Entry.{Entry}
 use Rattle.core_model.specs.History.{Start}
 use Rattle.core_model.specs.Grants.{in_force}
-use Rattle.std.specs.Prelude.{IfSome, IfNone}
-use Rattle.core_model.specs.declared.event.Event.TheVariants.{Stop}
-use Rattle.core_model.specs.declared.entry.Effect.TheVariants as effect
-use Rattle.core_model.specs.Flight.{flight_after_effect}
-use Rattle.core_model.specs.Owed.{release_of}
 use Rattle.core_model.specs.declared.event.Event.{Event}
-use Rattle.core_model.specs.declared.outcome.Seen.{Seen}
 use Rattle.core_model.specs.declared.outcome.Outcome.{Outcome}
-use Rattle.core_model.specs.declared.outcome.Outcome.TheVariants as outcomes
 use Rattle.core_model.specs.declared.flight.InFlight.{InFlight}
 use Rattle.core_model.specs.Queues.{Opening, openings, owner, opening_of}
-use Rattle.core_model.specs.Flight.{as_launched, is_packet, group_ran, has_seen, seen_with}
+use Rattle.core_model.specs.Flight.{flight, is_packet}
+use Rattle.core_model.specs.Grants.{in_force_after}
+use Rattle.access_core.proofs.KeptMore.{GrantsMove}
 use Rattle.core_model.specs.Holds.{Held, held_at_launch}
 use Rattle.core_model.specs.Legal.{entry_of, with_entry}
 use Rattle.core_model.proofs.More.{openings-more, with_some}
 use Rattle.access_core.specs.declared.access.AccessCore.TheInside.{Inside}
 use Rattle.access_core.specs.Kept.{IsKept, start_of}
 use Rattle.access_core.specs.Held.{IsHeld, holds_by, packet_holds}
-use Rattle.access_core.proofs.HeldMore.{owner-more}
+use Rattle.aql_packet.specs.declared.ids.AgentHandle.{AgentHandle}
+use Rattle.core_model.specs.declared.event.Event.TheVariants.{OpenQueue}
+use Rattle.access_core.proofs.HeldMore.{AreHeld-legal, owner-more}
 use Rattle.packet_processor.specs.Holding.{as_rights}
 use Rattle.access_core.proofs.HeldRights.{any-before, or-false}
 
@@ -51,35 +48,21 @@ pub owners-still : (a : Inside) (event : Event) (outcome : Outcome) (effects : L
 owners-still a event outcome effects none = openings-more (start_of a) a.audit.items (entry_of event outcome effects) ∙ ap (with_some (openings (start_of a) a.audit.items)) none
 
 -- the same packets in flight hold the same after it
-pub held-still : (a : Inside) → IsKept a → (event : Event) (outcome : Outcome) (effects : List Effect) → opening_of event ≡ None → (queue : QueueId) (id : PacketId) (client : ClientId) (on : Object) (right : Right)
-    → ledger.holds a.grants queue id client on right ≡ packet_holds (owner (start_of a) (with_entry a.audit.items event outcome effects)) a.flight queue id client on right
-held-still a kept event outcome effects none queue id client on right =
+pub held-still : (a : Inside) → IsKept a → (event : Event) (outcome : Outcome) (effects : List Effect) → opening_of event ≡ None → flight (start_of a) (with_entry a.audit.items event outcome effects) ≡ flight (start_of a) a.audit.items
+    → (queue : QueueId) (id : PacketId) (client : ClientId) (on : Object) (right : Right)
+    → ledger.holds a.grants queue id client on right ≡ packet_holds (owner (start_of a) (with_entry a.audit.items event outcome effects)) (flight (start_of a) (with_entry a.audit.items event outcome effects)) queue id client on right
+held-still a kept event outcome effects none same queue id client on right =
     kept.held queue id client on right
-    ∙ ap (λ (os : List Opening). packet_holds (λ (q : QueueId). numbered os q.0) a.flight queue id client on right) (sym (owners-still a event outcome effects none))
+    ∙ (λ i. packet_holds (λ (q : QueueId). numbered (sym (owners-still a event outcome effects none) i) q.0) (sym same i) queue id client on right)
 
--- ---- packets that change and stay what they are
-
-any-map : {X : Type 0} (p : X → Bool) (g : X → X) (xs : List X) → ((x : X) → p (g x) ≡ p x) → list_any p (map g xs) ≡ list_any p xs
-any-map p g [] same = refl
-any-map p g (x ∷ xs) same = ap (λ b. b || list_any p (map g xs)) (same x) ∙ ap (λ b. p x || b) (any-map p g xs same)
-
-module _ (owners : QueueId → Option Opening) (fs : List InFlight) (queue : QueueId) (id : PacketId) (client : ClientId) (on : Object) (right : Right) where
-  abbrev test : InFlight → Bool
-  test f = is_packet queue id f && holds_by (owners f.queue) client on right f.packet
-
-  pub held-ran : (q : QueueId) (i : PacketId) → packet_holds owners (map (group_ran q i) fs) queue id client on right ≡ packet_holds owners fs queue id client on right
-  held-ran q i = any-map (λ (f : InFlight). is_packet queue id f && holds_by (owners f.queue) client on right f.packet) (group_ran q i) fs (λ f. either f (is_packet q i f))
-    where
-      either : (f : InFlight) (b : Bool) → test (if b then record f { groups_run = f.groups_run + 1 } else f) ≡ test f
-      either f true = refl
-      either f false = refl
-
-  pub held-seen : (q : QueueId) (i : PacketId) (seen : Seen) → packet_holds owners (map (has_seen q i seen) fs) queue id client on right ≡ packet_holds owners fs queue id client on right
-  held-seen q i seen = any-map (λ (f : InFlight). is_packet queue id f && holds_by (owners f.queue) client on right f.packet) (has_seen q i seen) fs (λ f. either f (is_packet q i f))
-    where
-      either : (f : InFlight) (b : Bool) → test (if b then record f { seen = seen_with f.seen seen } else f) ≡ test f
-      either f true = refl
-      either f false = refl
+-- so a call that doesn't touch the grants leaves them as the history says
+pub grants-still : (a : Inside) → IsKept a → (event : Event) (outcome : Outcome) (effects : List Effect) → opening_of event ≡ None → ((client : ClientId) (on : Object) (right : Right) (b : Bool) → in_force_after client on right b event ≡ b)
+    → flight (start_of a) (with_entry a.audit.items event outcome effects) ≡ flight (start_of a) a.audit.items → GrantsMove a a.grants event outcome effects
+grants-still a kept event outcome effects none same flying = record {
+  granted = λ client on right. sym (same client on right _);
+  rules = refl;
+  held = held-still a kept event outcome effects none flying;
+}
 
 -- ---- a packet that leaves flight
 
@@ -143,29 +126,33 @@ names-held client c on right hs =
 pub held-launched : (owners : QueueId → Option Opening) (fs : List InFlight) (opening : Opening) (q : QueueId) (i : PacketId) (p : Packet) → owners q ≡ Some opening
     → (queue : QueueId) (id : PacketId) (client : ClientId) (on : Object) (right : Right)
     → (packet_holds owners fs queue id client on right || (same_packet queue id q i && names (map as_rights (held_at_launch opening p)) opening.client client on right))
-    ≡ packet_holds owners (fs ++ as_launched q i p ∷ []) queue id client on right
+    ≡ packet_holds owners (fs ++ (record { queue = q; id = i; packet = p }) ∷ []) queue id client on right
 held-launched owners fs opening q i p is queue id client on right =
     ap (λ b. packet_holds owners fs queue id client on right || b) (launched ∙ sym (or-false _))
-    ∙ sym (list_any-append (λ (f : InFlight). is_packet queue id f && holds_by (owners f.queue) client on right f.packet) fs (as_launched q i p ∷ []))
+    ∙ sym (list_any-append (λ (f : InFlight). is_packet queue id f && holds_by (owners f.queue) client on right f.packet) fs ((record { queue = q; id = i; packet = p }) ∷ []))
   where
-    launched : (same_packet queue id q i && names (map as_rights (held_at_launch opening p)) opening.client client on right) ≡ (is_packet queue id (as_launched q i p) && holds_by (owners q) client on right p)
+    launched : (same_packet queue id q i && names (map as_rights (held_at_launch opening p)) opening.client client on right) ≡ (is_packet queue id ((record { queue = q; id = i; packet = p })) && holds_by (owners q) client on right p)
     launched =
         ap (λ b. b && names (map as_rights (held_at_launch opening p)) opening.client client on right) numbers
-        ∙ ap (λ b. is_packet queue id (as_launched q i p) && b) (names-held opening.client client on right (held_at_launch opening p) ∙ ap (λ (o : Option Opening). holds_by o client on right p) (sym is))
+        ∙ ap (λ b. is_packet queue id ((record { queue = q; id = i; packet = p })) && b) (names-held opening.client client on right (held_at_launch opening p) ∙ ap (λ (o : Option Opening). holds_by o client on right p) (sym is))
       where
-        numbers : same_packet queue id q i ≡ is_packet queue id (as_launched q i p)
+        numbers : same_packet queue id q i ≡ is_packet queue id ((record { queue = q; id = i; packet = p }))
         numbers = grind arith
 
 -- ---- the grants of a call
 
 -- a packet that leaves flight holds nothing after it
-pub held-released : (a : Inside) → IsKept a → (event : Event) (outcome : Outcome) (effects : List Effect) → opening_of event ≡ None → (new : Ledger) (q : QueueId) (i : PacketId) → Releases a.grants new q i
-    → (queue : QueueId) (id : PacketId) (client : ClientId) (on : Object) (right : Right)
-    → ledger.holds new queue id client on right ≡ packet_holds (owner (start_of a) (with_entry a.audit.items event outcome effects)) (filter (λ f. not (is_packet q i f)) a.flight) queue id client on right
-held-released a kept event outcome effects none new q i releases queue id client on right =
-    releases.released queue id client on right
-    ∙ ap (λ b. b && not (same_packet queue id q i)) (held-still a kept event outcome effects none queue id client on right)
-    ∙ sym (held-without (owner (start_of a) (with_entry a.audit.items event outcome effects)) q i queue id client on right a.flight)
+pub grants-released : (a : Inside) → IsKept a → (event : Event) (outcome : Outcome) (effects : List Effect) → opening_of event ≡ None → ((client : ClientId) (on : Object) (right : Right) (b : Bool) → in_force_after client on right b event ≡ b)
+    → (new : Ledger) (q : QueueId) (i : PacketId) → flight (start_of a) (with_entry a.audit.items event outcome effects) ≡ filter (λ f. not (is_packet q i f)) (flight (start_of a) a.audit.items) → Releases a.grants new q i → GrantsMove a new event outcome effects
+grants-released a kept event outcome effects none same new q i flying releases = record {
+  granted = λ client on right. releases.same_rights client on right ∙ sym (same client on right _);
+  rules = releases.same_rules;
+  held = λ queue id client on right.
+      releases.released queue id client on right
+      ∙ ap (λ b. b && not (same_packet queue id q i)) (kept.held queue id client on right)
+      ∙ sym (held-without (owner (start_of a) a.audit.items) q i queue id client on right (flight (start_of a) a.audit.items))
+      ∙ (λ j. packet_holds (λ (n : QueueId). numbered (sym (owners-still a event outcome effects none) j) n.0) (sym flying j) queue id client on right);
+}
 
 -- a queue that is opened changes nothing of what packets in flight hold
 pub held-opened : (start : Start) (es : List Entry) (e : Entry) (queue : QueueId) (id : PacketId) (client : ClientId) (on : Object) (right : Right) (fs : List InFlight) → All (IsHeld start es) fs
@@ -178,18 +165,21 @@ held-opened start es e queue id client on right (f ∷ fs) all =
     ∙ ap (λ rest. (is_packet queue id f && holds_by (owner start (es ++ e ∷ []) f.queue) client on right f.packet) || rest) (held-opened start es e queue id client on right fs (All-tail (IsHeld start es) f fs all))
 
 -- a packet that is launched holds what it needs
-pub held-more : (a : Inside) → IsKept a → (event : Event) (outcome : Outcome) (effects : List Effect) → opening_of event ≡ None → (old new : Ledger) (opening : Opening) (q : QueueId) (i : PacketId) (p : Packet) (rights : List (Object × Rights))
-    → old ≡ record a.grants { room = old.room } → rights ≡ map as_rights (held_at_launch opening p) → owner (start_of a) a.audit.items q ≡ Some opening → Holds old new opening.client q i rights
-    → (queue : QueueId) (id : PacketId) (client : ClientId) (on : Object) (right : Right)
-    → ledger.holds new queue id client on right ≡ packet_holds (owner (start_of a) (with_entry a.audit.items event outcome effects)) (a.flight ++ as_launched q i p ∷ []) queue id client on right
-held-more a kept event outcome effects none old new opening q i p rights same are is holds queue id client on right =
-    let owners = owner (start_of a) (with_entry a.audit.items event outcome effects) in
-    let named : owners q ≡ Some opening = ap (λ (os : List Opening). numbered os q.0) (owners-still a event outcome effects none) ∙ is in
-    holds.held queue id client on right
-    ∙ ap (λ (g : Ledger). ledger.holds g queue id client on right || (same_packet queue id q i && names rights opening.client client on right)) same
-    ∙ ap (λ (rs : List (Object × Rights)). ledger.holds a.grants queue id client on right || (same_packet queue id q i && names rs opening.client client on right)) are
-    ∙ ap (λ b. b || (same_packet queue id q i && names (map as_rights (held_at_launch opening p)) opening.client client on right)) (held-still a kept event outcome effects none queue id client on right)
-    ∙ held-launched owners a.flight opening q i p named queue id client on right
+pub grants-launched : (a : Inside) → IsKept a → (event : Event) (outcome : Outcome) (effects : List Effect) → opening_of event ≡ None → ((client : ClientId) (on : Object) (right : Right) (b : Bool) → in_force_after client on right b event ≡ b)
+    → (old new : Ledger) (opening : Opening) (q : QueueId) (i : PacketId) (p : Packet) (rights : List (Object × Rights))
+    → flight (start_of a) (with_entry a.audit.items event outcome effects) ≡ flight (start_of a) a.audit.items ++ record { queue = q; id = i; packet = p } ∷ []
+    → old ≡ record a.grants { room = old.room } → rights ≡ map as_rights (held_at_launch opening p) → owner (start_of a) a.audit.items q ≡ Some opening → Holds old new opening.client q i rights → GrantsMove a new event outcome effects
+grants-launched a kept event outcome effects none still old new opening q i p rights flying same are is holds = record {
+  granted = λ client on right. holds.same_rights client on right ∙ ap (λ (g : Ledger). ledger.in_force g client on right) same ∙ sym (still client on right _);
+  rules = holds.same_rules ∙ ap ledger.rules_in same;
+  held = λ queue id client on right.
+      holds.held queue id client on right
+      ∙ ap (λ (g : Ledger). ledger.holds g queue id client on right || (same_packet queue id q i && names rights opening.client client on right)) same
+      ∙ ap (λ (rs : List (Object × Rights)). ledger.holds a.grants queue id client on right || (same_packet queue id q i && names rs opening.client client on right)) are
+      ∙ ap (λ b. b || (same_packet queue id q i && names (map as_rights (held_at_launch opening p)) opening.client client on right)) (kept.held queue id client on right)
+      ∙ held-launched (owner (start_of a) a.audit.items) (flight (start_of a) a.audit.items) opening q i p is queue id client on right
+      ∙ (λ j. packet_holds (λ (n : QueueId). numbered (sym (owners-still a event outcome effects none) j) n.0) (sym flying j) queue id client on right);
+}
 
 and-true : (b : Bool) → (b && true) ≡ b
 and-true true = refl
@@ -220,21 +210,13 @@ launch-in_force a kept old opening p rights same are forced =
     ∙ (λ i. list_all (λ (h : Held). kept.granted opening.client h.0 h.1 i) (held_at_launch opening p))
     ∙ forced
 
--- the grants after a stop
-pub record AfterStop (a : Inside) (new : Ledger) (queue : QueueId) (barrier : Option InFlight) : Type 0 where
-  pub granted : (client : ClientId) (on : Object) (right : Right) → ledger.in_force new client on right ≡ ledger.in_force a.grants client on right
-  pub rules : ledger.rules_in new ≡ ledger.rules_in a.grants
-  pub held : (q : QueueId) (id : PacketId) (client : ClientId) (on : Object) (right : Right)
-      → ledger.holds new q id client on right ≡ packet_holds (owner (start_of a) (with_entry a.audit.items (Stop queue) outcomes.Accepted (release_of barrier))) (fold flight_after_effect a.flight (release_of barrier)) q id client on right
-
-pub after-stop : (a : Inside) → IsKept a → (queue : QueueId) (barrier : Option InFlight) (new : Ledger) → IfSome barrier (λ f. Releases a.grants new f.queue f.id) → IfNone barrier (new ≡ a.grants) → AfterStop a new queue barrier
-after-stop a kept queue None new released same = record {
-  granted = λ client on right. ap (λ (g : Ledger). ledger.in_force g client on right) same;
-  rules = ap ledger.rules_in same;
-  held = λ q id client on right. ap (λ (g : Ledger). ledger.holds g q id client on right) same ∙ held-still a kept (Stop queue) outcomes.Accepted [] refl q id client on right;
-}
-after-stop a kept queue (Some f) new released same = record {
-  granted = released.same_rights;
-  rules = released.same_rules;
-  held = held-released a kept (Stop queue) outcomes.Accepted (effect.Release f.queue f.id ∷ []) refl new f.queue f.id released;
+-- a queue that is opened leaves the grants as the history says
+pub grants-opened : (a : Inside) → IsKept a → (client : ClientId) (agent : AgentHandle) (size : ℕ) (told : Outcome) → flight (start_of a) (with_entry a.audit.items (OpenQueue client agent size) told []) ≡ flight (start_of a) a.audit.items → GrantsMove a a.grants (OpenQueue client agent size) told []
+grants-opened a kept opener agent size told flying = record {
+  granted = λ client on right. refl;
+  rules = refl;
+  held = λ queue id client on right.
+      kept.held queue id client on right
+      ∙ held-opened (start_of a) a.audit.items (entry_of (OpenQueue opener agent size) told []) queue id client on right (flight (start_of a) a.audit.items) (AreHeld-legal (start_of a) a.audit.items kept.legal)
+      ∙ ap (λ fs. packet_holds (owner (start_of a) (with_entry a.audit.items (OpenQueue opener agent size) told [])) fs queue id client on right) (sym flying);
 }

@@ -1,9 +1,8 @@
 -- Tests of rights that packets hold, taken right by right or packet by packet.
-use Rattle.std.proofs.Common.{◌≡◌, ℕ, List, [], ◌∷◌, ◌++◌, refl, sym, ◌∙◌, ap, Bool, true, false, Option, Some, None, add-zero}
-use Rattle.std.specs.Prelude.{All, ◌&&◌, ◌||◌, ◌==◌, map, filter}
+use Rattle.std.proofs.Common.{◌≡◌, List, [], ◌∷◌, refl, sym, ◌∙◌, ap, Bool, true, false, Option, Some, None}
+use Rattle.std.specs.Prelude.{All, ◌&&◌, ◌||◌, ◌==◌}
 use Rattle.std.proofs.lemmas.List.Elements.{All-head, All-tail}
 use Rattle.std.specs.List.{list_any}
-use Rattle.std.proofs.lemmas.List.Folds.{list_any-append}
 use Rattle.aql_packet.specs.declared.ids.ClientId.{ClientId}
 use Rattle.aql_packet.specs.declared.ids.QueueId.{QueueId}
 use Rattle.aql_packet.specs.declared.ids.PacketId.{PacketId}
@@ -13,14 +12,14 @@ use Rattle.policy.specs.declared.rights.Right.{Right}
 use Rattle.policy.specs.declared.rights.Right.TheVariants as right
 use Rattle.policy.specs.declared.rights.Rights.{Rights}
 use Rattle.policy.specs.Object.{same_object}
-use Rattle.policy.specs.Rights.{has, bit_of, all_rights}
+use Rattle.policy.specs.Rights.{has, all_rights}
 use Rattle.grants.specs.Ledger.{Ledger, holds, is_holder}
 use Rattle.core_model.specs.declared.entry.Entry.{Entry}
 use Rattle.core_model.specs.declared.flight.InFlight.{InFlight}
 use Rattle.core_model.specs.History.{Start}
 use Rattle.core_model.specs.Queues.{Opening, owner}
 use Rattle.core_model.specs.Flight.{is_packet}
-use Rattle.core_model.specs.Holds.{Held, held, held_at_launch, is_owned, holds_one_of}
+use Rattle.core_model.specs.Holds.{Held, held_at_launch, is_owned, holds_one_of}
 use Rattle.access_core.specs.Held.{as_rights, holds_by, packet_holds, IsHeld}
 
 -- ---- tests of lists

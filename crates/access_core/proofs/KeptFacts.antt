@@ -3,7 +3,8 @@ use Rattle.std.proofs.Common.{◌≡◌, ◌<◌, length, ap, sym, ◌∙◌}
 use Rattle.std.proofs.lemmas.List.{length-map}
 use Rattle.core_model.specs.Queues.{openings}
 use Rattle.access_core.specs.declared.access.AccessCore.TheInside.{Inside}
-use Rattle.access_core.specs.Kept.{IsKept, start_of, kept_opening}
+use Rattle.access_core.specs.Kept.{IsKept, start_of}
+use Rattle.access_core.specs.CachedQueue.{kept_opening}
 
 -- as many queues are kept as were opened
 pub length-openings : (a : Inside) → IsKept a → length (openings (start_of a) a.audit.items) ≡ length a.queues.items

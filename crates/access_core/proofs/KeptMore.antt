@@ -1,6 +1,7 @@
 -- What is kept stays what the history says when an entry is put behind it and the fields move along.
-use Rattle.std.proofs.Common.{◌≡◌, ℕ, ◌+◌, ◌≤◌, List, [], ◌∷◌, length, sym, ◌∙◌, ap, subst, true, Some, arith, length-append}
-use Rattle.std.specs.Prelude.{map, fold, if◌then◌else◌, All}
+use Rattle.std.proofs.Common.{◌≡◌, ℕ, ◌+◌, ◌≤◌, List, [], ◌∷◌, length, sym, ◌∙◌, ap, subst, refl, true, Option, Some, None, arith, length-append}
+use Rattle.std.specs.Prelude.{map, fold, not, All}
+use Rattle.std.proofs.lemmas.List.Elements.{All-filter, All-push}
 use Rattle.aql_packet.specs.declared.ids.ClientId.{ClientId}
 use Rattle.aql_packet.specs.declared.ids.QueueId.{QueueId}
 use Rattle.aql_packet.specs.declared.ids.PacketId.{PacketId}
@@ -9,81 +10,130 @@ use Rattle.policy.specs.declared.rights.Right.{Right}
 use Rattle.policy.specs.Policy.{numbered}
 use Rattle.regions.specs.Memory.{byte_at, lengths_of, lies_in_region}
 use Rattle.core_model.specs.declared.entry.Effect.{Effect}
+use Rattle.core_model.specs.declared.entry.Effect.TheVariants.{Write, Signal, Release}
+use Rattle.core_model.specs.declared.entry.Entry.{Entry}
 use Rattle.core_model.specs.declared.event.Event.{Event}
+use Rattle.core_model.specs.declared.flight.InFlight.{InFlight}
 use Rattle.core_model.specs.declared.outcome.Outcome.{Outcome}
 use Rattle.core_model.specs.Grants.{in_force, in_force_after}
 use Rattle.core_model.specs.Memory.{memory_at, byte_after, signals_after, region_lengths}
-use Rattle.core_model.specs.Queues.{owner, opening_of, hands_over, error_of, stops}
-use Rattle.access_core.specs.Held.{packet_holds}
-use Rattle.core_model.specs.Flight.{flight_after}
+use Rattle.core_model.specs.Queues.{owner, opening_of}
+use Rattle.core_model.specs.Flight.{flight, flight_after, flight_after_effect, is_packet, launched_by, with_launched}
 use Rattle.core_model.specs.Owed.{enters, owed}
 use Rattle.core_model.specs.Legal.{entry_of, with_entry}
-use Rattle.core_model.proofs.More.{in_force-more, memory_at-more, signals-more, openings-more, with_some, next_id-more, errors-more, with_error, is_stopped-more, flight-more}
+use Rattle.core_model.proofs.More.{in_force-more, memory_at-more, signals-more, openings-more, with_some, flight-more}
 use Rattle.core_model.proofs.Legality.{IsLegal-more}
-use Rattle.access_core.specs.declared.access.AccessCore.TheInside.{Inside}
 use Rattle.grants.specs.Ledger as ledger
-use Rattle.access_core.specs.Kept.{IsKept, start_of, kept_opening, kept_next, kept_errors, kept_stopped}
+use Rattle.grants.specs.Ledger.{Ledger}
+use Rattle.access_core.specs.declared.access.AccessCore.TheInside.{Inside}
+use Rattle.access_core.specs.declared.queue.Queue.{Queue}
+use Rattle.access_core.specs.Held.{packet_holds}
+use Rattle.access_core.specs.Kept.{IsKept, start_of}
+use Rattle.access_core.specs.CachedQueue.{IsSound, cached, kept_opening, queue_at}
 use Rattle.access_core.specs.LiesInRegions.{lies_in_regions}
-use Rattle.access_core.specs.ErrorRoom.{HasErrorRoom}
+use Rattle.access_core.proofs.QueueAt.{IsQuiet, flight-quiet, queue_at-quiet}
 
--- How the fields move along with an entry.
-pub record MovesAlong (a b : Inside) (event : Event) (outcome : Outcome) (effects : List Effect) : Type 0 where
-  pub granted : (client : ClientId) (on : Object) (right : Right) → ledger.in_force b.grants client on right ≡ in_force_after client on right (ledger.in_force a.grants client on right) event
-  pub rules : ledger.rules_in b.grants ≡ ledger.rules_in a.grants
+-- How the grants move along with an entry.
+pub record GrantsMove (a : Inside) (new : Ledger) (event : Event) (outcome : Outcome) (effects : List Effect) : Type 0 where
+  pub granted : (client : ClientId) (on : Object) (right : Right) → ledger.in_force new client on right ≡ in_force_after client on right (ledger.in_force a.grants client on right) event
+  pub rules : ledger.rules_in new ≡ ledger.rules_in a.grants
   pub held : (queue : QueueId) (id : PacketId) (client : ClientId) (on : Object) (right : Right)
-      → ledger.holds b.grants queue id client on right ≡ packet_holds (owner (start_of a) (with_entry a.audit.items event outcome effects)) b.flight queue id client on right
-  pub lengths : lengths_of b.memory ≡ lengths_of a.memory
-  pub memory : (x byte : ℕ) → byte_at a.memory x ≡ Some byte → byte_at b.memory x ≡ Some (fold (byte_after x) byte effects)
-  pub values : b.signals ≡ fold signals_after a.signals effects
-  pub openings : map kept_opening b.queues.items ≡ with_some (map kept_opening a.queues.items) (opening_of event)
-  pub next_ids : (queue : QueueId) → kept_next (numbered b.queues.items queue.0) ≡ (if hands_over queue event then kept_next (numbered a.queues.items queue.0) + 1 else kept_next (numbered a.queues.items queue.0))
-  pub errors : (queue : QueueId) → kept_errors (numbered b.queues.items queue.0) ≡ with_error queue (kept_errors (numbered a.queues.items queue.0)) (error_of outcome)
-  pub stops : (queue : QueueId) → kept_stopped (numbered b.queues.items queue.0) ≡ (if stops queue event then true else kept_stopped (numbered a.queues.items queue.0))
-  pub few_queues : length b.queues.items ≤ 64
-  pub flight : b.flight ≡ flight_after a.flight (entry_of event outcome effects)
-  pub reachable : All (λ f. lies_in_regions (region_lengths (start_of a)) f.packet ≡ true) b.flight
-  pub error_room : HasErrorRoom b.queues.items b.flight
+      → ledger.holds new queue id client on right ≡ packet_holds (owner (start_of a) (with_entry a.audit.items event outcome effects)) (flight (start_of a) (with_entry a.audit.items event outcome effects)) queue id client on right
 
--- The audit has one entry more, and there was room for it.
-pub record AuditMore (a b : Inside) (event : Event) (outcome : Outcome) (effects : List Effect) : Type 0 where
+-- How the memory does.
+pub record MemoryMoves (old new : List (List ℕ)) (effects : List Effect) : Type 0 where
+  pub lengths : lengths_of new ≡ lengths_of old
+  pub memory : (x byte : ℕ) → byte_at old x ≡ Some byte → byte_at new x ≡ Some (fold (byte_after x) byte effects)
+
+-- How the queues do.
+pub record QueuesMove (a : Inside) (new : List Queue) (count : ℕ) (event : Event) (outcome : Outcome) (effects : List Effect) : Type 0 where
+  pub openings : map kept_opening new ≡ with_some (map kept_opening a.queues.items) (opening_of event)
+  pub queues : (queue : QueueId) → cached (numbered new queue.0) ≡ queue_at (start_of a) (with_entry a.audit.items event outcome effects) queue
+  pub sound : All IsSound new
+  pub few_queues : length new ≤ 64
+  pub flying : count ≡ length (flight (start_of a) (with_entry a.audit.items event outcome effects))
+
+-- The audit has one entry more, and there was room for it; the other fields move along.
+pub record MovesAlong (a b : Inside) (event : Event) (outcome : Outcome) (effects : List Effect) : Type 0 where
   pub policy : b.policy ≡ a.policy
   pub capacity : b.capacity ≡ a.capacity
   pub entries : b.audit.items ≡ with_entry a.audit.items event outcome effects
   pub place : b.audit.room + 1 ≡ a.audit.room
-  pub room : length a.audit.items + 1 + length b.flight ≤ a.capacity
+  pub room : length a.audit.items + 1 + b.flying ≤ a.capacity
+  pub grants : GrantsMove a b.grants event outcome effects
+  pub memory : MemoryMoves a.memory b.memory effects
+  pub values : b.signals ≡ fold signals_after a.signals effects
+  pub queues : QueuesMove a b.queues.items b.flying event outcome effects
+  pub launches : (f : InFlight) → launched_by event outcome ≡ Some f → lies_in_regions (region_lengths (start_of a)) f.packet ≡ true
 
-module _ (a b : Inside) (event : Event) (outcome : Outcome) (effects : List Effect) (was : IsKept a) (more : AuditMore a b event outcome effects) (moved : MovesAlong a b event outcome effects) where
+all-released : (P : InFlight → Type 0) (effects : List Effect) (fs : List InFlight) → All P fs → All P (fold flight_after_effect fs effects)
+all-released P [] fs all = all
+all-released P (Write address bytes ∷ rest) fs all = all-released P rest fs all
+all-released P (Signal signal old new ∷ rest) fs all = all-released P rest fs all
+all-released P (Release queue id ∷ rest) fs all = all-released P rest _ (All-filter (λ f. not (is_packet queue id f)) P fs all)
+
+all-launched : (P : InFlight → Type 0) (o : Option InFlight) (fs : List InFlight) → ((f : InFlight) → o ≡ Some f → P f) → All P fs → All P (with_launched fs o)
+all-launched P None fs one all = all
+all-launched P (Some f) fs one all = All-push P fs f all (one f refl)
+
+-- what holds of all packets in flight, and of one that is launched, holds after an entry
+pub all-after : (P : InFlight → Type 0) (e : Entry) (fs : List InFlight) → ((f : InFlight) → launched_by e.event e.outcome ≡ Some f → P f) → All P fs → All P (flight_after fs e)
+all-after P e fs one all = all-released P e.effects _ (all-launched P (launched_by e.event e.outcome) fs one all)
+
+module _ (a b : Inside) (event : Event) (outcome : Outcome) (effects : List Effect) (was : IsKept a) (moved : MovesAlong a b event outcome effects) where
   longer : length b.audit.items ≡ length a.audit.items + 1
-  longer = ap length more.entries ∙ length-append a.audit.items (entry_of event outcome effects ∷ [])
+  longer = ap length moved.entries ∙ length-append a.audit.items (entry_of event outcome effects ∷ [])
 
   granted-kept : (client : ClientId) (on : Object) (right : Right) → ledger.in_force b.grants client on right ≡ in_force (start_of b) b.audit.items client on right
   granted-kept client on right =
-      rw (more.policy, more.entries, in_force-more)
-      (subst (λ before. ledger.in_force b.grants client on right ≡ in_force_after client on right before event) (was.granted client on right) (moved.granted client on right))
+      rw (moved.policy, moved.entries, in_force-more)
+      (subst (λ before. ledger.in_force b.grants client on right ≡ in_force_after client on right before event) (was.granted client on right) (moved.grants.granted client on right))
 
   memory-kept : (x : ℕ) → lies_in_region (region_lengths (start_of b)) x ≡ true → byte_at b.memory x ≡ Some (memory_at (start_of b) b.audit.items x)
   memory-kept x lies =
-      let inside : lies_in_region (region_lengths (start_of a)) x ≡ true = rw (← more.policy) lies in
-      rw (more.policy, more.entries, memory_at-more) (moved.memory x (memory_at (start_of a) a.audit.items x) (was.memory x inside))
+      let inside : lies_in_region (region_lengths (start_of a)) x ≡ true = rw (← moved.policy) lies in
+      rw (moved.policy, moved.entries, memory_at-more) (moved.memory.memory x (memory_at (start_of a) a.audit.items x) (was.memory x inside))
 
   pub IsKept-more : owed (start_of a) a.audit.items event ≡ enters outcome effects → IsKept b
   IsKept-more owing = record {
     granted = granted-kept;
-    rules = rw more.policy (moved.rules ∙ was.rules);
-    held = λ queue id client on right. rw (more.policy, more.entries) (moved.held queue id client on right);
-    lengths = rw more.policy (moved.lengths ∙ was.lengths);
+    rules = rw moved.policy (moved.grants.rules ∙ was.rules);
+    held = λ queue id client on right. rw (moved.policy, moved.entries) (moved.grants.held queue id client on right);
+    lengths = rw moved.policy (moved.memory.lengths ∙ was.lengths);
     memory = memory-kept;
-    values = rw (more.policy, more.entries, signals-more, ← was.values) moved.values;
-    openings = rw (more.policy, more.entries, openings-more, ← was.openings) moved.openings;
-    next_ids = λ queue. rw (more.policy, more.entries, next_id-more, was.next_ids queue) (sym (moved.next_ids queue));
-    errors = λ queue. rw (more.policy, more.entries, errors-more, was.errors queue) (sym (moved.errors queue));
-    stops = λ queue. rw (more.policy, more.entries, is_stopped-more, was.stops queue) (sym (moved.stops queue));
-    few_queues = moved.few_queues;
-    flight = rw (more.policy, more.entries, flight-more, ← was.flight) moved.flight;
-    reachable = rw more.policy moved.reachable;
-    error_room = moved.error_room;
-    room = omega (arith, longer, more.room, more.capacity);
-    places = omega (arith, longer, more.place, more.capacity, was.places);
-    few = omega (arith, more.capacity, was.few);
-    legal = rw (more.policy, more.entries) (IsLegal-more (start_of a) a.audit.items event outcome effects was.legal owing);
+    values = rw (moved.policy, moved.entries, signals-more, ← was.values) moved.values;
+    openings = rw (moved.policy, moved.entries, openings-more, ← was.openings) moved.queues.openings;
+    queues = λ queue. rw (moved.policy, moved.entries) (moved.queues.queues queue);
+    sound = moved.queues.sound;
+    few_queues = moved.queues.few_queues;
+    flying = rw (moved.policy, moved.entries) moved.queues.flying;
+    reachable = rw (moved.policy, moved.entries, flight-more) (all-after (λ f. lies_in_regions (region_lengths (start_of a)) f.packet ≡ true) (entry_of event outcome effects) (flight (start_of a) a.audit.items) moved.launches was.reachable);
+    room = omega (arith, longer, moved.room, moved.capacity);
+    places = omega (arith, longer, moved.place, moved.capacity, was.places);
+    few = omega (arith, moved.capacity, was.few);
+    legal = rw (moved.policy, moved.entries) (IsLegal-more (start_of a) a.audit.items event outcome effects was.legal owing);
   }
+
+-- ---- what an entry leaves as it is
+
+pub memory-still : (memory : List (List ℕ)) (effects : List Effect) → ((x byte : ℕ) → fold (byte_after x) byte effects ≡ byte) → MemoryMoves memory memory effects
+memory-still memory effects none = record { lengths = refl; memory = λ x byte before. before ∙ ap Some (sym (none x byte)) }
+
+module _ (a : Inside) (was : IsKept a) (event : Event) (outcome : Outcome) (effects : List Effect) (quiet : IsQuiet event outcome effects) where
+  pub flying-still : a.flying ≡ length (flight (start_of a) (with_entry a.audit.items event outcome effects))
+  flying-still = was.flying ∙ ap length (sym (flight-quiet (start_of a) a.audit.items event outcome effects quiet))
+
+  pub queues-still : opening_of event ≡ None → QueuesMove a a.queues.items a.flying event outcome effects
+  queues-still none = record {
+    openings = sym (ap (with_some (map kept_opening a.queues.items)) none);
+    queues = λ m. was.queues m ∙ sym (queue_at-quiet (start_of a) a.audit.items event outcome effects quiet m);
+    sound = was.sound;
+    few_queues = was.few_queues;
+    flying = flying-still;
+  }
+
+  pub launches-none : (f : InFlight) → launched_by event outcome ≡ Some f → lies_in_regions (region_lengths (start_of a)) f.packet ≡ true
+  launches-none f is = absurd (none_some f (sym quiet.launches ∙ is))
+    where
+      none_some : (f : InFlight) → None ≡ Some f → ⊥
+      none_some f e = cc

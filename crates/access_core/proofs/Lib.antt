@@ -3,8 +3,9 @@ pub mod Calls
 pub mod QueueLemmas
 pub mod KeptFacts
 pub mod TakeLemmas
-pub mod HandOver
-pub mod ErrorRooms
+pub mod PlacesMore
+pub mod QueueAt
+pub mod QueueMoves
 pub mod PollLemmas
 pub mod StopLemmas
 pub mod LookupLemmas

@@ -1,5 +1,5 @@
 -- A client's listing, by the grants that are kept.
-use Rattle.std.proofs.Common.{◌≡◌, List, refl, sym, ◌∙◌, ap, Bool, true, Ok}
+use Rattle.std.proofs.Common.{◌≡◌, List, ◌∙◌, ap, true, Ok}
 use Rattle.std.specs.Prelude.{map, filter}
 use Rattle.std.specs.List.{list_any}
 use Rattle.aql_packet.specs.declared.ids.ClientId.{ClientId}

@@ -6,7 +6,8 @@ use Rattle.policy.proofs.NameLemmas.{numbered-map}
 use Rattle.core_model.specs.History.{History}
 use Rattle.access_core.specs.declared.access.AccessCore.TheInside.{Inside}
 use Rattle.access_core.specs.declared.queue.Queue.{Queue}
-use Rattle.access_core.specs.Kept.{IsKept, history_of, kept_opening}
+use Rattle.access_core.specs.Kept.{IsKept, history_of}
+use Rattle.access_core.specs.CachedQueue.{kept_opening}
 use Rattle.access_core.specs.Lookups.{IsQueue}
 
 -- the queue with a number among those kept
@@ -14,7 +15,5 @@ pub IsQueue-kept : (a : Inside) (history : History) (queue : QueueId) (kept : Op
 IsQueue-kept a history queue kept is seen_as found =
     subst (λ h. IsQueue h queue kept) seen_as (rw found (record {
       opening = sym (numbered-map kept_opening a.queues.items queue.0) ∙ ap (λ all. numbered all queue.0) is.openings;
-      next_id = is.next_ids queue;
-      errors = is.errors queue;
-      stopped = is.stops queue;
+      cached_is = is.queues queue;
     }))

@@ -25,9 +25,8 @@ use Rattle.grants.specs.Ledger as ledger
 use Rattle.grants.specs.Ledger.{IsNew}
 use Rattle.grants.specs.Rules.{rules_of}
 use Rattle.access_core.specs.Held.{packet_holds}
-use Rattle.access_core.specs.Kept.{IsKept, start_of, kept_opening, kept_next, kept_errors, kept_stopped}
-use Rattle.access_core.specs.QueueShown.{kept_places}
-use Rattle.access_core.specs.ErrorRoom.{HasErrorRoom}
+use Rattle.access_core.specs.Kept.{IsKept, start_of}
+use Rattle.access_core.specs.CachedQueue.{IsSound, cached, kept_opening, place_of, queue_at}
 use Rattle.access_core.specs.LiesInRegions.{lies_in_regions}
 use Rattle.access_core.specs.Opening.{is_capacity, lengths_of_rows, values_of_rows}
 use Rattle.std.proofs.lemmas.Bool.Decides.{nat_tests}
@@ -76,16 +75,16 @@ module _ (start : Start) where
 
 -- what is kept where nothing has happened is what the empty audit says
 module _ (a : Inside) (granted : IsNew a.grants) (ruled : ledger.rules_in a.grants ≡ rules_of a.policy) (memory : a.memory ≡ zeros (lengths_of_rows a.policy)) (values : a.signals ≡ values_of_rows a.policy)
-    (queues : a.queues.items ≡ []) (flying : a.flight ≡ []) (entries : a.audit.items ≡ []) where
+    (queues : a.queues.items ≡ []) (flying : a.flying ≡ 0) (entries : a.audit.items ≡ []) where
   granted-opened : (client : ClientId) (on : Object) (right : Right) → ledger.in_force a.grants client on right ≡ in_force (start_of a) a.audit.items client on right
   granted-opened client on right =
       granted.none_in_force client on right ∙ no_right (start_of a) client on right
       ∙ sym (ap (λ (es : List Entry). in_force (start_of a) es client on right) entries)
 
-  held-opened : (queue : QueueId) (id : PacketId) (client : ClientId) (on : Object) (right : Right) → ledger.holds a.grants queue id client on right ≡ packet_holds (owner (start_of a) a.audit.items) a.flight queue id client on right
+  held-opened : (queue : QueueId) (id : PacketId) (client : ClientId) (on : Object) (right : Right) → ledger.holds a.grants queue id client on right ≡ packet_holds (owner (start_of a) a.audit.items) (flight (start_of a) a.audit.items) queue id client on right
   held-opened queue id client on right =
       granted.none_held queue id client on right
-      ∙ sym (ap (λ (fs : List InFlight). packet_holds (owner (start_of a) a.audit.items) fs queue id client on right) flying)
+      ∙ sym (ap (λ (fs : List InFlight). packet_holds (owner (start_of a) a.audit.items) fs queue id client on right) (ap (flight (start_of a)) entries ∙ sym (no_flight (start_of a))))
 
   lengths-opened : lengths_of a.memory ≡ region_lengths (start_of a)
   lengths-opened = ap lengths_of memory ∙ lengths_of-zeros (lengths_of_rows a.policy)
@@ -104,35 +103,28 @@ module _ (a : Inside) (granted : IsNew a.grants) (ruled : ledger.rules_in a.gran
   no_queue : (queue : QueueId) → numbered a.queues.items queue.0 ≡ None
   no_queue queue = ap (λ (qs : List Queue). numbered qs queue.0) queues ∙ numbered-none queue.0
 
-  next_ids-opened : (queue : QueueId) → next_id (start_of a) a.audit.items queue ≡ kept_next (numbered a.queues.items queue.0)
-  next_ids-opened queue = ap (λ (es : List Entry). next_id (start_of a) es queue) entries ∙ no_packet (start_of a) queue ∙ sym (ap kept_next (no_queue queue))
+  queues-opened : (queue : QueueId) → cached (numbered a.queues.items queue.0) ≡ queue_at (start_of a) a.audit.items queue
+  queues-opened queue = ap cached (no_queue queue) ∙ (λ i. record {
+    next = sym (no_packet (start_of a) queue) i;
+    stopped = sym (no_stop (start_of a) queue) i;
+    errors = sym (no_error (start_of a) queue) i;
+    places = map (place_of (start_of a) []) (filter (λ f. f.queue.0 == queue.0) (no_flight (start_of a) i));
+  }) ∙ sym (ap (λ (es : List Entry). queue_at (start_of a) es queue) entries)
 
-  errors-opened : (queue : QueueId) → errors (start_of a) a.audit.items queue ≡ kept_errors (numbered a.queues.items queue.0)
-  errors-opened queue = ap (λ (es : List Entry). errors (start_of a) es queue) entries ∙ no_error (start_of a) queue ∙ sym (ap kept_errors (no_queue queue))
+  sound-opened : All IsSound a.queues.items
+  sound-opened = subst (All IsSound) (sym queues) (All-nil IsSound)
 
-  stops-opened : (queue : QueueId) → is_stopped (start_of a) a.audit.items queue ≡ kept_stopped (numbered a.queues.items queue.0)
-  stops-opened queue = ap (λ (es : List Entry). is_stopped (start_of a) es queue) entries ∙ no_stop (start_of a) queue ∙ sym (ap kept_stopped (no_queue queue))
+  flight-opened : flight (start_of a) a.audit.items ≡ []
+  flight-opened = ap (flight (start_of a)) entries ∙ sym (no_flight (start_of a))
 
-  flight-opened : a.flight ≡ flight (start_of a) a.audit.items
-  flight-opened = flying ∙ no_flight (start_of a) ∙ sym (ap (flight (start_of a)) entries)
+  flying-opened : a.flying ≡ length (flight (start_of a) a.audit.items)
+  flying-opened = flying ∙ sym (ap length flight-opened)
 
-  reachable-opened : All (λ (f : InFlight). lies_in_regions (region_lengths (start_of a)) f.packet ≡ true) a.flight
-  reachable-opened = subst (All (λ (f : InFlight). lies_in_regions (region_lengths (start_of a)) f.packet ≡ true)) (sym flying) (All-nil _)
-
-  error_room-opened : HasErrorRoom a.queues.items a.flight
-  error_room-opened = record {
-    places = λ queue. ap kept_places (no_queue queue);
-    free = λ queue.
-        let no_errors : length (kept_errors (numbered a.queues.items queue.0)) ≡ 0 = ap (λ q. length (kept_errors q)) (no_queue queue) in
-        let none : length (filter (λ (f : InFlight). f.queue.0 == queue.0) a.flight) ≡ 0 = ap (λ fs. length (filter (λ (f : InFlight). f.queue.0 == queue.0) fs)) flying in
-        omega (arith, no_errors, none);
-  }
+  reachable-opened : All (λ (f : InFlight). lies_in_regions (region_lengths (start_of a)) f.packet ≡ true) (flight (start_of a) a.audit.items)
+  reachable-opened = subst (All (λ (f : InFlight). lies_in_regions (region_lengths (start_of a)) f.packet ≡ true)) (sym flight-opened) (All-nil _)
 
   none_queues : length a.queues.items ≡ 0
   none_queues = ap length queues
-
-  none_flying : length a.flight ≡ 0
-  none_flying = ap length flying
 
   none_entries : length a.audit.items ≡ 0
   none_entries = ap length entries
@@ -149,14 +141,12 @@ module _ (a : Inside) (granted : IsNew a.grants) (ruled : ledger.rules_in a.gran
     memory = memory-opened;
     values = values-opened;
     openings = openings-opened;
-    next_ids = next_ids-opened;
-    errors = errors-opened;
-    stops = stops-opened;
+    queues = queues-opened;
+    sound = sound-opened;
     few_queues = omega (arith, none_queues);
-    flight = flight-opened;
+    flying = flying-opened;
     reachable = reachable-opened;
-    error_room = error_room-opened;
-    room = omega (arith, none_flying, none_entries);
+    room = omega (arith, flying, none_entries);
     places = omega (arith, none_entries, places);
     few = few;
     legal = legal-opened;

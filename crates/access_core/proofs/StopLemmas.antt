@@ -1,45 +1,89 @@
 -- Stops of queues: what is owed by what is kept, and the room that is left.
-use Rattle.std.proofs.Common.{◌≡◌, ℕ, ◌+◌, ◌≤◌, List, [], ◌∷◌, length, refl, sym, ◌∙◌, ap, subst, Bool, true, false, Option, Some, None, All, arith}
-use Rattle.std.specs.Prelude.{ℤ, ◌==◌, ◌&&◌, Err, filter, find, fold, is_some, nat_lt, not, if◌then◌else◌}
+use Rattle.std.proofs.Common.{◌≡◌, ℕ, ◌+◌, ◌-◌, ◌≤◌, List, [], ◌∷◌, length, map, refl, sym, ◌∙◌, ap, subst, Bool, true, false, Option, Some, None, arith}
+use Rattle.std.specs.Prelude.{ℤ, ◌==◌, Err, IfNone, IfSome, find, fold, is_some, nat_lt, not, option_map, if◌then◌else◌}
 use Rattle.std.proofs.lemmas.Bool.{le-ltb, ltb-false}
-use Rattle.std.proofs.lemmas.List.Elements.{All-filter}
 use Rattle.aql_packet.specs.declared.ids.QueueId.{QueueId}
+use Rattle.aql_packet.specs.declared.ids.PacketId.{PacketId}
 use Rattle.policy.specs.Policy.{numbered}
+use Rattle.grants.specs.Ledger.{Ledger, Releases}
 use Rattle.core_model.specs.declared.entry.Effect.{Effect}
+use Rattle.core_model.specs.declared.entry.Effect.TheVariants as effect
 use Rattle.core_model.specs.declared.event.Event.TheVariants.{Stop}
 use Rattle.core_model.specs.declared.flight.InFlight.{InFlight}
 use Rattle.core_model.specs.declared.outcome.Outcome.{Outcome}
 use Rattle.core_model.specs.declared.outcome.Outcome.TheVariants as outcome
 use Rattle.core_model.specs.declared.refusal.Refusal.TheVariants as refusal
-use Rattle.core_model.specs.Flight.{flight_after_effect, is_packet}
+use Rattle.core_model.specs.Flight.{flight_of}
 use Rattle.core_model.specs.History.{History}
 use Rattle.core_model.specs.LaunchRules.{is_barrier}
-use Rattle.core_model.specs.Legal.{Meets, lacks_room, with_entry}
+use Rattle.core_model.specs.Legal.{Meets, entry_of, lacks_room, with_entry}
 use Rattle.core_model.specs.Memory.{byte_after, signals_after}
-use Rattle.regions.specs.Memory.{byte_at}
 use Rattle.core_model.specs.Owed.{owed, enters, refuses, refuse_if, release_of}
+use Rattle.core_model.specs.Queues.{is_stopped}
+use Rattle.core_model.proofs.More.{errors-more, is_stopped-more, next_id-more}
+use Rattle.packet_processor.specs.declared.places.Place.{Place}
+use Rattle.packet_processor.specs.Queueing.{is_at, without}
 use Rattle.access_core.specs.declared.access.AccessCore.TheInside.{Inside}
 use Rattle.access_core.specs.declared.queue.Queue.{Queue}
+use Rattle.access_core.specs.CachedQueue.{IsSound, QueueView, kept_opening, place_of, queue_at}
 use Rattle.access_core.specs.Kept.{IsKept, history_of, start_of}
+use Rattle.access_core.specs.QueueChanges.{freed_by, with_queue, with_stop, without_one}
 use Rattle.access_core.specs.Stopping.{MayStop}
-use Rattle.access_core.specs.Moves.{IsThere}
 use Rattle.access_core.proofs.Calls.{full, room-after}
-use Rattle.access_core.proofs.TakeLemmas.{owner-kept}
-use Rattle.access_core.proofs.WorkLemmas.{filter-fewer, is_packet-itself}
+use Rattle.access_core.proofs.HeldMoves.{grants-released, grants-still}
+use Rattle.access_core.proofs.KeptMore.{GrantsMove, QueuesMove}
+use Rattle.access_core.proofs.PlacesMore.{flight-unlaunched, places-still}
+use Rattle.access_core.proofs.QueueAt.{IsRelease, flight-released}
+use Rattle.access_core.proofs.QueueMoves.{freed-at, length-changed, openings-changed, queues-changed, sound-changed}
+use Rattle.access_core.proofs.TakeLemmas.{IsOpen, is-open, owner-kept, view-kept}
+use Rattle.access_core.proofs.WorkLemmas.{flying-released, freed-below, in-place, queues-released, release-room, sound-released}
 
--- the first of those that pass one test to pass another passes both
-find-filter : {X : Type 0} (kept test : X → Bool) (xs : List X) → find test (filter kept xs) ≡ find (λ x. kept x && test x) xs
-find-filter kept test [] = refl
-find-filter kept test (x ∷ xs) = either (kept x) (test x) refl (find-filter kept test xs)
+-- the barrier packet among the places is the one in flight
+barrier-placed : (g : InFlight → Place) (fs : List InFlight) → ((f : InFlight) → (g f).id ≡ f.id) → ((f : InFlight) → (g f).packet ≡ f.packet)
+    → option_map (λ (p : Place). p.id) (find (λ (p : Place). is_barrier p.packet) (map g fs)) ≡ option_map (λ (f : InFlight). f.id) (find (λ (f : InFlight). is_barrier f.packet) fs)
+barrier-placed g [] named same = refl
+barrier-placed g (f ∷ fs) named same = either (is_barrier (g f).packet) (is_barrier f.packet) (ap is_barrier (same f)) (barrier-placed g fs named same)
   where
-    either : (k t : Bool) → test x ≡ t → find test (filter kept xs) ≡ find (λ y. kept y && test y) xs → find test (if k then x ∷ filter kept xs else filter kept xs) ≡ (if k && t then Some x else find (λ y. kept y && test y) xs)
-    either true true is more = rw is refl
-    either true false is more = rw is more
-    either false t is more = more
+    either : (b c : Bool) → b ≡ c → option_map (λ (p : Place). p.id) (find (λ (p : Place). is_barrier p.packet) (map g fs)) ≡ option_map (λ (f : InFlight). f.id) (find (λ (f : InFlight). is_barrier f.packet) fs)
+        → option_map (λ (p : Place). p.id) (if b then Some (g f) else find (λ (p : Place). is_barrier p.packet) (map g fs)) ≡ option_map (λ (f : InFlight). f.id) (if c then Some f else find (λ (f : InFlight). is_barrier f.packet) fs)
+    either true true is more = ap Some (named f)
+    either false false is more = more
+    either true false is more = absurd cc
+    either false true is more = absurd cc
 
--- whether a packet in flight is a barrier packet of a queue
-abbrev pub is_barrier_of : QueueId → InFlight → Bool
-is_barrier_of queue f = f.queue.0 == queue.0 && is_barrier f.packet
+-- one that is found is found by its id
+record FoundById (id : PacketId) (ps : List Place) : Type 0 where
+  place : Place
+  is : find (is_at id) ps ≡ Some place
+
+found-by_id : (test : Place → Bool) (ps : List Place) (id : PacketId) → option_map (λ (p : Place). p.id) (find test ps) ≡ Some id → FoundById id ps
+found-by_id test [] id found = absurd cc
+found-by_id test (p ∷ ps) id found = first (test p) (is_at id p) refl found (found-by_id test ps id)
+  where
+    first : (b c : Bool) → is_at id p ≡ c → option_map (λ (p : Place). p.id) (if b then Some p else find test ps) ≡ Some id → (option_map (λ (p : Place). p.id) (find test ps) ≡ Some id → FoundById id ps) → FoundById id (p ∷ ps)
+    first b true is found more = record { place = p; is = rw is refl }
+    first true false is found more = absurd (let same : p.id ≡ id = cc in let yes_it : is_at id p ≡ true = rw same (itself id) in cc (is, yes_it))
+      where
+        itself : (id : PacketId) → (id.0 == id.0) ≡ true
+        itself id = grind arith
+    first false false is found more = let later = more found in record { place = later.place; is = rw is later.is }
+
+-- ---- a stop, as the history has it
+
+abbrev pub stopped : Option PacketId → QueueView → QueueView
+stopped barrier v = record v { stopped = true; places = without_one barrier v.places }
+
+is_release : (queue : QueueId) (id : PacketId) → IsRelease queue id (Stop queue) outcome.Accepted (effect.Release queue id ∷ [])
+is_release queue id = record { launches = refl; progress = λ q i so_far. refl; releases = λ fs. refl; hands = λ m. refl }
+
+-- a release changes neither memory nor signals
+pub memory-released : (queue : QueueId) (barrier : Option PacketId) (x byte : ℕ) → fold (byte_after x) byte (release_of queue barrier) ≡ byte
+memory-released queue None x byte = refl
+memory-released queue (Some id) x byte = refl
+
+pub values-released : (queue : QueueId) (barrier : Option PacketId) (values : List ℤ) → fold signals_after values (release_of queue barrier) ≡ values
+values-released queue None values = refl
+values-released queue (Some id) values = refl
 
 module _ (a : Inside) (kept : IsKept a) (queue : QueueId) where
   -- no queue has the number
@@ -47,61 +91,110 @@ module _ (a : Inside) (kept : IsKept a) (queue : QueueId) where
   unfolding owed
   stop-unknown none = rw (owner-kept a queue kept, none) refl
 
+  barrier-is : (q : Queue) → numbered a.queues.items queue.0 ≡ Some q → option_map (λ (p : Place). p.id) (find (λ (p : Place). is_barrier p.packet) q.places)
+      ≡ option_map (λ (f : InFlight). f.id) (find (λ (f : InFlight). is_barrier f.packet) (flight_of (start_of a) a.audit.items queue))
+  barrier-is q some =
+      ap (λ (v : QueueView). option_map (λ (p : Place). p.id) (find (λ (p : Place). is_barrier p.packet) v.places)) (view-kept a queue q kept some)
+      ∙ barrier-placed (place_of (start_of a) a.audit.items) (flight_of (start_of a) a.audit.items queue) (λ f. refl) (λ f. refl)
+
   -- the queue is kept
   pub stop-known : (q : Queue) → numbered a.queues.items queue.0 ≡ Some q →
-      owed (start_of a) a.audit.items (Stop queue) ≡ refuse_if q.stopped refusal.QueueDown (enters outcome.Accepted (release_of (find (is_barrier_of queue) a.flight)))
+      owed (start_of a) a.audit.items (Stop queue) ≡ refuse_if q.stopped refusal.QueueDown (enters outcome.Accepted (release_of queue (option_map (λ (p : Place). p.id) (find (λ (p : Place). is_barrier p.packet) q.places))))
   unfolding owed
   stop-known q some =
-      rw (owner-kept a queue kept, some, kept.stops queue, some, ← kept.flight, find-filter) refl
+      let stops : is_stopped (start_of a) a.audit.items queue ≡ q.stopped = ap (λ (v : QueueView). v.stopped) (sym (view-kept a queue q kept some)) in
+      rw (owner-kept a queue kept, some, stops, barrier-is q some) refl
+
+  open-at : (q : Queue) → numbered a.queues.items queue.0 ≡ Some q → IsOpen a queue
+  open-at q some = is-open a kept queue (kept_opening q) (owner-kept a queue kept ∙ ap (option_map kept_opening) some)
 
   -- a queue whose stop is entered is kept
-  pub stop-there : (told : Outcome) (effects : List Effect) → owed (start_of a) a.audit.items (Stop queue) ≡ enters told effects → IsThere a.queues.items queue
-  stop-there told effects owing = either (numbered a.queues.items queue.0) refl
+  pub stop-open : (told : Outcome) (effects : List Effect) → owed (start_of a) a.audit.items (Stop queue) ≡ enters told effects → IsOpen a queue
+  stop-open told effects owing = either (numbered a.queues.items queue.0) refl
     where
-      either : (o : Option Queue) → numbered a.queues.items queue.0 ≡ o → IsThere a.queues.items queue
+      either : (o : Option Queue) → numbered a.queues.items queue.0 ≡ o → IsOpen a queue
       either None is = let same : refuses refusal.UnknownQueue ≡ enters told effects = sym (stop-unknown is) ∙ owing in absurd cc
-      either (Some q) is = (q, is)
+      either (Some q) is = open-at q is
 
-  -- a barrier packet that leaves flight leaves room for an entry
-  pub stop-room : (f : InFlight) → find (is_barrier_of queue) a.flight ≡ Some f → nat_lt a.capacity (length a.audit.items + 1 + length (fold flight_after_effect a.flight (release_of (Some f)))) ≡ false
-  stop-room f found =
-      let fewer = filter-fewer (is_barrier_of queue) (λ (g : InFlight). not (is_packet f.queue f.id g)) a.flight f found (ap (λ (b : Bool). not b) (is_packet-itself f)) in
-      le-ltb _ _ (omega (arith, kept.room, fewer))
+  module _ (at : IsOpen a queue) where
+    freed-none : freed_by None a.queues.items queue ≡ 0
+    freed-none = let freed-now = freed-at None a.queues.items queue at.q at.found in omega (arith, freed-now)
+
+    pub freed-stopped : (barrier : Option PacketId) → freed_by barrier a.queues.items queue ≤ a.flying
+    freed-stopped None = omega (arith, freed-none)
+    freed-stopped (Some id) = freed-below a kept queue id at
+
+    -- how the queues move along
+    pub queues-stopped : (barrier : Option PacketId) → QueuesMove a (with_queue a.queues.items queue (with_stop barrier)) (a.flying - freed_by barrier a.queues.items queue) (Stop queue) outcome.Accepted (release_of queue barrier)
+    queues-stopped None =
+        let e = entry_of (Stop queue) outcome.Accepted [] in
+        let change = with_stop None in
+        let same = ap length (flight-unlaunched (start_of a) a.audit.items e refl) in
+        record {
+          openings = openings-changed a.queues.items queue change at.q at.found refl;
+          queues = queues-changed a.queues.items queue change at.q at.found (stopped None) (start_of a) a.audit.items _ refl kept.queues (λ m.
+              (λ i. record {
+                next = next_id-more (start_of a) a.audit.items e m i;
+                stopped = is_stopped-more (start_of a) a.audit.items e m i;
+                errors = errors-more (start_of a) a.audit.items e m i;
+                places = places-still (start_of a) a.audit.items e refl (λ q id p. refl) m refl i;
+              })
+              ∙ pick (queue.0 == m.0) (queue_at (start_of a) a.audit.items m));
+          sound = sound-changed a.queues.items queue change at.q at.found (record { room = at.sound.room; free = at.sound.free; below = at.sound.below }) kept.sound;
+          few_queues = omega (arith, length-changed a.queues.items queue change at.q at.found, kept.few_queues);
+          flying = omega (arith, same, freed-none, kept.flying);
+        }
+      where
+        pick : (b : Bool) (v : QueueView) → record { next = v.next; stopped = (if b then true else v.stopped); errors = v.errors; places = v.places } ≡ (if b then stopped None v else v)
+        pick true v = refl
+        pick false v = refl
+    queues-stopped (Some id) =
+        queues-released a kept queue id (Stop queue) outcome.Accepted (effect.Release queue id ∷ []) (is_release queue id) refl at (with_stop (Some id)) (stopped (Some id)) refl sound refl pick
+      where
+        sound : IsSound (with_stop (Some id) at.q)
+        sound = let less = sound-released at.q id at.sound in record { room = less.room; free = less.free; below = less.below }
+
+        pick : (m : QueueId) (v : QueueView) (b : Bool) → (queue.0 == m.0) ≡ b → record { next = v.next; stopped = (if queue.0 == m.0 then true else v.stopped); errors = v.errors; places = (if b then without id v.places else v.places) } ≡ (if b then stopped (Some id) v else v)
+        pick m v true same = rw same refl
+        pick m v false same = rw same refl
+
+  -- how the grants do
+  pub grants-stopped : (barrier : Option PacketId) (new : Ledger) → IfSome barrier (λ id. Releases a.grants new queue id) → IfNone barrier (new ≡ a.grants) → GrantsMove a new (Stop queue) outcome.Accepted (release_of queue barrier)
+  grants-stopped None new released same =
+      subst (λ g. GrantsMove a g (Stop queue) outcome.Accepted []) (sym same)
+      (grants-still a kept (Stop queue) outcome.Accepted [] refl (λ client on right b. refl) (flight-unlaunched (start_of a) a.audit.items (entry_of (Stop queue) outcome.Accepted []) refl))
+  grants-stopped (Some id) new released same =
+      grants-released a kept (Stop queue) outcome.Accepted (effect.Release queue id ∷ []) refl (λ client on right b. refl) new queue id (flight-released (start_of a) a.audit.items queue id _ _ _ (is_release queue id)) released
 
   -- a stop that is entered, whose entry has room
-  pub may-stop : (q : Queue) (barrier : Option InFlight) (none : Bool) (old : History) → history_of a ≡ old → numbered a.queues.items queue.0 ≡ Some q → q.stopped ≡ false → barrier ≡ find (is_barrier_of queue) a.flight
-      → is_some barrier ≡ not none → (none ≡ true → nat_lt a.capacity (length a.audit.items + 1 + length a.flight) ≡ false) → MayStop old queue barrier
+  pub may-stop : (q : Queue) (barrier : Option PacketId) (none : Bool) (old : History) → history_of a ≡ old → numbered a.queues.items queue.0 ≡ Some q → q.stopped ≡ false → barrier ≡ option_map (λ (p : Place). p.id) (find (λ (p : Place). is_barrier p.packet) q.places)
+      → is_some barrier ≡ not none → (none ≡ true → nat_lt a.capacity (length a.audit.items + 1 + a.flying) ≡ false) → MayStop old queue barrier
   may-stop q barrier none old seen_as some goes is which room = subst (λ h. MayStop h queue barrier) seen_as (record {
     owing = stop-known q some ∙ (rw (goes, is) refl);
-    room = room-after (Stop queue) a (history_of a) refl outcome.Accepted (release_of barrier) kept ∙ left barrier none is which room;
+    room =
+        let moves = queues-stopped (open-at q some) barrier in
+        room-after (Stop queue) a (history_of a) refl outcome.Accepted (release_of queue barrier) _ moves.flying ∙ left barrier none is which room;
   })
     where
-      left : (o : Option InFlight) (b : Bool) → o ≡ find (is_barrier_of queue) a.flight → is_some o ≡ not b → (b ≡ true → nat_lt a.capacity (length a.audit.items + 1 + length a.flight) ≡ false) →
-          nat_lt a.capacity (length a.audit.items + 1 + length (fold flight_after_effect a.flight (release_of o))) ≡ false
-      left None true is which room = room refl
+      left : (o : Option PacketId) (b : Bool) → o ≡ option_map (λ (p : Place). p.id) (find (λ (p : Place). is_barrier p.packet) q.places) → is_some o ≡ not b → (b ≡ true → nat_lt a.capacity (length a.audit.items + 1 + a.flying) ≡ false) →
+          nat_lt a.capacity (length a.audit.items + 1 + (a.flying - freed_by o a.queues.items queue)) ≡ false
+      left None true is which room = let all : a.flying - freed_by None a.queues.items queue ≡ a.flying = omega (arith, freed-none (open-at q some)) in rw all (room refl)
       left None false is which room = absurd cc
-      left (Some f) b is which room = stop-room f (sym is)
+      left (Some id) b is which room =
+          let by_id = found-by_id (λ (p : Place). is_barrier p.packet) q.places id (sym is) in
+          let found = in-place a kept queue id q some by_id.place by_id.is in
+          rw (flying-released a kept queue id (open-at q some)) (le-ltb _ _ (release-room a kept queue id found.flying found.found))
 
   -- a stop without a barrier packet, whose entry has no room
-  pub stop-full : (q : Queue) (barrier : Option InFlight) (old : History) → history_of a ≡ old → numbered a.queues.items queue.0 ≡ Some q → q.stopped ≡ false → barrier ≡ find (is_barrier_of queue) a.flight
-      → is_some barrier ≡ false → nat_lt a.capacity (length a.audit.items + 1 + length a.flight) ≡ true → Meets (Stop queue) old old (Err refusal.AuditFull)
-  stop-full q None old seen_as some goes is none lacks = full (Stop queue) a old seen_as outcome.Accepted [] kept (stop-known q some ∙ (rw (goes, ← is) refl)) lacks
-  stop-full q (Some f) old seen_as some goes is none lacks = absurd cc
+  pub stop-full : (q : Queue) (barrier : Option PacketId) (old : History) → history_of a ≡ old → numbered a.queues.items queue.0 ≡ Some q → q.stopped ≡ false → barrier ≡ option_map (λ (p : Place). p.id) (find (λ (p : Place). is_barrier p.packet) q.places)
+      → is_some barrier ≡ false → nat_lt a.capacity (length a.audit.items + 1 + a.flying) ≡ true → Meets (Stop queue) old old (Err refusal.AuditFull)
+  stop-full q None old seen_as some goes is none lacks =
+      full (Stop queue) a old seen_as outcome.Accepted [] a.flying (kept.flying ∙ ap length (sym (flight-unlaunched (start_of a) a.audit.items (entry_of (Stop queue) outcome.Accepted []) refl)))
+      (stop-known q some ∙ (rw (goes, ← is) refl)) lacks
+  stop-full q (Some id) old seen_as some goes is none lacks = absurd cc
 
   -- the room in numbers
-  pub room-of_stop : (barrier : Option InFlight) → lacks_room a.capacity (start_of a) (with_entry a.audit.items (Stop queue) outcome.Accepted (release_of barrier)) ≡ false → length a.audit.items + 1 + length (fold flight_after_effect a.flight (release_of barrier)) ≤ a.capacity
-  room-of_stop barrier room = ltb-false _ _ (sym (room-after (Stop queue) a (history_of a) refl outcome.Accepted (release_of barrier) kept) ∙ room)
-
--- a release changes neither memory nor signals
-pub memory-released : (barrier : Option InFlight) (memory : List (List ℕ)) (x byte : ℕ) → byte_at memory x ≡ Some byte → byte_at memory x ≡ Some (fold (byte_after x) byte (release_of barrier))
-memory-released None memory x byte h = h
-memory-released (Some f) memory x byte h = h
-
-pub values-released : (barrier : Option InFlight) (values : List ℤ) → fold signals_after values (release_of barrier) ≡ values
-values-released None values = refl
-values-released (Some f) values = refl
-
--- what holds of each packet in flight holds after releases
-pub all-released : (P : InFlight → Type 0) (barrier : Option InFlight) (fs : List InFlight) → All P fs → All P (fold flight_after_effect fs (release_of barrier))
-all-released P None fs all = all
-all-released P (Some f) fs all = All-filter (λ g. not (is_packet f.queue f.id g)) P fs all
+  pub room-of_stop : (at : IsOpen a queue) (barrier : Option PacketId) → lacks_room a.capacity (start_of a) (with_entry a.audit.items (Stop queue) outcome.Accepted (release_of queue barrier)) ≡ false → length a.audit.items + 1 + (a.flying - freed_by barrier a.queues.items queue) ≤ a.capacity
+  room-of_stop at barrier room =
+      let moves = queues-stopped at barrier in
+      ltb-false _ _ (sym (room-after (Stop queue) a (history_of a) refl outcome.Accepted (release_of queue barrier) _ moves.flying) ∙ room)

@@ -1,14 +1,11 @@
 -- What is owed to a packet that is handed over, by what is kept.
 use Rattle.std.proofs.Common.{◌≡◌, ℕ, ◌-◌, ◌<◌, ◌≤◌, ◌^◌, List, [], ◌∷◌, ◌++◌, length, refl, sym, ◌∙◌, ap, Bool, true, false, Option, Some, None, arith}
-use Rattle.std.specs.Prelude.{nat_lt, nat_le, All, not, ◌||◌, ◌&&◌, ◌==◌, map, slice_get, filter, option_map, if◌then◌else◌}
+use Rattle.std.specs.Prelude.{nat_lt, nat_le, All, not, ◌||◌, ◌&&◌, ◌==◌, map, slice_get, option_map, if◌then◌else◌}
 use Rattle.std.proofs.lemmas.Option.{slice_get-map}
-use Rattle.std.proofs.lemmas.List.Elements.{All-append, All-cons}
 use Rattle.aql_packet.specs.declared.ids.QueueId.{QueueId}
 use Rattle.aql_packet.specs.declared.ids.PacketId.{PacketId}
 use Rattle.aql_packet.specs.declared.packet.Packet.{Packet}
-use Rattle.aql_packet.specs.declared.packet.Packet.TheVariants as packet
 use Rattle.aql_packet.specs.Reading.{barrier_bit, decoded}
-use Rattle.regions.specs.Memory.{is_within}
 use Rattle.queue_error.specs.declared.rule.Rule.{Rule}
 use Rattle.queue_error.specs.declared.rule.Rule.TheVariants as rule
 use Rattle.std.specs.List.{list_all, list_any}
@@ -21,12 +18,11 @@ use Rattle.core_model.specs.declared.outcome.Cause.TheVariants as cause
 use Rattle.core_model.specs.declared.refusal.Refusal.TheVariants as refusal
 use Rattle.core_model.specs.History.{Start}
 use Rattle.core_model.specs.Memory.{region_lengths}
-use Rattle.core_model.specs.Queues.{Opening, owner, next_id, hands_over, errors}
+use Rattle.core_model.specs.Queues.{Opening, owner, next_id, hands_over, errors, is_stopped}
 use Rattle.core_model.specs.declared.entry.Entry.{Entry}
 use Rattle.queue_error.specs.declared.error.QueueError.{QueueError}
 use Rattle.std.proofs.lemmas.List.Sums.{count_by-le-length}
 use Rattle.std.proofs.lemmas.Bool.{leb-false, lt-ltb}
-use Rattle.access_core.specs.Moves.{CanHandOver}
 use Rattle.core_model.specs.declared.need.Need.{Need}
 use Rattle.core_model.specs.Needs.{memory_needs, needs}
 use Rattle.core_model.specs.Holds.{Held, as_held, held_at_launch}
@@ -37,7 +33,25 @@ use Rattle.core_model.specs.Owed.{refuses, owed, refuse_if, refuse_unless, decid
 use Rattle.access_core.specs.declared.queue.Queue.{Queue}
 use Rattle.access_core.specs.declared.access.AccessCore.TheInside.{Inside}
 use Rattle.access_core.specs.Judged.{facts_lent}
-use Rattle.access_core.specs.Kept.{IsKept, start_of, kept_opening, kept_next, kept_errors, history_of}
+use Rattle.access_core.specs.Kept.{IsKept, start_of, history_of}
+use Rattle.access_core.specs.CachedQueue.{IsSound, QueueView, cached, kept_opening, place_of, queue_at}
+use Rattle.access_core.proofs.PlacesMore.{map-map}
+use Rattle.std.proofs.Common.{◌+◌, length-append, subst}
+use Rattle.std.proofs.lemmas.List.Elements.{All-push, All-weaker}
+use Rattle.core_model.specs.declared.outcome.Outcome.TheVariants as outcome
+use Rattle.core_model.specs.declared.outcome.Taken.TheVariants.{Launched, Denied}
+use Rattle.core_model.specs.Flight.{flight, launched_by}
+use Rattle.core_model.specs.Legal.{entry_of, with_entry}
+use Rattle.core_model.specs.Owed.{error_at}
+use Rattle.packet_processor.specs.Queueing.{as_launched}
+use Rattle.access_core.specs.QueueChanges.{CanFail, with_denied, with_launched, with_queue}
+use Rattle.access_core.proofs.KeptMore.{QueuesMove}
+use Rattle.access_core.proofs.PlacesMore.{flight-launched, flight-unlaunched}
+use Rattle.access_core.proofs.QueueAt.{denied, launched, queue_at-denied, queue_at-launched}
+use Rattle.access_core.proofs.QueueMoves.{length-changed, openings-changed, queues-changed, sound-at, sound-changed}
+use Rattle.packet_processor.specs.declared.places.Place.{Place}
+use Rattle.core_model.specs.Flight.{flight_of}
+use Rattle.std.proofs.lemmas.List.{length-map}
 use Rattle.access_core.specs.Deciding.{TakesNext, MayHold}
 
 numbered-map : (queues : List Queue) (n : ℕ) → numbered (map kept_opening queues) n ≡ option_map kept_opening (numbered queues n)
@@ -60,6 +74,16 @@ facts-kept a q kept = λ i. record {
   lengths = sym kept.lengths i;
 }
 
+-- what is kept of a queue is what the history says of it
+pub view-kept : (a : Inside) (queue : QueueId) (q : Queue) → IsKept a → numbered a.queues.items queue.0 ≡ Some q → cached (Some q) ≡ queue_at (start_of a) a.audit.items queue
+view-kept a queue q kept some = ap cached (sym some) ∙ kept.queues queue
+
+-- its packets in flight are those of the history
+pub packets-kept : (a : Inside) (queue : QueueId) (q : Queue) → IsKept a → numbered a.queues.items queue.0 ≡ Some q → map (λ (f : InFlight). f.packet) (flight_of (start_of a) a.audit.items queue) ≡ map (λ (p : Place). p.packet) q.places
+packets-kept a queue q kept some =
+    sym (map-map (λ (p : Place). p.packet) (place_of (start_of a) a.audit.items) (flight_of (start_of a) a.audit.items queue))
+    ∙ ap (λ (v : QueueView). map (λ (p : Place). p.packet) v.places) (sym (view-kept a queue q kept some))
+
 module _ (a : Inside) (kept : IsKept a) (queue : QueueId) (id : PacketId) (bytes : List ℕ) where
   -- no queue has the number
   pub take-unknown : numbered a.queues.items queue.0 ≡ None → owed (start_of a) a.audit.items (Take queue id bytes) ≡ refuses refusal.UnknownQueue
@@ -71,10 +95,14 @@ module _ (a : Inside) (kept : IsKept a) (queue : QueueId) (id : PacketId) (bytes
       owed (start_of a) a.audit.items (Take queue id bytes) ≡
       refuse_if (nat_lt 0 (length q.errors.items) || q.stopped) refusal.QueueDown
       (refuse_unless (id.0 == q.next) (refusal.OutOfStep q.next)
-      (decided queue id.0 (may_start (filter (λ (f : InFlight). f.queue.0 == queue.0) a.flight) (barrier_bit bytes)) (first_failing (facts_lent a.policy a.grants a.memory q.client q.agent) bytes)))
+      (decided queue id.0 (may_start (map (λ (p : Place). p.packet) q.places) (barrier_bit bytes)) (first_failing (facts_lent a.policy a.grants a.memory q.client q.agent) bytes)))
   unfolding owed
   take-known q some =
-      rw (owner-kept a queue kept, some, kept.errors queue, kept.stops queue, kept.next_ids queue, some, ← kept.flight, facts-kept a q kept) refl
+      let view = view-kept a queue q kept some in
+      let next : next_id (start_of a) a.audit.items queue ≡ q.next = ap (λ (v : QueueView). v.next) (sym view) in
+      let errs : errors (start_of a) a.audit.items queue ≡ q.errors.items = ap (λ (v : QueueView). v.errors) (sym view) in
+      let stopped : is_stopped (start_of a) a.audit.items queue ≡ q.stopped = ap (λ (v : QueueView). v.stopped) (sym view) in
+      rw (owner-kept a queue kept, some, errs, stopped, next, packets-kept a queue q kept some, facts-kept a q kept) refl
 
 -- both parts of a conjunction hold
 both_true : (a b : Bool) → (a && b) ≡ true → (a ≡ true) × (b ≡ true)
@@ -143,28 +171,27 @@ may-hold a q bytes p kept found none =
     (passed-rights (facts_lent a.policy a.grants a.memory q.client q.agent) p (sym (first_failing-decoded _ bytes p found) ∙ none))
 
 -- a packet that may start finds a slot free
-may_start-few : (fs : List InFlight) (barrier : Bool) → may_start fs barrier ≡ None → length fs < 8
+may_start-few : (ps : List Packet) (barrier : Bool) → may_start ps barrier ≡ None → length ps < 8
 unfolding may_start
-may_start-few fs barrier none = by_tests (list_any (λ (f : InFlight). is_barrier f.packet) fs) (barrier && nat_lt 0 (length fs)) (nat_le 8 (length fs)) refl none
+may_start-few ps barrier none = by_tests (list_any is_barrier ps) (barrier && nat_lt 0 (length ps)) (nat_le 8 (length ps)) refl none
   where
-    by_tests : (first second third : Bool) → nat_le 8 (length fs) ≡ third → (if first then Some cause.Barrier else if second then Some cause.Active else if third then Some cause.Slots else None) ≡ None → length fs < 8
+    by_tests : (first second third : Bool) → nat_le 8 (length ps) ≡ third → (if first then Some cause.Barrier else if second then Some cause.Active else if third then Some cause.Slots else None) ≡ None → length ps < 8
     by_tests true second third is none = absurd (cc)
     by_tests false true third is none = absurd (cc)
     by_tests false false true is none = absurd (cc)
-    by_tests false false false is none = leb-false 8 (length fs) is
+    by_tests false false false is none = leb-false 8 (length ps) is
 
 -- a queue that is kept, and not down, and where a packet may start takes its next packet
-pub takes-next : (a : Inside) (kept : IsKept a) (queue : QueueId) (q : Queue) (barrier : Bool) → numbered a.queues.items queue.0 ≡ Some q → (nat_lt 0 (length q.errors.items) || q.stopped) ≡ false → may_start (filter (λ (f : InFlight). f.queue.0 == queue.0) a.flight) barrier ≡ None → TakesNext (history_of a) queue
-takes-next a kept queue q barrier some down starts = (
-  kept_opening q,
-  owner-kept a queue kept ∙ ap (option_map kept_opening) some,
-  rw (kept.errors queue, kept.stops queue, some) down,
-  rw (← kept.flight) (may_start-few _ barrier starts),
-)
-
--- the packets of a queue in flight that are kept are those of the history
-pub few-flying : (a : Inside) (kept : IsKept a) (queue : QueueId) → TakesNext (history_of a) queue → length (filter (λ (f : InFlight). f.queue.0 == queue.0) a.flight) < 8
-few-flying a kept queue takes = rw kept.flight takes.3
+pub takes-next : (a : Inside) (kept : IsKept a) (queue : QueueId) (q : Queue) (barrier : Bool) → numbered a.queues.items queue.0 ≡ Some q → (nat_lt 0 (length q.errors.items) || q.stopped) ≡ false → may_start (map (λ (p : Place). p.packet) q.places) barrier ≡ None → TakesNext (history_of a) queue
+takes-next a kept queue q barrier some down starts =
+    let view = view-kept a queue q kept some in
+    let count = length-map (flight_of (start_of a) a.audit.items queue) (λ (f : InFlight). f.packet) in
+    let few = may_start-few (map (λ (f : InFlight). f.packet) (flight_of (start_of a) a.audit.items queue)) barrier (ap (λ ps. may_start ps barrier) (packets-kept a queue q kept some) ∙ starts) in (
+      kept_opening q,
+      owner-kept a queue kept ∙ ap (option_map kept_opening) some,
+      ap (λ (v : QueueView). nat_lt 0 (length v.errors) || v.stopped) (sym view) ∙ down,
+      omega (arith, count, few),
+    )
 
 none_opening : (o : Opening) → None ≡ Some o → ⊥
 none_opening o e = cc
@@ -181,23 +208,115 @@ no_errors (x ∷ xs) s e = let some : nat_lt 0 (length (x ∷ xs)) ≡ true = lt
     true_false : true ≡ false → ⊥
     true_false e = cc
 
--- a queue that takes its next packet is kept, has no error, and its next id can rise
-pub kept-next : (a : Inside) (kept : IsKept a) (queue : QueueId) → TakesNext (history_of a) queue → CanHandOver a.queues.items queue × (kept_errors (numbered a.queues.items queue.0) ≡ [])
-kept-next a kept queue takes = either (numbered a.queues.items queue.0) refl
-  where
-    either : (o : Option Queue) → numbered a.queues.items queue.0 ≡ o → CanHandOver a.queues.items queue × (kept_errors (numbered a.queues.items queue.0) ≡ [])
-    either None is =
-        let none : option_map kept_opening (numbered a.queues.items queue.0) ≡ None = ap (option_map kept_opening) is in
-        absurd (none_opening takes.0 (sym none ∙ sym (owner-kept a queue kept) ∙ takes.1))
-    either (Some q) is =
-        let next : next_id (start_of a) a.audit.items queue ≡ q.next = kept.next_ids queue ∙ ap kept_next is in
-        let few : next_id (start_of a) a.audit.items queue ≤ length a.audit.items = next_id-le (start_of a) a.audit.items queue in
-        let small : q.next < 2 ^ 63 = omega (arith, kept.room, kept.few) in
-        let errs : errors (start_of a) a.audit.items queue ≡ [] = no_errors _ _ takes.2 in
-        ((q, is, small), sym (kept.errors queue) ∙ errs)
+-- What is kept of a queue whose opening the history knows.
+pub record IsOpen (a : Inside) (queue : QueueId) : Type 0 where
+  pub q : Queue
+  pub found : numbered a.queues.items queue.0 ≡ Some q
+  pub view : cached (Some q) ≡ queue_at (start_of a) a.audit.items queue
+  pub sound : IsSound q
+  pub small : q.next < 2 ^ 63
 
--- one packet more reaches only what lies whole in regions
-pub reachable-more : (lengths : List ℕ) (flying : List InFlight) (f : InFlight) → All (λ (x : InFlight). lies_in_regions lengths x.packet ≡ true) flying → lies_in_regions lengths f.packet ≡ true → All (λ (x : InFlight). lies_in_regions lengths x.packet ≡ true) (flying ++ f ∷ [])
-reachable-more lengths flying f all one =
-    let P : InFlight → Type 0 = λ x. lies_in_regions lengths x.packet ≡ true in
-    All-append P flying (f ∷ []) all (All-cons P f [] one (λ k d below. absurd (omega (arith, below))))
+pub is-open : (a : Inside) (kept : IsKept a) (queue : QueueId) (opening : Opening) → owner (start_of a) a.audit.items queue ≡ Some opening → IsOpen a queue
+is-open a kept queue opening owned = either (numbered a.queues.items queue.0) refl
+  where
+    either : (o : Option Queue) → numbered a.queues.items queue.0 ≡ o → IsOpen a queue
+    either None is = absurd (none_opening opening (sym (ap (option_map kept_opening) is) ∙ sym (owner-kept a queue kept) ∙ owned))
+    either (Some q) is =
+        let view = view-kept a queue q kept is in
+        let next : q.next ≡ next_id (start_of a) a.audit.items queue = ap (λ (v : QueueView). v.next) view in
+        let few : next_id (start_of a) a.audit.items queue ≤ length a.audit.items = next_id-le (start_of a) a.audit.items queue in
+        record { q = q; found = is; view = view; sound = sound-at a.queues.items queue.0 q kept.sound is; small = omega (arith, kept.room, kept.few, next, few) }
+
+-- A queue that takes its next packet has no error, and a slot free.
+pub record CanTake (a : Inside) (queue : QueueId) : Type 0 where
+  pub opened : IsOpen a queue
+  pub none : opened.q.errors.items ≡ []
+  pub few : length opened.q.places < 8
+
+pub can-take : (a : Inside) (kept : IsKept a) (queue : QueueId) → TakesNext (history_of a) queue → CanTake a queue
+can-take a kept queue takes =
+    let at = is-open a kept queue takes.0 takes.1 in
+    let count = length-map (flight_of (start_of a) a.audit.items queue) (place_of (start_of a) a.audit.items) in
+    let places : length at.q.places ≡ length (map (place_of (start_of a) a.audit.items) (flight_of (start_of a) a.audit.items queue)) = ap (λ (v : QueueView). length v.places) at.view in
+    record { opened = at; none = ap (λ (v : QueueView). v.errors) at.view ∙ no_errors _ _ takes.2; few = omega (arith, count, places, takes.3) }
+
+-- ---- how the queues move along with a packet that is handed over
+
+module _ (a : Inside) (kept : IsKept a) (queue : QueueId) (id : PacketId) (bytes : List ℕ) (can : CanTake a queue) where
+  -- there is room for an error
+  pub can-deny : CanFail a.queues.items queue
+  can-deny =
+      let none : length can.opened.q.errors.items ≡ 0 = ap length can.none in
+      (can.opened.q, can.opened.found, omega (arith, none, can.opened.sound.room), can.opened.small)
+
+  sound-denied : (error : QueueError) → IsSound (with_denied error can.opened.q)
+  sound-denied error =
+      let q = can.opened.q in
+      let none : length q.errors.items ≡ 0 = ap length can.none in
+      let longer = length-append q.errors.items (error ∷ []) in
+      record {
+        room = omega (arith, none, longer, can.opened.sound.room);
+        free = omega (arith, none, longer, can.few);
+        below = All-weaker (λ (p : Place). p.id.0 < q.next) (λ p. p.id.0 < q.next + 1) (λ p below. omega (arith, below)) q.places can.opened.sound.below;
+      }
+
+  pub flight-denied : (rule : Rule) → flight (start_of a) (with_entry a.audit.items (Take queue id bytes) (outcome.Taken (Denied (error_at queue id.0 rule))) []) ≡ flight (start_of a) a.audit.items
+  flight-denied rule = flight-unlaunched (start_of a) a.audit.items (entry_of (Take queue id bytes) (outcome.Taken (Denied (error_at queue id.0 rule))) []) refl
+
+  -- it is denied
+  pub queues-denied : (rule : Rule) → QueuesMove a (with_queue a.queues.items queue (with_denied (error_at queue id.0 rule))) a.flying (Take queue id bytes) (outcome.Taken (Denied (error_at queue id.0 rule))) []
+  queues-denied rule =
+      let change = with_denied (error_at queue id.0 rule) in
+      let at = can.opened in
+      record {
+        openings = openings-changed a.queues.items queue change at.q at.found refl;
+        queues = queues-changed a.queues.items queue change at.q at.found (denied (error_at queue id.0 rule)) (start_of a) a.audit.items _ refl kept.queues (λ m. queue_at-denied (start_of a) a.audit.items queue id bytes rule m);
+        sound = sound-changed a.queues.items queue change at.q at.found (sound-denied (error_at queue id.0 rule)) kept.sound;
+        few_queues = omega (arith, length-changed a.queues.items queue change at.q at.found, kept.few_queues);
+        flying = kept.flying ∙ ap length (sym (flight-denied rule));
+      }
+
+  -- it is launched
+  module _ (p : Packet) (reads : decoded bytes ≡ Some p) (next : id.0 ≡ next_id (start_of a) a.audit.items queue) where
+    next-is : can.opened.q.next ≡ id.0
+    next-is = ap (λ (v : QueueView). v.next) can.opened.view ∙ sym next
+
+    below-id : All (λ (place : Place). place.id.0 < id.0) (queue_at (start_of a) a.audit.items queue).places
+    below-id = subst (λ (ps : List Place). All (λ (place : Place). place.id.0 < id.0) ps) (ap (λ (v : QueueView). v.places) can.opened.view) (subst (λ n. All (λ (place : Place). place.id.0 < n) can.opened.q.places) next-is can.opened.sound.below)
+
+    sound-launched : IsSound (with_launched id p can.opened.q)
+    sound-launched =
+        let q = can.opened.q in
+        let none : length q.errors.items ≡ 0 = ap length can.none in
+        let longer = length-append q.places (as_launched id p ∷ []) in
+        record {
+          room = can.opened.sound.room;
+          free = omega (arith, none, longer, can.few);
+          below = All-push (λ p. p.id.0 < q.next + 1) q.places (as_launched id p)
+              (All-weaker (λ (p : Place). p.id.0 < q.next) (λ p. p.id.0 < q.next + 1) (λ p below. omega (arith, below)) q.places can.opened.sound.below)
+              (omega (arith, next-is));
+        }
+
+    pub flying-launched : a.flying + 1 ≡ length (flight (start_of a) (with_entry a.audit.items (Take queue id bytes) (outcome.Taken Launched) []))
+    flying-launched =
+        let longer = length-append (flight (start_of a) a.audit.items) (record { queue = queue; id = id; packet = p } ∷ []) in
+        let now = ap length (flight-launched (start_of a) a.audit.items queue id bytes p reads) in
+        omega (arith, longer, now, kept.flying)
+
+    pub queues-launched : QueuesMove a (with_queue a.queues.items queue (with_launched id p)) (a.flying + 1) (Take queue id bytes) (outcome.Taken Launched) []
+    queues-launched =
+        let at = can.opened in
+        record {
+          openings = openings-changed a.queues.items queue (with_launched id p) at.q at.found refl;
+          queues = queues-changed a.queues.items queue (with_launched id p) at.q at.found (launched id p) (start_of a) a.audit.items _ refl kept.queues (λ m. queue_at-launched (start_of a) a.audit.items queue id bytes p reads below-id m);
+          sound = sound-changed a.queues.items queue (with_launched id p) at.q at.found sound-launched kept.sound;
+          few_queues = omega (arith, length-changed a.queues.items queue (with_launched id p) at.q at.found, kept.few_queues);
+          flying = flying-launched;
+        }
+
+    -- and the packet that is launched is this one
+    pub packet-launched : (P : Packet → Type 0) → P p → (f : InFlight) → launched_by (Take queue id bytes) (outcome.Taken Launched) ≡ Some f → P f.packet
+    packet-launched P holds f is =
+        let made : Some (record { queue = queue; id = id; packet = p }) ≡ Some f = ap (option_map (λ (x : Packet). record { queue = queue; id = id; packet = x })) (sym reads) ∙ is in
+        let same : record { queue = queue; id = id; packet = p } ≡ f = cc in
+        subst P (ap (λ (g : InFlight). g.packet) same) holds

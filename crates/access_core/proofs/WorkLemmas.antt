@@ -9,15 +9,44 @@ use Rattle.aql_packet.specs.declared.ids.PacketId.{PacketId}
 use Rattle.aql_packet.specs.declared.ids.SignalHandle.{SignalHandle}
 use Rattle.core_model.specs.declared.entry.Effect.TheVariants as effect
 use Rattle.core_model.specs.declared.flight.InFlight.{InFlight}
-use Rattle.core_model.specs.Memory.{byte_after, signals, signals_after}
-use Rattle.core_model.specs.Flight.{flight_after_effect, in_flight, is_packet}
-use Rattle.core_model.specs.Owed.{owed, enters, completed}
+use Rattle.core_model.specs.Memory.{byte_after, signals_after}
+use Rattle.core_model.specs.declared.refusal.Refusal.TheVariants as refusal
+use Rattle.std.proofs.lemmas.Bool.{and_parts, eqb-true}
+use Rattle.std.specs.Prelude.{◌&&◌, option_map, All}
+use Rattle.policy.specs.Policy.{numbered}
+use Rattle.core_model.specs.Memory.{region_lengths}
+use Rattle.core_model.specs.Flight.{flight, flight_after_effect, in_flight, is_packet, progress}
+use Rattle.core_model.specs.declared.flight.Progress.{Progress}
+use Rattle.core_model.specs.Owed.{Owed, owed, enters, refuses, completed, for_packet}
+use Rattle.core_model.specs.Legal.{with_entry}
+use Rattle.core_model.specs.Queues.{error_of, opening_of, owner, stops}
 use Rattle.core_model.specs.declared.event.Event.{Event}
+use Rattle.core_model.specs.declared.entry.Effect.{Effect}
+use Rattle.core_model.specs.declared.outcome.Outcome.{Outcome}
 use Rattle.core_model.specs.declared.outcome.Outcome.TheVariants as outcome
 use Rattle.core_model.specs.History.{History}
+use Rattle.core_model.proofs.More.{with_error, with_some}
+use Rattle.aql_packet.specs.declared.packet.Packet.{Packet}
+use Rattle.std.proofs.lemmas.List.{length-map}
+use Rattle.std.proofs.lemmas.List.Elements.{All-filter, All-head, All-tail}
+use Rattle.std.specs.Prelude.{map}
+use Rattle.packet_processor.specs.declared.places.Place.{Place}
+use Rattle.packet_processor.specs.Queueing.{is_at, with_progress, without}
 use Rattle.access_core.specs.declared.access.AccessCore.TheInside.{Inside}
+use Rattle.access_core.specs.declared.queue.Queue.{Queue}
+use Rattle.access_core.specs.CachedQueue.{IsSound, QueueView, cached, kept_opening, place_of}
+use Rattle.access_core.specs.InPlace.{IsInPlace, RefusedAt, completion_of, finish_owed}
+use Rattle.access_core.specs.LiesInRegions.{lies_in_regions}
 use Rattle.access_core.specs.Kept.{IsKept, start_of, history_of}
-use Rattle.access_core.specs.ToldWork.{without}
+use Rattle.queue_error.specs.declared.error.QueueError.{QueueError}
+use Rattle.std.proofs.Common.{get_or, length-append}
+use Rattle.std.proofs.lemmas.List.Elements.{All-map}
+use Rattle.access_core.specs.QueueChanges.{CanFail, freed_by, with_advance, with_failure, with_queue, with_release}
+use Rattle.access_core.proofs.KeptMore.{QueuesMove}
+use Rattle.access_core.proofs.PlacesMore.{of_queue, released-count, released-of}
+use Rattle.access_core.proofs.QueueAt.{IsAdvance, IsRelease, advanced, flight-advanced, flight-released, queue_at-advanced, queue_at-released}
+use Rattle.access_core.proofs.QueueMoves.{freed-at, length-changed, openings-changed, queues-changed, sound-changed}
+use Rattle.access_core.proofs.TakeLemmas.{IsOpen, owner-kept, view-kept}
 
 -- ---- signals
 
@@ -45,14 +74,14 @@ missing-err None e f same = refl
 -- ---- a completion's changes: a signal's, perhaps, and the release
 
 pub flight-completed : (values : List ℤ) (signal : SignalHandle) (queue : QueueId) (id : PacketId) (flying : List InFlight) →
-    fold flight_after_effect flying (completed values signal ++ effect.Release queue id ∷ []) ≡ without queue id flying
+    fold flight_after_effect flying (completed values signal ++ effect.Release queue id ∷ []) ≡ filter (λ f. not (is_packet queue id f)) flying
 flight-completed values signal queue id flying = null (signal.0 == 0)
   where
-    known : (o : Option ℤ) → fold flight_after_effect flying ((elim o [ None ↦ [] | Some v ↦ effect.Signal signal v (applied (SignalOp.Subtract (pos 1)) v) ∷ [] ]) ++ effect.Release queue id ∷ []) ≡ without queue id flying
+    known : (o : Option ℤ) → fold flight_after_effect flying ((elim o [ None ↦ [] | Some v ↦ effect.Signal signal v (applied (SignalOp.Subtract (pos 1)) v) ∷ [] ]) ++ effect.Release queue id ∷ []) ≡ filter (λ f. not (is_packet queue id f)) flying
     known None = refl
     known (Some v) = refl
 
-    null : (b : Bool) → fold flight_after_effect flying ((if b then [] else elim (value_of values signal.0) [ None ↦ [] | Some v ↦ effect.Signal signal v (applied (SignalOp.Subtract (pos 1)) v) ∷ [] ]) ++ effect.Release queue id ∷ []) ≡ without queue id flying
+    null : (b : Bool) → fold flight_after_effect flying ((if b then [] else elim (value_of values signal.0) [ None ↦ [] | Some v ↦ effect.Signal signal v (applied (SignalOp.Subtract (pos 1)) v) ∷ [] ]) ++ effect.Release queue id ∷ []) ≡ filter (λ f. not (is_packet queue id f)) flying
     null true = refl
     null false = known (value_of values signal.0)
 
@@ -95,37 +124,208 @@ filter-fewer test kept (x ∷ xs) f found out = first (test x) refl found (filte
         rw left (omega arith)
     first false is same more = either (kept x) (more same out)
 
--- a packet is itself
-pub is_packet-itself : (f : InFlight) → is_packet f.queue f.id f ≡ true
-is_packet-itself f = grind arith
-
-pub release-fewer : (queue : QueueId) (id : PacketId) (flying : List InFlight) (f : InFlight) → find (is_packet queue id) flying ≡ Some f → length (without f.queue f.id flying) + 1 ≤ length flying
-release-fewer queue id flying f found =
-    filter-fewer (is_packet queue id) (λ (g : InFlight). not (is_packet f.queue f.id g)) flying f found (ap (λ (b : Bool). not b) (is_packet-itself f))
+-- what is found passes
+found-passes : {X : Type 0} (test : X → Bool) (xs : List X) (f : X) → find test xs ≡ Some f → test f ≡ true
+found-passes test [] f found = absurd cc
+found-passes test (x ∷ xs) f found = first (test x) refl found (found-passes test xs f)
+  where
+    first : (b : Bool) → test x ≡ b → (if b then Some x else find test xs) ≡ Some f → (find test xs ≡ Some f → test f ≡ true) → test f ≡ true
+    first true is same more = let here : x ≡ f = cc in subst (λ y. test y ≡ true) here is
+    first false is same more = more same
 
 -- ---- what is kept, and what is owed by it
 
+-- a call about a packet in its place is owed what the place tells
+pub owed-in_place : (history : History) (queue : QueueId) (id : PacketId) (place : Place) → IsInPlace history queue id place → (rest : Packet → Progress → Owed) → for_packet history.start history.entries queue id rest ≡ rest place.packet place.progress
+owed-in_place history queue id place found rest = rw (found.owner_is, found.found, found.packet_is, found.progress_is) refl
+
 module _ (a : Inside) (kept : IsKept a) (old : History) (seen_as : history_of a ≡ old) where
   -- a completion is owed by the values that are kept
-  pub finish-inside : (event : Event) (signal : SignalHandle) (queue : QueueId) (id : PacketId) →
-      owed old.start old.entries event ≡ enters outcome.Accepted (completed (signals old.start old.entries) signal ++ effect.Release queue id ∷ []) →
-      owed (start_of a) a.audit.items event ≡ enters outcome.Accepted (completed a.signals signal ++ effect.Release queue id ∷ [])
-  finish-inside event signal queue id due =
+  pub finish-inside : (event : Event) (queue : QueueId) (id : PacketId) (p : Packet) →
+      owed old.start old.entries event ≡ finish_owed old queue id p → owed (start_of a) a.audit.items event ≡ enters outcome.Accepted (completion_of a.signals queue id p)
+  finish-inside event queue id p due =
       rw kept.values
-      (subst (λ h. owed h.start h.entries event ≡ enters outcome.Accepted (completed (signals h.start h.entries) signal ++ effect.Release queue id ∷ [])) (sym seen_as) due)
+      (subst (λ h. owed h.start h.entries event ≡ finish_owed h queue id p) (sym seen_as) due)
 
-  -- a packet that is found is among those that are kept
-  pub found-inside : (queue : QueueId) (id : PacketId) (f : InFlight) → in_flight old.start old.entries queue id ≡ Some f → find (is_packet queue id) a.flight ≡ Some f
-  found-inside queue id f found = rw kept.flight (subst (λ h. in_flight h.start h.entries queue id ≡ Some f) (sym seen_as) found)
+  -- a place that is found is one by the fields
+  pub place-inside : (queue : QueueId) (id : PacketId) (place : Place) → IsInPlace old queue id place → IsInPlace (history_of a) queue id place
+  place-inside queue id place found = subst (λ h. IsInPlace h queue id place) (sym seen_as) found
 
-  -- the release of a packet leaves room for an entry
-  pub release-room : (queue : QueueId) (id : PacketId) (f : InFlight) → in_flight old.start old.entries queue id ≡ Some f →
-      length a.audit.items + 1 + length (without f.queue f.id a.flight) ≤ a.capacity
-  release-room queue id f found =
-      let fewer = release-fewer queue id a.flight f (found-inside queue id f found) in
-      omega (arith, kept.room, fewer)
+module _ (a : Inside) (kept : IsKept a) (queue : QueueId) (id : PacketId) where
+  abbrev flying : List InFlight
+  flying = flight (start_of a) a.audit.items
 
-  pub place-for_entry : (queue : QueueId) (id : PacketId) (f : InFlight) → in_flight old.start old.entries queue id ≡ Some f → 0 < a.audit.room
-  place-for_entry queue id f found =
-      let fewer = release-fewer queue id a.flight f (found-inside queue id f found) in
-      omega (arith, kept.room, kept.places, fewer)
+  abbrev others : List InFlight
+  others = filter (λ f. not (is_packet queue id f)) flying
+
+  -- what it frees, in numbers
+  freed-is : (at : IsOpen a queue) → length (filter (of_queue queue.0) flying) ≡ freed_by (Some id) a.queues.items queue + length (filter (of_queue queue.0) others)
+  freed-is at =
+      let places : at.q.places ≡ map (place_of (start_of a) a.audit.items) (filter (of_queue queue.0) flying) = ap (λ (v : QueueView). v.places) at.view in
+      let left : without id at.q.places ≡ map (place_of (start_of a) a.audit.items) (filter (of_queue queue.0) others) =
+      ap (without id) places ∙ sym (released-of id.0 (place_of (start_of a) a.audit.items) queue.0 flying (λ f. refl)) in
+      let freed-now : freed_by (Some id) a.queues.items queue ≡ length at.q.places - length (without id at.q.places) = freed-at (Some id) a.queues.items queue at.q at.found in
+      let one : length at.q.places ≡ length (filter (of_queue queue.0) flying) = ap length places ∙ length-map (filter (of_queue queue.0) flying) (place_of (start_of a) a.audit.items) in
+      let two : length (without id at.q.places) ≡ length (filter (of_queue queue.0) others) = ap length left ∙ length-map (filter (of_queue queue.0) others) (place_of (start_of a) a.audit.items) in
+      let count = released-count id.0 queue.0 flying in
+      let less = filter-not_more (λ (f : InFlight). not (is_packet queue id f)) flying in
+      omega (arith, freed-now, one, two, count, less)
+
+  -- as many are in flight after a release as are left
+  pub flying-released : IsOpen a queue → a.flying - freed_by (Some id) a.queues.items queue ≡ length others
+  flying-released at =
+      let count = released-count id.0 queue.0 flying in
+      let freed-now = freed-is at in
+      omega (arith, count, freed-now, kept.flying)
+
+  pub freed-below : IsOpen a queue → freed_by (Some id) a.queues.items queue ≤ a.flying
+  freed-below at =
+      let freed-now = freed-is at in
+      let less = filter-not_more (of_queue queue.0) flying in
+      omega (arith, freed-now, less, kept.flying)
+
+  -- a packet that leaves flight leaves room for an entry
+  pub release-room : (f : InFlight) → in_flight (start_of a) a.audit.items queue id ≡ Some f → length a.audit.items + 1 + length others ≤ a.capacity
+  release-room f found =
+      let fewer = filter-fewer (is_packet queue id) (λ (g : InFlight). not (is_packet queue id g)) flying f found (ap (λ (b : Bool). not b) (found-passes (is_packet queue id) flying f found)) in
+      omega (arith, kept.room, kept.flying, fewer)
+
+  -- how the queues move along with it
+  pub queues-released : (event : Event) (told : Outcome) (effects : List Effect) → IsRelease queue id event told effects → opening_of event ≡ None → (at : IsOpen a queue) (change : Queue → Queue) (view : QueueView → QueueView)
+      → kept_opening (change at.q) ≡ kept_opening at.q → IsSound (change at.q) → cached (Some (change at.q)) ≡ view (cached (Some at.q))
+      → ((m : QueueId) (v : QueueView) (b : Bool) → (queue.0 == m.0) ≡ b → record { next = v.next; stopped = (if stops m event then true else v.stopped); errors = with_error m v.errors (error_of told); places = (if b then without id v.places else v.places) } ≡ (if b then view v else v))
+      → QueuesMove a (with_queue a.queues.items queue change) (a.flying - freed_by (Some id) a.queues.items queue) event told effects
+  queues-released event told effects is none at change view same sound alike pick = record {
+    openings = openings-changed a.queues.items queue change at.q at.found same ∙ sym (ap (with_some (map kept_opening a.queues.items)) none);
+    queues = queues-changed a.queues.items queue change at.q at.found view (start_of a) a.audit.items (with_entry a.audit.items event told effects) alike kept.queues
+        (λ m. queue_at-released (start_of a) a.audit.items queue id event told effects is view m (pick m));
+    sound = sound-changed a.queues.items queue change at.q at.found sound kept.sound;
+    few_queues = omega (arith, length-changed a.queues.items queue change at.q at.found, kept.few_queues);
+    flying = flying-released at ∙ ap length (sym (flight-released (start_of a) a.audit.items queue id event told effects is));
+  }
+
+-- a queue whose packet left flight is sound
+pub sound-released : (q : Queue) (id : PacketId) → IsSound q → IsSound (with_release id q)
+sound-released q id sound =
+    let fewer = filter-not_more (λ (p : Place). not (is_at id p)) q.places in
+    record { room = sound.room; free = omega (arith, fewer, sound.free); below = All-filter (λ p. not (is_at id p)) (λ (p : Place). p.id.0 < q.next) q.places sound.below }
+
+-- ---- a packet is found in its place
+
+find-placed : (g : InFlight → Place) (n i : ℕ) (fs : List InFlight) → ((f : InFlight) → (g f).id ≡ f.id) → find (λ (p : Place). p.id.0 == i) (map g (filter (of_queue n) fs)) ≡ option_map g (find (λ (f : InFlight). f.queue.0 == n && f.id.0 == i) fs)
+find-placed g n i [] named = refl
+find-placed g n i (f ∷ fs) named = either (f.queue.0 == n) (f.id.0 == i) (ap (λ (id : PacketId). id.0 == i) (named f)) (find-placed g n i fs named)
+  where
+    either : (c d : Bool) → ((g f).id.0 == i) ≡ d → find (λ (p : Place). p.id.0 == i) (map g (filter (of_queue n) fs)) ≡ option_map g (find (λ (f : InFlight). f.queue.0 == n && f.id.0 == i) fs)
+        → find (λ (p : Place). p.id.0 == i) (map g (if c then f ∷ filter (of_queue n) fs else filter (of_queue n) fs)) ≡ option_map g (if c && d then Some f else find (λ (f : InFlight). f.queue.0 == n && f.id.0 == i) fs)
+    either true true at more = rw at refl
+    either true false at more = rw at more
+    either false d at more = more
+
+pub all-found : {X : Type 0} (P : X → Type 0) (test : X → Bool) (xs : List X) (f : X) → All P xs → find test xs ≡ Some f → P f
+all-found P test [] f all found = absurd cc
+all-found P test (x ∷ xs) f all found = first (test x) found (all-found P test xs f (All-tail P x xs all))
+  where
+    first : (b : Bool) → (if b then Some x else find test xs) ≡ Some f → (find test xs ≡ Some f → P f) → P f
+    first true same more = let here : x ≡ f = cc in subst P here (All-head P x xs all)
+    first false same more = more same
+
+module _ (a : Inside) (kept : IsKept a) (queue : QueueId) (id : PacketId) (q : Queue) (some : numbered a.queues.items queue.0 ≡ Some q) where
+  owned : owner (start_of a) a.audit.items queue ≡ Some (kept_opening q)
+  owned = owner-kept a queue kept ∙ ap (option_map kept_opening) some
+
+  pub sought : find (is_at id) q.places ≡ option_map (place_of (start_of a) a.audit.items) (in_flight (start_of a) a.audit.items queue id)
+  sought =
+      ap (λ (v : QueueView). find (is_at id) v.places) (view-kept a queue q kept some)
+      ∙ find-placed (place_of (start_of a) a.audit.items) queue.0 id.0 (flight (start_of a) a.audit.items) (λ f. refl)
+
+  -- where one is found, it is in flight
+  pub in-place : (place : Place) → find (is_at id) q.places ≡ Some place → IsInPlace (history_of a) queue id place
+  in-place place is = either (in_flight (start_of a) a.audit.items queue id) refl (sym sought ∙ is)
+    where
+      none_place : None ≡ Some place → ⊥
+      none_place e = cc
+
+      either : (o : Option InFlight) → in_flight (start_of a) a.audit.items queue id ≡ o → option_map (place_of (start_of a) a.audit.items) o ≡ Some place → IsInPlace (history_of a) queue id place
+      either None found e = absurd (none_place e)
+      either (Some f) found e =
+          let same : place_of (start_of a) a.audit.items f ≡ place = cc in
+          let both = and_parts (f.queue.0 == queue.0) _ (found-passes (is_packet queue id) (flight (start_of a) a.audit.items) f found) in
+          let queues : f.queue ≡ queue = ap (λ n. record { 0 = n }) (eqb-true _ _ both.0) in
+          let ids : f.id ≡ id = ap (λ n. record { 0 = n }) (eqb-true _ _ both.1) in
+          record {
+            opening = kept_opening q;
+            owner_is = owned;
+            flying = f;
+            found = found;
+            packet_is = ap (λ (p : Place). p.packet) same;
+            progress_is = (λ i. progress (start_of a) a.audit.items (sym queues i) (sym ids i)) ∙ ap (λ (p : Place). p.progress) same;
+          }
+
+  -- where none is found, a call about it is refused
+  pub none-in-place : find (is_at id) q.places ≡ None → RefusedAt (history_of a) queue id refusal.NotInFlight
+  none-in-place is rest = either (in_flight (start_of a) a.audit.items queue id) refl (sym sought ∙ is)
+    where
+      either : (o : Option InFlight) → in_flight (start_of a) a.audit.items queue id ≡ o → option_map (place_of (start_of a) a.audit.items) o ≡ None → for_packet (start_of a) a.audit.items queue id rest ≡ refuses refusal.NotInFlight
+      either None found e = rw (owned, found) refl
+      either (Some f) found e = absurd cc
+
+-- a packet in its place reaches only what lies whole in a region
+pub reaches-in_place : (a : Inside) (kept : IsKept a) (queue : QueueId) (id : PacketId) (place : Place) → IsInPlace (history_of a) queue id place → lies_in_regions (region_lengths (start_of a)) place.packet ≡ true
+reaches-in_place a kept queue id place found =
+    ap (lies_in_regions (region_lengths (start_of a))) (sym found.packet_is)
+    ∙ all-found (λ (f : InFlight). lies_in_regions (region_lengths (start_of a)) f.packet ≡ true) (is_packet queue id) (flight (start_of a) a.audit.items) found.flying kept.reachable found.found
+
+-- ---- a packet fails
+
+module _ (a : Inside) (kept : IsKept a) (queue : QueueId) (id : PacketId) (at : IsOpen a queue) where
+  fewer-places : (f : InFlight) → in_flight (start_of a) a.audit.items queue id ≡ Some f → length (without id at.q.places) + 1 ≤ length at.q.places
+  fewer-places f found =
+      let there : find (is_at id) at.q.places ≡ Some (place_of (start_of a) a.audit.items f) = sought a kept queue id at.q at.found ∙ ap (option_map (place_of (start_of a) a.audit.items)) found in
+      filter-fewer (is_at id) (λ (p : Place). not (is_at id p)) at.q.places _ there (ap (λ (b : Bool). not b) (found-passes (is_at id) at.q.places _ there))
+
+  -- its queue has room for an error
+  pub can-fail : (f : InFlight) → in_flight (start_of a) a.audit.items queue id ≡ Some f → CanFail a.queues.items queue
+  can-fail f found =
+      let fewer = fewer-places f found in
+      (at.q, at.found, omega (arith, fewer, at.sound.room, at.sound.free), at.small)
+
+  -- and is sound after it
+  pub sound-failed : (error : QueueError) (f : InFlight) → in_flight (start_of a) a.audit.items queue id ≡ Some f → IsSound (with_failure id error at.q)
+  sound-failed error f found =
+      let fewer = fewer-places f found in
+      let longer = length-append at.q.errors.items (error ∷ []) in
+      record {
+        room = omega (arith, longer, fewer, at.sound.room, at.sound.free);
+        free = omega (arith, longer, fewer, at.sound.free);
+        below = All-filter (λ p. not (is_at id p)) (λ (p : Place). p.id.0 < at.q.next) at.q.places at.sound.below;
+      }
+
+-- ---- a packet comes further
+
+sound-advanced : (q : Queue) (id : PacketId) (so_far : Progress) → IsSound q → IsSound (with_advance id so_far q)
+sound-advanced q id so_far sound =
+    let same = length-map q.places (with_progress id so_far) in
+    record {
+      room = sound.room;
+      free = omega (arith, same, sound.free);
+      below = All-map (λ (p : Place). p.id.0 < q.next) (with_progress id so_far) q.places (λ k d h. either (get_or q.places k d) (is_at id (get_or q.places k d)) (sound.below k d h));
+    }
+  where
+    either : (p : Place) (b : Bool) → p.id.0 < q.next → (if b then record p { progress = so_far } else p).id.0 < q.next
+    either p true below = below
+    either p false below = below
+
+-- how the queues move along with it
+pub queues-advanced : (a : Inside) (kept : IsKept a) (queue : QueueId) (at : IsOpen a queue) (id : PacketId) (g : Progress → Progress) (event : Event) (told : Outcome) (effects : List Effect) → IsAdvance queue id g event told effects → opening_of event ≡ None
+    → (so_far : Progress) → so_far ≡ g (progress (start_of a) a.audit.items queue id) → QueuesMove a (with_queue a.queues.items queue (with_advance id so_far)) a.flying event told effects
+queues-advanced a kept queue at id g event told effects is none so_far new =
+    let change = with_advance id so_far in
+    record {
+      openings = openings-changed a.queues.items queue change at.q at.found refl ∙ sym (ap (with_some (map kept_opening a.queues.items)) none);
+      queues = queues-changed a.queues.items queue change at.q at.found (advanced id so_far) (start_of a) a.audit.items (with_entry a.audit.items event told effects) refl kept.queues
+          (λ m. queue_at-advanced (start_of a) a.audit.items queue id g event told effects is so_far new m);
+      sound = sound-changed a.queues.items queue change at.q at.found (sound-advanced at.q id so_far at.sound) kept.sound;
+      few_queues = omega (arith, length-changed a.queues.items queue change at.q at.found, kept.few_queues);
+      flying = kept.flying ∙ ap length (sym (flight-advanced (start_of a) a.audit.items queue id g event told effects is));
+    }

@@ -27,7 +27,7 @@ use Rattle.core_model.specs.Needs.{argument, bytes_at, function_of, function_nee
 use Rattle.core_model.specs.LaunchRules.{lies_whole}
 use Rattle.access_core.specs.Kept.{IsKept, start_of, history_of}
 use Rattle.access_core.specs.LiesInRegions.{lies_in_regions}
-use Rattle.access_core.specs.ToldWork.{is_placed, IsChanged}
+use Rattle.access_core.specs.InPlace.{is_placed, IsChanged}
 
 -- each address of a range that lies whole in a region lies in it
 lies-within : (regions : List (List ℕ)) (address size k : ℕ) → IsMemory regions → IsWithin regions address size → k < size → lies_in_region (lengths_of regions) (address + k) ≡ true

@@ -9,7 +9,8 @@ use Rattle.core_model.specs.declared.outcome.Taken.TheVariants.{Launched, Denied
 use Rattle.core_model.specs.History.{History}
 use Rattle.core_model.specs.Memory.{region_lengths}
 use Rattle.core_model.specs.Queues.{Opening, owner, is_down}
-use Rattle.core_model.specs.Owed.{owed, answers, enters, error_at, flight_of}
+use Rattle.core_model.specs.Flight.{flight_of}
+use Rattle.core_model.specs.Owed.{owed, answers, enters, error_at}
 use Rattle.core_model.specs.declared.limits.TheConstants.{SLOTS}
 use Rattle.access_core.specs.LiesInRegions.{lies_in_regions}
 use Rattle.std.specs.List.{list_all}

@@ -10,16 +10,15 @@ use Rattle.regions.specs.Memory.{byte_at, lengths_of, lies_in_region}
 use Rattle.core_model.specs.History.{Start, History}
 use Rattle.core_model.specs.Grants.{in_force}
 use Rattle.core_model.specs.Memory.{memory_at, signals, region_lengths}
-use Rattle.core_model.specs.Queues.{openings, owner, next_id, errors, is_stopped}
+use Rattle.core_model.specs.Queues.{openings, owner}
 use Rattle.core_model.specs.Flight.{flight}
 use Rattle.core_model.specs.Legal.{IsLegal}
 use Rattle.access_core.specs.declared.access.AccessCore.TheInside.{Inside}
 use Rattle.grants.specs.Ledger as ledger
 use Rattle.grants.specs.Rules.{rules_of}
 use Rattle.access_core.specs.Held.{packet_holds}
-pub use Rattle.access_core.specs.QueueShown.{kept_opening, kept_next, kept_errors, kept_stopped}
+pub use Rattle.access_core.specs.CachedQueue.{IsSound, cached, kept_opening, queue_at}
 use Rattle.access_core.specs.LiesInRegions.{lies_in_regions}
-use Rattle.access_core.specs.ErrorRoom.{HasErrorRoom}
 
 -- what the history begins from
 abbrev pub start_of : Inside → Start
@@ -37,7 +36,7 @@ pub record IsKept (a : Inside) : Type 0 where
   pub rules : ledger.rules_in a.grants ≡ rules_of a.policy
   -- the rights that packets in flight hold
   pub held : (queue : QueueId) (id : PacketId) (client : ClientId) (on : Object) (right : Right)
-      → ledger.holds a.grants queue id client on right ≡ packet_holds (owner (start_of a) a.audit.items) a.flight queue id client on right
+      → ledger.holds a.grants queue id client on right ≡ packet_holds (owner (start_of a) a.audit.items) (flight (start_of a) a.audit.items) queue id client on right
   -- the regions' lengths, and each byte in them
   pub lengths : lengths_of a.memory ≡ region_lengths (start_of a)
   pub memory : (x : ℕ) → lies_in_region (region_lengths (start_of a)) x ≡ true → byte_at a.memory x ≡ Some (memory_at (start_of a) a.audit.items x)
@@ -45,17 +44,14 @@ pub record IsKept (a : Inside) : Type 0 where
   pub values : a.signals ≡ signals (start_of a) a.audit.items
   -- the queues
   pub openings : map kept_opening a.queues.items ≡ openings (start_of a) a.audit.items
-  pub next_ids : (queue : QueueId) → next_id (start_of a) a.audit.items queue ≡ kept_next (numbered a.queues.items queue.0)
-  pub errors : (queue : QueueId) → errors (start_of a) a.audit.items queue ≡ kept_errors (numbered a.queues.items queue.0)
-  pub stops : (queue : QueueId) → is_stopped (start_of a) a.audit.items queue ≡ kept_stopped (numbered a.queues.items queue.0)
+  pub queues : (queue : QueueId) → cached (numbered a.queues.items queue.0) ≡ queue_at (start_of a) a.audit.items queue
+  pub sound : All IsSound a.queues.items
   pub few_queues : length a.queues.items ≤ 64
-  -- the packets in flight, none of which reaches past a region
-  pub flight : a.flight ≡ flight (start_of a) a.audit.items
-  pub reachable : All (λ f. lies_in_regions (region_lengths (start_of a)) f.packet ≡ true) a.flight
-  -- room for an error of each packet in flight
-  pub error_room : HasErrorRoom a.queues.items a.flight
+  -- how many packets are in flight, none of which reaches past a region
+  pub flying : a.flying ≡ length (flight (start_of a) a.audit.items)
+  pub reachable : All (λ f. lies_in_regions (region_lengths (start_of a)) f.packet ≡ true) (flight (start_of a) a.audit.items)
   -- room for an entry of each packet in flight, and memory for all entries
-  pub room : length a.audit.items + length a.flight ≤ a.capacity
+  pub room : length a.audit.items + a.flying ≤ a.capacity
   pub places : a.capacity ≤ length a.audit.items + a.audit.room
   pub few : a.capacity ≤ 2 ^ 20
   -- the audit is a legal history

@@ -1,13 +1,12 @@
 pub mod Judged
-pub mod QueueShown
-pub mod Moves
-pub mod ErrorRoom
+pub mod CachedQueue
+pub mod QueueChanges
 pub mod LiesInRegions
 pub mod Deciding
 pub mod Kept
 pub mod Opening
 pub mod Lookups
-pub mod ToldWork
+pub mod InPlace
 pub mod Polling
 pub mod Stopping
 pub mod OwingHost

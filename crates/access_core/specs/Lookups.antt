@@ -1,19 +1,16 @@
 -- What the look-ups of the core tell.
-use Rattle.std.specs.Prelude.{◌≡◌, ℕ, Bool, ◌&&◌, List, Option, Some, None, if◌then◌else◌}
+use Rattle.std.specs.Prelude.{◌≡◌, ℕ, List, Option, Some, None, if◌then◌else◌}
 use Rattle.std.specs.Option.{option_map}
 use Rattle.aql_packet.specs.declared.ids.Address.{Address}
 use Rattle.aql_packet.specs.declared.ids.ClientId.{ClientId}
 use Rattle.aql_packet.specs.declared.ids.AgentHandle.{AgentHandle}
 use Rattle.aql_packet.specs.declared.ids.QueueId.{QueueId}
-use Rattle.regions.specs.Memory.{is_within, region_of}
-use Rattle.policy.specs.declared.object.Object.TheVariants as object
-use Rattle.policy.specs.declared.rights.Right.{Right}
+use Rattle.regions.specs.Memory.{is_within}
 use Rattle.core_model.specs.History.{History}
-use Rattle.core_model.specs.Grants.{in_force}
 use Rattle.core_model.specs.Memory.{memory_from, region_lengths}
-use Rattle.core_model.specs.Queues.{Opening, owner, next_id, errors, is_stopped}
+use Rattle.core_model.specs.Queues.{Opening, owner}
 use Rattle.access_core.specs.declared.queue.Queue.{Queue}
-use Rattle.access_core.specs.Kept.{kept_opening, kept_next, kept_errors, kept_stopped}
+use Rattle.access_core.specs.CachedQueue.{cached, kept_opening, queue_at}
 
 -- the bytes of a range that lies whole in one region; of any other, none
 abbrev pub bytes_within : History → Address → ℕ → Option (List ℕ)
@@ -24,10 +21,7 @@ bytes_within history address size =
 abbrev pub opening_from : ClientId × AgentHandle → Opening
 opening_from parts = record { client = parts.0; agent = parts.1 }
 
--- this is what is kept of a queue of the history: who opened it, the id of its next packet, its errors, and whether it was stopped;
--- of a queue that was never opened, nothing
+-- this is what is kept of a queue of the history: who opened it, and what became of it since
 pub record IsQueue (history : History) (queue : QueueId) (kept : Option Queue) : Type 0 where
   pub opening : option_map kept_opening kept ≡ owner history.start history.entries queue
-  pub next_id : next_id history.start history.entries queue ≡ kept_next kept
-  pub errors : errors history.start history.entries queue ≡ kept_errors kept
-  pub stopped : is_stopped history.start history.entries queue ≡ kept_stopped kept
+  pub cached_is : cached kept ≡ queue_at history.start history.entries queue

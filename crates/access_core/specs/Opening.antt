@@ -1,5 +1,5 @@
 -- When a core is opened, and what a policy says of regions and signals, as lists.
-use Rattle.std.specs.Prelude.{ℕ, ℤ, ◌≡◌, ◌^◌, ◌&&◌, Bool, true, false, nat_le, List, [], map, Result, Ok, Err}
+use Rattle.std.specs.Prelude.{ℕ, ℤ, ◌≡◌, ◌&&◌, Bool, true, false, nat_le, List, [], map, Result, Ok, Err}
 use Rattle.policy.specs.Policy.{Declared}
 use Rattle.core_model.specs.declared.limits.TheConstants.{MOST_ENTRIES}
 use Rattle.core_model.specs.History.{History}

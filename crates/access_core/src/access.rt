@@ -18,11 +18,11 @@ mod told;
 mod working;
 
 use crate::queue::Queue;
-use core_model::{Effects, Entry, Event, InFlight, Outcome};
+use core_model::{Effects, Entry, Event, Outcome};
 use grants::Grants;
 use policy::Policy;
 use regions::Regions;
-use sequences::{Reserved, Sequence};
+use sequences::Reserved;
 use signals::Signals;
 use std::alloc::AllocError;
 use std::marker::Model;
@@ -55,7 +55,8 @@ pub struct AccessCore {
     memory: Regions,
     signals: Signals,
     queues: Vec<Queue>,
-    flight: Sequence<InFlight>,
+    /// How many packets are in flight, of all queues.
+    flying: usize,
     capacity: usize,
     audit: Reserved<Entry>,
 }

@@ -1,6 +1,7 @@
-//! What is kept of a queue.
+//! What the core keeps of a queue.
 
 use aql_packet::{AgentHandle, ClientId};
+use packet_processor::Places;
 use queue_error::QueueError;
 use sequences::Reserved;
 
@@ -17,4 +18,6 @@ pub struct Queue {
     pub stopped: bool,
     /// Its errors, in order, with room for one of each packet in flight.
     pub errors: Reserved<QueueError>,
+    /// Its packets in flight, in eight places.
+    pub places: Places,
 }

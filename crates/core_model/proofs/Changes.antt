@@ -1,9 +1,9 @@
 -- The changes of each entry of a legal history, one by one: who asked for them, and which grants allowed them.
-use Rattle.std.proofs.Common.{◌≡◌, ◌<◌, ◌≤◌, ℕ, ℤ, ◌+◌, ◌^◌, pos, List, [], ◌∷◌, ◌++◌, length, refl, sym, ◌∙◌, ap, subst, Bool, true, false, Option, Some, None, ◌⊎◌, inl, inr, arith, zero, suc}
-use Rattle.std.specs.Prelude.{All, find, filter, replicate, ◌%◌, ◌&&◌, ◌==◌, if◌then◌else◌}
+use Rattle.std.proofs.Common.{◌≡◌, ◌<◌, ℕ, ℤ, ◌+◌, ◌^◌, pos, List, [], ◌∷◌, ◌++◌, length, refl, sym, ◌∙◌, ap, subst, Bool, true, false, Option, Some, None, ◌⊎◌, inl, inr, arith, zero, suc}
+use Rattle.std.specs.Prelude.{All, find, option_map, replicate, ◌%◌, ◌==◌, if◌then◌else◌}
 use Rattle.std.specs.List.{Contains}
-use Rattle.std.specs.Int.{w64, to_le_bytes, from_le_bytes}
-use Rattle.std.proofs.lemmas.Bool.{and_parts, eqb-true}
+use Rattle.std.specs.Int.{w64, to_le_bytes}
+use Rattle.std.proofs.lemmas.Bool.{eqb-true}
 use Rattle.std.proofs.lemmas.List.{length-replicate}
 use Rattle.std.proofs.lemmas.List.Elements.{All-nil, All-head, All-append, All-filter, All-contains_itself}
 use Rattle.std.proofs.lemmas.List.FromFn.{length-map-range_with_len}
@@ -13,7 +13,6 @@ use Rattle.aql_packet.specs.declared.ids.QueueId.{QueueId}
 use Rattle.aql_packet.specs.declared.ids.PacketId.{PacketId}
 use Rattle.aql_packet.specs.declared.ids.SignalHandle.{SignalHandle}
 use Rattle.aql_packet.specs.declared.packet.AgentDispatch.{AgentDispatch}
-use Rattle.aql_packet.specs.declared.packet.Packet.{Packet}
 use Rattle.aql_packet.specs.declared.packet.Packet.TheVariants as packet
 use Rattle.policy.specs.declared.object.Object.TheVariants as object
 use Rattle.policy.specs.declared.rights.Right.TheVariants as right
@@ -42,11 +41,11 @@ use Rattle.core_model.specs.History.{Start}
 use Rattle.core_model.specs.Grants.{in_force}
 use Rattle.core_model.specs.Memory.{memory_at, memory_from, signals}
 use Rattle.core_model.specs.Queues.{error_of}
-use Rattle.core_model.specs.Flight.{flight, in_flight, is_packet}
+use Rattle.core_model.specs.Flight.{flight, flight_of, in_flight, is_packet, progress}
 use Rattle.core_model.specs.Needs.{argument, bytes_at, completion, function_of, result_range}
 use Rattle.core_model.specs.LaunchRules.{is_barrier}
 use Rattle.core_model.specs.Work.{groups_of, number_in_memory, write_of, function_writes, function_result, result_writes, agent_writes}
-use Rattle.core_model.specs.Owed.{owed, enters, error_at, completed, flight_of, release_of, stop_releases}
+use Rattle.core_model.specs.Owed.{owed, enters, error_at, barrier_in, completed, release_of}
 use Rattle.core_model.specs.Legal.{IsLegal}
 use Rattle.core_model.specs.Headline.{ChangeIsGranted, InFlightSince, MayReach, MayReachRange, MayUseSignal, ReleaseIsDue, Releases, WriteIsGranted, packet_named, ranges_written, writes_of}
 use Rattle.core_model.proofs.Lists.{all-left, all-one, all-right, filter-passes, found-all, found-passes}
@@ -120,9 +119,9 @@ module _ (P : Effect → Type 0) (May : Range → Type 0) (one : (target : Range
 -- ---- releases
 
 module _ (P : Effect → Type 0) where
-  release-all : (o : Option InFlight) → ((f : InFlight) → o ≡ Some f → P (effect.Release f.queue f.id)) → All P (release_of o)
-  release-all None each = All-nil P
-  release-all (Some f) each = all-one P (effect.Release f.queue f.id) (each f refl)
+  release-all : (queue : QueueId) (o : Option InFlight) → ((f : InFlight) → o ≡ Some f → P (effect.Release queue f.id)) → All P (release_of queue (option_map (λ f. f.id) o))
+  release-all queue None each = All-nil P
+  release-all queue (Some f) each = all-one P (effect.Release queue f.id) (each f refl)
 
   poll-all : (start : Start) (es : List Entry) (told : Outcome) (effects : List Effect) (queue : QueueId) (id : PacketId) → ((f : InFlight) → in_flight start es queue id ≡ Some f → P (effect.Release queue id)) →
       IsQuiet start es told effects ⊎ HasFailed start es told effects queue id → All P effects
@@ -173,7 +172,7 @@ module _ (start : Start) (es : List Entry) (legal : IsLegal start es) where
 
   -- the changes of an event, given what holds of each kind of change
   module _ (P : Event → Effect → Type 0)
-      (ran : (queue : QueueId) (id : PacketId) (s : InFlightSince start es queue id) (d : AgentDispatch) → s.flying.packet ≡ packet.Agent d → s.flying.groups_run < groups_of s.flying.packet → All (P (RunNext queue id)) (agent_writes start es d))
+      (ran : (queue : QueueId) (id : PacketId) (s : InFlightSince start es queue id) (d : AgentDispatch) → s.flying.packet ≡ packet.Agent d → (progress start es queue id).groups_run < groups_of s.flying.packet → All (P (RunNext queue id)) (agent_writes start es d))
       (completed_so : (queue : QueueId) (id : PacketId) (s : InFlightSince start es queue id) (v : ℤ) → ((completion s.flying.packet).0 == 0) ≡ false → value_of (signals start es) (completion s.flying.packet).0 ≡ Some v →
       P (Finish queue id) (effect.Signal (completion s.flying.packet) v (applied (Subtract (pos 1)) v)))
       (released : (event : Event) (queue : QueueId) (id : PacketId) → ReleaseIsDue start es event (effect.Release queue id) → P event (effect.Release queue id))
@@ -184,12 +183,13 @@ module _ (start : Start) (es : List Entry) (legal : IsLegal start es) where
       quietly : (event : Event) (told : Outcome) (effects : List Effect) → IsQuiet start es told effects → All (P event) effects
       quietly event told effects quiet = subst (All (P event)) (sym quiet.effects_are) (All-nil (P event))
 
-      stopped : (queue : QueueId) → All (P (Stop queue)) (stop_releases (flight_of start es queue))
-      stopped queue = release-all (P (Stop queue)) (find (λ f. is_barrier f.packet) (flight_of start es queue)) (λ f found.
+      stopped : (queue : QueueId) → All (P (Stop queue)) (release_of queue (barrier_in (flight_of start es queue)))
+      stopped queue = release-all (P (Stop queue)) queue (find (λ f. is_barrier f.packet) (flight_of start es queue)) (λ f found.
           let barrier : is_barrier f.packet ≡ true = found-passes (λ f. is_barrier f.packet) (flight_of start es queue) f found in
           let own : (f.queue.0 == queue.0) ≡ true = found-all (λ g. (g.queue.0 == queue.0) ≡ true) (λ f. is_barrier f.packet) (flight_of start es queue) f (filter-passes (λ g. g.queue.0 == queue.0) (flight start es)) found in
+          let queue_is : f.queue ≡ queue = ap (λ n. record { 0 = n }) (eqb-true _ _ own) in
           let there : Contains (flight start es) f = found-all (Contains (flight start es)) (λ f. is_barrier f.packet) (flight_of start es queue) f (All-filter (λ g. g.queue.0 == queue.0) (Contains (flight start es)) (flight start es) (All-contains_itself (flight start es))) found in
-          released (Stop queue) f.queue f.id (f, there, refl, refl, (sym (eqb-true _ _ own), barrier)))
+          released (Stop queue) queue f.id (f, there, queue_is, refl, (sym (eqb-true _ _ own), barrier)))
 
       pub each-change : (event : Event) (told : Outcome) (effects : List Effect) → owed start es event ≡ enters told effects → All (P event) effects
       each-change (Grant client on rights) told effects owing = quietly _ told effects (grant-effects start es told effects client on rights owing).0
@@ -198,10 +198,11 @@ module _ (start : Start) (es : List Entry) (legal : IsLegal start es) where
       each-change (Stop queue) told effects owing = subst (All (P (Stop queue))) (sym (stop-effects start es told effects queue owing).effects_are) (stopped queue)
       each-change (Take queue id bytes) told effects owing = subst (All (P (Take queue id bytes))) (sym (take-decided start es told effects queue id bytes owing).effects_are) (All-nil _)
       each-change (RunNext queue id) told effects owing =
-          let group = run-entered start es told effects queue id owing in
-          let since = flying-since start es legal queue id group.flying group.found in
+          let has_run = run-entered start es told effects queue id owing in
+          let group = has_run.group in
+          let since = flying-since start es legal queue id has_run.flying has_run.found in
           subst (All (P (RunNext queue id))) (sym group.effects_are)
-          (ran queue id since.0 group.dispatch (ap (λ f. f.packet) since.1 ∙ group.is_agent) (subst (λ f. f.groups_run < groups_of f.packet) (sym since.1) group.is_left))
+          (ran queue id since.0 group.dispatch (ap (λ f. f.packet) since.1 ∙ group.is_agent) (subst (λ f. (progress start es queue id).groups_run < groups_of f.packet) (sym since.1) group.is_left))
       each-change (Poll queue id) told effects owing =
           poll-all (P (Poll queue id)) start es told effects queue id (λ f found. released (Poll queue id) queue id (named-release (Poll queue id) queue id (λ f q i. (q, i)) f found)) (poll-entered start es told effects queue id owing)
       each-change (Finish queue id) told effects owing =
@@ -220,7 +221,7 @@ module _ (start : Start) (es : List Entry) (legal : IsLegal start es) where
 
   -- ---- writes, changes of signals, releases
 
-  group-writes : (queue : QueueId) (id : PacketId) (s : InFlightSince start es queue id) (d : AgentDispatch) → s.flying.packet ≡ packet.Agent d → s.flying.groups_run < groups_of s.flying.packet → All (WriteIsGranted start es (RunNext queue id)) (agent_writes start es d)
+  group-writes : (queue : QueueId) (id : PacketId) (s : InFlightSince start es queue id) (d : AgentDispatch) → s.flying.packet ≡ packet.Agent d → (progress start es queue id).groups_run < groups_of s.flying.packet → All (WriteIsGranted start es (RunNext queue id)) (agent_writes start es d)
   group-writes queue id s d is left =
       agent-met (WriteIsGranted start es (RunNext queue id)) (MayReachRange start s.launch.before s.launch.opening.client right.Write)
       (λ target bytes long some may. (some, inr (record { queue = queue; id = id; event_is = refl; packet = s; is_left = left; allowed = reached target bytes long some may })))
@@ -282,7 +283,7 @@ module _ (start : Start) (es : List Entry) (legal : IsLegal start es) where
       denied : (verdict : Option Rule) → error_of (elim verdict [ None ↦ outcome.Taken taken.Launched | Some rule ↦ outcome.Taken (taken.Denied (error_at queue id.0 rule)) ]) ≡ Some error → named queue id ≡ named error.queue error.packet
       denied None same = absurd cc
       denied (Some rule) same = let e : error_at queue id.0 rule ≡ error = cc in ap (λ x. named x.queue x.packet) e
-  error-named (RunNext queue id) told effects error owing is = none-told told error is (ap error_of (run-entered start es told effects queue id owing).outcome_is)
+  error-named (RunNext queue id) told effects error owing is = none-told told error is (ap error_of (run-entered start es told effects queue id owing).group.outcome_is)
   error-named (Poll queue id) told effects error owing is = by_poll (poll-entered start es told effects queue id owing)
     where
       by_poll : IsQuiet start es told effects ⊎ HasFailed start es told effects queue id → named queue id ≡ named error.queue error.packet
@@ -304,7 +305,7 @@ module _ (start : Start) (es : List Entry) (legal : IsLegal start es) where
       decided_so None is (inr was) = let e : outcome.Taken taken.Launched ≡ outcome.Polled (polled_as.Failed error) = sym is ∙ was in absurd cc
       decided_so (Some rule) is (inl was) = let e : outcome.Taken (taken.Denied (error_at queue id.0 rule)) ≡ outcome.Worked (worked.Faulted error) = sym is ∙ was in absurd cc
       decided_so (Some rule) is (inr was) = let e : outcome.Taken (taken.Denied (error_at queue id.0 rule)) ≡ outcome.Polled (polled_as.Failed error) = sym is ∙ was in absurd cc
-  fault-released (RunNext queue id) told effects error owing faults = none-told told error (error-told told error faults) (ap error_of (run-entered start es told effects queue id owing).outcome_is)
+  fault-released (RunNext queue id) told effects error owing faults = none-told told error (error-told told error faults) (ap error_of (run-entered start es told effects queue id owing).group.outcome_is)
   fault-released (Poll queue id) told effects error owing faults = by_poll (poll-entered start es told effects queue id owing)
     where
       by_poll : IsQuiet start es told effects ⊎ HasFailed start es told effects queue id → effects ≡ effect.Release error.queue error.packet ∷ []

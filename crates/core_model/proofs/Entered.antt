@@ -1,6 +1,6 @@
 -- What an entry that was owed tells of its event: its outcome, its changes, and the tests that it passed.
-use Rattle.std.proofs.Common.{◌≡◌, ◌<◌, ℕ, ℤ, ◌+◌, List, [], ◌∷◌, ◌++◌, length, refl, sym, ◌∙◌, ap, subst, Bool, true, false, Option, Some, None, ◌⊎◌, inl, inr}
-use Rattle.std.specs.Prelude.{nat_le, ◌&&◌, ◌==◌, if◌then◌else◌}
+use Rattle.std.proofs.Common.{◌≡◌, ◌<◌, ℕ, ℤ, ◌+◌, List, [], ◌∷◌, ◌++◌, length, refl, sym, ap, subst, Bool, true, false, Option, Some, None, ◌⊎◌, inl, inr}
+use Rattle.std.specs.Prelude.{map, nat_le, ◌&&◌, ◌==◌, if◌then◌else◌}
 use Rattle.std.specs.List.{list_any}
 use Rattle.std.proofs.lemmas.Bool.{and_parts, eqb-true, leb-true, leb-false}
 use Rattle.aql_packet.specs.declared.ids.Address.{Address}
@@ -32,22 +32,22 @@ use Rattle.core_model.specs.declared.outcome.Taken.TheVariants as taken
 use Rattle.core_model.specs.declared.outcome.Worked.TheVariants as worked
 use Rattle.core_model.specs.declared.outcome.Polled.TheVariants as polled_as
 use Rattle.core_model.specs.declared.refusal.Refusal.{Refusal}
-use Rattle.core_model.specs.declared.refusal.Refusal.TheVariants as refusal
 use Rattle.core_model.specs.declared.entry.Effect.{Effect}
 use Rattle.core_model.specs.declared.entry.Effect.TheVariants as effect
 use Rattle.core_model.specs.declared.entry.Entry.{Entry}
 use Rattle.core_model.specs.declared.flight.InFlight.{InFlight}
+use Rattle.core_model.specs.declared.flight.Progress.{Progress}
 use Rattle.core_model.specs.History.{Start}
 use Rattle.core_model.specs.Grants.{in_force}
 use Rattle.core_model.specs.Memory.{region_lengths, signals}
 use Rattle.core_model.specs.Queues.{error_of, Opening, owner, openings, next_id, is_down, is_stopped}
-use Rattle.core_model.specs.Flight.{flight, in_flight, is_packet, none_seen, seen_with}
+use Rattle.core_model.specs.Flight.{flight, flight_of, in_flight, is_packet, none_seen, progress, seen_with}
 use Rattle.core_model.specs.Holds.{holder}
 use Rattle.core_model.specs.declared.limits.TheConstants.{QUEUES}
 use Rattle.core_model.specs.Needs.{completion}
 use Rattle.core_model.specs.LaunchRules.{first_failing, may_start, is_barrier}
 use Rattle.core_model.specs.Work.{groups_of, agent_writes, is_ready, is_negative, awaited, newly_seen}
-use Rattle.core_model.specs.Owed.{refuse_if, Owed, owed, refuses, answers, enters, refuse_if_held, decided, error_at, facts_of, flight_of, is_host_size, is_ring_size, is_finished, completed, owed_take, owed_group, owed_poll, owed_finish, polled, stop_releases, old_if_asked}
+use Rattle.core_model.specs.Owed.{refuse_if, Owed, owed, answers, enters, refuse_if_held, decided, for_packet, error_at, facts_of, is_host_size, is_ring_size, is_finished, completed, owed_take, owed_group, owed_poll, owed_finish, polled, barrier_in, release_of, old_if_asked}
 use Rattle.core_model.proofs.Lists.{found-passes}
 use Rattle.core_model.proofs.Launches.{refuse_if-passed, refuse_unless-passed, for_some-found}
 
@@ -118,7 +118,7 @@ module _ (start : Start) (es : List Entry) (told : Outcome) (effects : List Effe
   -- ---- a stop releases at most
 
   pub record HasStopped (queue : QueueId) : Type 0 where
-    pub effects_are : effects ≡ stop_releases (flight_of start es queue)
+    pub effects_are : effects ≡ release_of queue (barrier_in (flight_of start es queue))
     pub no_error : error_of told ≡ None
 
   pub stop-effects : (queue : QueueId) → owed start es (Stop queue) ≡ enters told effects → HasStopped queue
@@ -137,7 +137,7 @@ module _ (start : Start) (es : List Entry) (told : Outcome) (effects : List Effe
     pub owner_is : owner start es queue ≡ Some opening
     pub launches_yet : is_down start es queue ≡ false
     pub is_next : id.0 ≡ next_id start es queue
-    pub may_start : may_start (flight_of start es queue) (barrier_bit bytes) ≡ None
+    pub may_start : may_start (map (λ f. f.packet) (flight_of start es queue)) (barrier_bit bytes) ≡ None
     pub effects_are : effects ≡ []
     pub verdict : Option Rule
     pub verdict_is : first_failing (facts_of start es opening) bytes ≡ verdict
@@ -156,7 +156,7 @@ module _ (start : Start) (es : List Entry) (told : Outcome) (effects : List Effe
       let opening = found.found in
       let up = refused-not (is_down start es queue) _ _ told effects found.rest_is in
       let next = refuse_unless-passed (id.0 == next_id start es queue) _ _ told effects up.1 in
-      let last = decided-entered queue id.0 (may_start (flight_of start es queue) (barrier_bit bytes)) (first_failing (facts_of start es opening) bytes) next.rest_is in
+      let last = decided-entered queue id.0 (may_start (map (λ f. f.packet) (flight_of start es queue)) (barrier_bit bytes)) (first_failing (facts_of start es opening) bytes) next.rest_is in
       record {
         opening = opening;
         owner_is = found.is;
@@ -171,32 +171,46 @@ module _ (start : Start) (es : List Entry) (told : Outcome) (effects : List Effe
 
   -- ---- work
 
-  -- an agent dispatch in flight whose one group ran
-  pub record GroupRan (queue : QueueId) (id : PacketId) : Type 0 where
+  -- a packet that a call names is in flight
+  pub record IsFlying (queue : QueueId) (id : PacketId) (rest : Packet → Progress → Owed) : Type 0 where
     pub flying : InFlight
     pub found : in_flight start es queue id ≡ Some flying
+    pub rest_is : rest flying.packet (progress start es queue id) ≡ enters told effects
+
+  flying-found : (queue : QueueId) (id : PacketId) (rest : Packet → Progress → Owed) → for_packet start es queue id rest ≡ enters told effects → IsFlying queue id rest
+  flying-found queue id rest owing =
+      let queued = for_some-found (owner start es queue) _ _ told effects owing in
+      let there = for_some-found (in_flight start es queue id) _ (λ f. rest f.packet (progress start es queue id)) told effects queued.rest_is in
+      record { flying = there.found; found = there.is; rest_is = there.rest_is }
+
+  -- an agent dispatch whose one group ran
+  pub record GroupRan (p : Packet) (so_far : Progress) : Type 0 where
     pub dispatch : AgentDispatch
-    pub is_agent : flying.packet ≡ packet.Agent dispatch
-    pub is_left : flying.groups_run < groups_of flying.packet
+    pub is_agent : p ≡ packet.Agent dispatch
+    pub is_left : so_far.groups_run < groups_of p
     pub effects_are : effects ≡ agent_writes start es dispatch
     pub outcome_is : told ≡ outcome.Worked (worked.Ran 0 0)
 
-  group-entered : (queue : QueueId) (id : PacketId) (f : InFlight) (p : Packet) → f.packet ≡ p → in_flight start es queue id ≡ Some f → owed_group start es f ≡ enters told effects → GroupRan queue id
-  group-entered queue id f (packet.Agent dispatch) is found same = ran (nat_le 1 f.groups_run) refl (rw is at same)
+  group-entered : (p : Packet) (so_far : Progress) → owed_group start es p so_far ≡ enters told effects → GroupRan p so_far
+  group-entered (packet.Agent dispatch) so_far same = ran (nat_le 1 so_far.groups_run) refl same
     where
-      ran : (b : Bool) → nat_le 1 f.groups_run ≡ b → (if b then answers (outcome.Worked worked.Done) else enters (outcome.Worked (worked.Ran 0 0)) (agent_writes start es dispatch)) ≡ enters told effects → GroupRan queue id
+      ran : (b : Bool) → nat_le 1 so_far.groups_run ≡ b → (if b then answers (outcome.Worked worked.Done) else enters (outcome.Worked (worked.Ran 0 0)) (agent_writes start es dispatch)) ≡ enters told effects → GroupRan (packet.Agent dispatch) so_far
       ran true has same = absurd cc
-      ran false has same = record { flying = f; found = found; dispatch = dispatch; is_agent = is; is_left = rw is (leb-false 1 f.groups_run has); effects_are = cc; outcome_is = cc }
-  group-entered queue id f (packet.Kernel _) is found same = let no : answers (outcome.Worked worked.Done) ≡ enters told effects = rw is at same in absurd cc
-  group-entered queue id f (packet.BarrierAnd _) is found same = let no : refuses refusal.NotInFlight ≡ enters told effects = rw is at same in absurd cc
-  group-entered queue id f (packet.BarrierOr _) is found same = let no : refuses refusal.NotInFlight ≡ enters told effects = rw is at same in absurd cc
+      ran false has same = record { dispatch = dispatch; is_agent = refl; is_left = leb-false 1 so_far.groups_run has; effects_are = cc; outcome_is = cc }
+  group-entered (packet.Kernel _) so_far same = absurd cc
+  group-entered (packet.BarrierAnd _) so_far same = absurd cc
+  group-entered (packet.BarrierOr _) so_far same = absurd cc
 
-  pub run-entered : (queue : QueueId) (id : PacketId) → owed start es (RunNext queue id) ≡ enters told effects → GroupRan queue id
+  pub record HasRun (queue : QueueId) (id : PacketId) : Type 0 where
+    pub flying : InFlight
+    pub found : in_flight start es queue id ≡ Some flying
+    pub group : GroupRan flying.packet (progress start es queue id)
+
+  pub run-entered : (queue : QueueId) (id : PacketId) → owed start es (RunNext queue id) ≡ enters told effects → HasRun queue id
   unfolding owed
   run-entered queue id owing =
-      let queued = for_some-found (owner start es queue) _ _ told effects owing in
-      let there = for_some-found (in_flight start es queue id) _ (owed_group start es) told effects queued.rest_is in
-      group-entered queue id there.found there.found.packet refl there.is there.rest_is
+      let there = flying-found queue id (owed_group start es) owing in
+      record { flying = there.flying; found = there.found; group = group-entered there.flying.packet (progress start es queue id) there.rest_is }
 
   -- ---- a poll fails, or changes nothing
 
@@ -206,11 +220,14 @@ module _ (start : Start) (es : List Entry) (told : Outcome) (effects : List Effe
     pub effects_are : effects ≡ effect.Release queue id ∷ []
     pub outcome_is : told ≡ outcome.Polled (polled_as.Failed (error_at queue id.0 B1))
 
-  poll-end : (queue : QueueId) (id : PacketId) (f : InFlight) → in_flight start es queue id ≡ Some f → f.queue ≡ queue → f.id ≡ id → owed_poll start es f ≡ enters told effects → IsQuiet ⊎ HasFailed queue id
-  poll-end queue id f found queue_is id_is same =
+  poll-end : (queue : QueueId) (id : PacketId) (f : InFlight) (so_far : Progress) → in_flight start es queue id ≡ Some f → owed_poll (signals start es) queue id f.packet so_far ≡ enters told effects → IsQuiet ⊎ HasFailed queue id
+  poll-end queue id f so_far found same =
       let barrier = refuse_unless-passed (is_barrier f.packet) _ _ told effects same in
-      ready (is_ready f.packet f.seen) (list_any (is_negative (signals start es)) (awaited f.packet f.seen)) barrier.rest_is
+      ready (is_ready f.packet so_far.satisfied) (list_any (is_negative (signals start es)) (awaited f.packet so_far.satisfied)) barrier.rest_is
     where
+      new : Seen
+      new = newly_seen (signals start es) f.packet so_far.satisfied
+
       seen_some : (b : Bool) (seen : Outcome) → error_of seen ≡ None → (if b then enters seen [] else answers (outcome.Polled (polled_as.Pending none_seen))) ≡ enters told effects → IsQuiet
       seen_some true seen plain same = quiet seen plain same
       seen_some false seen plain same = absurd cc
@@ -219,28 +236,17 @@ module _ (start : Start) (es : List Entry) (told : Outcome) (effects : List Effe
       either true seen = refl
       either false seen = refl
 
-      ready : (is negative : Bool) → (if is then answers (outcome.Polled (polled_as.Ready none_seen)) else if negative then enters (outcome.Polled (polled_as.Failed (error_at f.queue f.id.0 B1))) (effect.Release f.queue f.id ∷ []) else polled f.packet f.seen (newly_seen (signals start es) f.packet f.seen)) ≡ enters told effects → IsQuiet ⊎ HasFailed queue id
+      ready : (is negative : Bool) → (if is then answers (outcome.Polled (polled_as.Ready none_seen)) else if negative then enters (outcome.Polled (polled_as.Failed (error_at queue id.0 B1))) (effect.Release queue id ∷ []) else polled f.packet so_far.satisfied new) ≡ enters told effects → IsQuiet ⊎ HasFailed queue id
       ready true negative same = absurd cc
-      ready false true same =
-          let released : effect.Release f.queue f.id ∷ [] ≡ effects = cc in
-          let failed : outcome.Polled (polled_as.Failed (error_at f.queue f.id.0 B1)) ≡ told = cc in
-          inr (record {
-            flying = f;
-            found = found;
-            effects_are = sym released ∙ ap (λ q. effect.Release q f.id ∷ []) queue_is ∙ ap (λ i. effect.Release queue i ∷ []) id_is;
-            outcome_is = sym failed ∙ ap (λ q. outcome.Polled (polled_as.Failed (error_at q f.id.0 B1))) queue_is ∙ ap (λ i. outcome.Polled (polled_as.Failed (error_at queue i.0 B1))) id_is;
-          })
+      ready false true same = inr (record { flying = f; found = found; effects_are = cc; outcome_is = cc })
       ready false false same =
-          let new = newly_seen (signals start es) f.packet f.seen in
-          inl (seen_some (list_any (λ at. at) new.0) (outcome.Polled (if is_ready f.packet (seen_with f.seen new) then polled_as.Ready new else polled_as.Pending new)) (either (is_ready f.packet (seen_with f.seen new)) new) same)
+          inl (seen_some (list_any (λ at. at) new.0) (outcome.Polled (if is_ready f.packet (seen_with so_far.satisfied new) then polled_as.Ready new else polled_as.Pending new)) (either (is_ready f.packet (seen_with so_far.satisfied new)) new) same)
 
   pub poll-entered : (queue : QueueId) (id : PacketId) → owed start es (Poll queue id) ≡ enters told effects → IsQuiet ⊎ HasFailed queue id
   unfolding owed
   poll-entered queue id owing =
-      let queued = for_some-found (owner start es queue) _ _ told effects owing in
-      let there = for_some-found (in_flight start es queue id) _ (owed_poll start es) told effects queued.rest_is in
-      let named = named-found start es queue id there.found there.is in
-      poll-end queue id there.found there.is named.0 named.1 there.rest_is
+      let there = flying-found queue id (owed_poll (signals start es) queue id) owing in
+      poll-end queue id there.flying (progress start es queue id) there.found there.rest_is
 
   -- ---- a packet's completion
 
@@ -253,22 +259,11 @@ module _ (start : Start) (es : List Entry) (told : Outcome) (effects : List Effe
   pub finish-entered : (queue : QueueId) (id : PacketId) → owed start es (Finish queue id) ≡ enters told effects → Completed queue id
   unfolding owed
   finish-entered queue id owing =
-      let queued = for_some-found (owner start es queue) _ _ told effects owing in
-      let there = for_some-found (in_flight start es queue id) _ (owed_finish start es) told effects queued.rest_is in
-      let f = there.found in
-      let named = named-found start es queue id f there.is in
-      let last = refuse_unless-passed (is_finished f) _ _ told effects there.rest_is in
-      let same : completed (signals start es) (completion f.packet) ++ effect.Release f.queue f.id ∷ [] ≡ effects = let is = last.rest_is in cc in
-      let accepted : outcome.Accepted ≡ told = let is = last.rest_is in cc in
-      record {
-        flying = f;
-        found = there.is;
-        no_error = ap error_of (sym accepted);
-        effects_are =
-            sym same
-            ∙ ap (λ q. completed (signals start es) (completion f.packet) ++ effect.Release q f.id ∷ []) named.0
-            ∙ ap (λ i. completed (signals start es) (completion f.packet) ++ effect.Release queue i ∷ []) named.1;
-      }
+      let there = flying-found queue id (owed_finish (signals start es) queue id) owing in
+      let last = refuse_unless-passed (is_finished there.flying.packet (progress start es queue id)) _ _ told effects there.rest_is in
+      let same = last.rest_is in
+      let accepted : outcome.Accepted ≡ told = cc in
+      record { flying = there.flying; found = there.found; no_error = ap error_of (sym accepted); effects_are = cc }
 
   -- ---- a client's own write and change
 

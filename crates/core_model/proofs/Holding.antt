@@ -29,65 +29,59 @@ use Rattle.core_model.specs.declared.need.Need.{Need}
 use Rattle.core_model.specs.History.{Start}
 use Rattle.core_model.specs.Grants.{in_force, in_force_after, is_named}
 use Rattle.core_model.specs.Queues.{Opening, owner, openings, opening_of, next_id}
-use Rattle.core_model.specs.Flight.{flight, in_flight, is_packet}
+use Rattle.core_model.specs.Flight.{flight, in_flight, is_packet, launched_by}
 use Rattle.core_model.specs.Needs.{needs, object_of}
 use Rattle.core_model.specs.LaunchRules.{Facts, holds_rule, is_met, launch_rules, lies_whole}
-use Rattle.core_model.specs.Holds.{Held, as_held, held, held_at_launch, held_from, held_if, launches, bytes_taken, holds_one_of, is_owned, is_up_to, least}
+use Rattle.core_model.specs.Holds.{Held, as_held, held, held_at_launch, held_from, held_if, is_launch, holds_one_of, is_owned, is_up_to, least}
 use Rattle.core_model.specs.Owed.{owed, enters, facts_of}
 use Rattle.core_model.specs.Legal.{IsLegal, entry_of}
 use Rattle.core_model.specs.Headline.{HasItsRights, HoldsInForce, InFlightSince, Launch}
 use Rattle.core_model.proofs.Lists.{found-all, none-passes, all-from_list_all, all-left, all-right}
 use Rattle.core_model.proofs.More.{openings-more, with_some, in_force-more}
-use Rattle.core_model.proofs.Launches.{was_launched, AreBelowNext-legal}
-use Rattle.core_model.proofs.Flying.{Of, flying-legal}
+use Rattle.core_model.proofs.Launches.{launched_by-is, was_launched, AreBelowNext-legal}
+use Rattle.core_model.proofs.Flying.{flying-legal}
 use Rattle.core_model.proofs.Entered.{named-found, revoke-effects}
 use Rattle.core_model.proofs.Launching.{launch-granted, has-rights, needs-met}
 
 -- ---- what a packet holds stays what its launch gave it
 
--- what a launch holds doesn't look at the entries before it
-held_if-same : (start : Start) (before : List Entry) (o : Option Opening) (p : Option Packet) → held_if start before o p ≡ held_if start [] o p
-held_if-same start before None p = refl
-held_if-same start before (Some opening) None = refl
-held_if-same start before (Some opening) (Some p) = refl
-
 -- a packet that was launched holds what it held
-held_from-kept : (start : Start) (before es more : List Entry) (queue : QueueId) (id : PacketId) → was_launched es queue id ≡ true → held_from start before (es ++ more) queue id ≡ held_from start before es queue id
+pub held_from-kept : (start : Start) (before es more : List Entry) (queue : QueueId) (id : PacketId) → was_launched es queue id ≡ true → held_from start before (es ++ more) queue id ≡ held_from start before es queue id
 held_from-kept start before [] more queue id launched = absurd (cc)
 held_from-kept start before (x ∷ xs) more queue id launched =
-    by_test (launches queue id x.event x.outcome) refl (held_from-kept start (before ++ x ∷ []) xs more queue id)
+    by_test (is_launch queue id (launched_by x.event x.outcome)) refl (held_from-kept start (before ++ x ∷ []) xs more queue id)
   where
-    by_test : (b : Bool) → launches queue id x.event x.outcome ≡ b
+    by_test : (b : Bool) → is_launch queue id (launched_by x.event x.outcome) ≡ b
         → (was_launched xs queue id ≡ true → held_from start (before ++ x ∷ []) (xs ++ more) queue id ≡ held_from start (before ++ x ∷ []) xs queue id)
         → held_from start before (x ∷ (xs ++ more)) queue id ≡ held_from start before (x ∷ xs) queue id
     by_test true is rest = rw is refl
     by_test false is rest = rw is (rest (rw is at launched))
 
 -- one that wasn't holds nothing
-held_from-none : (start : Start) (before es : List Entry) (queue : QueueId) (id : PacketId) → was_launched es queue id ≡ false → held_from start before es queue id ≡ []
+pub held_from-none : (start : Start) (before es : List Entry) (queue : QueueId) (id : PacketId) → was_launched es queue id ≡ false → held_from start before es queue id ≡ []
 held_from-none start before [] queue id none = refl
 held_from-none start before (x ∷ xs) queue id none =
-    by_test (launches queue id x.event x.outcome) refl (held_from-none start (before ++ x ∷ []) xs queue id)
+    by_test (is_launch queue id (launched_by x.event x.outcome)) refl (held_from-none start (before ++ x ∷ []) xs queue id)
   where
-    by_test : (b : Bool) → launches queue id x.event x.outcome ≡ b
+    by_test : (b : Bool) → is_launch queue id (launched_by x.event x.outcome) ≡ b
         → (was_launched xs queue id ≡ false → held_from start (before ++ x ∷ []) xs queue id ≡ [])
         → held_from start before (x ∷ xs) queue id ≡ []
     by_test true is rest = absurd (cc (rw is at none))
     by_test false is rest = rw is (rest (rw is at none))
 
 -- and holds, from the entry that launches it on, what its launch gives it
-held_from-launch : (start : Start) (before es : List Entry) (e : Entry) (queue : QueueId) (id : PacketId) → was_launched es queue id ≡ false → launches queue id e.event e.outcome ≡ true → held_from start before (es ++ e ∷ []) queue id ≡ held_if start [] (owner start (before ++ es) queue) (decoded (bytes_taken e.event))
-held_from-launch start before [] e queue id none now = rw (now, append-nil) (held_if-same start before (owner start before queue) (decoded (bytes_taken e.event)))
+pub held_from-launch : (start : Start) (before es : List Entry) (e : Entry) (queue : QueueId) (id : PacketId) → was_launched es queue id ≡ false → is_launch queue id (launched_by e.event e.outcome) ≡ true → held_from start before (es ++ e ∷ []) queue id ≡ held_if (owner start (before ++ es) queue) (launched_by e.event e.outcome)
+held_from-launch start before [] e queue id none now = rw (now, append-nil) refl
 held_from-launch start before (x ∷ xs) e queue id none now =
-    by_test (launches queue id x.event x.outcome) refl (λ others. held_from-launch start (before ++ x ∷ []) xs e queue id others now)
+    by_test (is_launch queue id (launched_by x.event x.outcome)) refl (λ others. held_from-launch start (before ++ x ∷ []) xs e queue id others now)
   where
-    by_test : (b : Bool) → launches queue id x.event x.outcome ≡ b
-        → (was_launched xs queue id ≡ false → held_from start (before ++ x ∷ []) (xs ++ e ∷ []) queue id ≡ held_if start [] (owner start ((before ++ x ∷ []) ++ xs) queue) (decoded (bytes_taken e.event)))
-        → held_from start before (x ∷ (xs ++ e ∷ [])) queue id ≡ held_if start [] (owner start (before ++ x ∷ xs) queue) (decoded (bytes_taken e.event))
+    by_test : (b : Bool) → is_launch queue id (launched_by x.event x.outcome) ≡ b
+        → (was_launched xs queue id ≡ false → held_from start (before ++ x ∷ []) (xs ++ e ∷ []) queue id ≡ held_if (owner start ((before ++ x ∷ []) ++ xs) queue) (launched_by e.event e.outcome))
+        → held_from start before (x ∷ (xs ++ e ∷ [])) queue id ≡ held_if (owner start (before ++ x ∷ xs) queue) (launched_by e.event e.outcome)
     by_test true is rest = absurd (cc (rw is at none))
     by_test false is rest =
         rw is (rest (rw is at none))
-        ∙ ap (λ (es : List Entry). held_if start [] (owner start es queue) (decoded (bytes_taken e.event))) (append_assoc before (x ∷ []) xs)
+        ∙ ap (λ (es : List Entry). held_if (owner start es queue) (launched_by e.event e.outcome)) (append_assoc before (x ∷ []) xs)
 
 -- a queue stays whose it is
 slice_get-more : {X : Type 0} (xs : List X) (x y : X) (k : ℕ) → slice_get xs k ≡ Some x → slice_get (xs ++ y ∷ []) k ≡ Some x
@@ -206,12 +200,12 @@ unnamed-stay client named on rights before (h ∷ hs) none all =
 -- ---- what a packet in flight holds is in force
 
 -- a packet was launched as what it is, holds what its launch gave it, and all of it is in force for the owner of its queue
-pub record HoldsNow (start : Start) (es : List Entry) (queue : QueueId) (id : PacketId) (p : Packet) : Type 0 where
-  pub launch : Launch start es queue id
-  pub packet_is : launch.packet ≡ p
-  pub owner_is : owner start es queue ≡ Some launch.opening
-  pub held_is : held start es queue id ≡ held_at_launch launch.opening p
-  pub granted : All (λ h. in_force start es launch.opening.client h.0 h.1 ≡ true) (held_at_launch launch.opening p)
+pub record HoldsNow (start : Start) (es : List Entry) (f : InFlight) : Type 0 where
+  pub launch : Launch start es f.queue f.id
+  pub packet_is : launch.packet ≡ f.packet
+  pub owner_is : owner start es f.queue ≡ Some launch.opening
+  pub held_is : held start es f.queue f.id ≡ held_at_launch launch.opening f.packet
+  pub granted : All (λ h. in_force start es launch.opening.client h.0 h.1 ≡ true) (held_at_launch launch.opening f.packet)
 
 module _ (start : Start) (es : List Entry) (e : Entry) where
   abbrev later : List Entry
@@ -235,36 +229,36 @@ module _ (start : Start) (es : List Entry) (e : Entry) where
       by_test false was = let none = held_from-none start [] es queue id was in absurd (cc)
 
   -- one entry more, after which the rights are in force yet
-  holds-more : (queue : QueueId) (id : PacketId) (p : Packet) (h : HoldsNow start es queue id p) →
-      All (λ g. in_force_after h.launch.opening.client g.0 g.1 (in_force start es h.launch.opening.client g.0 g.1) e.event ≡ true) (held_at_launch h.launch.opening p) → HoldsNow start later queue id p
-  holds-more queue id p h stays = record {
-    launch = launch-more queue id h.launch;
+  holds-more : (f : InFlight) (h : HoldsNow start es f) →
+      All (λ g. in_force_after h.launch.opening.client g.0 g.1 (in_force start es h.launch.opening.client g.0 g.1) e.event ≡ true) (held_at_launch h.launch.opening f.packet) → HoldsNow start later f
+  holds-more f h stays = record {
+    launch = launch-more f.queue f.id h.launch;
     packet_is = h.packet_is;
-    owner_is = owner-more start es e queue h.launch.opening h.owner_is;
-    held_is = held_from-kept start [] es (e ∷ []) queue id (was-launched queue id h.launch.opening p h.held_is) ∙ h.held_is;
+    owner_is = owner-more start es e f.queue h.launch.opening h.owner_is;
+    held_is = held_from-kept start [] es (e ∷ []) f.queue f.id (was-launched f.queue f.id h.launch.opening f.packet h.held_is) ∙ h.held_is;
     granted = All-weaker (λ g. in_force_after h.launch.opening.client g.0 g.1 (in_force start es h.launch.opening.client g.0 g.1) e.event ≡ true) (λ g. in_force start later h.launch.opening.client g.0 g.1 ≡ true)
-        (λ g is. in_force-more start es e h.launch.opening.client g.0 g.1 ∙ is) (held_at_launch h.launch.opening p) stays;
+        (λ g is. in_force-more start es e h.launch.opening.client g.0 g.1 ∙ is) (held_at_launch h.launch.opening f.packet) stays;
   }
 
   -- what an event does to rights in force that are held by none that it names
-  kept-by : (event : Event) (queue : QueueId) (id : PacketId) (p : Packet) (h : HoldsNow start es queue id p) →
-      ((client : ClientId) (on : Object) (rights : Rights) → event ≡ Revoke client on rights → (is_owned start es client queue && list_any (λ g. same_object on g.0 && has rights g.1) (held start es queue id)) ≡ false) →
-      All (λ g. in_force_after h.launch.opening.client g.0 g.1 (in_force start es h.launch.opening.client g.0 g.1) event ≡ true) (held_at_launch h.launch.opening p)
-  kept-by (Grant c o rights) queue id p h none =
+  kept-by : (event : Event) (f : InFlight) (h : HoldsNow start es f) →
+      ((client : ClientId) (on : Object) (rights : Rights) → event ≡ Revoke client on rights → (is_owned start es client f.queue && list_any (λ g. same_object on g.0 && has rights g.1) (held start es f.queue f.id)) ≡ false) →
+      All (λ g. in_force_after h.launch.opening.client g.0 g.1 (in_force start es h.launch.opening.client g.0 g.1) event ≡ true) (held_at_launch h.launch.opening f.packet)
+  kept-by (Grant c o rights) f h none =
       All-weaker (λ g. in_force start es h.launch.opening.client g.0 g.1 ≡ true) (λ g. (in_force start es h.launch.opening.client g.0 g.1 || is_named h.launch.opening.client g.0 g.1 c o rights) ≡ true)
-      (λ g is. rw is refl) (held_at_launch h.launch.opening p) h.granted
-  kept-by (Revoke c o rights) queue id p h none =
-      let own : is_owned start es c queue ≡ (h.launch.opening.client.0 == c.0) = ap (λ (found : Option Opening). elim found [ None ↦ false | Some opening ↦ opening.client.0 == c.0 ]) h.owner_is in
+      (λ g is. rw is refl) (held_at_launch h.launch.opening f.packet) h.granted
+  kept-by (Revoke c o rights) f h none =
+      let own : is_owned start es c f.queue ≡ (h.launch.opening.client.0 == c.0) = ap (λ (found : Option Opening). elim found [ None ↦ false | Some opening ↦ opening.client.0 == c.0 ]) h.owner_is in
       let named = λ (g : Held). same_object o g.0 && has rights g.1 in
-      unnamed-stay h.launch.opening.client c o rights (in_force start es h.launch.opening.client) (held_at_launch h.launch.opening p) (sym (λ i. own i && list_any named (h.held_is i)) ∙ none c o rights refl) h.granted
-  kept-by (OpenQueue _ _ _) queue id p h none = h.granted
-  kept-by (Stop _) queue id p h none = h.granted
-  kept-by (Take _ _ _) queue id p h none = h.granted
-  kept-by (RunNext _ _) queue id p h none = h.granted
-  kept-by (Poll _ _) queue id p h none = h.granted
-  kept-by (Finish _ _) queue id p h none = h.granted
-  kept-by (HostWrite _ _ _) queue id p h none = h.granted
-  kept-by (ChangeSignal _ _ _) queue id p h none = h.granted
+      unnamed-stay h.launch.opening.client c o rights (in_force start es h.launch.opening.client) (held_at_launch h.launch.opening f.packet) (sym (λ i. own i && list_any named (h.held_is i)) ∙ none c o rights refl) h.granted
+  kept-by (OpenQueue _ _ _) f h none = h.granted
+  kept-by (Stop _) f h none = h.granted
+  kept-by (Take _ _ _) f h none = h.granted
+  kept-by (RunNext _ _) f h none = h.granted
+  kept-by (Poll _ _) f h none = h.granted
+  kept-by (Finish _ _) f h none = h.granted
+  kept-by (HostWrite _ _ _) f h none = h.granted
+  kept-by (ChangeSignal _ _ _) f h none = h.granted
 
   -- a revocation that was made names nothing that a packet in flight holds
   unheld : owed start es e.event ≡ enters e.outcome e.effects → (client : ClientId) (on : Object) (rights : Rights) → e.event ≡ Revoke client on rights →
@@ -273,10 +267,10 @@ module _ (start : Start) (es : List Entry) (e : Entry) where
       let revoked = revoke-effects start es e.outcome e.effects client on rights (rw is at owing) in
       filtered-none (λ f. is_owned start es client f.queue && holds_one_of start es on rights f) (flight start es) (least-none _ revoked.unheld)
 
-  more : IsLegal start es → owed start es e.event ≡ enters e.outcome e.effects → All (Of (HoldsNow start es)) (flight start es) → All (Of (HoldsNow start later)) (flight start es)
+  more : IsLegal start es → owed start es e.event ≡ enters e.outcome e.effects → All (HoldsNow start es) (flight start es) → All (HoldsNow start later) (flight start es)
   more legal owing all k d below =
       let h = all k d below in
-      holds-more _ _ _ h (kept-by e.event _ _ _ h (λ client on rights is. unheld owing client on rights is k d below))
+      holds-more _ h (kept-by e.event _ h (λ client on rights is. unheld owing client on rights is k d below))
 
   -- ---- at its launch
 
@@ -289,22 +283,26 @@ module _ (start : Start) (es : List Entry) (e : Entry) where
   rules-met facts p [] each = All-nil _
   rules-met facts p (r ∷ rules) each = All-append (λ h. facts.in_force h.0 h.1 ≡ true) _ _ (rights-met facts (needs r facts.agent p) (each r)) (rules-met facts p rules each)
 
-  launched : IsLegal start es → owed start es e.event ≡ enters e.outcome e.effects → (queue : QueueId) (id : PacketId) (bytes : List ℕ) (p : Packet) → e.event ≡ Take queue id bytes → e.outcome ≡ outcome.Taken Launched → decoded bytes ≡ Some p → HoldsNow start later queue id p
-  launched legal owing queue id bytes p event_is outcome_is is =
-      let granted = launch-granted start es queue id bytes e.effects (rw (event_is, outcome_is) at owing) in
+  -- whatever packet a launch is told of, it holds what its launch gives it
+  launched : IsLegal start es → owed start es e.event ≡ enters e.outcome e.effects → (f : InFlight) → launched_by e.event e.outcome ≡ Some f → HoldsNow start later f
+  launched legal owing f launches =
+      let launch = launched_by-is e.event e.outcome f launches in
+      let event_is = launch.event_is in
+      let outcome_is = launch.outcome_is in
+      let granted = launch-granted start es f.queue f.id launch.bytes e.effects (sym (ap (owed start es) event_is) ∙ owing ∙ ap (λ o. enters o e.effects) outcome_is) in
       let opening = granted.opening in
-      let packet_is : granted.packet ≡ p = one-packet (decoded bytes) granted.packet p granted.allowed.is_read is in
-      let entry_is : e ≡ entry_of (Take queue id bytes) (outcome.Taken Launched) [] = λ i. record { event = event_is i; outcome = outcome_is i; effects = granted.effects_are i } in
-      let none : was_launched es queue id ≡ false = by_test (was_launched es queue id) refl granted.allowed.is_next in
-      let now : launches queue id e.event e.outcome ≡ true = rw (event_is, outcome_is) (and_from _ _ (eq-eqb queue.0 queue.0 refl) (eq-eqb id.0 id.0 refl)) in
-      let bytes_are : decoded (bytes_taken e.event) ≡ Some p = ap (λ event. decoded (bytes_taken event)) event_is ∙ is in
+      let packet_is : granted.packet ≡ f.packet = one-packet (decoded launch.bytes) granted.packet f.packet granted.allowed.is_read launch.reads in
+      let entry_is : e ≡ entry_of (Take f.queue f.id launch.bytes) (outcome.Taken Launched) [] = λ i. record { event = event_is i; outcome = outcome_is i; effects = granted.effects_are i } in
+      let none : was_launched es f.queue f.id ≡ false = by_test (was_launched es f.queue f.id) refl granted.allowed.is_next in
+      let itself : is_packet f.queue f.id f ≡ true = and_from _ _ (eq-eqb f.queue.0 f.queue.0 refl) (eq-eqb f.id.0 f.id.0 refl) in
+      let now : is_launch f.queue f.id (launched_by e.event e.outcome) ≡ true = rw launches itself in
       let facts : Facts = facts_of start es opening in
-      let met = rules-met facts granted.packet launch_rules (needs-met facts bytes granted.packet granted.allowed.every_rule) in
+      let met = rules-met facts granted.packet launch_rules (needs-met facts launch.bytes granted.packet granted.allowed.every_rule) in
       record {
-        launch = record { before = es; bytes = bytes; opening = opening; packet = granted.packet; place = record { after = []; whole = ap (λ x. es ++ x ∷ []) entry_is }; allowed = granted.allowed };
+        launch = record { before = es; bytes = launch.bytes; opening = opening; packet = granted.packet; place = record { after = []; whole = ap (λ x. es ++ x ∷ []) entry_is }; allowed = granted.allowed };
         packet_is = packet_is;
-        owner_is = owner-more start es e queue opening granted.allowed.owner_is;
-        held_is = ◌∙◌ {b = held_if start [] (owner start es queue) (decoded (bytes_taken e.event))} (held_from-launch start [] es e queue id none now) (λ i. held_if start [] (granted.allowed.owner_is i) (bytes_are i));
+        owner_is = owner-more start es e f.queue opening granted.allowed.owner_is;
+        held_is = ◌∙◌ {b = held_if (owner start es f.queue) (launched_by e.event e.outcome)} (held_from-launch start [] es e f.queue f.id none now) (λ i. held_if (granted.allowed.owner_is i) (launches i));
         granted = subst (λ q. All (λ h. in_force start later opening.client h.0 h.1 ≡ true) (held_at_launch opening q)) packet_is
             (All-weaker (λ h. in_force start es opening.client h.0 h.1 ≡ true) (λ h. in_force start later opening.client h.0 h.1 ≡ true)
             (λ h here. in_force-more start es e opening.client h.0 h.1 ∙ ap (in_force_after opening.client h.0 h.1 (in_force start es opening.client h.0 h.1)) event_is ∙ here) (held_at_launch opening granted.packet) met);
@@ -313,12 +311,12 @@ module _ (start : Start) (es : List Entry) (e : Entry) where
       one-packet : (o : Option Packet) (p q : Packet) → o ≡ Some p → o ≡ Some q → p ≡ q
       one-packet o p q one other = let same : Some p ≡ Some q = sym one ∙ other in cc
 
-      by_test : (b : Bool) → was_launched es queue id ≡ b → id.0 ≡ next_id start es queue → was_launched es queue id ≡ false
-      by_test true was at = let below : id.0 < next_id start es queue = AreBelowNext-legal start es legal queue id was in absurd (omega arith)
+      by_test : (b : Bool) → was_launched es f.queue f.id ≡ b → f.id.0 ≡ next_id start es f.queue → was_launched es f.queue f.id ≡ false
+      by_test true was at = let below : f.id.0 < next_id start es f.queue = AreBelowNext-legal start es legal f.queue f.id was in absurd (omega arith)
       by_test false was at = was
 
 module _ (start : Start) (es : List Entry) (legal : IsLegal start es) where
-  holding : All (Of (HoldsNow start es)) (flight start es)
+  holding : All (HoldsNow start es) (flight start es)
   holding = flying-legal start (HoldsNow start) (more start) (launched start) es legal
 
   -- ---- the rights of a packet in flight, now
@@ -333,9 +331,9 @@ module _ (start : Start) (es : List Entry) (legal : IsLegal start es) where
       and_from _ _ (and_from _ _ whole.0 (All-head (λ h. in_force start es client h.0 h.1 ≡ true) (as_held n) (map as_held ns) all))
       (met-yet client facts ns both.1 (All-tail (λ h. in_force start es client h.0 h.1 ≡ true) (as_held n) (map as_held ns) all))
 
-  rights-now : (queue : QueueId) (id : PacketId) (p : Packet) → HoldsNow start es queue id p → (l : Launch start es queue id) → l.packet ≡ p → owner start es queue ≡ Some l.opening →
+  rights-now : (queue : QueueId) (id : PacketId) (p : Packet) (l : Launch start es queue id) → l.packet ≡ p →
       All (λ h. in_force start es l.opening.client h.0 h.1 ≡ true) (held_at_launch l.opening p) → HasItsRights start es l.opening p
-  rights-now queue id p h l packet_is owner_is granted = has-rights start es l.opening p each
+  rights-now queue id p l packet_is granted = has-rights start es l.opening p each
     where
       Granted : Held → Type 0
       Granted g = in_force start es l.opening.client g.0 g.1 ≡ true
@@ -365,12 +363,12 @@ module _ (start : Start) (es : List Entry) (legal : IsLegal start es) where
   -- in a legal history all that packets in flight hold is in force
   pub holding-legal : All (HoldsInForce start es) (flight start es)
   holding-legal =
-      All-weaker (Of (HoldsNow start es)) (HoldsInForce start es)
+      All-weaker (HoldsNow start es) (HoldsInForce start es)
       (λ f h. record {
         launch = h.launch;
         packet_is = h.packet_is;
         owner_is = h.owner_is;
-        rights = rights-now f.queue f.id f.packet h h.launch h.packet_is h.owner_is h.granted;
+        rights = rights-now f.queue f.id f.packet h.launch h.packet_is h.granted;
         holds = subst (All (λ g. in_force start es h.launch.opening.client g.0 g.1 ≡ true)) (sym h.held_is) h.granted;
       })
       (flight start es) holding
@@ -379,7 +377,7 @@ module _ (start : Start) (es : List Entry) (legal : IsLegal start es) where
   pub flying-since : (queue : QueueId) (id : PacketId) (f : InFlight) → in_flight start es queue id ≡ Some f → (s : InFlightSince start es queue id) × (s.flying ≡ f)
   flying-since queue id f found =
       let named = named-found start es queue id f found in
-      let h : HoldsNow start es f.queue f.id f.packet = found-all (Of (HoldsNow start es)) (is_packet queue id) (flight start es) f holding found in
+      let h : HoldsNow start es f = found-all (HoldsNow start es) (is_packet queue id) (flight start es) f holding found in
       let l : (l : Launch start es queue id) × (l.packet ≡ f.packet) =
       subst (λ i. (l : Launch start es queue i) × (l.packet ≡ f.packet)) named.1 (subst (λ q. (l : Launch start es q f.id) × (l.packet ≡ f.packet)) named.0 (h.launch, h.packet_is)) in
       (record { flying = f; is_found = found; launch = l.0; packet_is = l.1 }, refl)

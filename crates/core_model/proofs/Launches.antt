@@ -1,6 +1,6 @@
 -- Launches in a history: each packet is launched once, with the id that is next in its queue.
 use Rattle.std.proofs.Common.{◌≡◌, ℕ, ◌+◌, ◌<◌, ◌≤◌, List, [], ◌∷◌, ◌++◌, refl, sym, ◌∙◌, ap, subst, Bool, true, false, Option, Some, None, arith, append_assoc}
-use Rattle.std.specs.Prelude.{◌==◌, ◌&&◌, ◌||◌, if◌then◌else◌}
+use Rattle.std.specs.Prelude.{◌==◌, ◌||◌, if◌then◌else◌, option_map}
 use Rattle.std.specs.List.{list_any}
 use Rattle.std.proofs.lemmas.Bool.{and_parts, eqb-true, eq-eqb}
 use Rattle.std.proofs.lemmas.List.{append-nil}
@@ -17,7 +17,12 @@ use Rattle.core_model.specs.declared.entry.Effect.{Effect}
 use Rattle.core_model.specs.declared.refusal.Refusal.{Refusal}
 use Rattle.core_model.specs.History.{Start}
 use Rattle.core_model.specs.Queues.{Opening, owner, next_id, hands_over, is_down}
-use Rattle.core_model.specs.Holds.{launches}
+use Rattle.aql_packet.specs.declared.packet.Packet.{Packet}
+use Rattle.aql_packet.specs.Reading.{decoded}
+use Rattle.core_model.specs.declared.flight.InFlight.{InFlight}
+use Rattle.core_model.specs.Flight.{is_packet, launched_by}
+use Rattle.core_model.specs.Holds.{is_launch}
+use Rattle.std.proofs.Math.Bool.{or-false}
 use Rattle.core_model.specs.Owed.{Owed, owed, enters, refuse_if, refuse_unless, for_some, owed_take}
 use Rattle.core_model.specs.Legal.{IsLegal, IsLegalAfter}
 use Rattle.core_model.proofs.More.{next_id-more}
@@ -63,44 +68,40 @@ IsNext-from_owed start entries queue id bytes outcome effects owing =
 -- ---- which entry launches a packet
 
 -- an event that launches this packet
-pub record IsLaunch (queue : QueueId) (id : PacketId) (event : Event) (told : Outcome) : Type 0 where
+pub record IsLaunch (f : InFlight) (event : Event) (told : Outcome) : Type 0 where
   pub bytes : List ℕ
-  pub event_is : event ≡ Take queue id bytes
+  pub event_is : event ≡ Take f.queue f.id bytes
   pub outcome_is : told ≡ outcome.Taken Launched
+  pub reads : decoded bytes ≡ Some f.packet
 
-same_numbers : (q queue : QueueId) (i id : PacketId) (bytes : List ℕ) → (q.0 == queue.0 && i.0 == id.0) ≡ true → IsLaunch queue id (Take q i bytes) (outcome.Taken Launched)
-same_numbers q queue i id bytes same =
-    let both = and_parts (q.0 == queue.0) _ same in
-    let queues : q.0 ≡ queue.0 = eqb-true _ _ both.0 in
-    let ids : i.0 ≡ id.0 = eqb-true _ _ both.1 in
-    record {
-      bytes = bytes;
-      event_is = ap (λ (n : ℕ). Take (record { 0 = n }) i bytes) queues ∙ ap (λ (n : ℕ). Take queue (record { 0 = n }) bytes) ids;
-      outcome_is = refl;
-    }
+by_bytes : (queue : QueueId) (id : PacketId) (bytes : List ℕ) (o : Option Packet) (f : InFlight) → decoded bytes ≡ o → option_map (λ p. record { queue = queue; id = id; packet = p }) o ≡ Some f → IsLaunch f (Take queue id bytes) (outcome.Taken Launched)
+by_bytes queue id bytes None f is e = absurd cc
+by_bytes queue id bytes (Some p) f is e =
+    let same : record { queue = queue; id = id; packet = p } ≡ f = cc in
+    subst (λ g. IsLaunch g (Take queue id bytes) (outcome.Taken Launched)) same (record { bytes = bytes; event_is = refl; outcome_is = refl; reads = is })
 
-pub IsLaunch-from_test : (queue : QueueId) (id : PacketId) (event : Event) (told : Outcome) → launches queue id event told ≡ true → IsLaunch queue id event told
-IsLaunch-from_test queue id (Take q i bytes) (outcome.Taken Launched) test = same_numbers q queue i id bytes test
-IsLaunch-from_test queue id (Take q i bytes) (outcome.Taken (Denied _)) test = absurd (cc)
-IsLaunch-from_test queue id (Take q i bytes) (outcome.Taken (Waiting _)) test = absurd (cc)
-IsLaunch-from_test queue id (Take q i bytes) outcome.Accepted test = absurd (cc)
-IsLaunch-from_test queue id (Take q i bytes) (outcome.Opened _) test = absurd (cc)
-IsLaunch-from_test queue id (Take q i bytes) (outcome.Worked _) test = absurd (cc)
-IsLaunch-from_test queue id (Take q i bytes) (outcome.Polled _) test = absurd (cc)
-IsLaunch-from_test queue id (Take q i bytes) (outcome.Changed _) test = absurd (cc)
-IsLaunch-from_test queue id (Grant _ _ _) told test = absurd (cc)
-IsLaunch-from_test queue id (Revoke _ _ _) told test = absurd (cc)
-IsLaunch-from_test queue id (OpenQueue _ _ _) told test = absurd (cc)
-IsLaunch-from_test queue id (Stop _) told test = absurd (cc)
-IsLaunch-from_test queue id (RunNext _ _) told test = absurd (cc)
-IsLaunch-from_test queue id (Poll _ _) told test = absurd (cc)
-IsLaunch-from_test queue id (Finish _ _) told test = absurd (cc)
-IsLaunch-from_test queue id (HostWrite _ _ _) told test = absurd (cc)
-IsLaunch-from_test queue id (ChangeSignal _ _ _) told test = absurd (cc)
+pub launched_by-is : (event : Event) (told : Outcome) (f : InFlight) → launched_by event told ≡ Some f → IsLaunch f event told
+launched_by-is (Take q i bytes) (outcome.Taken Launched) f is = by_bytes q i bytes (decoded bytes) f refl is
+launched_by-is (Take q i bytes) (outcome.Taken (Denied _)) f is = absurd (cc)
+launched_by-is (Take q i bytes) (outcome.Taken (Waiting _)) f is = absurd (cc)
+launched_by-is (Take q i bytes) outcome.Accepted f is = absurd (cc)
+launched_by-is (Take q i bytes) (outcome.Opened _) f is = absurd (cc)
+launched_by-is (Take q i bytes) (outcome.Worked _) f is = absurd (cc)
+launched_by-is (Take q i bytes) (outcome.Polled _) f is = absurd (cc)
+launched_by-is (Take q i bytes) (outcome.Changed _) f is = absurd (cc)
+launched_by-is (Grant _ _ _) told f is = absurd (cc)
+launched_by-is (Revoke _ _ _) told f is = absurd (cc)
+launched_by-is (OpenQueue _ _ _) told f is = absurd (cc)
+launched_by-is (Stop _) told f is = absurd (cc)
+launched_by-is (RunNext _ _) told f is = absurd (cc)
+launched_by-is (Poll _ _) told f is = absurd (cc)
+launched_by-is (Finish _ _) told f is = absurd (cc)
+launched_by-is (HostWrite _ _ _) told f is = absurd (cc)
+launched_by-is (ChangeSignal _ _ _) told f is = absurd (cc)
 
 -- whether some entry launches a packet
 abbrev pub was_launched : List Entry → QueueId → PacketId → Bool
-was_launched entries queue id = list_any (λ entry. launches queue id entry.event entry.outcome) entries
+was_launched entries queue id = list_any (λ entry. is_launch queue id (launched_by entry.event entry.outcome)) entries
 
 -- ---- the ids of packets that were launched
 
@@ -108,8 +109,8 @@ was_launched entries queue id = list_any (λ entry. launches queue id entry.even
 abbrev pub AreBelowNext : Start → List Entry → Type 0
 AreBelowNext start entries = (queue : QueueId) (id : PacketId) → was_launched entries queue id ≡ true → id.0 < next_id start entries queue
 
-was_launched-more : (entries : List Entry) (e : Entry) (queue : QueueId) (id : PacketId) → was_launched (entries ++ e ∷ []) queue id ≡ (was_launched entries queue id || (launches queue id e.event e.outcome || false))
-was_launched-more entries e queue id = list_any-append (λ (entry : Entry). launches queue id entry.event entry.outcome) entries (e ∷ [])
+was_launched-more : (entries : List Entry) (e : Entry) (queue : QueueId) (id : PacketId) → was_launched (entries ++ e ∷ []) queue id ≡ (was_launched entries queue id || (is_launch queue id (launched_by e.event e.outcome) || false))
+was_launched-more entries e queue id = list_any-append (λ (entry : Entry). is_launch queue id (launched_by entry.event entry.outcome)) entries (e ∷ [])
 
 next_id-grows : (start : Start) (entries : List Entry) (e : Entry) (queue : QueueId) → next_id start entries queue ≤ next_id start (entries ++ e ∷ []) queue
 next_id-grows start entries e queue = by_test (hands_over queue e.event) (next_id-more start entries e queue)
@@ -118,24 +119,27 @@ next_id-grows start entries e queue = by_test (hands_over queue e.event) (next_i
     by_test true is = omega arith
     by_test false is = omega arith
 
-below_launch : (start : Start) (entries : List Entry) (e : Entry) (queue : QueueId) (id : PacketId) → owed start entries e.event ≡ enters e.outcome e.effects → IsLaunch queue id e.event e.outcome → id.0 < next_id start (entries ++ e ∷ []) queue
-below_launch start entries e queue id owing launch =
-    let next = IsNext-from_owed start entries queue id launch.bytes e.outcome e.effects (rw launch.event_is at owing) in
-    let hands : hands_over queue e.event ≡ true = ap (hands_over queue) launch.event_is ∙ eq-eqb queue.0 queue.0 refl in
-    let more : next_id start (entries ++ e ∷ []) queue ≡ next_id start entries queue + 1 = next_id-more start entries e queue ∙ rw hands refl in
+below_launch : (start : Start) (entries : List Entry) (e : Entry) (f : InFlight) (queue : QueueId) (id : PacketId) → owed start entries e.event ≡ enters e.outcome e.effects → IsLaunch f e.event e.outcome → is_packet queue id f ≡ true → id.0 < next_id start (entries ++ e ∷ []) queue
+below_launch start entries e f queue id owing launch named =
+    let both = and_parts (f.queue.0 == queue.0) _ named in
+    let queues : f.queue ≡ queue = ap (λ n. record { 0 = n }) (eqb-true _ _ both.0) in
+    let ids : f.id.0 ≡ id.0 = eqb-true _ _ both.1 in
+    let next = IsNext-from_owed start entries f.queue f.id launch.bytes e.outcome e.effects (rw launch.event_is at owing) in
+    let hands : hands_over f.queue e.event ≡ true = ap (hands_over f.queue) launch.event_is ∙ eq-eqb f.queue.0 f.queue.0 refl in
+    let more : next_id start (entries ++ e ∷ []) f.queue ≡ next_id start entries f.queue + 1 = next_id-more start entries e f.queue ∙ rw hands refl in
     let at = next.id_is in
-    omega arith
+    subst (λ q. id.0 < next_id start (entries ++ e ∷ []) q) queues (omega arith)
 
 AreBelowNext-more : (start : Start) (entries : List Entry) (e : Entry) → AreBelowNext start entries → owed start entries e.event ≡ enters e.outcome e.effects → AreBelowNext start (entries ++ e ∷ [])
 AreBelowNext-more start entries e below owing queue id launched =
-    by_test (was_launched entries queue id) (launches queue id e.event e.outcome) refl refl (sym (was_launched-more entries e queue id) ∙ launched)
+    by_test (was_launched entries queue id) (launched_by e.event e.outcome) refl refl (sym (was_launched-more entries e queue id) ∙ launched)
   where
-    by_test : (was is : Bool) → was_launched entries queue id ≡ was → launches queue id e.event e.outcome ≡ is → (was || (is || false)) ≡ true → id.0 < next_id start (entries ++ e ∷ []) queue
-    by_test true is before now h =
+    by_test : (was : Bool) (o : Option InFlight) → was_launched entries queue id ≡ was → launched_by e.event e.outcome ≡ o → (was || (is_launch queue id o || false)) ≡ true → id.0 < next_id start (entries ++ e ∷ []) queue
+    by_test true o before now h =
         let small : id.0 < next_id start entries queue = below queue id before in
         omega (arith, next_id-grows start entries e queue)
-    by_test false true before now h = below_launch start entries e queue id owing (IsLaunch-from_test queue id e.event e.outcome now)
-    by_test false false before now h = absurd (cc)
+    by_test false (Some f) before now h = below_launch start entries e f queue id owing (launched_by-is e.event e.outcome f now) (sym (or-false (is_packet queue id f)) ∙ h)
+    by_test false None before now h = absurd (cc)
 
 below_after : (start : Start) (before entries : List Entry) → AreBelowNext start before → IsLegalAfter start before entries → AreBelowNext start (before ++ entries)
 below_after start before [] below legal = rw append-nil below

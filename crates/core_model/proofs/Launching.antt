@@ -1,17 +1,17 @@
 -- Launches: what the launch rules say of a packet that was launched, and the rights that it has then.
-use Rattle.std.proofs.Common.{◌≡◌, ℕ, List, [], ◌∷◌, ◌++◌, refl, sym, ◌∙◌, subst, Bool, true, false, Option, Some, None, ◌⊎◌, inl, inr, append_assoc, arith}
-use Rattle.std.specs.Prelude.{All, not, map, ◌&&◌, ◌==◌, if◌then◌else◌}
+use Rattle.std.proofs.Common.{◌≡◌, ℕ, List, [], ◌∷◌, ◌++◌, refl, sym, ◌∙◌, subst, Bool, true, false, Option, Some, None, inl, inr, append_assoc, arith}
+use Rattle.std.specs.Prelude.{All, not, ◌==◌, if◌then◌else◌}
 use Rattle.std.specs.List.{flat_map, list_all}
-use Rattle.std.proofs.lemmas.Bool.{and_from, and_parts, eqb-true}
+use Rattle.std.proofs.lemmas.Bool.{and_parts, eqb-true}
 use Rattle.std.proofs.lemmas.List.{append-nil}
-use Rattle.std.proofs.lemmas.List.Elements.{All-nil, All-cons, All-head, All-tail, All-append, All-weaker}
+use Rattle.std.proofs.lemmas.List.Elements.{All-nil, All-cons, All-append, All-weaker}
 use Rattle.std.proofs.lemmas.List.Folds.{list_all-append}
 use Rattle.aql_packet.specs.declared.ids.QueueId.{QueueId}
 use Rattle.aql_packet.specs.declared.ids.PacketId.{PacketId}
 use Rattle.aql_packet.specs.declared.ids.SignalHandle.{SignalHandle}
 use Rattle.aql_packet.specs.declared.packet.Packet.{Packet}
 use Rattle.aql_packet.specs.declared.packet.Packet.TheVariants as packet
-use Rattle.aql_packet.specs.Reading.{packet_at, packet_type, refusal, decoded, barrier_bit}
+use Rattle.aql_packet.specs.Reading.{packet_at, packet_type, refusal, decoded}
 use Rattle.aql_packet.proofs.ReadingLemmas.{decoded_is, decoded_is_laid}
 use Rattle.policy.specs.declared.object.Object.TheVariants as object
 use Rattle.policy.specs.declared.rights.Right.{Right}
@@ -20,7 +20,6 @@ use Rattle.regions.specs.Memory.{is_within}
 use Rattle.queue_error.specs.declared.rule.Rule.{Rule}
 use Rattle.queue_error.specs.declared.rule.Rule.TheVariants as rule
 use Rattle.core_model.specs.declared.event.Event.TheVariants.{Take}
-use Rattle.core_model.specs.declared.outcome.Outcome.{Outcome}
 use Rattle.core_model.specs.declared.outcome.Outcome.TheVariants as outcome
 use Rattle.core_model.specs.declared.outcome.Taken.TheVariants as taken
 use Rattle.core_model.specs.declared.entry.Effect.{Effect}
@@ -28,15 +27,14 @@ use Rattle.core_model.specs.declared.entry.Entry.{Entry}
 use Rattle.core_model.specs.declared.need.AgentFunction.{AgentFunction}
 use Rattle.core_model.specs.declared.need.AgentFunction.TheVariants.{Fill, Copy, Add64}
 use Rattle.core_model.specs.declared.need.Range.{Range}
-use Rattle.core_model.specs.declared.need.Need.{Need}
 use Rattle.core_model.specs.declared.need.Subject.TheVariants as subject
 use Rattle.core_model.specs.History.{Start}
 use Rattle.core_model.specs.Grants.{in_force}
 use Rattle.core_model.specs.Memory.{region_lengths}
-use Rattle.core_model.specs.Queues.{Opening, owner, is_down, next_id}
+use Rattle.core_model.specs.Queues.{Opening}
 use Rattle.core_model.specs.Needs.{needs, function_of, function_needs, range_need, signal_need, result_range, completion, dependencies, memory_needs}
-use Rattle.core_model.specs.LaunchRules.{Facts, first_failing, has_form, holds_rule, is_met, launch_rules, may_start}
-use Rattle.core_model.specs.Owed.{owed, enters, error_at, facts_of, flight_of}
+use Rattle.core_model.specs.LaunchRules.{Facts, first_failing, has_form, holds_rule, is_met, launch_rules}
+use Rattle.core_model.specs.Owed.{owed, enters, error_at, facts_of}
 use Rattle.core_model.specs.Legal.{IsLegal, IsLegalAfter}
 use Rattle.core_model.specs.Headline.{IsEntryBehind, MayBeLaunched, MayReachRange, MayUseSignal, HasItsRights, ranges_read, ranges_written, reads_of, writes_of}
 use Rattle.core_model.proofs.Lists.{none-passes}

@@ -11,3 +11,4 @@ pub mod Changes
 pub mod Turns
 pub mod Seeing
 pub mod Served
+pub mod FlightLaw

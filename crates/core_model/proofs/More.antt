@@ -17,7 +17,8 @@ use Rattle.core_model.specs.History.{Start, effects_of}
 use Rattle.core_model.specs.Grants.{in_force, in_force_after}
 use Rattle.core_model.specs.Memory.{memory_at, byte_after, signals, signals_after, initial_values}
 use Rattle.core_model.specs.Queues.{Opening, openings, opening_of, next_id, hands_over, errors, error_of, is_stopped, stops}
-use Rattle.core_model.specs.Flight.{flight, flight_after}
+use Rattle.aql_packet.specs.declared.ids.PacketId.{PacketId}
+use Rattle.core_model.specs.Flight.{flight, flight_after, progress, progress_after}
 use Rattle.queue_error.specs.declared.error.QueueError.{QueueError}
 
 pub in_force-more : (start : Start) (es : List Entry) (e : Entry) (client : ClientId) (on : Object) (right : Right) → in_force start (es ++ e ∷ []) client on right ≡ in_force_after client on right (in_force start es client on right) e.event
@@ -108,3 +109,7 @@ is_stopped-more start es e queue = list_any-append _ es (e ∷ []) ∙ or_if (li
 pub flight-more : (start : Start) (es : List Entry) (e : Entry) → flight start (es ++ e ∷ []) ≡ flight_after (flight start es) e
 unfolding flight
 flight-more start es e = fold-append _ _ es (e ∷ [])
+
+pub progress-more : (start : Start) (es : List Entry) (e : Entry) (queue : QueueId) (id : PacketId) → progress start (es ++ e ∷ []) queue id ≡ progress_after queue id (progress start es queue id) e.event e.outcome
+unfolding progress
+progress-more start es e queue id = fold-append _ _ es (e ∷ [])

@@ -1,11 +1,9 @@
 -- What clients are told and what groups read, with the grants that allow it; and why a packet is denied.
-use Rattle.std.proofs.Common.{◌≡◌, ℕ, ℤ, ◌+◌, ◌^◌, List, [], ◌∷◌, ◌++◌, refl, sym, ◌∙◌, ap, subst, Bool, true, false, Option, Some, None, Ok, inl, inr}
+use Rattle.std.proofs.Common.{◌≡◌, ℕ, ℤ, ◌+◌, ◌^◌, List, [], ◌∷◌, ◌++◌, refl, sym, ◌∙◌, ap, subst, Bool, true, false, Option, Some, None, Ok}
 use Rattle.std.specs.Prelude.{All, nat_le, ◌%◌, find, filter, map, not, ◌&&◌, ◌==◌, if◌then◌else◌}
-use Rattle.std.specs.List.{list_all}
 use Rattle.std.specs.Int.{w64, to_le_bytes, from_le_bytes}
-use Rattle.std.proofs.lemmas.Bool.{and_parts, eqb-true}
+use Rattle.std.proofs.lemmas.Bool.{and_parts}
 use Rattle.std.proofs.lemmas.List.Elements.{All-nil, All-cons, All-head}
-use Rattle.std.proofs.lemmas.List.Folds.{list_all-append}
 use Rattle.aql_packet.specs.declared.ids.Address.{Address}
 use Rattle.aql_packet.specs.declared.ids.SignalHandle.{SignalHandle}
 use Rattle.aql_packet.specs.declared.ids.ClientId.{ClientId}
@@ -25,7 +23,6 @@ use Rattle.policy.specs.declared.rights.Right.TheVariants as right
 use Rattle.regions.specs.Memory.{is_within, region_of}
 use Rattle.queue_error.specs.declared.error.QueueError.{QueueError}
 use Rattle.queue_error.specs.declared.rule.Rule.{Rule}
-use Rattle.queue_error.specs.declared.rule.Rule.TheVariants as rule
 use Rattle.core_model.specs.declared.answer.Answer.{Answer}
 use Rattle.core_model.specs.declared.answer.Answer.TheVariants as answer
 use Rattle.core_model.specs.declared.event.Query.TheVariants as query
@@ -35,6 +32,7 @@ use Rattle.core_model.specs.declared.outcome.Outcome.TheVariants as outcome
 use Rattle.core_model.specs.declared.outcome.Taken.TheVariants as taken
 use Rattle.core_model.specs.declared.outcome.Worked.TheVariants as worked
 use Rattle.core_model.specs.declared.flight.InFlight.{InFlight}
+use Rattle.core_model.specs.declared.flight.Progress.{Progress}
 use Rattle.core_model.specs.Flight.{in_flight}
 use Rattle.core_model.specs.declared.refusal.Refusal.{Refusal}
 use Rattle.core_model.specs.declared.entry.Effect.{Effect}
@@ -42,19 +40,17 @@ use Rattle.core_model.specs.declared.entry.Entry.{Entry}
 use Rattle.core_model.specs.declared.need.AgentFunction.{AgentFunction}
 use Rattle.core_model.specs.declared.need.AgentFunction.TheVariants.{Fill, Copy, Add64}
 use Rattle.core_model.specs.declared.need.Range.{Range}
-use Rattle.core_model.specs.declared.need.Subject.TheVariants as subject
 use Rattle.core_model.specs.History.{Start}
 use Rattle.core_model.specs.Grants.{in_force, rights_in_force}
 use Rattle.core_model.specs.Memory.{memory_from, region_lengths, signals}
 use Rattle.core_model.specs.Queues.{Opening, owner}
-use Rattle.core_model.specs.Needs.{function_of, function_needs, range_need, result_range}
-use Rattle.core_model.specs.LaunchRules.{Facts, first_failing, holds_rule, is_met, launch_rules}
+use Rattle.core_model.specs.Needs.{function_of}
+use Rattle.core_model.specs.LaunchRules.{Facts, first_failing, holds_rule, launch_rules}
 use Rattle.core_model.specs.Work.{number_in_memory, write_of, function_writes, function_result, agent_writes}
 use Rattle.core_model.specs.Owed.{owed, answers, enters, error_at, facts_of, is_host_size, owed_group}
 use Rattle.core_model.specs.Legal.{IsLegal}
 use Rattle.core_model.specs.Queries.{Replied, answer_if, answer_some, replied, has_some, listing, all_objects}
 use Rattle.core_model.specs.Headline.{InFlightSince, IsDenied, IsListed, MayReach, MayReachRange, ranges_read, reads_of}
-use Rattle.core_model.proofs.Lists.{all-one}
 use Rattle.core_model.proofs.Entered.{take-decided, run-entered}
 use Rattle.core_model.proofs.Holding.{flying-since}
 use Rattle.core_model.proofs.Changes.{add-size}
@@ -115,9 +111,9 @@ group-effects start es told effects queue id f d owing found is =
     let ran = run-entered start es told effects queue id owing in
     let both : Some ran.flying ≡ Some f = sym ran.found ∙ found in
     let same : ran.flying ≡ f = cc in
-    let agents : packet.Agent ran.dispatch ≡ packet.Agent d = sym ran.is_agent ∙ ap (λ g. g.packet) same ∙ is in
-    let dispatches : ran.dispatch ≡ d = cc in
-    ran.effects_are ∙ ap (agent_writes start es) dispatches
+    let agents : packet.Agent ran.group.dispatch ≡ packet.Agent d = sym ran.group.is_agent ∙ ap (λ g. g.packet) same ∙ is in
+    let dispatches : ran.group.dispatch ≡ d = cc in
+    ran.group.effects_are ∙ ap (agent_writes start es) dispatches
 
 -- the same bytes read, the same bytes written
 module _ (start : Start) (one other : List Entry) where
@@ -150,16 +146,11 @@ module _ (start : Start) (one other : List Entry) where
       ++ (if d.return_address.0 == 0 then [] else write_of d.return_address.0 (to_le_bytes w64 (same-result (function_of d) (add-size d) all i)))
 
   -- so a group is owed the same
-  pub same-group : (f : InFlight) → All Same (reads_of f.packet) → owed_group start one f ≡ owed_group start other f
-  same-group f all = by_packet f.packet refl
-    where
-      by_packet : (p : Packet) → f.packet ≡ p → owed_group start one f ≡ owed_group start other f
-      by_packet (packet.Agent d) is =
-          let writes = same-agent d (rw is at all) in
-          rw is (ap (λ es. if nat_le 1 f.groups_run then answers (outcome.Worked worked.Done) else enters (outcome.Worked (worked.Ran 0 0)) es) writes)
-      by_packet (packet.Kernel _) is = rw is refl
-      by_packet (packet.BarrierAnd _) is = rw is refl
-      by_packet (packet.BarrierOr _) is = rw is refl
+  pub same-group : (p : Packet) (so_far : Progress) → All Same (reads_of p) → owed_group start one p so_far ≡ owed_group start other p so_far
+  same-group (packet.Agent d) so_far all = ap (λ es. if nat_le 1 so_far.groups_run then answers (outcome.Worked worked.Done) else enters (outcome.Worked (worked.Ran 0 0)) es) (same-agent d all)
+  same-group (packet.Kernel _) so_far all = refl
+  same-group (packet.BarrierAnd _) so_far all = refl
+  same-group (packet.BarrierOr _) so_far all = refl
 
 -- ---- what clients are told
 

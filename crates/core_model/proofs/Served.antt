@@ -1,17 +1,16 @@
 -- What is served keeps a history legal: its entries so far stay, and what comes behind them is owed.
-use Rattle.std.proofs.Common.{◌≡◌, List, [], ◌∷◌, ◌++◌, refl, sym, ◌∙◌, ap, subst, Bool, true, false, ◌⊎◌, inl, inr, append_assoc, Result, Err}
+use Rattle.std.proofs.Common.{◌≡◌, List, [], ◌∷◌, ◌++◌, refl, sym, ◌∙◌, ap, subst, Bool, true, false, inl, inr, append_assoc, Result, Err}
 use Rattle.std.specs.Prelude.{if◌then◌else◌}
 use Rattle.std.proofs.lemmas.List.{append-nil}
 use Rattle.core_model.specs.declared.event.Event.{Event}
 use Rattle.core_model.specs.declared.event.Request.{Request}
 use Rattle.core_model.specs.declared.event.Request.TheVariants as request
 use Rattle.core_model.specs.declared.outcome.Outcome.{Outcome}
-use Rattle.core_model.specs.declared.entry.Effect.{Effect}
 use Rattle.core_model.specs.declared.refusal.Refusal.{Refusal}
 use Rattle.core_model.specs.declared.refusal.Refusal.TheVariants as refusal
 use Rattle.core_model.specs.History.{History}
 use Rattle.core_model.specs.Owed.{Owed, owed, refuses, answers, enters}
-use Rattle.core_model.specs.Legal.{IsLegal, IsServed, MeetsOrLacks, Replying, AreReplies, after, as_reply, reply_of, due, entry_of, history_after, lacks_room, with_entry, within_room}
+use Rattle.core_model.specs.Legal.{IsLegal, IsServed, MeetsOrLacks, Replying, AreReplies, as_reply, reply_of, due, entry_of, history_after, lacks_room, with_entry, within_room}
 use Rattle.core_model.specs.Headline.{GoesOn}
 use Rattle.core_model.proofs.Legality.{IsLegal-more}
 

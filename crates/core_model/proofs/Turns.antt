@@ -1,16 +1,12 @@
 -- Packets are taken in turn, each id once; queues are opened in turn; and beginnings of legal histories are legal.
-use Rattle.std.proofs.Common.{rules, ◌≡◌, ◌<◌, ◌≤◌, ℕ, ◌+◌, ◌-◌, List, [], ◌∷◌, ◌++◌, length, refl, sym, ◌∙◌, ap, subst, Bool, true, false, Option, Some, None, arith, append_assoc, zero, suc}
-use Rattle.std.specs.Prelude.{slice_get, nat_lt, ◌&&◌, ◌||◌, ◌==◌, if◌then◌else◌}
+use Rattle.std.proofs.Common.{rules, ◌≡◌, ◌<◌, ℕ, ◌+◌, ◌-◌, List, [], ◌∷◌, ◌++◌, length, refl, sym, ◌∙◌, ap, subst, Bool, true, false, Some, None, arith}
+use Rattle.std.specs.Prelude.{option_map, slice_get, nat_lt, ◌||◌}
 use Rattle.std.proofs.lemmas.Bool.{and_from, eq-eqb}
 use Rattle.aql_packet.specs.declared.ids.AgentHandle.{AgentHandle}
 use Rattle.aql_packet.specs.declared.ids.ClientId.{ClientId}
 use Rattle.aql_packet.specs.declared.ids.QueueId.{QueueId}
 use Rattle.aql_packet.specs.declared.ids.PacketId.{PacketId}
-use Rattle.aql_packet.specs.declared.packet.Packet.{Packet}
-use Rattle.aql_packet.specs.Reading.{decoded}
 use Rattle.policy.specs.Policy.{numbered}
-use Rattle.policy.specs.declared.object.Object.TheVariants as object
-use Rattle.policy.specs.declared.rights.Right.TheVariants as right
 use Rattle.core_model.specs.declared.event.Event.TheVariants.{OpenQueue, Take}
 use Rattle.core_model.specs.declared.outcome.Outcome.{Outcome}
 use Rattle.core_model.specs.declared.outcome.Outcome.TheVariants as outcome
@@ -18,8 +14,10 @@ use Rattle.core_model.specs.declared.outcome.Taken.TheVariants.{Launched}
 use Rattle.core_model.specs.declared.entry.Effect.{Effect}
 use Rattle.core_model.specs.declared.entry.Entry.{Entry}
 use Rattle.core_model.specs.History.{Start}
-use Rattle.core_model.specs.Queues.{Opening, openings, owner, next_id}
-use Rattle.core_model.specs.Holds.{bytes_taken, launches}
+use Rattle.core_model.specs.Queues.{openings, next_id}
+use Rattle.core_model.specs.declared.flight.InFlight.{InFlight}
+use Rattle.core_model.specs.Flight.{launched_by}
+use Rattle.core_model.specs.Holds.{is_launch}
 use Rattle.core_model.specs.Owed.{owed, enters}
 use Rattle.core_model.specs.Legal.{IsLegal, IsLegalAfter, entry_of}
 use Rattle.core_model.specs.Headline.{Launch, IsOpened}
@@ -41,25 +39,25 @@ legal-beginning start before more legal = legal-before start [] before more lega
 
 module _ (queue : QueueId) (id : PacketId) where
   abbrev Launches : Entry → Type 0
-  Launches e = launches queue id e.event e.outcome ≡ true
+  Launches e = is_launch queue id (launched_by e.event e.outcome) ≡ true
 
   -- two launches in one list, none before either, are one
   same-place : (b1 b2 a1 a2 : List Entry) (e1 e2 : Entry) → b1 ++ e1 ∷ a1 ≡ b2 ++ e2 ∷ a2 → was_launched b1 queue id ≡ false → was_launched b2 queue id ≡ false → Launches e1 → Launches e2 → (b1 ≡ b2) × (e1 ≡ e2)
   same-place [] [] a1 a2 e1 e2 same none1 none2 one two = (refl, cc)
   same-place [] (y ∷ b2) a1 a2 e1 e2 same none1 none2 one two =
       let here : e1 ≡ y = cc in
-      let launches-y : launches queue id y.event y.outcome ≡ true = subst Launches here one in
+      let launches-y : is_launch queue id (launched_by y.event y.outcome) ≡ true = subst Launches here one in
       let some : was_launched (y ∷ b2) queue id ≡ true = rw launches-y refl in
       let e : true ≡ false = sym some ∙ none2 in absurd cc
   same-place (x ∷ b1) [] a1 a2 e1 e2 same none1 none2 one two =
       let here : x ≡ e2 = cc in
-      let launches-x : launches queue id x.event x.outcome ≡ true = subst Launches (sym here) two in
+      let launches-x : is_launch queue id (launched_by x.event x.outcome) ≡ true = subst Launches (sym here) two in
       let some : was_launched (x ∷ b1) queue id ≡ true = rw launches-x refl in
       let e : true ≡ false = sym some ∙ none1 in absurd cc
   same-place (x ∷ b1) (y ∷ b2) a1 a2 e1 e2 same none1 none2 one two =
       let here : x ≡ y = cc in
       let tails : b1 ++ e1 ∷ a1 ≡ b2 ++ e2 ∷ a2 = cc in
-      let rest = same-place b1 b2 a1 a2 e1 e2 tails (later (launches queue id x.event x.outcome) (was_launched b1 queue id) none1) (later (launches queue id y.event y.outcome) (was_launched b2 queue id) none2) one two in
+      let rest = same-place b1 b2 a1 a2 e1 e2 tails (later (is_launch queue id (launched_by x.event x.outcome)) (was_launched b1 queue id) none1) (later (is_launch queue id (launched_by y.event y.outcome)) (was_launched b2 queue id) none2) one two in
       ((λ i. here i ∷ rest.0 i), rest.1)
     where
       later : (b rest : Bool) → (b || rest) ≡ false → rest ≡ false
@@ -68,13 +66,19 @@ module _ (queue : QueueId) (id : PacketId) where
 
   pub one-launch : (start : Start) (es : List Entry) → IsLegal start es → (one other : Launch start es queue id) → (one.before ≡ other.before) × (one.packet ≡ other.packet)
   one-launch start es legal one other =
-      let same = same-place one.before other.before one.place.after other.place.after _ _ (sym one.place.whole ∙ other.place.whole) (none one) (none other) (now one.bytes) (now other.bytes) in
-      let bytes_are : one.bytes ≡ other.bytes = ap (λ e. bytes_taken e.event) same.1 in
-      let read : Some one.packet ≡ Some other.packet = sym one.allowed.is_read ∙ ap decoded bytes_are ∙ other.allowed.is_read in
-      (same.0, cc)
+      let same = same-place one.before other.before one.place.after other.place.after _ _ (sym one.place.whole ∙ other.place.whole) (none one) (none other) (now one) (now other) in
+      let launches_same : Some (as_launched one) ≡ Some (as_launched other) = sym (read one) ∙ ap (λ e. launched_by e.event e.outcome) same.1 ∙ read other in
+      let flying_same : as_launched one ≡ as_launched other = cc in
+      (same.0, ap (λ f. f.packet) flying_same)
     where
-      now : (bytes : List ℕ) → launches queue id (Take queue id bytes) (outcome.Taken Launched) ≡ true
-      now bytes = and_from _ _ (eq-eqb queue.0 queue.0 refl) (eq-eqb id.0 id.0 refl)
+      as_launched : Launch start es queue id → InFlight
+      as_launched l = record { queue = queue; id = id; packet = l.packet }
+
+      read : (l : Launch start es queue id) → launched_by (Take queue id l.bytes) (outcome.Taken Launched) ≡ Some (as_launched l)
+      read l = ap (option_map (λ p. record { queue = queue; id = id; packet = p })) l.allowed.is_read
+
+      now : (l : Launch start es queue id) → is_launch queue id (launched_by (Take queue id l.bytes) (outcome.Taken Launched)) ≡ true
+      now l = ap (is_launch queue id) (read l) ∙ and_from _ _ (eq-eqb queue.0 queue.0 refl) (eq-eqb id.0 id.0 refl)
 
       none : (l : Launch start es queue id) → was_launched l.before queue id ≡ false
       none l = by_test (was_launched l.before queue id) refl

@@ -1,5 +1,5 @@
 -- What a legal history shows: for each thing that it tells, who asked for it and which grant in force allowed it.
-use Rattle.std.specs.Prelude.{ℕ, ℤ, pos, ◌≡◌, ◌<◌, ◌⊎◌, true, false, List, [], ◌∷◌, ◌++◌, length, Option, Some, None, All}
+use Rattle.std.specs.Prelude.{ℕ, ℤ, pos, ◌≡◌, ◌<◌, ◌⊎◌, true, false, List, [], ◌∷◌, ◌++◌, length, map, Option, Some, None, All}
 use Rattle.std.specs.List.{Contains}
 use Rattle.aql_packet.specs.declared.ids.AgentHandle.{AgentHandle}
 use Rattle.aql_packet.specs.declared.ids.ClientId.{ClientId}
@@ -37,12 +37,12 @@ use Rattle.core_model.specs.History.{Start, History}
 use Rattle.core_model.specs.Grants.{in_force}
 use Rattle.core_model.specs.Memory.{region_lengths, signals}
 use Rattle.core_model.specs.Queues.{Opening, owner, is_down, next_id}
-use Rattle.core_model.specs.Flight.{flight, in_flight}
+use Rattle.core_model.specs.Flight.{flight, flight_of, in_flight, progress}
 use Rattle.core_model.specs.Needs.{function_of, result_range, dependencies, completion}
 use Rattle.core_model.specs.LaunchRules.{holds_rule, launch_rules, may_start, is_barrier}
 use Rattle.core_model.specs.Work.{groups_of}
 use Rattle.core_model.specs.Holds.{held}
-use Rattle.core_model.specs.Owed.{error_at, facts_of, flight_of}
+use Rattle.core_model.specs.Owed.{error_at, facts_of}
 use Rattle.core_model.specs.Legal.{IsLegal, entry_of}
 use Rattle.core_model.specs.Queries.{has_some}
 
@@ -106,7 +106,7 @@ pub record MayBeLaunched (start : Start) (before : List Entry) (queue : QueueId)
   pub owner_is : owner start before queue ≡ Some opening
   pub launches_yet : is_down start before queue ≡ false
   pub is_next : id.0 ≡ next_id start before queue
-  pub may_start : may_start (flight_of start before queue) (barrier_bit bytes) ≡ None
+  pub may_start : may_start (map (λ f. f.packet) (flight_of start before queue)) (barrier_bit bytes) ≡ None
   pub is_read : decoded bytes ≡ Some packet
   pub laid_out : Are64Bytes bytes → PacketOf bytes packet
   pub every_rule : All (λ rule. holds_rule (facts_of start before opening) bytes packet rule ≡ true) launch_rules
@@ -158,7 +158,7 @@ pub record IsGroupWrite (start : Start) (before : List Entry) (event : Event) (a
   pub event_is : event ≡ RunNext queue id
   pub packet : InFlightSince start before queue id
   -- a group was left to run
-  pub is_left : packet.flying.groups_run < groups_of packet.flying.packet
+  pub is_left : (progress start before queue id).groups_run < groups_of packet.flying.packet
   pub allowed : MayReach start packet.launch.before packet.launch.opening.client right.Write address (length bytes)
 
 -- who wrote, at least one byte, and which grant allowed it (own)

@@ -1,26 +1,20 @@
 -- What packets in flight hold, and which of them stands against a revocation.
-use Rattle.std.specs.Prelude.{ℕ, ◌==◌, ◌&&◌, ◌||◌, Bool, false, nat_lt, nat_le, List, [], ◌∷◌, ◌++◌, map, filter, find, Option, Some, None, if◌then◌else◌}
+use Rattle.std.specs.Prelude.{◌==◌, ◌&&◌, ◌||◌, Bool, false, nat_lt, nat_le, List, [], ◌∷◌, ◌++◌, map, filter, find, Option, Some, None, if◌then◌else◌}
 use Rattle.std.specs.List.{flat_map, list_all, list_any}
 use Rattle.aql_packet.specs.declared.ids.ClientId.{ClientId}
 use Rattle.aql_packet.specs.declared.ids.QueueId.{QueueId}
 use Rattle.aql_packet.specs.declared.ids.PacketId.{PacketId}
 use Rattle.aql_packet.specs.declared.packet.Packet.{Packet}
-use Rattle.aql_packet.specs.Reading.{decoded}
 use Rattle.policy.specs.declared.object.Object.{Object}
 use Rattle.policy.specs.declared.rights.Right.{Right}
 use Rattle.policy.specs.declared.rights.Rights.{Rights}
 use Rattle.policy.specs.Object.{same_object}
 use Rattle.policy.specs.Rights.{has}
-use Rattle.core_model.specs.declared.event.Event.{Event}
-use Rattle.core_model.specs.declared.event.Event.TheVariants.{Take}
-use Rattle.core_model.specs.declared.outcome.Outcome.{Outcome}
-use Rattle.core_model.specs.declared.outcome.Outcome.TheVariants as outcome
-use Rattle.core_model.specs.declared.outcome.Taken.TheVariants.{Launched}
 use Rattle.core_model.specs.declared.entry.Entry.{Entry}
 use Rattle.core_model.specs.declared.flight.InFlight.{InFlight}
 use Rattle.core_model.specs.History.{Start}
 use Rattle.core_model.specs.Queues.{Opening, owner}
-use Rattle.core_model.specs.Flight.{flight}
+use Rattle.core_model.specs.Flight.{flight, is_packet, launched_by}
 use Rattle.core_model.specs.declared.need.Need.{Need}
 use Rattle.core_model.specs.Needs.{needs, object_of}
 use Rattle.core_model.specs.LaunchRules.{launch_rules}
@@ -37,27 +31,22 @@ as_held need = (object_of need.subject, need.right)
 abbrev pub held_at_launch : Opening → Packet → List Held
 held_at_launch opening p = flat_map (λ rule. map as_held (needs rule opening.agent p)) launch_rules
 
--- what a launch in a queue with this opening holds, if there are both
-abbrev pub held_if : Start → List Entry → Option Opening → Option Packet → List Held
-held_if start before (Some opening) (Some p) = held_at_launch opening p
-held_if start before _ _ = []
+-- what a packet that is launched in a queue with this opening holds, if there are both
+abbrev pub held_if : Option Opening → Option InFlight → List Held
+held_if (Some opening) (Some f) = held_at_launch opening f.packet
+held_if _ _ = []
 
--- whether an entry launches the packet with this queue and id
-abbrev pub launches : QueueId → PacketId → Event → Outcome → Bool
-launches queue id (Take q i bytes) (outcome.Taken Launched) = q.0 == queue.0 && i.0 == id.0
-launches queue id _ _ = false
-
--- the bytes of a packet that is handed over
-abbrev pub bytes_taken : Event → List ℕ
-bytes_taken (Take q i bytes) = bytes
-bytes_taken _ = []
+-- whether a packet that is launched is the one with this queue and id
+abbrev pub is_launch : QueueId → PacketId → Option InFlight → Bool
+is_launch queue id None = false
+is_launch queue id (Some f) = is_packet queue id f
 
 -- what a packet holds, by the part of the history before its launch: `before` comes before the entries
 abbrev pub held_from : Start → List Entry → List Entry → QueueId → PacketId → List Held
 held_from start before [] queue id = []
 held_from start before (entry ∷ entries) queue id =
-    if launches queue id entry.event entry.outcome
-    then held_if start before (owner start before queue) (decoded (bytes_taken entry.event))
+    if is_launch queue id (launched_by entry.event entry.outcome)
+    then held_if (owner start before queue) (launched_by entry.event entry.outcome)
     else held_from start (before ++ entry ∷ []) entries queue id
 
 -- what a packet that was launched holds

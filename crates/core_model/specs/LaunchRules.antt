@@ -18,7 +18,6 @@ use Rattle.core_model.specs.declared.need.Subject.{Subject}
 use Rattle.core_model.specs.declared.need.Subject.TheVariants as subject
 use Rattle.core_model.specs.declared.outcome.Cause.{Cause}
 use Rattle.core_model.specs.declared.outcome.Cause.TheVariants as cause
-use Rattle.core_model.specs.declared.flight.InFlight.{InFlight}
 use Rattle.core_model.specs.Needs.{function_of, needs, object_of}
 
 -- What a packet is judged by (own).
@@ -85,9 +84,9 @@ is_barrier _ = false
 
 -- why a packet may not start yet, by the packets in flight of its own queue; the barrier bit counts whatever the type
 -- (PSA, Architected Queuing Language: the barrier bit, barrier packets; the number of slots is own)
-unfoldable pub may_start : List InFlight → Bool → Option Cause
+unfoldable pub may_start : List Packet → Bool → Option Cause
 may_start flying barrier_bit =
-    if list_any (λ f. is_barrier f.packet) flying then Some cause.Barrier
+    if list_any is_barrier flying then Some cause.Barrier
     else if barrier_bit && nat_lt 0 (length flying) then Some cause.Active
     else if nat_le SLOTS (length flying) then Some cause.Slots
     else None

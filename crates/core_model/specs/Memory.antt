@@ -3,7 +3,7 @@ use Rattle.std.specs.Prelude.{ℕ, ℤ, ◌+◌, ◌-◌, List, fold, map, lengt
 use Rattle.std.specs.List.{range_with_len}
 use Rattle.core_model.specs.declared.entry.Entry.{Entry}
 use Rattle.core_model.specs.declared.entry.Effect.{Effect}
-use Rattle.core_model.specs.declared.entry.Effect.TheVariants.{Write, Signal, Release}
+use Rattle.core_model.specs.declared.entry.Effect.TheVariants.{Write, Signal}
 use Rattle.core_model.specs.History.{Start, effects_of}
 
 -- the byte at an address after a change, by the byte before it (own)

@@ -1,5 +1,5 @@
 -- What each event is owed: its refusal, or its outcome with the changes that it makes. It is a function of the history alone.
-use Rattle.std.specs.Prelude.{ℕ, ℤ, pos, ◌+◌, ◌==◌, ◌&&◌, Bool, false, nat_le, List, [], ◌∷◌, ◌++◌, length, Option, Some, None, if◌then◌else◌, filter, find}
+use Rattle.std.specs.Prelude.{ℕ, ℤ, pos, ◌+◌, ◌==◌, ◌&&◌, Bool, false, nat_le, List, [], ◌∷◌, ◌++◌, length, Option, Some, None, if◌then◌else◌, map, find, option_map}
 use Rattle.std.specs.List.{list_any}
 use Rattle.std.specs.Option.{option_map_or}
 use Rattle.aql_packet.specs.declared.ids.QueueId.{QueueId}
@@ -25,6 +25,7 @@ use Rattle.core_model.specs.declared.entry.Effect.{Effect}
 use Rattle.core_model.specs.declared.entry.Effect.TheVariants as effect
 use Rattle.core_model.specs.declared.entry.Entry.{Entry}
 use Rattle.core_model.specs.declared.flight.InFlight.{InFlight}
+use Rattle.core_model.specs.declared.flight.Progress.{Progress}
 use Rattle.core_model.specs.declared.outcome.Cause.{Cause}
 use Rattle.core_model.specs.declared.outcome.Seen.{Seen}
 use Rattle.core_model.specs.declared.outcome.Outcome.{Outcome}
@@ -38,7 +39,7 @@ use Rattle.core_model.specs.History.{Start}
 use Rattle.core_model.specs.Grants.{in_force}
 use Rattle.core_model.specs.Memory.{region_lengths, signals}
 use Rattle.core_model.specs.Queues.{Opening, openings, owner, next_id, is_stopped, is_down}
-use Rattle.core_model.specs.Flight.{flight, in_flight, none_seen, seen_with}
+use Rattle.core_model.specs.Flight.{flight_of, in_flight, none_seen, progress, seen_with}
 use Rattle.core_model.specs.declared.limits.TheConstants.{MOST_HOST_BYTES, QUEUES}
 use Rattle.core_model.specs.Needs.{completion}
 use Rattle.core_model.specs.LaunchRules.{Facts, first_failing, may_start, is_barrier}
@@ -89,10 +90,6 @@ facts_of start entries opening = record {
   lengths = region_lengths start;
 }
 
--- the packets of one queue in flight
-abbrev pub flight_of : Start → List Entry → QueueId → List InFlight
-flight_of start entries queue = filter (λ f. f.queue.0 == queue.0) (flight start entries)
-
 -- a packet's error without a place
 abbrev pub error_at : QueueId → ℕ → Rule → QueueError
 error_at queue id rule = record { queue = queue; packet = record { 0 = id }; rule = rule; place = None }
@@ -108,19 +105,23 @@ abbrev pub owed_take : Start → List Entry → QueueId → PacketId → List �
 owed_take start entries queue id bytes opening =
     refuse_if (is_down start entries queue) refusal.QueueDown
     (refuse_unless (id.0 == next_id start entries queue) (refusal.OutOfStep (next_id start entries queue))
-    (decided queue id.0 (may_start (flight_of start entries queue) (barrier_bit bytes)) (first_failing (facts_of start entries opening) bytes)))
+    (decided queue id.0 (may_start (map (λ f. f.packet) (flight_of start entries queue)) (barrier_bit bytes)) (first_failing (facts_of start entries opening) bytes)))
+
+-- what a call about a packet in flight is owed: a refusal where there is no such queue or packet, else what is owed by the packet
+-- and by how far it has come
+abbrev pub for_packet : Start → List Entry → QueueId → PacketId → (Packet → Progress → Owed) → Owed
+for_packet start entries queue id rest =
+    for_some (owner start entries queue) refusal.UnknownQueue (λ opening.
+    for_some (in_flight start entries queue id) refusal.NotInFlight (λ f. rest f.packet (progress start entries queue id)))
 
 -- the next group of a packet in flight: an agent dispatch has one group, number 0, and never faults
-abbrev pub owed_group : Start → List Entry → InFlight → Owed
-owed_group start entries flying = group_of flying.packet
-  where
-    group_of : Packet → Owed
-    group_of (packet.Agent dispatch) =
-        if nat_le 1 flying.groups_run then answers (outcome.Worked Done)
-        else enters (outcome.Worked (Ran 0 0)) (agent_writes start entries dispatch)
-    group_of (packet.Kernel _) = answers (outcome.Worked Done)
-    group_of (packet.BarrierAnd _) = refuses refusal.NotInFlight
-    group_of (packet.BarrierOr _) = refuses refusal.NotInFlight
+abbrev pub owed_group : Start → List Entry → Packet → Progress → Owed
+owed_group start entries (packet.Agent dispatch) so_far =
+    if nat_le 1 so_far.groups_run then answers (outcome.Worked Done)
+    else enters (outcome.Worked (Ran 0 0)) (agent_writes start entries dispatch)
+owed_group start entries (packet.Kernel _) so_far = answers (outcome.Worked Done)
+owed_group start entries (packet.BarrierAnd _) so_far = refuses refusal.NotInFlight
+owed_group start entries (packet.BarrierOr _) so_far = refuses refusal.NotInFlight
 
 -- the outcome of a poll that sees something new, or nothing new
 abbrev pub polled : Packet → Seen → Seen → Owed
@@ -130,36 +131,36 @@ polled p seen new =
     else answers (outcome.Polled (Pending none_seen))
 
 -- a poll of a barrier packet in flight: ready packets stay ready; then a negative dependency fails it, before what is newly seen
-abbrev pub owed_poll : Start → List Entry → InFlight → Owed
-owed_poll start entries f =
-    refuse_unless (is_barrier f.packet) refusal.NotInFlight
-    (if is_ready f.packet f.seen then answers (outcome.Polled (Ready none_seen))
-    else if list_any (is_negative (signals start entries)) (awaited f.packet f.seen)
-    then enters (outcome.Polled (Failed (error_at f.queue f.id.0 B1))) (effect.Release f.queue f.id ∷ [])
-    else polled f.packet f.seen (newly_seen (signals start entries) f.packet f.seen))
+abbrev pub owed_poll : List ℤ → QueueId → PacketId → Packet → Progress → Owed
+owed_poll values queue id p so_far =
+    refuse_unless (is_barrier p) refusal.NotInFlight
+    (if is_ready p so_far.satisfied then answers (outcome.Polled (Ready none_seen))
+    else if list_any (is_negative values) (awaited p so_far.satisfied)
+    then enters (outcome.Polled (Failed (error_at queue id.0 B1))) (effect.Release queue id ∷ [])
+    else polled p so_far.satisfied (newly_seen values p so_far.satisfied))
 
 -- whether a packet's work is done: all its groups have run, or the barrier is ready
-abbrev pub is_finished : InFlight → Bool
-is_finished f = if is_barrier f.packet then is_ready f.packet f.seen else nat_le (groups_of f.packet) f.groups_run
+abbrev pub is_finished : Packet → Progress → Bool
+is_finished p so_far = if is_barrier p then is_ready p so_far.satisfied else nat_le (groups_of p) so_far.groups_run
 
 -- the decrement of a completion signal that isn't null (PSA, Signals: the packet processor decrements it by 1)
 abbrev pub completed : List ℤ → SignalHandle → List Effect
 completed values signal = if signal.0 == 0 then [] else elim (value_of values signal.0) [ None ↦ [] | Some v ↦ effect.Signal signal v (applied (op.Subtract (pos 1)) v) ∷ [] ]
 
 -- the completion of a packet in flight
-abbrev pub owed_finish : Start → List Entry → InFlight → Owed
-owed_finish start entries f =
-    refuse_unless (is_finished f) refusal.NotFinished
-    (enters outcome.Accepted (completed (signals start entries) (completion f.packet) ++ effect.Release f.queue f.id ∷ []))
+abbrev pub owed_finish : List ℤ → QueueId → PacketId → Packet → Progress → Owed
+owed_finish values queue id p so_far =
+    refuse_unless (is_finished p so_far) refusal.NotFinished
+    (enters outcome.Accepted (completed values (completion p) ++ effect.Release queue id ∷ []))
 
 -- the release of a packet, if there is one
-abbrev pub release_of : Option InFlight → List Effect
-release_of None = []
-release_of (Some f) = effect.Release f.queue f.id ∷ []
+abbrev pub release_of : QueueId → Option PacketId → List Effect
+release_of queue None = []
+release_of queue (Some id) = effect.Release queue id ∷ []
 
--- the releases of a stop: of the packets of the queue in flight, its barrier packet, if there is one
-abbrev pub stop_releases : List InFlight → List Effect
-stop_releases flying = release_of (find (λ f. is_barrier f.packet) flying)
+-- the barrier packet among packets of a queue in flight, if there is one
+abbrev pub barrier_in : List InFlight → Option PacketId
+barrier_in flying = option_map (λ f. f.id) (find (λ f. is_barrier f.packet) flying)
 
 -- what a change of a signal answers: the old value for an exchange or a compare-and-swap, else 0
 abbrev pub old_if_asked : SignalOp → ℤ → ℤ
@@ -193,18 +194,12 @@ owed start entries (OpenQueue client agent size) =
 owed start entries (Stop queue) =
     for_some (owner start entries queue) refusal.UnknownQueue (λ opening.
     refuse_if (is_stopped start entries queue) refusal.QueueDown
-    (enters outcome.Accepted (stop_releases (flight_of start entries queue))))
+    (enters outcome.Accepted (release_of queue (barrier_in (flight_of start entries queue)))))
 owed start entries (Take queue id bytes) =
     for_some (owner start entries queue) refusal.UnknownQueue (owed_take start entries queue id bytes)
-owed start entries (RunNext queue id) =
-    for_some (owner start entries queue) refusal.UnknownQueue (λ opening.
-    for_some (in_flight start entries queue id) refusal.NotInFlight (owed_group start entries))
-owed start entries (Poll queue id) =
-    for_some (owner start entries queue) refusal.UnknownQueue (λ opening.
-    for_some (in_flight start entries queue id) refusal.NotInFlight (owed_poll start entries))
-owed start entries (Finish queue id) =
-    for_some (owner start entries queue) refusal.UnknownQueue (λ opening.
-    for_some (in_flight start entries queue id) refusal.NotInFlight (owed_finish start entries))
+owed start entries (RunNext queue id) = for_packet start entries queue id (owed_group start entries)
+owed start entries (Poll queue id) = for_packet start entries queue id (owed_poll (signals start entries) queue id)
+owed start entries (Finish queue id) = for_packet start entries queue id (owed_finish (signals start entries) queue id)
 owed start entries (HostWrite client address bytes) =
     refuse_unless (declares_client start.policy client) refusal.UnknownClient
     (refuse_unless (is_host_size (length bytes)) refusal.BadSize

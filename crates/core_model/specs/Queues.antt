@@ -7,12 +7,12 @@ use Rattle.aql_packet.specs.declared.ids.ClientId.{ClientId}
 use Rattle.aql_packet.specs.declared.ids.AgentHandle.{AgentHandle}
 use Rattle.policy.specs.Policy.{numbered}
 use Rattle.core_model.specs.declared.event.Event.{Event}
-use Rattle.core_model.specs.declared.event.Event.TheVariants.{Grant, Revoke, OpenQueue, Stop, Take, RunNext, Poll, Finish, HostWrite, ChangeSignal}
+use Rattle.core_model.specs.declared.event.Event.TheVariants.{OpenQueue, Stop, Take}
 use Rattle.core_model.specs.declared.outcome.Outcome.{Outcome}
 use Rattle.core_model.specs.declared.outcome.Outcome.TheVariants as outcome
-use Rattle.core_model.specs.declared.outcome.Taken.TheVariants.{Launched, Denied, Waiting}
-use Rattle.core_model.specs.declared.outcome.Worked.TheVariants.{Ran, Faulted, Done}
-use Rattle.core_model.specs.declared.outcome.Polled.TheVariants.{Pending, Ready, Failed}
+use Rattle.core_model.specs.declared.outcome.Taken.TheVariants.{Denied}
+use Rattle.core_model.specs.declared.outcome.Worked.TheVariants.{Faulted}
+use Rattle.core_model.specs.declared.outcome.Polled.TheVariants.{Failed}
 use Rattle.core_model.specs.declared.entry.Entry.{Entry}
 use Rattle.core_model.specs.History.{Start}
 

@@ -1,16 +1,21 @@
-//! Packets in flight.
+//! Packets in flight, and how far they have come.
 
 use crate::outcome::Seen;
 use aql_packet::{Packet, PacketId, QueueId};
 
-/// A packet in flight: it was launched, and not released since.
+/// A packet in flight, by name: it was launched, and not released since.
 #[derive(Clone, Copy, Debug, PartialEq, Eq)]
 pub struct InFlight {
     pub queue: QueueId,
     pub id: PacketId,
     pub packet: Packet,
+}
+
+/// How far a packet has come since its launch.
+#[derive(Clone, Copy, Debug, PartialEq, Eq)]
+pub struct Progress {
     /// How many of its groups have run.
     pub groups_run: u32,
     /// Of a barrier packet: which of its dependencies were seen as 0.
-    pub seen: Seen,
+    pub satisfied: Seen,
 }

@@ -30,6 +30,7 @@ ghost use Rattle.core_model.specs.declared.event.Event.TheVariants.{ChangeSignal
 ghost use Rattle.core_model.specs.declared.event.Query.TheVariants as query;
 ghost use Rattle.core_model.specs.declared.event.Request.{Request};
 ghost use Rattle.core_model.specs.declared.flight.InFlight.{InFlight};
+ghost use Rattle.core_model.specs.declared.flight.Progress.{Progress};
 ghost use Rattle.core_model.specs.declared.outcome.Outcome.{Outcome};
 ghost use Rattle.core_model.specs.declared.outcome.Outcome.TheVariants as outcome;
 ghost use Rattle.core_model.specs.declared.outcome.Polled.TheVariants as polled;
@@ -40,7 +41,7 @@ ghost use Rattle.core_model.specs.History.{Start, History};
 ghost use Rattle.core_model.specs.Grants.{in_force};
 ghost use Rattle.core_model.specs.Memory.{memory_from, signals};
 ghost use Rattle.core_model.specs.Queues.{Opening, error_of, next_id};
-ghost use Rattle.core_model.specs.Flight.{flight, in_flight};
+ghost use Rattle.core_model.specs.Flight.{LawOfFlight, flight, in_flight};
 ghost use Rattle.core_model.specs.Work.{agent_writes};
 ghost use Rattle.core_model.specs.Owed.{owed_group};
 ghost use Rattle.core_model.specs.Legal.{AreReplies, IsLegal, IsServed, MeetsOrLacks, Replying, entry_of};
@@ -106,9 +107,9 @@ pub fn each_read_of_a_group_was_granted()
 
 /// What a group is owed depends on memory by the ranges that its packet's work reads alone.
 pub fn groups_depend_on_what_they_read()
-    ensures { (start : Start) (one other : List Entry) (flying : InFlight) →
-        All (λ range. memory_from start one range.address.0 range.size ≡ memory_from start other range.address.0 range.size) (reads_of flying.packet) →
-        owed_group start one flying ≡ owed_group start other flying }
+    ensures { (start : Start) (one other : List Entry) (p : Packet) (so_far : Progress) →
+        All (λ range. memory_from start one range.address.0 range.size ≡ memory_from start other range.address.0 range.size) (reads_of p) →
+        owed_group start one p so_far ≡ owed_group start other p so_far }
 {}
 
 /// An error names the packet that its event concerns; a packet that faults is released, and its fault
@@ -196,4 +197,10 @@ pub fn serving_keeps_a_history_legal()
     ensures list { (old new : History) (requests : List Request) (replies : List Replying) →
         IsLegal old.start old.entries → AreReplies old requests replies new → GoesOn old new }
     ensures beginnings { (start : Start) (before more : List Entry) → IsLegal start (before ++ more) → IsLegal start before }
+{}
+
+/// After any entries, a packet is in flight just where one of them launched it, and neither that one
+/// nor any since released it.
+pub fn law_of_flight()
+    ensures { LawOfFlight }
 {}

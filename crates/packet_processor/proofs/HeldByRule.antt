@@ -1,5 +1,5 @@
 -- What a packet needs and holds, rule by rule.
-use Rattle.std.proofs.Common.{◌≡◌, List, [], ◌∷◌, ◌++◌, refl, sym, ◌∙◌, ap, Bool, true, false, Option, append_assoc}
+use Rattle.std.proofs.Common.{◌≡◌, List, [], ◌∷◌, ◌++◌, refl, sym, ◌∙◌, ap, Bool, Option, append_assoc}
 use Rattle.std.specs.Prelude.{◌&&◌, map, option_to_list}
 use Rattle.std.specs.List.{list_all, flat_map}
 use Rattle.std.proofs.lemmas.List.{append-nil}
@@ -7,7 +7,6 @@ use Rattle.std.proofs.lemmas.List.Folds.{list_all-append}
 use Rattle.aql_packet.specs.declared.packet.Packet.{Packet}
 use Rattle.policy.specs.declared.object.Object.{Object}
 use Rattle.policy.specs.declared.rights.Rights.{Rights}
-use Rattle.queue_error.specs.declared.rule.Rule.{Rule}
 use Rattle.queue_error.specs.declared.rule.Rule.TheVariants.{L4, L8, L9, L10}
 use Rattle.core_model.specs.declared.need.Need.{Need}
 use Rattle.core_model.specs.Queues.{Opening}

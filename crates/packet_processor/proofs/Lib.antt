@@ -1,3 +1,4 @@
 pub mod FirstFailing
 pub mod HeldByRule
 pub mod QueueingLemmas
+pub mod PlaceLemmas

@@ -1,16 +1,36 @@
 -- What is known of one queue.
-use Rattle.std.specs.Prelude.{◌==◌, nat_lt, List, length, filter, Option, Some, None, if◌then◌else◌}
-use Rattle.core_model.specs.declared.flight.InFlight.{InFlight}
+use Rattle.std.specs.Prelude.{◌==◌, Bool, nat_lt, List, filter, length, map, not, Option, Some, None, if◌then◌else◌}
+use Rattle.aql_packet.specs.declared.ids.PacketId.{PacketId}
+use Rattle.aql_packet.specs.declared.packet.Packet.{Packet}
+use Rattle.core_model.specs.declared.flight.Progress.{Progress}
 use Rattle.core_model.specs.declared.outcome.Cause.{Cause}
+use Rattle.core_model.specs.Flight.{at_launch}
+use Rattle.packet_processor.specs.declared.places.Place.{Place}
 use Rattle.packet_processor.specs.declared.queue_state.QueueState.{QueueState}
 use Rattle.packet_processor.specs.declared.queue_state.State.{State}
 use Rattle.packet_processor.specs.declared.queue_state.State.TheVariants.{Running, Error, Stopped}
 use Rattle.packet_processor.specs.declared.queue_state.MayLaunch.{MayLaunch}
 use Rattle.packet_processor.specs.declared.queue_state.MayLaunch.TheVariants.{Go, Waiting}
 
--- the queue's own packets in flight
-abbrev pub flying : QueueState → List InFlight
-flying q = filter (λ f. f.queue.0 == q.queue.0) q.flight.now
+-- the place of a packet as it is launched
+abbrev pub as_launched : PacketId → Packet → Place
+as_launched id p = record { id = id; packet = p; progress = at_launch }
+
+-- whether a place is that of the packet with an id
+abbrev pub is_at : PacketId → Place → Bool
+is_at id place = place.id.0 == id.0
+
+-- a place after the packet with an id has come this far
+abbrev pub with_progress : PacketId → Progress → Place → Place
+with_progress id so_far place = if is_at id place then record place { progress = so_far } else place
+
+-- the places without that of the packet with an id
+abbrev pub without : PacketId → List Place → List Place
+without id places = filter (λ place. not (is_at id place)) places
+
+-- the queue's packets in flight
+abbrev pub packets : QueueState → List Packet
+packets q = map (λ place. place.packet) q.places.now
 
 -- a queue that was stopped is stopped, whether it has an error or not (own)
 abbrev pub state_of : QueueState → State

@@ -9,6 +9,7 @@ mod holding;
 mod judging;
 mod need_table;
 mod packets;
+mod places;
 mod queue_state;
 
 pub use facts::{Facts, TAKES_NOTHING, Verdict};
@@ -16,4 +17,5 @@ pub use holding::held;
 pub use judging::verdict;
 pub use need_table::{Needs, function_of, needs, result_range};
 pub use packets::{completion, is_barrier, is_ready};
+pub use places::{Place, Places};
 pub use queue_state::{MayLaunch, QueueState, State};

@@ -3,11 +3,12 @@
 ghost use Rattle.std.specs.Prelude.{◌≡◌, ◌||◌, length, nat_lt};
 ghost use Rattle.std.specs.List.{list_any};
 ghost use Rattle.core_model.specs.LaunchRules.{is_barrier, may_start};
-ghost use Rattle.packet_processor.specs.Queueing.{flying, launching, state_of};
+ghost use Rattle.packet_processor.specs.Queueing.{launching, packets, state_of};
 
 use crate::packets::is_barrier;
-use aql_packet::{QueueId, RawHeader};
-use core_model::{Cause, InFlight, SLOTS};
+use crate::places::Place;
+use aql_packet::RawHeader;
+use core_model::{Cause, SLOTS};
 use queue_error::QueueError;
 
 /// Whether a queue's packets are launched.
@@ -33,10 +34,8 @@ pub enum MayLaunch {
 /// What is known of one queue at a moment, lent by who keeps it.
 #[derive(Drop)]
 pub struct QueueState<'a> {
-    /// The queue.
-    pub queue: QueueId,
-    /// The packets in flight of all queues, in the order of their launches.
-    pub flight: &'a [InFlight],
+    /// The queue's packets in flight, in the order of their launches.
+    pub places: &'a [Place],
     /// The queue's errors, in order.
     pub errors: &'a [QueueError],
     /// Whether the queue was stopped.
@@ -69,12 +68,12 @@ impl QueueState<'_> {
     /// where the bit is set, while any packet of it is, nor while eight are (own).
     #[tactic(auto, unfolding(core_model::specs::LaunchRules::may_start))]
     pub fn may_launch(&self, header: &RawHeader) -> MayLaunch
-        ensures { result ≡ launching (may_start (flying self.now) header.now.barrier) }
+        ensures { result ≡ launching (may_start (packets self.now) header.now.barrier) }
     {
         if self.has_barrier() {
             return MayLaunch::Waiting(Cause::Barrier);
         }
-        let count = self.count();
+        let count = self.places.len();
         if header.barrier && count > 0 {
             return MayLaunch::Waiting(Cause::Active);
         }
@@ -86,21 +85,8 @@ impl QueueState<'_> {
 
     // Whether a barrier packet of the queue is in flight.
     fn has_barrier(&self) -> bool
-        ensures { result ≡ list_any (λ f. is_barrier f.packet) (flying self.now) }
+        ensures { result ≡ list_any is_barrier (packets self.now) }
     {
-        self.flight
-            .iter()
-            .filter(|flying| flying.queue.0 == self.queue.0)
-            .any(|flying| is_barrier(&flying.packet))
-    }
-
-    // How many packets of the queue are in flight.
-    fn count(&self) -> usize
-        ensures { result ≡ length (flying self.now) }
-    {
-        self.flight
-            .iter()
-            .filter(|flying| flying.queue.0 == self.queue.0)
-            .count()
+        self.places.iter().any(|place| is_barrier(&place.packet))
     }
 }

@@ -17,7 +17,7 @@ impl AccessCore {
         if let Err(why) = self.grants.may_grant(client, object, rights) {
             return Err(refusal_of(why));
         }
-        if lacks_room(self.capacity, self.audit.len(), self.flight.len()) {
+        if lacks_room(self.capacity, self.audit.len(), self.flying) {
             return Err(Refusal::AuditFull);
         }
         self.grants.put_in_force(client, object, rights);
@@ -43,7 +43,7 @@ impl AccessCore {
         if let Err(why) = self.grants.may_revoke(client, object, rights) {
             return Err(refusal_of(why));
         }
-        if lacks_room(self.capacity, self.audit.len(), self.flight.len()) {
+        if lacks_room(self.capacity, self.audit.len(), self.flying) {
             return Err(Refusal::AuditFull);
         }
         self.grants.take_out_of_force(client, object, rights);

@@ -37,7 +37,7 @@ impl AccessCore {
             signal,
             operation,
         )?;
-        if lacks_room(self.capacity, self.audit.len(), self.flight.len()) {
+        if lacks_room(self.capacity, self.audit.len(), self.flying) {
             return Err(Refusal::AuditFull);
         }
         let new = change(&mut self.signals, signal, operation, old);
@@ -71,7 +71,7 @@ impl AccessCore {
             address,
             &bytes,
         )?;
-        if lacks_room(self.capacity, self.audit.len(), self.flight.len()) {
+        if lacks_room(self.capacity, self.audit.len(), self.flying) {
             return Err(Refusal::AuditFull);
         }
         let written = bytes.copy(alloc)?;

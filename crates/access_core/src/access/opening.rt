@@ -158,7 +158,7 @@ fn blank(alloc: Global, policy: Policy, capacity: usize, parts: Parts) -> Access
         memory,
         signals,
         queues: Vec::new(alloc),
-        flight: Sequence::new(alloc),
+        flying: 0,
         capacity,
         audit,
     }

@@ -1,26 +1,26 @@
 //! Barrier packets in flight look at the signals that they depend on.
 
-ghost use Rattle.std.specs.Prelude.{◌≡◌, IfErr, IfOk, Ok, is_some, map};
+ghost use Rattle.std.specs.Prelude.{◌≡◌, IfErr, IfOk, Ok, Some, is_some, map};
 ghost use Rattle.std.specs.List.{list_any, zip};
 ghost use Rattle.std.specs.Option.{IfSome};
-ghost use Rattle.core_model.specs.Flight.{has_seen, seen_with};
+ghost use Rattle.core_model.specs.Flight.{seen_with};
 ghost use Rattle.core_model.specs.LaunchRules.{is_barrier};
 ghost use Rattle.core_model.specs.Needs.{dependencies};
 ghost use Rattle.core_model.specs.Work.{is_negative, is_zero, signal_value};
-ghost use Rattle.core_model.specs.Owed.{refuses};
+ghost use Rattle.core_model.specs.Owed.{owed_poll, refuses};
 ghost use Rattle.core_model.specs.Legal.{Meets, wrapped};
-ghost use Rattle.access_core.specs.Moves.{HasFailed, HasPlace, IsThere};
-ghost use Rattle.access_core.specs.Polling.{PollOwed, look_owed, sees_owed, sight};
-ghost use Rattle.access_core.specs.ToldWork.{IsFlying, IsOwed};
+ghost use Rattle.access_core.specs.QueueChanges.{CanFail, freed_by, with_failure, with_queue};
+ghost use Rattle.access_core.specs.Polling.{look_owed, sees_owed, sight};
+ghost use Rattle.access_core.specs.InPlace.{IsInPlace, IsOwed};
 
-use crate::access::working::release;
+use crate::access::running::advance;
+use crate::access::working::free_place;
 use crate::access::{AccessCore, enter, lacks_room};
 use crate::queue::Queue;
 use aql_packet::{Packet, PacketId, QueueId, SignalHandle};
-use core_model::{Effect, Effects, Event, InFlight, Outcome, Polled, Refusal, Seen};
-use packet_processor::is_ready;
+use core_model::{Effect, Effects, Event, Outcome, Polled, Progress, Refusal, Seen};
+use packet_processor::{Place, is_ready};
 use queue_error::{QueueError, Rule};
-use sequences::Sequence;
 use signals::Signals;
 
 /// No position.
@@ -45,49 +45,45 @@ impl AccessCore {
     pub fn poll(&mut self, queue: QueueId, packet: PacketId) -> Result<Polled, Refusal>
         ensures { Meets (Event.Poll queue packet) self.old self.new (wrapped Outcome.Polled result) }
     {
-        let (flying, look) = self.may_poll(queue, packet)?;
+        let (place, look) = self.may_poll(queue, packet)?;
         match look {
             Look::Still(told) => Ok(told),
-            Look::Fails => Ok(self.fail(queue, packet, flying)),
-            Look::Sees { new, ready } => self.see(queue, packet, new, ready),
+            Look::Fails => Ok(self.fail(queue, packet, place)),
+            Look::Sees { new, ready } => self.see(queue, packet, place, new, ready),
         }
     }
 
-    // The packet in flight with this queue and id, and what a poll of it finds.
-    fn may_poll(&self, queue: QueueId, packet: PacketId) -> Result<(InFlight, Look), Refusal>
+    // The place of the packet in flight with this queue and id, and what a poll of it finds.
+    fn may_poll(&self, queue: QueueId, packet: PacketId) -> Result<(Place, Look), Refusal>
         ensures may { IfOk result (λ found.
-            IsOwed self.now (Event.Poll queue packet) (look_owed found.0 found.1)) }
-        ensures found { IfOk result (λ found. IsFlying self.now queue packet found.0) }
+            IsOwed self.now (Event.Poll queue packet) (look_owed queue packet found.1)) }
+        ensures found { IfOk result (λ found. IsInPlace self.now queue packet found.0) }
         ensures why { IfErr result (λ why. IsOwed self.now (Event.Poll queue packet) (refuses why)) }
     {
-        let flying = self.flying(queue, packet)?;
-        match look_at(&self.signals, &flying) {
-            Ok(look) => Ok((flying, look)),
+        let place = self.place_of(queue, packet)?;
+        match look_at(&self.signals, &place, queue, packet) {
+            Ok(look) => Ok((place, look)),
             Err(why) => Err(why),
         }
     }
 
     // Fails a packet in flight: its queue has an error more, and it leaves flight.
-    fn fail(&mut self, queue: QueueId, packet: PacketId, flying: InFlight) -> Polled
-        requires may { IsOwed self.old (Event.Poll queue packet) (look_owed flying Look.Fails) }
-        requires found { IsFlying self.old queue packet flying }
+    fn fail(&mut self, queue: QueueId, packet: PacketId, place: Place) -> Polled
+        requires may { IsOwed self.old (Event.Poll queue packet) (look_owed queue packet Look.Fails) }
+        requires found { IsInPlace self.old queue packet place }
         ensures { Meets (Event.Poll queue packet) self.old self.new (Ok (Outcome.Polled result)) }
     {
         let error = QueueError {
-            queue: flying.queue,
-            packet: flying.id,
+            queue,
+            packet,
             rule: Rule::B1,
             place: None,
         };
-        add_error(&mut self.queues, error);
-        release(&mut self.flight, flying.queue, flying.id);
-        self.grants.release(flying.queue, flying.id);
+        self.flying -= fail_packet(&mut self.queues, queue, packet, error);
+        self.grants.release(queue, packet);
         let told = Polled::Failed(error);
         let event = Event::Poll { queue, packet };
-        let effects = Effects::one(Effect::Release {
-            queue: flying.queue,
-            packet: flying.id,
-        });
+        let effects = Effects::one(Effect::Release { queue, packet });
         enter(&mut self.audit, event, Outcome::Polled(told), effects);
         told
     }
@@ -97,16 +93,22 @@ impl AccessCore {
         &mut self,
         queue: QueueId,
         packet: PacketId,
+        place: Place,
         new: Seen,
         ready: bool,
     ) -> Result<Polled, Refusal>
-        requires { IsOwed self.old (Event.Poll queue packet) (sees_owed new ready) }
+        requires may { IsOwed self.old (Event.Poll queue packet) (sees_owed new ready) }
+        requires found { IsInPlace self.old queue packet place }
         ensures { Meets (Event.Poll queue packet) self.old self.new (wrapped Outcome.Polled result) }
     {
-        if lacks_room(self.capacity, self.audit.len(), self.flight.len()) {
+        if lacks_room(self.capacity, self.audit.len(), self.flying) {
             return Err(Refusal::AuditFull);
         }
-        note_seen(&mut self.flight, queue, packet, new);
+        let progress = Progress {
+            satisfied: seen_with(&place.progress.satisfied, &new),
+            ..place.progress
+        };
+        advance(&mut self.queues, queue, packet, progress);
         let told = sight(ready, new);
         let event = Event::Poll { queue, packet };
         enter(
@@ -120,25 +122,33 @@ impl AccessCore {
 }
 
 // What a poll of a packet in flight finds.
-fn look_at(signals: &Signals, flying: &InFlight) -> Result<Look, Refusal>
-    ensures may { IfOk result (λ look. PollOwed signals.now flying.now (look_owed flying.now look)) }
-    ensures why { IfErr result (λ why. PollOwed signals.now flying.now (refuses why)) }
+fn look_at(
+    signals: &Signals,
+    place: &Place,
+    queue: QueueId,
+    packet: PacketId,
+) -> Result<Look, Refusal>
+    ensures may { IfOk result (λ look.
+        owed_poll signals.now queue packet place.now.packet place.now.progress ≡ look_owed queue packet look) }
+    ensures why { IfErr result (λ why.
+        owed_poll signals.now queue packet place.now.packet place.now.progress ≡ refuses why) }
 {
-    let dependencies = match dependencies(&flying.packet) {
+    let dependencies = match dependencies(&place.packet) {
         None => return Err(Refusal::NotInFlight),
         Some(dependencies) => dependencies,
     };
-    if is_ready(&flying.packet, &flying.seen) {
+    let seen = &place.progress.satisfied;
+    if is_ready(&place.packet, seen) {
         return Ok(Look::Still(Polled::Ready(NONE)));
     }
-    if is_any_negative(signals, &dependencies, &flying.seen) {
+    if is_any_negative(signals, &dependencies, seen) {
         return Ok(Look::Fails);
     }
-    let new = newly_seen(signals, &dependencies, &flying.seen);
+    let new = newly_seen(signals, &dependencies, seen);
     if !is_any(&new) {
         return Ok(Look::Still(Polled::Pending(NONE)));
     }
-    let ready = is_ready(&flying.packet, &seen_with(&flying.seen, &new));
+    let ready = is_ready(&place.packet, &seen_with(seen, &new));
     Ok(Look::Sees { new, ready })
 }
 
@@ -231,36 +241,19 @@ fn sight(ready: bool, new: Seen) -> Polled
     }
 }
 
-// Puts an error behind the others of its queue.
-fn add_error(queues: &mut Vec<Queue>, error: QueueError)
-    requires there { IsThere queues.old.items error.queue }
-    requires place { HasPlace queues.old.items error.queue }
-    ensures { HasFailed queues.old.items queues.new.items error }
+// Puts an error behind the others of a queue, takes a packet of it out of flight, and answers how many
+// places that frees.
+fn fail_packet(
+    queues: &mut Vec<Queue>,
+    queue: QueueId,
+    packet: PacketId,
+    error: QueueError,
+) -> usize
+    requires { CanFail queues.old.items queue }
+    ensures queues { queues.new.items ≡ with_queue queues.old.items queue (with_failure packet error) }
+    ensures freed { result ≡ freed_by (Some packet) queues.old.items queue }
 {
-    let place = error.queue.0 as usize - 1;
-    queues[place].errors.push(error);
-}
-
-// Notes positions of a packet as seen.
-fn note_seen(flight: &mut Sequence<InFlight>, queue: QueueId, packet: PacketId, new: Seen)
-    ensures { flight.new ≡ map (has_seen queue packet new) flight.old }
-{
-    for index in 0..flight.len() {
-        let noted = with_seen(flight.as_slice()[index], queue, packet, new);
-        flight.set(index, noted);
-    }
-}
-
-// A packet with these positions seen, if it is the one named.
-fn with_seen(flying: InFlight, queue: QueueId, packet: PacketId, new: Seen) -> InFlight
-    ensures { result ≡ has_seen queue packet new flying }
-{
-    if flying.queue.0 == queue.0 && flying.id.0 == packet.0 {
-        InFlight {
-            seen: seen_with(&flying.seen, &new),
-            ..flying
-        }
-    } else {
-        flying
-    }
+    let kept = &mut queues[queue.0 as usize - 1];
+    kept.errors.push(error);
+    free_place(&mut kept.places, Some(packet))
 }

@@ -9,6 +9,7 @@ use crate::access::{AccessCore, enter, lacks_room};
 use crate::queue::Queue;
 use aql_packet::{AgentHandle, ClientId, QueueId};
 use core_model::{Effects, Event, Outcome, QUEUES, Refusal, SLOTS};
+use packet_processor::Places;
 use policy::{Object, Right};
 use sequences::Reserved;
 use std::alloc::Global;
@@ -35,7 +36,7 @@ impl AccessCore {
         ensures { MeetsOrLacks (Event.OpenQueue client agent size) self.old self.new (wrapped Outcome.Opened result) }
     {
         let queue = self.may_open(client, agent, size)?;
-        if lacks_room(self.capacity, self.audit.len(), self.flight.len()) {
+        if lacks_room(self.capacity, self.audit.len(), self.flying) {
             return Err(Refusal::AuditFull);
         }
         let errors = Reserved::with_room(alloc, SLOTS)?;
@@ -45,6 +46,7 @@ impl AccessCore {
             next: 0,
             stopped: false,
             errors,
+            places: Places::new(),
         })?;
         let event = Event::OpenQueue {
             client,

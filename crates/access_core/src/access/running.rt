@@ -1,24 +1,27 @@
 //! The groups of agent dispatches in flight are run.
 
-ghost use Rattle.std.specs.Prelude.{◌≡◌, ◌++◌, ◌<◌, ◌^◌, All, IfErr, IfOk, length, map, option_to_list, replicate, true};
+ghost use Rattle.std.specs.Prelude.{◌≡◌, ◌++◌, IfErr, IfOk, List, length, option_to_list, replicate, true};
 ghost use Rattle.std.specs.Option.{IfSome};
 ghost use Rattle.std.specs.Int.{w64, to_le_bytes};
 ghost use Rattle.aql_packet.specs.declared.packet.Packet.TheVariants as kind;
 ghost use Rattle.regions.specs.Memory.{is_within, lengths_of};
+ghost use Rattle.core_model.specs.declared.entry.Entry.{Entry};
+ghost use Rattle.core_model.specs.History.{Start};
 ghost use Rattle.core_model.specs.Memory.{memory_from, region_lengths};
-ghost use Rattle.core_model.specs.Flight.{group_ran};
 ghost use Rattle.core_model.specs.Needs.{function_of};
 ghost use Rattle.core_model.specs.Work.{function_result, function_writes, number_in_memory, result_writes, write_of};
-ghost use Rattle.core_model.specs.Owed.{refuses};
+ghost use Rattle.core_model.specs.Owed.{owed_group, refuses};
 ghost use Rattle.core_model.specs.Legal.{MeetsOrLacks, wrapped};
-ghost use Rattle.access_core.specs.ToldWork.{GroupOwed, IsChanged, IsOwed, IsPlaced, is_placed, Reaches, run_owed};
+ghost use Rattle.access_core.specs.QueueChanges.{IsThere, with_advance, with_queue};
+ghost use Rattle.access_core.specs.InPlace.{IsChanged, IsGroupOf, IsNextGroup, IsOwed, IsPlaced, is_placed, Reaches, run_owed};
 
 use crate::access::{AccessCore, enter, lacks_room};
+use crate::queue::Queue;
 use aql_packet::{Address, AgentDispatch, Packet, PacketId, QueueId};
 use core_model::{
-    AgentFunction, Effect, Effects, Event, InFlight, Outcome, Range, Refusal, Worked,
+    AgentFunction, Effect, Effects, Event, Outcome, Progress, Range, Refusal, Worked,
 };
-use packet_processor::function_of;
+use packet_processor::{Place, function_of};
 use regions::Regions;
 use sequences::Sequence;
 use std::alloc::{AllocError, Global};
@@ -28,6 +31,13 @@ use std::alloc::{AllocError, Global};
 struct Piece {
     address: Address,
     bytes: Sequence<u8>,
+}
+
+/// The group of a dispatch that is to be run, and how far its packet has come once it has.
+#[derive(Clone, Copy)]
+struct Group {
+    dispatch: AgentDispatch,
+    after: Progress,
 }
 
 impl AccessCore {
@@ -41,31 +51,31 @@ impl AccessCore {
     ) -> Result<Worked, Refusal>
         ensures { MeetsOrLacks (Event.RunNext queue packet) self.old self.new (wrapped Outcome.Worked result) }
     {
-        let Some(dispatch) = self.may_run(queue, packet)? else {
+        let Some(group) = self.may_run(queue, packet)? else {
             return Ok(Worked::Done);
         };
-        if lacks_room(self.capacity, self.audit.len(), self.flight.len()) {
+        if lacks_room(self.capacity, self.audit.len(), self.flying) {
             return Err(Refusal::AuditFull);
         }
-        let target = self.function_piece(alloc, &dispatch)?;
-        let result = self.result_piece(alloc, &dispatch)?;
+        let target = self.function_piece(alloc, &group.dispatch)?;
+        let result = self.result_piece(alloc, &group.dispatch)?;
         let effects = lay_both(&mut self.memory, target, result);
-        count_group(&mut self.flight, queue, packet);
+        advance(&mut self.queues, queue, packet, group.after);
         let worked = Worked::Ran { group: 0, left: 0 };
         let event = Event::RunNext { queue, packet };
         enter(&mut self.audit, event, Outcome::Worked(worked), effects);
         Ok(worked)
     }
 
-    // The agent dispatch whose group is to be run, or none where all groups ran.
-    fn may_run(&self, queue: QueueId, packet: PacketId) -> Result<Option<AgentDispatch>, Refusal>
+    // The group that is to be run, or none where all groups ran.
+    fn may_run(&self, queue: QueueId, packet: PacketId) -> Result<Option<Group>, Refusal>
         ensures may { IfOk result (λ next.
             IsOwed self.now (Event.RunNext queue packet) (run_owed self.now.start self.now.entries next)) }
         ensures why { IfErr result (λ why. IsOwed self.now (Event.RunNext queue packet) (refuses why)) }
-        ensures reachable { IfOk result (λ next. IfSome next (λ dispatch. Reaches self.now (kind.Agent dispatch))) }
+        ensures group { IfOk result (λ next. IfSome next (IsNextGroup self.now queue packet)) }
     {
-        let flying = self.flying(queue, packet)?;
-        next_group(&flying)
+        let place = self.place_of(queue, packet)?;
+        next_group(&place)
     }
 
     // What an agent's function writes, and where.
@@ -150,15 +160,23 @@ impl AccessCore {
     }
 }
 
-// The agent dispatch whose group is the next of a packet in flight, or none where all groups ran.
-fn next_group(flying: &InFlight) -> Result<Option<AgentDispatch>, Refusal>
-    ensures owed { IfOk result (λ next. GroupOwed flying.now (λ start entries. run_owed start entries next)) }
-    ensures why { IfErr result (λ why. GroupOwed flying.now (λ start entries. refuses why)) }
-    ensures agent { IfOk result (λ next. IfSome next (λ dispatch. flying.now.packet ≡ kind.Agent dispatch)) }
+// The next group of a packet in flight, or none where all groups ran.
+fn next_group(place: &Place) -> Result<Option<Group>, Refusal>
+    ensures owed { IfOk result (λ next. (start : Start) (entries : List Entry) →
+        owed_group start entries place.now.packet place.now.progress ≡ run_owed start entries next) }
+    ensures why { IfErr result (λ why. (start : Start) (entries : List Entry) →
+        owed_group start entries place.now.packet place.now.progress ≡ refuses why) }
+    ensures group { IfOk result (λ next. IfSome next (IsGroupOf place.now)) }
 {
-    match flying.packet {
-        Packet::Agent(dispatch) => Ok(if flying.groups_run == 0 {
-            Some(dispatch)
+    match place.packet {
+        Packet::Agent(dispatch) => Ok(if place.progress.groups_run == 0 {
+            Some(Group {
+                dispatch,
+                after: Progress {
+                    groups_run: 1,
+                    satisfied: place.progress.satisfied,
+                },
+            })
         } else {
             None
         }),
@@ -166,6 +184,14 @@ fn next_group(flying: &InFlight) -> Result<Option<AgentDispatch>, Refusal>
         Packet::BarrierAnd(_) => Err(Refusal::NotInFlight),
         Packet::BarrierOr(_) => Err(Refusal::NotInFlight),
     }
+}
+
+// Notes how far a packet in flight has come.
+pub(crate) fn advance(queues: &mut Vec<Queue>, queue: QueueId, id: PacketId, progress: Progress)
+    requires { IsThere queues.old.items queue }
+    ensures { queues.new.items ≡ with_queue queues.old.items queue (with_advance id progress) }
+{
+    queues[queue.0 as usize - 1].places.advance(id, progress);
 }
 
 // The same byte again and again.
@@ -222,31 +248,5 @@ fn change(piece: Piece) -> Option<Effect>
         None
     } else {
         Some(Effect::Write { address, bytes })
-    }
-}
-
-// One more group of a packet has run.
-fn count_group(flight: &mut Sequence<InFlight>, queue: QueueId, packet: PacketId)
-    requires { All (λ f. f.groups_run < 2 ^ 31) flight.old }
-    ensures { flight.new ≡ map (group_ran queue packet) flight.old }
-{
-    for index in 0..flight.len() {
-        let ran = one_more(flight.as_slice()[index], queue, packet);
-        flight.set(index, ran);
-    }
-}
-
-// A packet after one more of its groups ran, if it is the one named.
-fn one_more(flying: InFlight, queue: QueueId, packet: PacketId) -> InFlight
-    requires { flying.groups_run < 2 ^ 31 }
-    ensures { result ≡ group_ran queue packet flying }
-{
-    if flying.queue.0 == queue.0 && flying.id.0 == packet.0 {
-        InFlight {
-            groups_run: flying.groups_run + 1,
-            ..flying
-        }
-    } else {
-        flying
     }
 }

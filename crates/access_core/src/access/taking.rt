@@ -1,19 +1,19 @@
 //! Packets are handed over: they wait, are launched, or denied.
 
-ghost use Rattle.std.specs.Prelude.{◌≡◌, IfErr, IfOk, Some, None, [], ◌∷◌};
+ghost use Rattle.std.specs.Prelude.{◌≡◌, IfErr, IfOk};
 ghost use Rattle.aql_packet.specs.Reading.{barrier_bit};
 ghost use Rattle.core_model.specs.Owed.{owed, refuses};
 ghost use Rattle.packet_processor.specs.Judged.{Judges};
 ghost use Rattle.access_core.specs.Judged.{facts_lent};
 ghost use Rattle.access_core.specs.Deciding.{Decides};
-ghost use Rattle.access_core.specs.Moves.{HandsOver, CanHandOver, HasPlace};
+ghost use Rattle.access_core.specs.QueueChanges.{CanFail, CanLaunch, with_denied, with_launched, with_queue};
 ghost use Rattle.core_model.specs.Legal.{MeetsOrLacks, wrapped};
 
 use crate::access::lookups::queue_of;
 use crate::access::{AccessCore, enter, lacks_room};
 use crate::queue::Queue;
 use aql_packet::{AgentHandle, ClientId, Packet, PacketId, QueueId, RawHeader, header_of};
-use core_model::{Cause, Effects, Event, InFlight, Outcome, Refusal, Seen, Taken};
+use core_model::{Cause, Effects, Event, Outcome, Refusal, Taken};
 use grants::Grants;
 use packet_processor::{Facts, MayLaunch, QueueState, TAKES_NOTHING, Verdict, held, verdict};
 use policy::Policy;
@@ -64,25 +64,22 @@ fn judged(
     verdict(bytes, &facts)
 }
 
-// Counts the next packet of a queue as handed over.
-fn advance(queues: &mut Vec<Queue>, queue: QueueId)
-    requires { CanHandOver queues.old.items queue }
-    ensures { HandsOver queues.old.items queues.new.items queue None }
+// Puts the next packet of a queue into a place.
+fn place_next(queues: &mut Vec<Queue>, queue: QueueId, id: PacketId, packet: Packet)
+    requires { CanLaunch queues.old.items queue }
+    ensures { queues.new.items ≡ with_queue queues.old.items queue (with_launched id packet) }
 {
-    let place = queue.0 as usize - 1;
-    let kept = &mut queues[place];
+    let kept = &mut queues[queue.0 as usize - 1];
     kept.next += 1;
+    kept.places.launch(id, packet);
 }
 
 // Counts the next packet of a queue as handed over, and puts an error behind the queue's others.
 fn fail_next(queues: &mut Vec<Queue>, queue: QueueId, error: QueueError)
-    requires there { CanHandOver queues.old.items queue }
-    requires place { HasPlace queues.old.items queue }
-    requires named { error.queue.0 ≡ queue.0 }
-    ensures { HandsOver queues.old.items queues.new.items queue (Some error) }
+    requires { CanFail queues.old.items queue }
+    ensures { queues.new.items ≡ with_queue queues.old.items queue (with_denied error) }
 {
-    let place = queue.0 as usize - 1;
-    let kept = &mut queues[place];
+    let kept = &mut queues[queue.0 as usize - 1];
     kept.next += 1;
     kept.errors.push(error);
 }
@@ -103,8 +100,7 @@ impl AccessCore {
             Some(kept) => kept,
         };
         let state = QueueState {
-            queue,
-            flight: self.flight.as_slice(),
+            places: kept.places.as_slice(),
             errors: kept.errors.as_slice(),
             stopped: kept.stopped,
         };
@@ -158,7 +154,7 @@ impl AccessCore {
         requires { Decides self.old queue packet bytes.now (Decision.Deny rule) }
         ensures { MeetsOrLacks (Event.Take queue packet bytes.now) self.old self.new (wrapped Outcome.Taken result) }
     {
-        if lacks_room(self.capacity, self.audit.len(), self.flight.len()) {
+        if lacks_room(self.capacity, self.audit.len(), self.flying) {
             return Err(Refusal::AuditFull);
         }
         let error = QueueError {
@@ -195,22 +191,16 @@ impl AccessCore {
         requires { Decides self.old queue packet bytes.now (Decision.Launch launching) }
         ensures { MeetsOrLacks (Event.Take queue packet bytes.now) self.old self.new (wrapped Outcome.Taken result) }
     {
-        if lacks_room(self.capacity, self.audit.len(), self.flight.len() + 1) {
+        if lacks_room(self.capacity, self.audit.len(), self.flying + 1) {
             return Err(Refusal::AuditFull);
         }
         let rights = held(alloc, launching.agent, &launching.packet)?;
         self.grants.reserve(rights.len())?;
-        self.flight.push(InFlight {
-            queue,
-            id: packet,
-            packet: launching.packet,
-            groups_run: 0,
-            seen: Seen([false; 5]),
-        })?;
         let client = launching.client;
         self.grants
             .hold_reserved(client, queue, packet, rights.as_slice());
-        advance(&mut self.queues, queue);
+        place_next(&mut self.queues, queue, packet, launching.packet);
+        self.flying += 1;
         let event = Event::Take {
             queue,
             packet,

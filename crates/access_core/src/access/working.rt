@@ -1,18 +1,21 @@
-//! Packets in flight: their groups are run, and they are completed.
+//! Packets in flight are found, completed and released.
 
-ghost use Rattle.std.specs.Prelude.{◌≡◌, IfErr, IfOk, find, fold, is_some};
+ghost use Rattle.std.specs.Prelude.{◌≡◌, ◌++◌, ◌∷◌, [], ◌-◌, Some, IfErr, IfOk, fold, is_some, length};
+ghost use Rattle.core_model.specs.declared.entry.Effect.TheVariants as effect;
 ghost use Rattle.core_model.specs.Memory.{signals_after};
 ghost use Rattle.core_model.specs.Queues.{owner};
-ghost use Rattle.core_model.specs.Flight.{is_packet};
-ghost use Rattle.core_model.specs.Owed.{refuses, is_finished};
+ghost use Rattle.core_model.specs.Needs.{completion};
+ghost use Rattle.core_model.specs.Owed.{completed, refuses, is_finished};
 ghost use Rattle.core_model.specs.Legal.{Meets, accepted};
-ghost use Rattle.access_core.specs.ToldWork.{completion_of, finish_owed, IsFlying, IsOwed, OwedBy, Reaches, RefusedAt, without};
+ghost use Rattle.access_core.specs.QueueChanges.{IsThere, freed, freed_by, with_queue, with_release, without_one};
+ghost use Rattle.access_core.specs.InPlace.{completion_of, finish_owed, IsInPlace, IsOwed, Reaches, RefusedAt};
 
+use crate::access::lookups::queue_of;
 use crate::access::{AccessCore, enter};
+use crate::queue::Queue;
 use aql_packet::{Packet, PacketId, QueueId};
-use core_model::{Effect, Effects, Event, InFlight, Outcome, Refusal};
-use packet_processor::{completion, is_ready};
-use sequences::Sequence;
+use core_model::{Effect, Effects, Event, Outcome, Refusal};
+use packet_processor::{Place, Places, completion, is_ready};
 use signals::{SignalOp, Signals};
 
 impl AccessCore {
@@ -22,79 +25,76 @@ impl AccessCore {
     pub fn finish(&mut self, queue: QueueId, packet: PacketId) -> Result<(), Refusal>
         ensures { Meets (Event.Finish queue packet) self.old self.new (accepted result) }
     {
-        let flying = self.may_finish(queue, packet)?;
-        let effects = complete(&mut self.signals, flying);
-        release(&mut self.flight, flying.queue, flying.id);
-        self.grants.release(flying.queue, flying.id);
+        let place = self.may_finish(queue, packet)?;
+        let effects = complete(&mut self.signals, queue, packet, &place.packet);
+        self.flying -= release(&mut self.queues, queue, packet);
+        self.grants.release(queue, packet);
         let event = Event::Finish { queue, packet };
         enter(&mut self.audit, event, Outcome::Accepted, effects);
         Ok(())
     }
 
-    // The packet in flight with this queue and id, if its work is done.
-    fn may_finish(&self, queue: QueueId, packet: PacketId) -> Result<InFlight, Refusal>
-        ensures may { IfOk result (λ f. IsOwed self.now (Event.Finish queue packet) (finish_owed self.now f)) }
-        ensures found { IfOk result (λ f. IsFlying self.now queue packet f) }
+    // The place of the packet in flight with this queue and id, if its work is done.
+    fn may_finish(&self, queue: QueueId, packet: PacketId) -> Result<Place, Refusal>
+        ensures may { IfOk result (λ place. IsOwed self.now (Event.Finish queue packet) (finish_owed self.now queue packet place.packet)) }
+        ensures found { IfOk result (λ place. IsInPlace self.now queue packet place) }
         ensures why { IfErr result (λ why. IsOwed self.now (Event.Finish queue packet) (refuses why)) }
     {
-        let flying = self.flying(queue, packet)?;
-        if !is_finished(&flying) {
+        let place = self.place_of(queue, packet)?;
+        if !is_finished(&place) {
             return Err(Refusal::NotFinished);
         }
-        Ok(flying)
+        Ok(place)
     }
 
-    // The packet in flight with this queue and id, or why a call about it is refused.
-    pub(crate) fn flying(&self, queue: QueueId, packet: PacketId) -> Result<InFlight, Refusal>
-        ensures owed { IfOk result (λ f. OwedBy self.now queue packet f) }
-        ensures found { IfOk result (λ f. IsFlying self.now queue packet f) }
+    // The place of the packet in flight with this queue and id, or why a call about it is refused.
+    pub(crate) fn place_of(&self, queue: QueueId, packet: PacketId) -> Result<Place, Refusal>
+        ensures found { IfOk result (λ place. IsInPlace self.now queue packet place) }
         ensures why { IfErr result (λ why. RefusedAt self.now queue packet why) }
-        ensures reachable { IfOk result (λ f. Reaches self.now f.packet) }
+        ensures reachable { IfOk result (λ place. Reaches self.now place.packet) }
     {
-        if !self.is_opened(queue) {
+        let Some(kept) = queue_of(self.queues.as_slice(), queue) else {
             return Err(Refusal::UnknownQueue);
-        }
-        match find_packet(self.flight.as_slice(), queue, packet) {
-            Some(flying) => Ok(flying),
+        };
+        match kept.places.get(packet) {
+            Some(place) => Ok(*place),
             None => Err(Refusal::NotInFlight),
         }
     }
+}
 
-    // Whether a queue was opened.
-    fn is_opened(&self, queue: QueueId) -> bool
-        ensures { result ≡ is_some (owner self.now.start self.now.entries queue) }
-    {
-        1 <= queue.0 && queue.0 <= self.queues.len() as u64
+// Takes a packet out of flight, and answers how many places that frees.
+pub(crate) fn release(queues: &mut Vec<Queue>, queue: QueueId, packet: PacketId) -> usize
+    requires { IsThere queues.old.items queue }
+    ensures queues { queues.new.items ≡ with_queue queues.old.items queue (with_release packet) }
+    ensures freed { result ≡ freed_by (Some packet) queues.old.items queue }
+{
+    let kept = &mut queues[queue.0 as usize - 1];
+    free_place(&mut kept.places, Some(packet))
+}
+
+// Takes a packet out of its place, if one is named, and answers how many places that frees.
+pub(crate) fn free_place(places: &mut Places, packet: Option<PacketId>) -> usize
+    ensures places { places.new ≡ without_one packet places.old }
+    ensures freed { result ≡ freed packet places.old }
+{
+    match packet {
+        None => 0,
+        Some(packet) => {
+            let before = places.len();
+            places.release(packet);
+            before - places.len()
+        }
     }
 }
 
-// The packet with this queue and id.
-fn find_packet(flight: &[InFlight], queue: QueueId, packet: PacketId) -> Option<InFlight>
-    ensures { result ≡ find (is_packet queue packet) flight.now }
-{
-    flight
-        .iter()
-        .find(|f| f.queue.0 == queue.0 && f.id.0 == packet.0)
-        .copied()
-}
-
-// Takes a packet out of flight.
-pub(crate) fn release(flight: &mut Sequence<InFlight>, queue: QueueId, packet: PacketId)
-    ensures { flight.new ≡ without queue packet flight.old }
-{
-    flight.retain(|f| !(f.queue.0 == queue.0 && f.id.0 == packet.0));
-}
-
 // Decrements a packet's completion signal, if it has one, and tells that and the packet's release.
-fn complete(signals: &mut Signals, flying: InFlight) -> Effects
-    ensures effects { result ≡ completion_of signals.old flying }
+fn complete(signals: &mut Signals, queue: QueueId, packet: PacketId, of: &Packet) -> Effects
+    ensures effects { result ≡ completion_of signals.old queue packet of.now }
     ensures values { signals.new ≡ fold signals_after signals.old result }
 {
-    let release = Effect::Release {
-        queue: flying.queue,
-        packet: flying.id,
-    };
-    let signal = completion(&flying.packet);
+    let release = Effect::Release { queue, packet };
+    let signal = completion(of);
     if signal.0 == 0 {
         return Effects::one(release);
     }
@@ -109,12 +109,12 @@ fn complete(signals: &mut Signals, flying: InFlight) -> Effects
 }
 
 // Whether a packet's work is done.
-fn is_finished(flying: &InFlight) -> bool
-    ensures { result ≡ is_finished flying.now }
+fn is_finished(place: &Place) -> bool
+    ensures { result ≡ is_finished place.now.packet place.now.progress }
 {
-    match &flying.packet {
+    match &place.packet {
         Packet::Kernel(_) => true,
-        Packet::Agent(_) => flying.groups_run >= 1,
-        barrier => is_ready(barrier, &flying.seen),
+        Packet::Agent(_) => place.progress.groups_run >= 1,
+        barrier => is_ready(barrier, &place.progress.satisfied),
     }
 }

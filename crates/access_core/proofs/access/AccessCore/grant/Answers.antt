@@ -1,14 +1,22 @@
 -- What is kept moves along with the grant, which is entered where there is room.
-use Rattle.std.proofs.Common.{◌≡◌, ◌+◌, refl, sym, ◌∙◌, inl, true, false, List, [], length, ap}
+use Rattle.std.proofs.Common.{◌≡◌, ◌+◌, refl, sym, ◌∙◌, inl, true, false, [], length}
 use Rattle.std.specs.Prelude.{nat_lt}
 use Rattle.std.proofs.lemmas.Bool.{ltb-false}
+use Rattle.aql_packet.specs.declared.ids.ClientId.{ClientId}
+use Rattle.policy.specs.declared.object.Object.{Object}
+use Rattle.policy.specs.declared.rights.Rights.{Rights}
 use Rattle.core_model.specs.declared.event.Event.TheVariants.{Grant}
 use Rattle.core_model.specs.declared.outcome.Outcome.TheVariants as outcome
-use Rattle.access_core.proofs.KeptMore.{IsKept-more}
+use Rattle.access_core.specs.Kept.{start_of}
+use Rattle.access_core.proofs.KeptMore.{IsKept-more, flying-still, launches-none, memory-still, queues-still}
+use Rattle.access_core.proofs.QueueAt.{IsQuiet, flight-quiet}
 use Rattle.access_core.proofs.Calls.{full, entered, refused}
 use Rattle.access_core.proofs.Granting.{grant-owed, grant-refused}
 use Rattle.access_core.proofs.HeldMoves.{held-still}
 use Rattle.access_core.proofs.access.AccessCore.grant.Goals as goal
+
+quiet : (client : ClientId) (on : Object) (rights : Rights) → IsQuiet (Grant client on rights) outcome.Accepted []
+quiet client on rights = record { launches = refl; progress = λ queue id p. refl; releases = λ fs. refl; hands = λ m. refl; stops = λ m. refl; errors = refl }
 
 pub returns-in-Err : goal.returns-in-Err
 returns-in-Err c =
@@ -17,36 +25,39 @@ returns-in-Err c =
 
 pub returns-then-lacks_room : goal.returns-then-lacks_room
 returns-then-lacks_room c =
-    let lacks : nat_lt c.self.inside.capacity (length c.self.inside.audit.items + 1 + length c.self.inside.flight) ≡ true = cc in
-    inl (full _ c.self.inside _ c.self.view_is outcome.Accepted [] c.self.invariant (grant-owed c.self.inside c.self.invariant c.args.client c.args.object c.args.rights (sym c.in_default.is ∙ c.may_grant.ensures)) lacks)
+    let a = c.self.inside in
+    let lacks : nat_lt a.capacity (length a.audit.items + 1 + a.flying) ≡ true = cc in
+    inl (full _ a _ c.self.view_is outcome.Accepted [] a.flying (flying-still a c.self.invariant _ _ _ (quiet c.args.client c.args.object c.args.rights))
+    (grant-owed a c.self.invariant c.args.client c.args.object c.args.rights (sym c.in_default.is ∙ c.may_grant.ensures)) lacks)
 
 pub invariant_of-self : goal.invariant_of-self
 invariant_of-self c =
     let a = c.self.inside in
-    let room : nat_lt a.capacity (length a.audit.items + 1 + length a.flight) ≡ false = cc in
+    let calm = quiet c.args.client c.args.object c.args.rights in
+    let room : nat_lt a.capacity (length a.audit.items + 1 + a.flying) ≡ false = cc in
     let gives = c.put_in_force.ensures in
     IsKept-more a _ (Grant c.args.client c.args.object c.args.rights) outcome.Accepted [] c.self.invariant
-    (record { policy = refl; capacity = refl; entries = rw c.none.ensures at c.enter.ensures.entries; place = c.enter.ensures.place; room = ltb-false _ _ room })
     (record {
-      granted = gives.given;
-      rules = gives.same_rules;
-      held = λ queue id client on right. gives.same_holds queue id client on right ∙ held-still a c.self.invariant (Grant c.args.client c.args.object c.args.rights) outcome.Accepted [] refl queue id client on right;
-      lengths = refl;
-      memory = λ x byte h. h;
+      policy = refl;
+      capacity = refl;
+      entries = rw c.none.ensures at c.enter.ensures.entries;
+      place = c.enter.ensures.place;
+      room = ltb-false _ _ room;
+      grants = record {
+        granted = gives.given;
+        rules = gives.same_rules;
+        held = λ queue id client on right. gives.same_holds queue id client on right ∙ held-still a c.self.invariant _ _ _ refl (flight-quiet (start_of a) a.audit.items _ _ _ calm) queue id client on right;
+      };
+      memory = memory-still a.memory [] (λ x byte. refl);
       values = refl;
-      openings = refl;
-      next_ids = λ queue. refl;
-      errors = λ queue. refl;
-      stops = λ queue. refl;
-      few_queues = c.self.invariant.few_queues;
-      flight = refl;
-      reachable = c.self.invariant.reachable;
-      error_room = c.self.invariant.error_room;
+      queues = queues-still a c.self.invariant _ _ _ calm refl;
+      launches = launches-none a c.self.invariant _ _ _ calm;
     })
     (grant-owed a c.self.invariant c.args.client c.args.object c.args.rights (sym c.in_default.is ∙ c.may_grant.ensures))
 
 pub returns : goal.returns
 returns c =
-    let room : nat_lt c.self.inside.capacity (length c.self.inside.audit.items + 1 + length c.self.inside.flight) ≡ false = cc in
-    inl (entered _ c.self.inside _ c.self.view_is _ outcome.Accepted [] c.self.invariant (rw c.none.ensures at c.enter.ensures.entries)
-    (grant-owed c.self.inside c.self.invariant c.args.client c.args.object c.args.rights (sym c.in_default.is ∙ c.may_grant.ensures)) room)
+    let a = c.self.inside in
+    let room : nat_lt a.capacity (length a.audit.items + 1 + a.flying) ≡ false = cc in
+    inl (entered _ a _ c.self.view_is _ outcome.Accepted [] a.flying (flying-still a c.self.invariant _ _ _ (quiet c.args.client c.args.object c.args.rights)) (rw c.none.ensures at c.enter.ensures.entries)
+    (grant-owed a c.self.invariant c.args.client c.args.object c.args.rights (sym c.in_default.is ∙ c.may_grant.ensures)) room)

@@ -23,8 +23,8 @@ pub returns-then-lacks_room-clause-why : goal.returns-then-lacks_room-clause-why
 returns-then-lacks_room-clause-why c =
     let a = c.self.inside in
     let some : numbered a.queues.items c.args.queue.0 ≡ Some c.in-Some.kept.now = cc c.in-Some.ensures in
-    let lacks : nat_lt a.capacity (length a.audit.items + 1 + length a.flight) ≡ true = cc in
-    stop-full a c.self.invariant c.args.queue _ _ _ c.self.view_is some c.if-kept.false (rw c.as_slice-2.ensures at c.barrier_of-barrier.ensures)
+    let lacks : nat_lt a.capacity (length a.audit.items + 1 + a.flying) ≡ true = cc in
+    stop-full a c.self.invariant c.args.queue _ _ _ c.self.view_is some c.if-kept.false c.barrier-barrier.ensures
     (rw c.if-is_none.true at c.is_none.ensures) lacks
 
 pub returns-clause-may : goal.returns-clause-may
@@ -33,10 +33,10 @@ returns-clause-may c =
     let some : numbered a.queues.items c.args.queue.0 ≡ Some c.in-Some.kept.now = cc c.in-Some.ensures in
     elim c.else-is_none.branch [
       | else-is_none-via-then-is_none+else-lacks_room w ↦
-          let room : nat_lt a.capacity (length a.audit.items + 1 + length a.flight) ≡ false = cc in
-          may-stop a c.self.invariant c.args.queue _ _ true _ c.self.view_is some c.if-kept.false (rw c.as_slice-2.ensures at c.barrier_of-barrier.ensures)
+          let room : nat_lt a.capacity (length a.audit.items + 1 + a.flying) ≡ false = cc in
+          may-stop a c.self.invariant c.args.queue _ _ true _ c.self.view_is some c.if-kept.false c.barrier-barrier.ensures
           (rw w.if-is_none.true at c.is_none.ensures) (λ e. room)
       | else-is_none-via-else-is_none w ↦
-          may-stop a c.self.invariant c.args.queue _ _ false _ c.self.view_is some c.if-kept.false (rw c.as_slice-2.ensures at c.barrier_of-barrier.ensures)
+          may-stop a c.self.invariant c.args.queue _ _ false _ c.self.view_is some c.if-kept.false c.barrier-barrier.ensures
           (rw w.if-is_none.false at c.is_none.ensures) (λ e. cc)
     ]

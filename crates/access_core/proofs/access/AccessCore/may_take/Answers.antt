@@ -1,14 +1,14 @@
 -- What is decided is what is owed, by what is kept.
 use Rattle.std.proofs.Common.{◌≡◌, refl, ◌∙◌, true, false, Some, None, length, rules}
-use Rattle.std.specs.Prelude.{nat_lt, ◌||◌, ◌==◌, filter}
+use Rattle.std.specs.Prelude.{nat_lt, ◌||◌, ◌==◌, map}
 use Rattle.aql_packet.specs.Reading.{barrier_bit}
 use Rattle.policy.specs.Policy.{numbered}
-use Rattle.core_model.specs.declared.flight.InFlight.{InFlight}
+use Rattle.packet_processor.specs.declared.places.Place.{Place}
 use Rattle.core_model.specs.LaunchRules.{may_start}
 use Rattle.packet_processor.proofs.QueueingLemmas.{launching-waits, launching-goes}
 use Rattle.std.proofs.Common.{ap}
 use Rattle.std.specs.Prelude.{option_map}
-use Rattle.access_core.specs.Kept.{kept_opening}
+use Rattle.access_core.specs.CachedQueue.{kept_opening}
 use Rattle.std.proofs.Common.{subst}
 use Rattle.core_model.specs.History.{History}
 use Rattle.access_core.specs.Deciding.{Decides}
@@ -39,8 +39,8 @@ returns-in-Waiting-clause-may c =
     let some : numbered c.self.inside.queues.items c.args.queue.0 ≡ Some c.in-Some.kept.now = cc c.in-Some.ensures in
     let down : (nat_lt 0 (length c.in-Some.kept.now.errors.items) || c.in-Some.kept.now.stopped) ≡ false = cc in
     let next : (c.args.packet.0 == c.in-Some.kept.now.next) ≡ true = search rules in
-    let told : may_start (filter (λ (f : InFlight). f.queue.0 == c.args.queue.0) c.as_slice-2.result.now) c.header.result.barrier ≡ Some c.in-Waiting.cause = launching-waits _ c.in-Waiting.cause c.in-Waiting.ensures in
-    let waits : may_start (filter (λ (f : InFlight). f.queue.0 == c.args.queue.0) c.self.inside.flight) (barrier_bit c.args.bytes.now) ≡ Some c.in-Waiting.cause = cc (told, c.as_slice-2.ensures, c.header.ensures) in
+    let told : may_start (map (λ (p : Place). p.packet) c.as_slice-2.result.now) c.header.result.barrier ≡ Some c.in-Waiting.cause = launching-waits _ c.in-Waiting.cause c.in-Waiting.ensures in
+    let waits : may_start (map (λ (p : Place). p.packet) c.in-Some.kept.now.places) (barrier_bit c.args.bytes.now) ≡ Some c.in-Waiting.cause = cc (told, c.as_slice-2.ensures, c.header.ensures) in
     rw (← c.self.view_is) (take-known c.self.inside c.self.invariant _ _ _ _ some ∙ (rw (down, next, waits) refl))
 
 pub returns-in-Launch-clause-may : goal.returns-in-Launch-clause-may
@@ -48,8 +48,8 @@ returns-in-Launch-clause-may c =
     let some : numbered c.self.inside.queues.items c.args.queue.0 ≡ Some c.in-Some.kept.now = cc c.in-Some.ensures in
     let down : (nat_lt 0 (length c.in-Some.kept.now.errors.items) || c.in-Some.kept.now.stopped) ≡ false = cc in
     let next : (c.args.packet.0 == c.in-Some.kept.now.next) ≡ true = search rules in
-    let told : may_start (filter (λ (f : InFlight). f.queue.0 == c.args.queue.0) c.as_slice-2.result.now) c.header.result.barrier ≡ None = launching-goes _ c.in-Go.ensures in
-    let waits : may_start (filter (λ (f : InFlight). f.queue.0 == c.args.queue.0) c.self.inside.flight) (barrier_bit c.args.bytes.now) ≡ None = cc (told, c.as_slice-2.ensures, c.header.ensures) in
+    let told : may_start (map (λ (p : Place). p.packet) c.as_slice-2.result.now) c.header.result.barrier ≡ None = launching-goes _ c.in-Go.ensures in
+    let waits : may_start (map (λ (p : Place). p.packet) c.in-Some.kept.now.places) (barrier_bit c.args.bytes.now) ≡ None = cc (told, c.as_slice-2.ensures, c.header.ensures) in
     subst (λ (h : History). Decides h c.args.queue c.args.packet c.args.bytes.now (Launch (record { client = c.in-Some.kept.now.client; agent = c.in-Some.kept.now.agent; packet = c.in-Launch.packet }))) c.self.view_is (
       take-known c.self.inside c.self.invariant _ _ _ _ some ∙ (rw (down, next, waits, c.in-Launch.ensures.1) refl),
       c.in-Launch.ensures.0,
@@ -64,8 +64,8 @@ returns-in-Deny-clause-may c =
     let some : numbered c.self.inside.queues.items c.args.queue.0 ≡ Some c.in-Some.kept.now = cc c.in-Some.ensures in
     let down : (nat_lt 0 (length c.in-Some.kept.now.errors.items) || c.in-Some.kept.now.stopped) ≡ false = cc in
     let next : (c.args.packet.0 == c.in-Some.kept.now.next) ≡ true = search rules in
-    let told : may_start (filter (λ (f : InFlight). f.queue.0 == c.args.queue.0) c.as_slice-2.result.now) c.header.result.barrier ≡ None = launching-goes _ c.in-Go.ensures in
-    let waits : may_start (filter (λ (f : InFlight). f.queue.0 == c.args.queue.0) c.self.inside.flight) (barrier_bit c.args.bytes.now) ≡ None = cc (told, c.as_slice-2.ensures, c.header.ensures) in
+    let told : may_start (map (λ (p : Place). p.packet) c.as_slice-2.result.now) c.header.result.barrier ≡ None = launching-goes _ c.in-Go.ensures in
+    let waits : may_start (map (λ (p : Place). p.packet) c.in-Some.kept.now.places) (barrier_bit c.args.bytes.now) ≡ None = cc (told, c.as_slice-2.ensures, c.header.ensures) in
     rw (← c.self.view_is) (
       take-known c.self.inside c.self.invariant _ _ _ _ some ∙ (rw (down, next, waits, c.in-Deny.ensures) refl),
       takes-next c.self.inside c.self.invariant _ _ _ some down waits,

@@ -1,70 +1,68 @@
 -- What is kept moves along with what is seen, which is entered where there is room.
-use Rattle.std.proofs.Common.{◌≡◌, ◌+◌, ◌∙◌, refl, sym, true, false, [], length}
+use Rattle.std.proofs.Common.{◌≡◌, ◌+◌, ◌∙◌, refl, sym, ap, true, false, Some, None, [], length}
 use Rattle.std.specs.Prelude.{nat_lt}
 use Rattle.std.proofs.lemmas.Bool.{ltb-false}
-use Rattle.std.proofs.lemmas.List.{length-map}
 use Rattle.core_model.specs.declared.event.Event.TheVariants.{Poll}
+use Rattle.core_model.specs.declared.flight.InFlight.{InFlight}
 use Rattle.core_model.specs.declared.outcome.Outcome.TheVariants as outcome
-use Rattle.core_model.specs.Flight.{has_seen}
-use Rattle.core_model.specs.Memory.{region_lengths}
 use Rattle.access_core.specs.Kept.{start_of}
 use Rattle.access_core.specs.Polling.{sight}
-use Rattle.access_core.proofs.HeldMoves.{held-still, held-ran, held-seen, held-without, owners-still}
-use Rattle.core_model.specs.Queues.{owner}
-use Rattle.access_core.specs.Held.{packet_holds}
-use Rattle.core_model.specs.Legal.{with_entry}
-use Rattle.access_core.proofs.KeptMore.{IsKept-more}
+use Rattle.access_core.proofs.HeldMoves.{grants-still}
+use Rattle.access_core.proofs.KeptMore.{IsKept-more, memory-still}
 use Rattle.access_core.proofs.Calls.{full, entered, owed-inside}
-use Rattle.access_core.proofs.ErrorRooms.{ErrorRoom-seen}
-use Rattle.access_core.proofs.PollLemmas.{flight-sight, reachable-seen, sight-no_error}
+use Rattle.access_core.proofs.PollLemmas.{seen_further, sight-advances}
+use Rattle.access_core.proofs.QueueAt.{flight-advanced}
+use Rattle.access_core.proofs.TakeLemmas.{is-open}
+use Rattle.access_core.proofs.WorkLemmas.{place-inside, queues-advanced}
 use Rattle.access_core.proofs.access.AccessCore.see.Goals as goal
+
+not_launched : (f : InFlight) → None ≡ Some f → ⊥
+not_launched f e = cc
 
 pub returns-then-lacks_room : goal.returns-then-lacks_room
 returns-then-lacks_room c =
     let a = c.self.inside in
-    let lacks : nat_lt a.capacity (length a.audit.items + 1 + length a.flight) ≡ true = cc in
-    full _ a _ c.self.view_is (outcome.Polled (sight c.args.ready c.args.new)) [] c.self.invariant
-    (owed-inside _ a _ c.self.view_is _ c.requires)
-    (rw (flight-sight c.args.queue c.args.packet c.args.ready c.args.new a.flight, length-map a.flight (has_seen c.args.queue c.args.packet c.args.new)) lacks)
+    let lacks : nat_lt a.capacity (length a.audit.items + 1 + a.flying) ≡ true = cc in
+    full _ a _ c.self.view_is (outcome.Polled (sight c.args.ready c.args.new)) [] a.flying
+    (c.self.invariant.flying ∙ ap length (sym (flight-advanced (start_of a) a.audit.items c.args.queue c.args.packet _ _ _ _ (sight-advances c.args.queue c.args.packet c.args.ready c.args.new))))
+    (owed-inside _ a _ c.self.view_is _ c.requires.may) lacks
+
+pub advance-requires : goal.advance-requires
+advance-requires c =
+    let a = c.self.inside in
+    let found = place-inside a c.self.invariant _ c.self.view_is c.args.queue c.args.packet c.args.place c.requires.found in
+    let at = is-open a c.self.invariant c.args.queue found.opening found.owner_is in
+    (at.q, at.found)
 
 pub invariant_of-self : goal.invariant_of-self
 invariant_of-self c =
     let a = c.self.inside in
-    let room : nat_lt a.capacity (length a.audit.items + 1 + length a.flight) ≡ false = cc in
+    let room : nat_lt a.capacity (length a.audit.items + 1 + a.flying) ≡ false = cc in
+    let is = sight-advances c.args.queue c.args.packet c.args.ready c.args.new in
+    let found = place-inside a c.self.invariant _ c.self.view_is c.args.queue c.args.packet c.args.place c.requires.found in
+    let at = is-open a c.self.invariant c.args.queue found.opening found.owner_is in
     IsKept-more a _ (Poll c.args.queue c.args.packet) (outcome.Polled (sight c.args.ready c.args.new)) [] c.self.invariant
     (record {
       policy = refl;
       capacity = refl;
       entries = rw (c.none.ensures, c.sight-told.ensures) at c.enter.ensures.entries;
       place = c.enter.ensures.place;
-      room = rw (c.note_seen.ensures, length-map a.flight (has_seen c.args.queue c.args.packet c.args.new)) (ltb-false _ _ room);
-    })
-    (record {
-      granted = λ client on right. refl;
-      rules = refl;
-      held = λ queue id client on right. rw c.note_seen.ensures
-          (held-still a c.self.invariant (Poll c.args.queue c.args.packet) (outcome.Polled (sight c.args.ready c.args.new)) [] refl queue id client on right
-          ∙ sym (held-seen (owner (start_of a) (with_entry a.audit.items (Poll c.args.queue c.args.packet) (outcome.Polled (sight c.args.ready c.args.new)) [])) a.flight queue id client on right c.args.queue c.args.packet c.args.new));
-      lengths = refl;
-      memory = λ x byte h. h;
+      room = ltb-false _ _ room;
+      grants = grants-still a c.self.invariant _ _ _ refl (λ client on right b. refl) (flight-advanced (start_of a) a.audit.items c.args.queue c.args.packet _ _ _ _ is);
+      memory = memory-still a.memory _ (λ x byte. refl);
       values = refl;
-      openings = refl;
-      next_ids = λ queue. refl;
-      errors = λ queue. rw (sight-no_error c.args.ready c.args.new) refl;
-      stops = λ queue. refl;
-      few_queues = c.self.invariant.few_queues;
-      flight = c.note_seen.ensures ∙ sym (flight-sight c.args.queue c.args.packet c.args.ready c.args.new a.flight);
-      reachable = rw c.note_seen.ensures (reachable-seen (region_lengths (start_of a)) c.args.queue c.args.packet c.args.new a.flight c.self.invariant.reachable);
-      error_room = rw c.note_seen.ensures (ErrorRoom-seen a.queues.items a.flight c.self.invariant.error_room c.args.queue c.args.packet c.args.new);
+      queues = rw c.advance.ensures (queues-advanced a c.self.invariant c.args.queue at c.args.packet (seen_further c.args.new) _ _ _ is refl _
+          ((λ i. record { groups_run = c.args.place.progress.groups_run; satisfied = c.seen_with.ensures i }) ∙ ap (seen_further c.args.new) (sym found.progress_is)));
+      launches = λ f e. absurd (not_launched f (sym is.launches ∙ e));
     })
-    (owed-inside _ a _ c.self.view_is _ c.requires)
+    (owed-inside _ a _ c.self.view_is _ c.requires.may)
 
 pub returns : goal.returns
 returns c =
     let a = c.self.inside in
-    let room : nat_lt a.capacity (length a.audit.items + 1 + length a.flight) ≡ false = cc in
+    let room : nat_lt a.capacity (length a.audit.items + 1 + a.flying) ≡ false = cc in
     rw c.sight-told.ensures
-    (entered _ a _ c.self.view_is _ (outcome.Polled (sight c.args.ready c.args.new)) [] c.self.invariant
+    (entered _ a _ c.self.view_is _ (outcome.Polled (sight c.args.ready c.args.new)) [] a.flying
+    (c.self.invariant.flying ∙ ap length (sym (flight-advanced (start_of a) a.audit.items c.args.queue c.args.packet _ _ _ _ (sight-advances c.args.queue c.args.packet c.args.ready c.args.new))))
     (rw (c.none.ensures, c.sight-told.ensures) at c.enter.ensures.entries)
-    (owed-inside _ a _ c.self.view_is _ c.requires)
-    (rw (flight-sight c.args.queue c.args.packet c.args.ready c.args.new a.flight, length-map a.flight (has_seen c.args.queue c.args.packet c.args.new)) room))
+    (owed-inside _ a _ c.self.view_is _ c.requires.may) room)

@@ -1,15 +1,17 @@
--- One queue is stopped.
-use Rattle.std.proofs.Common.{◌≡◌, ◌-◌, refl, ap, ◌∙◌}
-use Rattle.std.proofs.lemmas.Option.{get_or_from_slice_get}
+-- One queue is stopped, and a packet of it may leave flight.
+use Rattle.std.proofs.Common.{ap, ◌∙◌, sym, true}
 use Rattle.access_core.specs.declared.queue.Queue.{Queue}
-use Rattle.access_core.specs.QueueShown.{kept_opening}
-use Rattle.access_core.proofs.HandOver.{IsHalted-stopped, numbered-place}
+use Rattle.access_core.specs.QueueChanges.{freed, with_stop}
+use Rattle.access_core.proofs.QueueMoves.{freed-at, changed-by, item-at}
 use Rattle.access_core.proofs.access.stopping.halt.Goals as goal
 
-pub returns : goal.returns
-returns c =
-    let q = c.requires.0 in
-    let place = numbered-place c.args.queues.now.items c.args.queue.0 q c.requires.1 in
-    let is : c.index_mut.result.now ≡ q = c.index_mut.ensures.value ∙ get_or_from_slice_get c.args.queues.now.items (c.args.queue.0 - 1) _ c.index_mut.result.now place.1 in
-    IsHalted-stopped c.args.queues.now.items c.args.queue.0 q _ place.0 place.1 c.args.queue refl
-    (ap (λ (x : Queue). x.next) is) (ap (λ (x : Queue). kept_opening x) is) (ap (λ (x : Queue). x.errors) is) refl
+pub returns-clause-queues : goal.returns-clause-queues
+returns-clause-queues c =
+    let is = item-at c.args.queues.now.items c.args.queue.0 c.requires.0 c.index_mut-kept.result.now c.requires.1 c.index_mut-kept.ensures.value in
+    changed-by c.args.queues.now.items c.args.queue (with_stop c.args.barrier) c.requires.0 c.requires.1 c.index_mut-kept.result.now _ is
+    (λ i. record c.index_mut-kept.result.now { stopped = true; places = c.free_place.ensures.places i })
+
+pub returns-clause-freed : goal.returns-clause-freed
+returns-clause-freed c =
+    let is = item-at c.args.queues.now.items c.args.queue.0 c.requires.0 c.index_mut-kept.result.now c.requires.1 c.index_mut-kept.ensures.value in
+    c.free_place.ensures.freed ∙ ap (λ (q : Queue). freed c.args.barrier q.places) is ∙ sym (freed-at c.args.barrier c.args.queues.now.items c.args.queue c.requires.0 c.requires.1)

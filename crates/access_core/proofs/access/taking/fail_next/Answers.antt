@@ -1,17 +1,12 @@
 -- One queue's next id rises, and it has an error more.
-use Rattle.std.proofs.Common.{◌≡◌, ◌+◌, ◌-◌, refl, ap, [], ◌∷◌, ◌++◌, ◌∙◌}
-use Rattle.std.proofs.lemmas.Option.{get_or_from_slice_get}
-use Rattle.access_core.specs.declared.queue.Queue.{Queue}
-use Rattle.access_core.specs.QueueShown.{kept_opening}
-use Rattle.access_core.proofs.HandOver.{HandsOver-error, numbered-place}
+use Rattle.std.proofs.Common.{◌≡◌, ◌+◌, ◌-◌, arith}
+use Rattle.access_core.specs.QueueChanges.{with_denied}
+use Rattle.access_core.proofs.QueueMoves.{changed-by, item-at}
 use Rattle.access_core.proofs.access.taking.fail_next.Goals as goal
 
 pub returns : goal.returns
 returns c =
-    let q = c.requires.there.0 in
-    let place = numbered-place c.args.queues.now.items c.args.queue.0 q c.requires.there.1 in
-    let is : c.index_mut-kept.result.now ≡ q = c.index_mut-kept.ensures.value ∙ get_or_from_slice_get c.args.queues.now.items (c.args.queue.0 - 1) _ c.index_mut-kept.result.now place.1 in
-    HandsOver-error c.args.queues.now.items c.args.queue.0 q _ place.0 place.1 c.args.queue c.args.error refl c.requires.named
-    (ap (λ (x : Queue). x.next + 1) is) (ap (λ (x : Queue). kept_opening x) is)
-    (c.push.ensures.items ∙ ap (λ (x : Queue). x.errors.items ++ c.args.error ∷ []) is)
-    (c.push.ensures.room ∙ ap (λ (x : Queue). x.errors.room) is) (ap (λ (x : Queue). x.stopped) is)
+    let is = item-at c.args.queues.now.items c.args.queue.0 c.requires.0 c.index_mut-kept.result.now c.requires.1 c.index_mut-kept.ensures.value in
+    let room : c.push.new.self.room ≡ c.index_mut-kept.result.now.errors.room - 1 = omega (arith, c.push.ensures.room) in
+    changed-by c.args.queues.now.items c.args.queue (with_denied c.args.error) c.requires.0 c.requires.1 c.index_mut-kept.result.now _ is
+    (λ i. record c.index_mut-kept.result.now { next = c.index_mut-kept.result.now.next + 1; errors = record { items = c.push.ensures.items i; room = room i } })

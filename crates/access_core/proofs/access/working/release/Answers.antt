@@ -1,7 +1,17 @@
--- What is kept is the filter.
-use Rattle.std.proofs.Common.{rules}
-use Rattle.std.proofs.lemmas.Fn.{filter_same}
+-- A packet of one queue leaves flight.
+use Rattle.std.proofs.Common.{ap, ◌∙◌, sym, Some}
+use Rattle.access_core.specs.declared.queue.Queue.{Queue}
+use Rattle.access_core.specs.QueueChanges.{freed, with_release}
+use Rattle.access_core.proofs.QueueMoves.{freed-at, changed-by, item-at}
 use Rattle.access_core.proofs.access.working.release.Goals as goal
 
-pub returns : goal.returns
-returns c = filter_same _ _ _ (λ x b f' k. search rules) _ _ c.retain.ensures
+pub returns-clause-queues : goal.returns-clause-queues
+returns-clause-queues c =
+    let is = item-at c.args.queues.now.items c.args.queue.0 c.requires.0 c.index_mut-kept.result.now c.requires.1 c.index_mut-kept.ensures.value in
+    changed-by c.args.queues.now.items c.args.queue (with_release c.args.packet) c.requires.0 c.requires.1 c.index_mut-kept.result.now _ is
+    (λ i. record c.index_mut-kept.result.now { places = c.free_place.ensures.places i })
+
+pub returns-clause-freed : goal.returns-clause-freed
+returns-clause-freed c =
+    let is = item-at c.args.queues.now.items c.args.queue.0 c.requires.0 c.index_mut-kept.result.now c.requires.1 c.index_mut-kept.ensures.value in
+    c.free_place.ensures.freed ∙ ap (λ (q : Queue). freed (Some c.args.packet) q.places) is ∙ sym (freed-at (Some c.args.packet) c.args.queues.now.items c.args.queue c.requires.0 c.requires.1)

@@ -1,0 +1,35 @@
+-- A packet that is found is in flight, and reaches only what lies whole in a region.
+use Rattle.std.proofs.Common.{◌≡◌, Some, None, subst, true}
+use Rattle.std.specs.Prelude.{find}
+use Rattle.policy.specs.Policy.{numbered}
+use Rattle.packet_processor.specs.Queueing.{is_at}
+use Rattle.core_model.specs.Memory.{region_lengths}
+use Rattle.core_model.specs.declared.refusal.Refusal.TheVariants as refusal
+use Rattle.access_core.specs.InPlace.{IsInPlace, RefusedAt}
+use Rattle.access_core.specs.LiesInRegions.{lies_in_regions}
+use Rattle.access_core.proofs.WorkLemmas.{in-place, none-in-place, reaches-in_place}
+use Rattle.access_core.proofs.access.AccessCore.place_of.Goals as goal
+
+pub returns-in-Some-get-clause-found : goal.returns-in-Some-get-clause-found
+returns-in-Some-get-clause-found c =
+    let a = c.self.inside in
+    let some : numbered a.queues.items c.args.queue.0 ≡ Some c.in-Some.kept.now = cc c.in-Some.ensures in
+    let found : find (is_at c.args.packet) c.in-Some.kept.now.places ≡ Some c.in-Some-get.place.now = cc c.in-Some-get.ensures in
+    subst (λ h. IsInPlace h c.args.queue c.args.packet c.in-Some-get.place.now) c.self.view_is
+    (in-place a c.self.invariant c.args.queue c.args.packet c.in-Some.kept.now some c.in-Some-get.place.now found)
+
+pub returns-in-Some-get-clause-reachable : goal.returns-in-Some-get-clause-reachable
+returns-in-Some-get-clause-reachable c =
+    let a = c.self.inside in
+    let some : numbered a.queues.items c.args.queue.0 ≡ Some c.in-Some.kept.now = cc c.in-Some.ensures in
+    let found : find (is_at c.args.packet) c.in-Some.kept.now.places ≡ Some c.in-Some-get.place.now = cc c.in-Some-get.ensures in
+    subst (λ h. lies_in_regions (region_lengths h.start) c.in-Some-get.place.now.packet ≡ true) c.self.view_is
+    (reaches-in_place a c.self.invariant c.args.queue c.args.packet c.in-Some-get.place.now (in-place a c.self.invariant c.args.queue c.args.packet c.in-Some.kept.now some c.in-Some-get.place.now found))
+
+pub returns-in-None-clause-why : goal.returns-in-None-clause-why
+returns-in-None-clause-why c =
+    let a = c.self.inside in
+    let some : numbered a.queues.items c.args.queue.0 ≡ Some c.in-Some.kept.now = cc c.in-Some.ensures in
+    let none : find (is_at c.args.packet) c.in-Some.kept.now.places ≡ None = cc c.in-None.ensures in
+    subst (λ h. RefusedAt h c.args.queue c.args.packet refusal.NotInFlight) c.self.view_is
+    (none-in-place a c.self.invariant c.args.queue c.args.packet c.in-Some.kept.now some none)

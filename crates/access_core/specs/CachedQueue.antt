@@ -1,0 +1,48 @@
+-- What the core keeps of a queue, and what the history says of it.
+use Rattle.std.specs.Prelude.{◌≡◌, ◌<◌, ◌≤◌, ◌+◌, ℕ, Bool, false, List, [], map, length, Option, Some, None, All}
+use Rattle.aql_packet.specs.declared.ids.QueueId.{QueueId}
+use Rattle.queue_error.specs.declared.error.QueueError.{QueueError}
+use Rattle.core_model.specs.declared.entry.Entry.{Entry}
+use Rattle.core_model.specs.declared.flight.InFlight.{InFlight}
+use Rattle.core_model.specs.declared.limits.TheConstants.{SLOTS}
+use Rattle.core_model.specs.History.{Start}
+use Rattle.core_model.specs.Queues.{Opening, next_id, errors, is_stopped}
+use Rattle.core_model.specs.Flight.{flight_of, progress}
+use Rattle.packet_processor.specs.declared.places.Place.{Place}
+use Rattle.access_core.specs.declared.queue.Queue.{Queue}
+
+-- the opening of a queue that is kept
+abbrev pub kept_opening : Queue → Opening
+kept_opening q = record { client = q.client; agent = q.agent }
+
+-- A queue beside its opening: the id of its next packet, whether it was stopped, its errors, and its packets in flight.
+pub record QueueView : Type 0 where
+  pub next : ℕ
+  pub stopped : Bool
+  pub errors : List QueueError
+  pub places : List Place
+
+-- what is kept of a queue; of one that isn't there, nothing
+abbrev pub cached : Option Queue → QueueView
+cached None = record { next = 0; stopped = false; errors = []; places = [] }
+cached (Some q) = record { next = q.next; stopped = q.stopped; errors = q.errors.items; places = q.places }
+
+-- the place of a packet in flight: the packet, and how far it has come since its launch
+abbrev pub place_of : Start → List Entry → InFlight → Place
+place_of start entries f = record { id = f.id; packet = f.packet; progress = progress start entries f.queue f.id }
+
+-- what the history says of a queue; its places are the packets that it finds in flight
+abbrev pub queue_at : Start → List Entry → QueueId → QueueView
+queue_at start entries queue = record {
+  next = next_id start entries queue;
+  stopped = is_stopped start entries queue;
+  errors = errors start entries queue;
+  places = map (place_of start entries) (flight_of start entries queue);
+}
+
+-- A queue has as many places for errors as packets of it can be in flight, one of them free for each that is, and each packet in
+-- flight has an id below the next (own).
+pub record IsSound (q : Queue) : Type 0 where
+  pub room : length q.errors.items + q.errors.room ≡ SLOTS
+  pub free : length q.errors.items + length q.places ≤ SLOTS
+  pub below : All (λ place. place.id.0 < q.next) q.places

@@ -1,0 +1,84 @@
+-- What packets in flight are owed, by what their places tell.
+use Rattle.std.specs.Prelude.{◌≡◌, ℕ, ℤ, ◌+◌, ◌==◌, ◌||◌, Bool, true, List, [], ◌∷◌, ◌++◌, fold, Option, Some, None}
+use Rattle.aql_packet.specs.declared.ids.QueueId.{QueueId}
+use Rattle.aql_packet.specs.declared.ids.PacketId.{PacketId}
+use Rattle.aql_packet.specs.declared.packet.Packet.{Packet}
+use Rattle.aql_packet.specs.declared.packet.Packet.TheVariants as packet
+use Rattle.regions.specs.Memory.{byte_at, is_within}
+use Rattle.core_model.specs.declared.entry.Effect.{Effect}
+use Rattle.core_model.specs.declared.entry.Effect.TheVariants as effect
+use Rattle.core_model.specs.declared.entry.Entry.{Entry}
+use Rattle.core_model.specs.declared.event.Event.{Event}
+use Rattle.core_model.specs.declared.flight.InFlight.{InFlight}
+use Rattle.core_model.specs.declared.flight.Progress.{Progress}
+use Rattle.core_model.specs.declared.outcome.Outcome.TheVariants as outcome
+use Rattle.core_model.specs.declared.outcome.Worked.TheVariants.{Ran, Done}
+use Rattle.core_model.specs.declared.refusal.Refusal.{Refusal}
+use Rattle.core_model.specs.History.{Start, History}
+use Rattle.core_model.specs.Needs.{completion}
+use Rattle.core_model.specs.Queues.{Opening, owner}
+use Rattle.core_model.specs.Flight.{in_flight, progress}
+use Rattle.core_model.specs.Memory.{byte_after, region_lengths, signals}
+use Rattle.core_model.specs.Work.{agent_writes}
+use Rattle.core_model.specs.Owed.{Owed, refuses, answers, enters, owed, completed, for_packet}
+use Rattle.packet_processor.specs.declared.places.Place.{Place}
+use Rattle.access_core.specs.declared.access.running.Group.{Group}
+use Rattle.access_core.specs.LiesInRegions.{lies_in_regions}
+
+-- after this history an event is owed this
+abbrev pub IsOwed : History → Event → Owed → Type 0
+IsOwed history event owing = owed history.start history.entries event ≡ owing
+
+-- a packet of an open queue is in flight, and this is its place
+pub record IsInPlace (history : History) (queue : QueueId) (id : PacketId) (place : Place) : Type 0 where
+  pub opening : Opening
+  pub owner_is : owner history.start history.entries queue ≡ Some opening
+  pub flying : InFlight
+  pub found : in_flight history.start history.entries queue id ≡ Some flying
+  pub packet_is : flying.packet ≡ place.packet
+  pub progress_is : progress history.start history.entries queue id ≡ place.progress
+
+-- a call about this packet is refused, whatever it asks
+abbrev pub RefusedAt : History → QueueId → PacketId → Refusal → Type 0
+RefusedAt history queue id why = (rest : Packet → Progress → Owed) → for_packet history.start history.entries queue id rest ≡ refuses why
+
+-- the changes of a completion: the decrement of its signal, if it has one, and its release (PSA, Signals)
+abbrev pub completion_of : List ℤ → QueueId → PacketId → Packet → List Effect
+completion_of values queue id p = completed values (completion p) ++ effect.Release queue id ∷ []
+
+-- what the completion of a packet whose work is done is owed
+abbrev pub finish_owed : History → QueueId → PacketId → Packet → Owed
+finish_owed history queue id p = enters outcome.Accepted (completion_of (signals history.start history.entries) queue id p)
+
+-- what the next group is owed: the writes of its agent dispatch, or where there is none, that all groups ran (own)
+abbrev pub run_owed : Start → List Entry → Option Group → Owed
+run_owed start entries (Some group) = enters (outcome.Worked (Ran 0 0)) (agent_writes start entries group.dispatch)
+run_owed start entries None = answers (outcome.Worked Done)
+
+-- the group of a place's packet, after which one more of its groups has run
+pub record IsGroupOf (place : Place) (group : Group) : Type 0 where
+  pub packet_is : place.packet ≡ packet.Agent group.dispatch
+  pub after_is : group.after ≡ record { groups_run = place.progress.groups_run + 1; satisfied = place.progress.satisfied }
+
+-- a packet in flight has this group next, and its dispatch reaches only what lies whole in regions
+pub record IsNextGroup (history : History) (queue : QueueId) (id : PacketId) (group : Group) : Type 0 where
+  pub place : Place
+  pub in_place : IsInPlace history queue id place
+  pub is_next : IsGroupOf place group
+  pub reaches : lies_in_regions (region_lengths history.start) (packet.Agent group.dispatch) ≡ true
+
+-- a packet reaches only what lies whole in regions
+abbrev pub Reaches : History → Packet → Type 0
+Reaches history p = lies_in_regions (region_lengths history.start) p ≡ true
+
+-- whether bytes have their place in memory: there are none, or they lie whole in one region
+abbrev pub is_placed : List ℕ → ℕ → ℕ → Bool
+is_placed lengths address size = size == 0 || is_within lengths address size
+
+-- bytes have their place in the memory of a history
+abbrev pub IsPlaced : History → ℕ → ℕ → Type 0
+IsPlaced history address size = is_placed (region_lengths history.start) address size ≡ true
+
+-- the new memory is the old one with these changes laid over in order
+abbrev pub IsChanged : List (List ℕ) → List Effect → List (List ℕ) → Type 0
+IsChanged old effects new = (x byte : ℕ) → byte_at old x ≡ Some byte → byte_at new x ≡ Some (fold (byte_after x) byte effects)

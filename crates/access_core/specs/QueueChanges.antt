@@ -1,0 +1,64 @@
+-- How a queue of the list changes: a packet is launched, denied, comes further, fails or leaves flight, or the queue is stopped.
+use Rattle.std.specs.Prelude.{◌≡◌, ◌+◌, ◌-◌, ◌<◌, ◌^◌, ℕ, true, List, [], ◌∷◌, ◌++◌, map, length, slice_set, Option, Some, None}
+use Rattle.aql_packet.specs.declared.ids.QueueId.{QueueId}
+use Rattle.aql_packet.specs.declared.ids.PacketId.{PacketId}
+use Rattle.aql_packet.specs.declared.packet.Packet.{Packet}
+use Rattle.queue_error.specs.declared.error.QueueError.{QueueError}
+use Rattle.policy.specs.Policy.{numbered}
+use Rattle.core_model.specs.declared.flight.Progress.{Progress}
+use Rattle.core_model.specs.declared.limits.TheConstants.{SLOTS}
+use Rattle.packet_processor.specs.declared.places.Place.{Place}
+use Rattle.packet_processor.specs.Queueing.{as_launched, with_progress, without}
+use Rattle.sequences.specs.Room.{Roomy}
+use Rattle.access_core.specs.declared.queue.Queue.{Queue}
+
+-- the queues with the one of a number changed
+abbrev pub with_queue : List Queue → QueueId → (Queue → Queue) → List Queue
+with_queue queues queue change = elim (numbered queues queue.0) [ None ↦ queues | Some q ↦ slice_set queues (queue.0 - 1) (change q) ]
+
+-- a list of errors with one more, which takes some of its room
+abbrev pub with_error : Roomy QueueError → QueueError → Roomy QueueError
+with_error errors error = record { items = errors.items ++ error ∷ []; room = errors.room - 1 }
+
+-- the places without one packet, if it is named
+abbrev pub without_one : Option PacketId → List Place → List Place
+without_one None places = places
+without_one (Some id) places = without id places
+
+-- what becomes of a queue
+abbrev pub with_launched : PacketId → Packet → Queue → Queue
+with_launched id p q = record q { next = q.next + 1; places = q.places ++ as_launched id p ∷ [] }
+
+abbrev pub with_denied : QueueError → Queue → Queue
+with_denied error q = record q { next = q.next + 1; errors = with_error q.errors error }
+
+abbrev pub with_advance : PacketId → Progress → Queue → Queue
+with_advance id so_far q = record q { places = map (with_progress id so_far) q.places }
+
+abbrev pub with_failure : PacketId → QueueError → Queue → Queue
+with_failure id error q = record q { errors = with_error q.errors error; places = without id q.places }
+
+abbrev pub with_release : PacketId → Queue → Queue
+with_release id q = record q { places = without id q.places }
+
+abbrev pub with_stop : Option PacketId → Queue → Queue
+with_stop barrier q = record q { stopped = true; places = without_one barrier q.places }
+
+-- how many places it frees to take a packet out of flight
+abbrev pub freed : Option PacketId → List Place → ℕ
+freed id places = length places - length (without_one id places)
+
+abbrev pub freed_by : Option PacketId → List Queue → QueueId → ℕ
+freed_by id queues queue = elim (numbered queues queue.0) [ None ↦ 0 | Some q ↦ freed id q.places ]
+
+-- the queue is there
+abbrev pub IsThere : List Queue → QueueId → Type 0
+IsThere queues queue = (q : Queue) × (numbered queues queue.0 ≡ Some q)
+
+-- the queue is there, and has room for an error
+abbrev pub CanFail : List Queue → QueueId → Type 0
+CanFail queues queue = (q : Queue) × (numbered queues queue.0 ≡ Some q) × (0 < q.errors.room) × (q.next < 2 ^ 63)
+
+-- the queue is there, and has a place for a packet
+abbrev pub CanLaunch : List Queue → QueueId → Type 0
+CanLaunch queues queue = (q : Queue) × (numbered queues queue.0 ≡ Some q) × (length q.places < SLOTS) × (q.next < 2 ^ 63)
