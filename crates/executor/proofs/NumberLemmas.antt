@@ -1,9 +1,9 @@
 -- Products and what is added to them, in bits.
-use Rattle.std.proofs.Common.{◌≡◌, ℕ, ◌+◌, ◌*◌, ◌%◌, ◌^◌, ◌<◌, refl, sym, ap, ◌∙◌, arith, rules}
-use Rattle.std.specs.Prelude.{ℤ, pos, negsuc, ◌+ℤ◌, ◌*ℤ◌, unsigned_abs}
+use Rattle.std.proofs.Common.{◌≡◌, ℕ, ◌+◌, ◌*◌, ◌%◌, ◌^◌, ◌<◌, refl, sym, ap, ◌∙◌, arith}
+use Rattle.std.specs.Prelude.{ℤ, pos, negsuc, ◌+ℤ◌, ◌*ℤ◌}
 use mir.Val.{bits}
-use Rattle.std.specs.Int.{Width, w8, w16, w32, w64, w128, cast_signed, cast_unsigned, int_wrap, int_rem_euclid}
-use Rattle.std.proofs.lemmas.Int.{of_z-to_z, wrapping_mul-bits, wrapping_add-bits, int_wrap-add_left, ints}
+use Rattle.std.specs.Int.{Width, w8, w16, w32, w64, w128, cast_signed, cast_unsigned, int_wrap}
+use Rattle.std.proofs.lemmas.Int.{of_z-to_z, wrapping_mul-bits, wrapping_add-bits, int_wrap-add_left}
 use Rattle.std.proofs.lemmas.Grind.{common_steps}
 use Rattle.executor.specs.Numbers.{Sign, unsigned, signed, number, wrapped, computed, product, sum}
 
