@@ -1,0 +1,4 @@
+pub mod NumberLemmas
+pub mod Maps
+pub mod RunLemmas
+pub mod OnlyRuns

@@ -1,0 +1,7 @@
+use Rattle.std.proofs.Common.{◌*◌, ◌^◌}
+use Rattle.executor.specs.Written.{chunk_byte}
+use Rattle.executor.specs.Told.{Gathers}
+use Rattle.executor.proofs.chunk.Chunk.add_runs.Given as goal
+
+abbrev pub invariant-loop-index : goal.invariant-loop-index
+invariant-loop-index l = Gathers l.base (2 ^ 14) (chunk_byte l.self) (l.index * 64) l.fn.runs.items l.runs.items

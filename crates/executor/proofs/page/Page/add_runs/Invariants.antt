@@ -1,0 +1,6 @@
+use Rattle.executor.specs.Written.{page_byte}
+use Rattle.executor.specs.Told.{Gathers}
+use Rattle.executor.proofs.page.Page.add_runs.Given as goal
+
+abbrev pub invariant-loop-place : goal.invariant-loop-place
+invariant-loop-place l = Gathers l.base 64 (page_byte l.self) l.place l.fn.runs.items l.runs.items

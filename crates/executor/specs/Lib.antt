@@ -1,0 +1,4 @@
+pub mod Numbers
+pub mod Conversions
+pub mod Written
+pub mod Told

@@ -1,0 +1,132 @@
+//! What a work-group has written.
+ghost use Rattle.std.specs.Prelude.{◌≡◌, ◌+◌, ◌%◌, ◌^◌, ◌<◌, ◌≤◌, ℕ, List, false, None, [], OnOk, OnErr, IfOk, length, max};
+ghost use Rattle.executor.specs.Written.{byte_at, covers, laid, seen, AreRuns};
+ghost use Rattle.executor.specs.Told.{Gathers};
+
+use crate::region::WrittenRegion;
+use crate::run::Run;
+use sequences::Sequence;
+use std::alloc::{AllocError, Global};
+use std::marker::Model;
+
+/// How many addresses a region covers at most.
+const REGION: u64 = 1 << 32;
+
+/// How many bytes a page has.
+const PAGE: usize = 64;
+
+/// What a work-group has written so far, over memory that stays as it is: a finite map from address to
+/// byte, which a contract sees by `byte_at`. It takes memory for what was written to, and a store or a
+/// load makes the same few look-ups whatever was written before: region, chunk, page, mask.
+#[derive(Drop, Debug)]
+pub struct WrittenBytes {
+    regions: Vec<WrittenRegion>,
+}
+
+impl Model for WrittenBytes {
+    ghost use Rattle.std.specs.Prelude.{◌≤◌, ◌^◌, List, length};
+    ghost use Rattle.executor.specs.declared.page.Page.{Page};
+
+    ghost Value = { List (List (List Page)) };
+
+    ghost view = { λ x. x.regions.items };
+
+    ghost invariant = { λ x. length x.regions.items ≤ 2 ^ 32 };
+}
+
+impl WrittenBytes {
+    /// Nothing written. It takes no memory.
+    pub fn new(alloc: Global) -> WrittenBytes
+        ensures { (address : ℕ) → byte_at result address ≡ None }
+    {
+        WrittenBytes {
+            regions: Vec::new(alloc),
+        }
+    }
+
+    /// Writes the bytes of one access from an address on. Without memory every byte outside the access
+    /// is as before, and where the access lies in one page of 64 bytes all is as before; of one that
+    /// crosses into the next page the first part may then be written.
+    #[inline]
+    pub fn store(&mut self, alloc: Global, address: u64, bytes: &[u8]) -> Result<(), AllocError>
+        requires few { length bytes.now ≤ 64 }
+        requires end { address + length bytes.now ≤ 2 ^ 64 }
+        ensures ok { OnOk result ((x : ℕ) → byte_at self.new x ≡ laid (byte_at self.old) address bytes.now x) }
+        ensures err { OnErr result (address % 64 + length bytes.now ≤ 64 → (x : ℕ) → byte_at self.new x ≡ byte_at self.old x) }
+        ensures outside { OnErr result ((x : ℕ) → covers address (length bytes.now) x ≡ false → byte_at self.new x ≡ byte_at self.old x) }
+    {
+        let room = PAGE - (address % PAGE as u64) as usize;
+        if bytes.len() <= room {
+            return self.store_in_page(alloc, address, bytes);
+        }
+        let (first, rest) = bytes.split_at(room);
+        self.store_in_page(alloc, address, first)?;
+        self.store_in_page(alloc, address + room as u64, rest)
+    }
+
+    /// Lays what is written from an address on over the bytes of a buffer, which are those below.
+    #[inline]
+    pub fn load(&self, address: u64, buffer: &mut [u8])
+        requires few { length buffer.old ≤ 64 }
+        requires end { address + length buffer.old ≤ 2 ^ 64 }
+        ensures { buffer.new ≡ seen (byte_at self.now) address buffer.old }
+    {
+        let room = PAGE - (address % PAGE as u64) as usize;
+        if buffer.len() <= room {
+            self.load_in_page(address, buffer);
+            return;
+        }
+        let (first, rest) = buffer.split_at_mut(room);
+        self.load_in_page(address, first);
+        self.load_in_page(address + room as u64, rest);
+    }
+
+    /// The maximal runs of written addresses, ascending, with their bytes.
+    pub fn runs(&self, alloc: Global) -> Result<Sequence<Run>, AllocError>
+        ensures runs { IfOk result (λ runs. AreRuns (byte_at self.now) runs) }
+        ensures only { IfOk result (λ runs. (others : List Run) → AreRuns (byte_at self.now) others → others ≡ runs) }
+    {
+        let mut runs = Vec::new(alloc);
+        for index in 0..self.regions.len() {
+            self.regions[index].add_runs(alloc, index as u64 * REGION, &mut runs)?;
+        }
+        Ok(Sequence::from_vec(runs))
+    }
+
+    /// Writes bytes that lie in one page. Without memory all is as before.
+    #[inline]
+    fn store_in_page(&mut self, alloc: Global, address: u64, bytes: &[u8]) -> Result<(), AllocError>
+        requires { address % 64 + length bytes.now ≤ 64 }
+        ensures ok { OnOk result ((x : ℕ) → byte_at self.new x ≡ laid (byte_at self.old) address bytes.now x) }
+        ensures err { OnErr result ((x : ℕ) → byte_at self.new x ≡ byte_at self.old x) }
+    {
+        let index = (address / REGION) as usize;
+        grow(alloc, &mut self.regions, index + 1)?;
+        self.regions[index].store(alloc, (address % REGION) as usize, bytes)?;
+        Ok(())
+    }
+
+    /// Lays what is written in one page over the bytes of a buffer.
+    #[inline]
+    fn load_in_page(&self, address: u64, buffer: &mut [u8])
+        requires { address % 64 + length buffer.old ≤ 64 }
+        ensures { buffer.new ≡ seen (byte_at self.now) address buffer.old }
+    {
+        let index = (address / REGION) as usize;
+        if index < self.regions.len() {
+            self.regions[index].load((address % REGION) as usize, buffer);
+        }
+    }
+}
+
+/// Puts regions in which nothing is written behind others, until there are so many.
+fn grow(alloc: Global, regions: &mut Vec<WrittenRegion>, count: usize) -> Result<(), AllocError>
+    ensures enough { OnOk result (count ≤ length regions.new.items) }
+    ensures few { length regions.new.items ≤ max count (length regions.old.items) }
+    ensures bytes { (x : ℕ) → byte_at regions.new.items x ≡ byte_at regions.old.items x }
+{
+    for _ in regions.len()..count {
+        regions.push(WrittenRegion::new(alloc))?;
+    }
+    Ok(())
+}
