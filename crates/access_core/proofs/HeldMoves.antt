@@ -38,7 +38,8 @@ use Rattle.access_core.specs.Kept.{IsKept, start_of}
 use Rattle.access_core.specs.Held.{IsHeld, holds_by, packet_holds}
 use Rattle.aql_packet.specs.declared.ids.AgentHandle.{AgentHandle}
 use Rattle.core_model.specs.declared.event.Event.TheVariants.{OpenQueue}
-use Rattle.access_core.proofs.HeldMore.{AreHeld-legal, owner-more}
+use Rattle.access_core.proofs.HeldMore.{AreHeld-legal}
+use Rattle.core_model.proofs.Holding.{owner-more}
 use Rattle.packet_processor.specs.Holding.{as_rights}
 use Rattle.access_core.proofs.HeldRights.{any-before, or-false}
 

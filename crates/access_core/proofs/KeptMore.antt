@@ -1,7 +1,6 @@
 -- What is kept stays what the history says when an entry is put behind it and the fields move along.
-use Rattle.std.proofs.Common.{◌≡◌, ℕ, ◌+◌, ◌≤◌, List, [], ◌∷◌, length, sym, ◌∙◌, ap, subst, refl, true, Option, Some, None, arith, length-append}
-use Rattle.std.specs.Prelude.{map, fold, not, All}
-use Rattle.std.proofs.lemmas.List.Elements.{All-filter, All-push}
+use Rattle.std.proofs.Common.{◌≡◌, ℕ, ◌+◌, ◌≤◌, List, [], ◌∷◌, length, sym, ◌∙◌, ap, subst, refl, true, Some, None, arith, length-append}
+use Rattle.std.specs.Prelude.{map, fold, All}
 use Rattle.aql_packet.specs.declared.ids.ClientId.{ClientId}
 use Rattle.aql_packet.specs.declared.ids.QueueId.{QueueId}
 use Rattle.aql_packet.specs.declared.ids.PacketId.{PacketId}
@@ -10,17 +9,16 @@ use Rattle.policy.specs.declared.rights.Right.{Right}
 use Rattle.policy.specs.Policy.{numbered}
 use Rattle.regions.specs.Memory.{byte_at, lengths_of, lies_in_region}
 use Rattle.core_model.specs.declared.entry.Effect.{Effect}
-use Rattle.core_model.specs.declared.entry.Effect.TheVariants.{Write, Signal, Release}
-use Rattle.core_model.specs.declared.entry.Entry.{Entry}
 use Rattle.core_model.specs.declared.event.Event.{Event}
 use Rattle.core_model.specs.declared.flight.InFlight.{InFlight}
 use Rattle.core_model.specs.declared.outcome.Outcome.{Outcome}
 use Rattle.core_model.specs.Grants.{in_force, in_force_after}
 use Rattle.core_model.specs.Memory.{memory_at, byte_after, signals_after, region_lengths}
 use Rattle.core_model.specs.Queues.{owner, opening_of}
-use Rattle.core_model.specs.Flight.{flight, flight_after, flight_after_effect, is_packet, launched_by, with_launched}
+use Rattle.core_model.specs.Flight.{flight, launched_by}
 use Rattle.core_model.specs.Owed.{enters, owed}
 use Rattle.core_model.specs.Legal.{entry_of, with_entry}
+use Rattle.core_model.proofs.Flying.{all-after}
 use Rattle.core_model.proofs.More.{in_force-more, memory_at-more, signals-more, openings-more, with_some, flight-more}
 use Rattle.core_model.proofs.Legality.{IsLegal-more}
 use Rattle.grants.specs.Ledger as ledger
@@ -65,20 +63,6 @@ pub record MovesAlong (a b : Inside) (event : Event) (outcome : Outcome) (effect
   pub values : b.signals ≡ fold signals_after a.signals effects
   pub queues : QueuesMove a b.queues.items b.flying event outcome effects
   pub launches : (f : InFlight) → launched_by event outcome ≡ Some f → lies_in_regions (region_lengths (start_of a)) f.packet ≡ true
-
-all-released : (P : InFlight → Type 0) (effects : List Effect) (fs : List InFlight) → All P fs → All P (fold flight_after_effect fs effects)
-all-released P [] fs all = all
-all-released P (Write address bytes ∷ rest) fs all = all-released P rest fs all
-all-released P (Signal signal old new ∷ rest) fs all = all-released P rest fs all
-all-released P (Release queue id ∷ rest) fs all = all-released P rest _ (All-filter (λ f. not (is_packet queue id f)) P fs all)
-
-all-launched : (P : InFlight → Type 0) (o : Option InFlight) (fs : List InFlight) → ((f : InFlight) → o ≡ Some f → P f) → All P fs → All P (with_launched fs o)
-all-launched P None fs one all = all
-all-launched P (Some f) fs one all = All-push P fs f all (one f refl)
-
--- what holds of all packets in flight, and of one that is launched, holds after an entry
-pub all-after : (P : InFlight → Type 0) (e : Entry) (fs : List InFlight) → ((f : InFlight) → launched_by e.event e.outcome ≡ Some f → P f) → All P fs → All P (flight_after fs e)
-all-after P e fs one all = all-released P e.effects _ (all-launched P (launched_by e.event e.outcome) fs one all)
 
 module _ (a b : Inside) (event : Event) (outcome : Outcome) (effects : List Effect) (was : IsKept a) (moved : MovesAlong a b event outcome effects) where
   longer : length b.audit.items ≡ length a.audit.items + 1

@@ -1,5 +1,5 @@
 -- The least of the packets that pass a test is the first to pass it by queue and id.
-use Rattle.std.proofs.Common.{◌≡◌, inl, inr, List, [], ◌∷◌, refl, sym, ◌∙◌, ap, subst, Bool, true, false, Some, None, arith}
+use Rattle.std.proofs.Common.{◌≡◌, inl, inr, List, [], ◌∷◌, refl, sym, ◌∙◌, ap, Bool, true, false, Some, None, arith}
 use Rattle.std.specs.Prelude.{All, ◌&&◌, ◌||◌, ◌==◌, filter, find, if◌then◌else◌}
 use Rattle.std.specs.List.{list_all, list_any}
 use Rattle.std.proofs.lemmas.Bool.{and_parts, or_parts, eqb-true, lt-ltb}
@@ -7,29 +7,12 @@ use Rattle.std.proofs.lemmas.List.Elements.{All-nil, All-cons, All-head, All-tai
 use Rattle.aql_packet.specs.declared.ids.QueueId.{QueueId}
 use Rattle.aql_packet.specs.declared.ids.PacketId.{PacketId}
 use Rattle.grants.specs.Holders.{IsUpTo, IsFirstTo}
+use Rattle.core_model.proofs.Lists.{all-from_list_all, found-all, found-passes}
 use Rattle.core_model.specs.declared.flight.InFlight.{InFlight}
 use Rattle.core_model.specs.Flight.{is_packet}
 use Rattle.core_model.specs.Holds.{is_up_to, least}
 
 -- ---- what is found in a list
-
--- what is found is one of the list
-found-all : {X : Type 0} (P : X → Type 0) (test : X → Bool) (xs : List X) (f : X) → All P xs → find test xs ≡ Some f → P f
-found-all P test [] f all found = absurd cc
-found-all P test (x ∷ xs) f all found = first (test x) found (found-all P test xs f (All-tail P x xs all))
-  where
-    first : (b : Bool) → (if b then Some x else find test xs) ≡ Some f → (find test xs ≡ Some f → P f) → P f
-    first true same more = let here : x ≡ f = cc in subst P here (All-head P x xs all)
-    first false same more = more same
-
--- what is found passes
-found-passes : {X : Type 0} (test : X → Bool) (xs : List X) (f : X) → find test xs ≡ Some f → test f ≡ true
-found-passes test [] f found = absurd cc
-found-passes test (x ∷ xs) f found = first (test x) refl found (found-passes test xs f)
-  where
-    first : (b : Bool) → test x ≡ b → (if b then Some x else find test xs) ≡ Some f → (find test xs ≡ Some f → test f ≡ true) → test f ≡ true
-    first true is same more = let here : x ≡ f = cc in subst (λ y. test y ≡ true) here is
-    first false is same more = more same
 
 -- where one passes, one is found
 pub record IsFound {X : Type 0} (test : X → Bool) (xs : List X) : Type 0 where
@@ -56,12 +39,6 @@ found-any sought test (x ∷ xs) f found passes = first (sought x) found (found-
     first : (b : Bool) → (if b then Some x else find sought xs) ≡ Some f → (find sought xs ≡ Some f → test f ≡ true → list_any test xs ≡ true) → (test x || list_any test xs) ≡ true
     first true same more = let here : x ≡ f = cc in rw (here, passes) refl
     first false same more = ap (λ b. test x || b) (more same passes) ∙ or-true (test x)
-
-all-from_list_all : {X : Type 0} (test : X → Bool) (xs : List X) → list_all test xs ≡ true → All (λ x. test x ≡ true) xs
-all-from_list_all test [] all = All-nil (λ x. test x ≡ true)
-all-from_list_all test (x ∷ xs) all =
-    let both = and_parts (test x) (list_all test xs) all in
-    All-cons (λ y. test y ≡ true) x xs both.0 (all-from_list_all test xs both.1)
 
 list_all-from_all : {X : Type 0} (P : X → Type 0) (test : X → Bool) (xs : List X) → ((x : X) → P x → test x ≡ true) → All P xs → list_all test xs ≡ true
 list_all-from_all P test [] step all = refl

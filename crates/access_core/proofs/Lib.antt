@@ -14,7 +14,6 @@ pub mod WorkLemmas
 pub mod WorkReadLemmas
 pub mod RunLemmas
 pub mod HostMemory
-pub mod Launches
 pub mod HeldMore
 pub mod HeldRights
 pub mod HeldMoves

@@ -13,7 +13,7 @@ use Rattle.access_core.specs.Kept.{start_of}
 use Rattle.access_core.specs.LiesInRegions.{lies_in_regions}
 use Rattle.access_core.proofs.HeldMoves.{grants-launched, launch-in_force}
 use Rattle.access_core.proofs.KeptMore.{IsKept-more, memory-still}
-use Rattle.access_core.proofs.Launches.{IsNext-from_owed}
+use Rattle.core_model.proofs.Launches.{IsNext-from_owed}
 use Rattle.access_core.proofs.PlacesMore.{flight-launched}
 use Rattle.access_core.proofs.TakeLemmas.{can-take, flying-launched, packet-launched, queues-launched}
 use Rattle.access_core.proofs.Calls.{full, entered, owed-inside}
