@@ -8,20 +8,20 @@ use Rattle.hsail_reader.specs.Bytes.{behind, bracketed_at, numeral_at, width_val
 use Rattle.hsail_reader.specs.Spelling.{first_passes}
 use Rattle.hsail_reader.specs.Words.{part_behind, part_at}
 use Rattle.hsail_reader.specs.WordSpelling.{SpellsNamed, SpellsMaybe, SpellsWidthValue}
-use Rattle.hsail_reader.specs.Nouns.{Spelled, Width, All, Number, WaveSize}
+use Rattle.hsail_reader.specs.Nouns.{Prefix, Width, All, Number, WaveSize}
 use Rattle.hsail_reader.proofs.Numbers.{first_digit, number_before_bracket_is_read, number_is_spelled}
 use Rattle.hsail_reader.proofs.Options.{bound, chosen, mapped, same_some, some_rest}
 use Rattle.hsail_reader.proofs.Runs.{behind_front, behind_parts, differs}
 
 -- what spells an x is read before a bracket
-abbrev pub IsRead : {X : Type 0} → (List ℕ → Option (Spelled X)) → (X → List ℕ → Type 0) → Type 0
+abbrev pub IsRead : {X : Type 0} → (List ℕ → Option (Prefix X)) → (X → List ℕ → Type 0) → Type 0
 IsRead {X} read Spells =
     (x : X) (text more : List ℕ) → Spells x text → read (text ++ 41 ∷ more) ≡ Some (spelled x (length text))
 
 -- what is read at the front is spelled there
-abbrev pub IsFound : {X : Type 0} → (List ℕ → Option (Spelled X)) → (X → List ℕ → Type 0) → Type 0
+abbrev pub IsFound : {X : Type 0} → (List ℕ → Option (Prefix X)) → (X → List ℕ → Type 0) → Type 0
 IsFound {X} read Spells =
-    (bytes : List ℕ) (m : Spelled X) → read bytes ≡ Some m →
+    (bytes : List ℕ) (m : Prefix X) → read bytes ≡ Some m →
     (text : List ℕ) × (more : List ℕ) × (bytes ≡ text ++ more) × (length text ≡ m.length) × Spells m.value text
 
 -- what stands before a bracket that is found, and behind it
@@ -34,8 +34,8 @@ closed inside text more rest n parts counts is =
     ∙ sym (append_assoc text (codes ")") rest)
 
 -- a name, with what stands in its brackets
-module _ {X : Type 0} (name : List ℕ) (read : List ℕ → Option (Spelled X)) (Spells : X → List ℕ → Type 0) where
-  abbrev close_at : List ℕ → Spelled X → Option (Spelled X)
+module _ {X : Type 0} (name : List ℕ) (read : List ℕ → Option (Prefix X)) (Spells : X → List ℕ → Type 0) where
+  abbrev close_at : List ℕ → Prefix X → Option (Prefix X)
   close_at inside x = behind (codes ")") (drop x.length inside) >>= λ rest. Some (spelled x.value (x.length + 7))
 
   pub named_is_read : IsRead read Spells → (x : X) (inside rest : List ℕ) → Spells x inside →
@@ -47,12 +47,12 @@ module _ {X : Type 0} (name : List ℕ) (read : List ℕ → Option (Spelled X))
       ∙ ap (λ o. behind (codes ")") o >>= λ (r : List ℕ). Some (spelled x (length inside + 7))) (drop-append_seam inside (41 ∷ rest))
 
   -- where a name with brackets is found
-  abbrev pub NamedFound : List ℕ → Spelled X → Type 0
+  abbrev pub NamedFound : List ℕ → Prefix X → Type 0
   NamedFound bytes m =
       (inside : List ℕ) × (rest : List ℕ) × (bytes ≡ name ++ ((inside ++ codes ")") ++ rest))
       × (m.length ≡ length inside + 7) × Spells m.value inside
 
-  pub named_is_found : IsFound read Spells → (bytes : List ℕ) (m : Spelled X) → bracketed_at name read bytes ≡ Some m →
+  pub named_is_found : IsFound read Spells → (bytes : List ℕ) (m : Prefix X) → bracketed_at name read bytes ≡ Some m →
       NamedFound bytes m
   named_is_found finds bytes m is =
       let p = bound (behind name bytes) (λ bytes. read bytes >>= close_at bytes) m is in
@@ -60,12 +60,12 @@ module _ {X : Type 0} (name : List ℕ) (read : List ℕ → Option (Spelled X))
       let r = bound (behind (codes ")") (drop q.0.length p.0)) (λ rest. Some (spelled q.0.value (q.0.length + 7))) m q.2 in
       let v = finds p.0 q.0 q.1 in
       let same = same_some (spelled q.0.value (q.0.length + 7)) m r.2 in
-      let long : q.0.length + 7 ≡ m.length = ap (λ (n : Spelled X). n.length) same in (
+      let long : q.0.length + 7 ≡ m.length = ap (λ (n : Prefix X). n.length) same in (
         v.0,
         r.0,
         behind_parts name bytes p.0 p.1 ∙ ap (λ xs. name ++ xs) (closed p.0 v.0 v.1 r.0 q.0.length v.2 v.3 r.1),
         omega (arith, long, v.3),
-        subst (λ x. Spells x v.0) (ap (λ (n : Spelled X). n.value) same) v.4,
+        subst (λ x. Spells x v.0) (ap (λ (n : Prefix X). n.value) same) v.4,
       )
 
   -- behind the name of six bytes with its bracket, what stands in it and the other bracket, the rest stands
@@ -101,7 +101,7 @@ module _ {X : Type 0} (name : List ℕ) (read : List ℕ → Option (Spelled X))
   abbrev pub PartFound : List ℕ → Option X × List ℕ → Type 0
   PartFound bytes p = (text : List ℕ) × (bytes ≡ text ++ p.1) × SpellsMaybe (SpellsNamed (95 ∷ name) Spells) p.0 text
 
-  part_go : IsFound read Spells → length name ≡ 6 → (b : ℕ) (bytes : List ℕ) (o : Option (Spelled X)) → b ≡ 95 →
+  part_go : IsFound read Spells → length name ≡ 6 → (b : ℕ) (bytes : List ℕ) (o : Option (Prefix X)) → b ≡ 95 →
       bracketed_at name read bytes ≡ o → PartFound (b ∷ bytes) (part_behind o bytes (b ∷ bytes))
   part_go finds six b bytes None bar is = ([], refl, refl)
   part_go finds six b bytes (Some m) bar is =
@@ -127,7 +127,7 @@ module _ {X : Type 0} (name : List ℕ) (read : List ℕ → Option (Spelled X))
 skipped : {A : Type 0} (p q : Bool) (x y z : A) → p ≡ false → q ≡ false → (if p then x else if q then y else z) ≡ z
 skipped p q x y z no' nor = rw (no', nor) refl
 
-abbrev of_number : Spelled ℕ → Spelled Width
+abbrev of_number : Prefix ℕ → Prefix Width
 of_number n = spelled (Number n.value) n.length
 
 -- the value of a width is read before a bracket
@@ -150,7 +150,7 @@ value_is_read WaveSize text more s =
     subst (λ (xs : List ℕ). width_value_at (xs ++ 41 ∷ more) ≡ Some (spelled WaveSize (length xs))) (sym s) refl
 
 -- a value that spells the width found
-value_found : (w : Width) (k : ℕ) (value more bytes : List ℕ) (v : Spelled Width) → bytes ≡ value ++ more →
+value_found : (w : Width) (k : ℕ) (value more bytes : List ℕ) (v : Prefix Width) → bytes ≡ value ++ more →
     length value ≡ k → SpellsWidthValue w value → Some (spelled w k) ≡ Some v →
     (text : List ℕ) × (more : List ℕ) × (bytes ≡ text ++ more) × (length text ≡ v.length) × SpellsWidthValue v.value text
 value_found w k value more bytes v parts counts s is =
@@ -158,8 +158,8 @@ value_found w k value more bytes v parts counts s is =
       value,
       more,
       parts,
-      counts ∙ ap (λ (x : Spelled Width). x.length) same,
-      subst (λ x. SpellsWidthValue x value) (ap (λ (x : Spelled Width). x.value) same) s,
+      counts ∙ ap (λ (x : Prefix Width). x.length) same,
+      subst (λ x. SpellsWidthValue x value) (ap (λ (x : Prefix Width). x.value) same) s,
     )
 
 -- the value of a width that is read is spelled at the front

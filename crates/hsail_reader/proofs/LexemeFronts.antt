@@ -10,7 +10,7 @@ use Rattle.hsail_reader.specs.Lexemes.{lexed, number_at, word_at, lexeme_at, Hea
 use Rattle.hsail_reader.specs.Spelling.{AllPass, is_name_start, is_blank, is_mark, IsDecimal, IsName, IsRestOfComment, is_name_byte, is_not_line_feed}
 use Rattle.hsail_reader.proofs.Options.{not_false, true_is_not_false, nothing, same_some, mapped, bound, either, some_rest}
 use Rattle.hsail_reader.proofs.Runs.{differs, run_of, run_length, pass_append, closing_is_read, closing_is_spelled, behind_parts, no_more}
-use Rattle.hsail_reader.specs.Nouns.{Blank, Token, Header, Lexeme, LexemeKind, RegisterClass, Spelled, TokenKind, Base, Comment, Control, Double, Single}
+use Rattle.hsail_reader.specs.Nouns.{Blank, Token, Header, Lexeme, LexemeKind, RegisterClass, Prefix, TokenKind, Base, Comment, Control, Double, Single}
 use Rattle.std.proofs.lemmas.Bool.{cases_Bool}
 use Rattle.std.specs.Option.{is_some, option_map}
 use Rattle.std.specs.Str.Parse.{digits_value}
@@ -212,7 +212,7 @@ at_number m [] more (inl is) = absurd is.0
 at_number m (b ∷ digits) more (inl is) = at_digit b (digits ++ more) is.0.0
 at_number m text more (inr is) = subst (λ xs. lexeme_at (xs ++ more) ≡ number_at (xs ++ more)) (sym is.0.2) refl
 
-abbrev number_lexeme : Spelled ℕ → Lexeme
+abbrev number_lexeme : Prefix ℕ → Lexeme
 number_lexeme n = lexed (Token (token.Number n.value)) n.length
 
 -- a number, with all digits behind it
@@ -355,10 +355,10 @@ register_there : (bytes : List ℕ) (found : Lexeme) → register_at bytes ≡ S
 register_there [] found is = nothing found is
 register_there (c ∷ bytes) found is =
     let b = bound (class_at (c ∷ bytes)) (λ class. decimal_at bytes >>= λ n. Some (register class n)) found is in
-    let n = bound (decimal_at bytes) (λ (n : Spelled ℕ). Some (register b.0 n)) found b.2 in
+    let n = bound (decimal_at bytes) (λ (n : Prefix ℕ). Some (register b.0 n)) found b.2 in
     with_digit b.0 b.1 bytes n.0 n.1
   where
-    with_digit : (class : RegisterClass) → class_at (c ∷ bytes) ≡ Some class → (digits : List ℕ) (n : Spelled ℕ) →
+    with_digit : (class : RegisterClass) → class_at (c ∷ bytes) ≡ Some class → (digits : List ℕ) (n : Prefix ℕ) →
         decimal_at digits ≡ Some n → HasLexeme (36 ∷ c ∷ digits)
     with_digit class named [] n is = nothing n is
     with_digit class named (d ∷ digits) n is =

@@ -9,12 +9,12 @@ use Rattle.std.specs.Str.Parse.{digits_value, digits_value_after}
 use Rattle.hsail_reader.specs.Bytes.{behind, digits_at, decimal_at, numeral_at, numeral_behind, spelled}
 use Rattle.hsail_reader.specs.Spelling.{AllPass, IsDecimal, IsHexadecimal, first_passes}
 use Rattle.hsail_reader.specs.WordSpelling.{SpellsDecimal, SpellsHexadecimal, SpellsNumber}
-use Rattle.hsail_reader.specs.Nouns.{Spelled}
+use Rattle.hsail_reader.specs.Nouns.{Prefix}
 use Rattle.hsail_reader.proofs.Options.{nothing, same_some, true_is_not_false}
 use Rattle.hsail_reader.proofs.Runs.{heads, tails, differs, run_of, pass_append, pass_inside, behind_parts}
 
 -- the numeral, if its value has at most 64 bits
-abbrev pub fitting : ℕ → ℕ → Option (Spelled ℕ)
+abbrev pub fitting : ℕ → ℕ → Option (Prefix ℕ)
 fitting value length = if nat_lt value (2 ^ 64) then Some (spelled value length) else None
 
 pub fitted : (value length : ℕ) →
@@ -63,7 +63,7 @@ digits_are_read radix value before (d ∷ digits) more pass ends small some =
     (cases_Bool (nat_lt next (2 ^ 64)))
 
 -- where a text is spelled, all that is spelled with it is read: text and extra, which spell n
-abbrev pub Told : (List ℕ → Option (Spelled ℕ)) → (ℕ → List ℕ → Type 0) → List ℕ → List ℕ → Type 0
+abbrev pub Told : (List ℕ → Option (Prefix ℕ)) → (ℕ → List ℕ → Type 0) → List ℕ → List ℕ → Type 0
 Told at Spells text more =
     (n : ℕ) × (extra : List ℕ) × (rest : List ℕ) × (more ≡ extra ++ rest) × Spells n (text ++ extra)
     × (at (text ++ more) ≡ fitting n (length (text ++ extra)))
@@ -206,12 +206,12 @@ number_before_bracket_is_read n text more (small, number) =
         absurd (no_bracket m text extra (subst P (sym (heads 41 c more (extra ++ rest) e)) whole))
 
 -- a number at the front of some bytes, which spells what was read
-abbrev NumberSpelled : List ℕ → Spelled ℕ → Type 0
+abbrev NumberSpelled : List ℕ → Prefix ℕ → Type 0
 NumberSpelled bytes m =
     (text : List ℕ) × (more : List ℕ) × (bytes ≡ text ++ more) × (length text ≡ m.length) × SpellsNumber m.value text
 
 -- where a number is read, a digit stands in front
-pub number_begins : (b : ℕ) (bytes : List ℕ) (m : Spelled ℕ) → numeral_at (b ∷ bytes) ≡ Some m → is_digit b 10 ≡ true
+pub number_begins : (b : ℕ) (bytes : List ℕ) (m : Prefix ℕ) → numeral_at (b ∷ bytes) ≡ Some m → is_digit b 10 ≡ true
 number_begins b bytes m is =
     ⊎_elim
     (λ w. subst (λ x. is_digit x 10 ≡ true) (sym w.1) refl)
@@ -235,7 +235,7 @@ pub digit_is_decimal : (b : ℕ) → is_digit b 10 ≡ true → SpellsDecimal (d
 digit_is_decimal b digit = ((digit, tt, λ z. refl), refl)
 
 -- the number that is read is spelled at the front
-pub number_is_spelled : (bytes : List ℕ) (m : Spelled ℕ) → numeral_at bytes ≡ Some m → NumberSpelled bytes m
+pub number_is_spelled : (bytes : List ℕ) (m : Prefix ℕ) → numeral_at bytes ≡ Some m → NumberSpelled bytes m
 number_is_spelled [] m is = nothing m is
 number_is_spelled (b ∷ bytes) m is =
     let t = number_told _ (b ∷ []) bytes (inl (digit_is_decimal b (number_begins b bytes m is))) in
@@ -244,8 +244,8 @@ number_is_spelled (b ∷ bytes) m is =
       b ∷ t.1,
       t.2,
       ap (λ xs. b ∷ xs) t.3,
-      ap (λ (n : Spelled ℕ). n.length) same,
-      subst (λ v. SpellsNumber v (b ∷ t.1)) (ap (λ (n : Spelled ℕ). n.value) same) (w.0, t.4),
+      ap (λ (n : Prefix ℕ). n.length) same,
+      subst (λ v. SpellsNumber v (b ∷ t.1)) (ap (λ (n : Prefix ℕ). n.value) same) (w.0, t.4),
     ))
     (λ w. nothing m (sym w.1 ∙ sym t.5 ∙ is))
     (fitted t.0 (length (b ∷ t.1)))

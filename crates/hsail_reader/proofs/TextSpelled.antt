@@ -14,7 +14,7 @@ use Rattle.hsail_reader.proofs.Decided.{module_decides}
 use Rattle.hsail_reader.proofs.Grammars.{Front, complete, sound, bound}
 use Rattle.hsail_reader.proofs.TextCut.{cut, spelled}
 use Rattle.hsail_reader.specs.Sample.{sample, sample_module}
-use Rattle.hsail_reader.specs.Words.{instruction_at}
+use Rattle.hsail_reader.specs.Words.{instruction_at, word_of}
 
 abbrev anything : Front
 anything to = Unit {0}
@@ -103,7 +103,7 @@ text_is_spelled text m is =
     (cases_Bool (nat_lt 65536 (length text)))
 
 sample_is_read : reading sample ≡ Ok sample_module
-unfolding sample sample_module reading module_at module_text fields kernels kernel kernel_begin body signature some_arguments next_argument argument alignment items item labelled unlabelled performed load index place_inside address_inside address instruction_at
+unfolding sample sample_module reading module_at module_text fields kernels kernel kernel_begin body signature some_arguments next_argument argument alignment items item labelled unlabelled performed load index place_inside address_inside address instruction_at word_of
 sample_is_read = refl
 
 pub sample_is_text : IsTextOf sample sample_module

@@ -10,7 +10,7 @@ use Rattle.hsail_reader.specs.Lexemes.{lexed, length_of, modifier_length, piece_
 use Rattle.hsail_reader.specs.Spelling.{AllPass, is_name_byte, is_name_start}
 use Rattle.hsail_reader.specs.WordLexemes.{IsModifier, IsModifiedName, ArePieces, none, byte, modifier, IsWord}
 use Rattle.hsail_reader.specs.WordSpelling.{SpellsNumber, SpellsWidthValue}
-use Rattle.hsail_reader.specs.Nouns.{Lexeme, Spelled, Token, Width}
+use Rattle.hsail_reader.specs.Nouns.{Lexeme, Prefix, Token, Width}
 use Rattle.hsail_reader.specs.declared.token.TokenKind.TheVariants as token
 use Rattle.hsail_reader.proofs.Bracketed.{named_is_read, named_is_found, value_is_read, value_is_found}
 use Rattle.hsail_reader.proofs.Numbers.{number_before_bracket_is_read, number_is_spelled}
@@ -52,7 +52,7 @@ modifier_is_read m more (inr (w, (inside, e, s))) =
 abbrev ModifierFound : List ℕ → ℕ → Type 0
 ModifierFound bytes n = (m : List ℕ) × (more : List ℕ) × (bytes ≡ m ++ more) × (length m ≡ n) × IsModifier m
 
-modifier_go : (bytes : List ℕ) (a : Option (Spelled ℕ)) (w : Option (Spelled Width)) → align_at bytes ≡ a →
+modifier_go : (bytes : List ℕ) (a : Option (Prefix ℕ)) (w : Option (Prefix Width)) → align_at bytes ≡ a →
     width_at bytes ≡ w → 0 < length_of a w → ModifierFound (95 ∷ bytes) (length_of a w)
 modifier_go bytes None None p q some = absurd (omega arith)
 modifier_go bytes None (Some w) p q some =
@@ -238,7 +238,7 @@ align_there text more n inside e s =
     ap (λ xs. align_at (xs ++ more)) e
     ∙ named_is_read (codes "align(") numeral_at SpellsNumber number_before_bracket_is_read n inside more s
 
-word_go : (text more : List ℕ) (a : Option (Spelled ℕ)) → align_at (text ++ more) ≡ a → IsWord text →
+word_go : (text more : List ℕ) (a : Option (Prefix ℕ)) → align_at (text ++ more) ≡ a → IsWord text →
     WordTold text (text ++ more) (word_of a (text ++ more))
 word_go [] more None read (inl is) = absurd is
 word_go (b ∷ rest) more None read (inl (starts, pieces)) =
@@ -263,8 +263,8 @@ word_go text more (Some n) read is =
     pieces [] is = absurd is
     pieces (b ∷ rest) (starts, is) = byte b rest (name_start_continues b starts) is
 
-    same_some_length : (a b : Spelled ℕ) → Some a ≡ Some b → a.length ≡ b.length
-    same_some_length a b e = ap (λ (x : Spelled ℕ). x.length) (same_some a b e)
+    same_some_length : (a b : Prefix ℕ) → Some a ≡ Some b → a.length ≡ b.length
+    same_some_length a b e = ap (λ (x : Prefix ℕ). x.length) (same_some a b e)
 
     short : IsWord text → (after inside : List ℕ) → text ++ more ≡ codes "align(" ++ ((inside ++ codes ")") ++ after) →
         n.length ≡ length inside + 7 → length text ≤ n.length

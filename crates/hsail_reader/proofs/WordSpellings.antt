@@ -7,7 +7,7 @@ use Rattle.hsail_reader.specs.Bytes.{behind, align_at, numeral_at, ◌>>=◌}
 use Rattle.hsail_reader.specs.Rows.{InstructionRow, rows, types_of}
 use Rattle.hsail_reader.specs.Words.{is_spelled, is_end, type_among, opcode_at, opcode_among, instruction_at, argument_word, instruction_word, other_word, named_word, word_of}
 use Rattle.hsail_reader.specs.WordSpelling.{SpellsNumber, SpellsBehindStem, SpellsWord, stands_in_modules}
-use Rattle.hsail_reader.specs.Nouns.{DataType, Opcode, Spelled, Word, Memory}
+use Rattle.hsail_reader.specs.Nouns.{DataType, Opcode, Prefix, Word, Memory}
 use Rattle.hsail_reader.specs.declared.words.Word.TheVariants as word
 use Rattle.hsail_reader.proofs.RowWords.{row_is_read, row_is_spelled}
 use Rattle.hsail_reader.proofs.Bracketed.{named_is_read, named_is_found}
@@ -19,6 +19,7 @@ use Rattle.hsail_reader.proofs.WordRows.{clashes_all, clashes_not_behind, first_
 -- align(n) is read as a word
 align_word : (n : ℕ) (number : List ℕ) → SpellsNumber n number →
     word_of (codes "align(" ++ (number ++ codes ")")) ≡ word.Align n
+unfolding word_of
 align_word n number spelled =
     let text = codes "align(" ++ (number ++ codes ")") in
     let whole : length number + 7 ≡ length text = omega (arith, length-append number (codes ")")) in
@@ -32,6 +33,7 @@ word_steps : (text : List ℕ) (w : Word) → is_spelled (codes "module") text �
     is_spelled (codes "prog") text ≡ false → is_spelled (codes "kernel") text ≡ false → align_at text ≡ None →
     behind (codes "kernarg_") text ≡ None → behind (codes "group_") text ≡ None →
     instruction_word (instruction_at text) ≡ w → word_of text ≡ w
+unfolding word_of
 word_steps text w m p k a r g is = rw (m, p, k, a, r, g) is
 
 -- the row that spells the word of an instruction reads it
@@ -64,6 +66,7 @@ instruction_is_read row rest code c spelled =
 
 -- a text is read as the word that it spells
 pub word_is_read : (w : Word) (text : List ℕ) → SpellsWord w text → word_of text ≡ w
+unfolding word_of
 word_is_read word.Module text e = ap word_of e
 word_is_read word.Prog text e = ap word_of e
 word_is_read word.Kernel text e = ap word_of e
@@ -84,7 +87,7 @@ outside : (w other : Word) (text : List ℕ) → stands_in_modules w ≡ false �
 outside w other text no' e stands = true_is_not_false (stands_in_modules w) (ap stands_in_modules e ∙ stands) no'
 
 -- align(n) as a word is spelled
-align_is_word : (text : List ℕ) (m : Spelled ℕ) → align_at text ≡ Some m → m.length ≡ length text →
+align_is_word : (text : List ℕ) (m : Prefix ℕ) → align_at text ≡ Some m → m.length ≡ length text →
     SpellsWord (word.Align m.value) text
 align_is_word text m is whole =
     let r = named_is_found (codes "align(") numeral_at SpellsNumber number_is_spelled text m is in
@@ -129,7 +132,7 @@ other_is_spelled None text w found e stands =
     (chosen (is_some (behind (codes "group_") text)) word.Outside (instruction_word (instruction_at text)) w e)
 
 -- a word that is not one of a module's beginning is spelled
-named_is_spelled : (o : Option (Spelled ℕ)) (text : List ℕ) (w : Word) → align_at text ≡ o → named_word o text ≡ w →
+named_is_spelled : (o : Option (Prefix ℕ)) (text : List ℕ) (w : Word) → align_at text ≡ o → named_word o text ≡ w →
     stands_in_modules w ≡ true → SpellsWord w text
 named_is_spelled (Some n) text w found e stands =
     ⊎_elim
@@ -140,6 +143,7 @@ named_is_spelled None text w found e stands = other_is_spelled (behind (codes "k
 
 -- a text spells the word that it is read as, if that word stands in modules
 pub word_is_spelled : (w : Word) (text : List ℕ) → word_of text ≡ w → stands_in_modules w ≡ true → SpellsWord w text
+unfolding word_of
 word_is_spelled w text e stands =
     let named = named_word (align_at text) text in
     let kernel = if is_spelled (codes "kernel") text then word.Kernel else named in

@@ -3,7 +3,7 @@ use Rattle.std.specs.Prelude.{ℕ, ◌+◌, ◌*◌, ◌^◌, List, [], ◌∷�
 use Rattle.std.specs.Char.{is_digit, digit_value}
 use Rattle.std.specs.Option.{is_some, option_map}
 use Rattle.hsail_reader.specs.Spelling.{first_passes}
-use Rattle.hsail_reader.specs.Nouns.{Spelled, Width, All, Number, WaveSize}
+use Rattle.hsail_reader.specs.Nouns.{Prefix, Width, All, Number, WaveSize}
 
 -- the bytes behind this front, where it is their front
 abbrev pub behind : List ℕ → List ℕ → Option (List ℕ)
@@ -18,12 +18,12 @@ closing_at before (b ∷ bytes) =
     if b == 42 && first_passes (λ c. c == 47) bytes then Some (before + 2) else closing_at (before + 1) bytes
 
 -- what is read at the front, and how many bytes spell it
-abbrev pub spelled : {X : Type 0} → X → ℕ → Spelled X
+abbrev pub spelled : {X : Type 0} → X → ℕ → Prefix X
 spelled x length = record { value = x; length = length }
 
 -- the number that the digits at the front spell, behind `length` digits that spell `value`;
 -- nothing where it passes 64 bits
-abbrev pub digits_at : ℕ → ℕ → ℕ → List ℕ → Option (Spelled ℕ)
+abbrev pub digits_at : ℕ → ℕ → ℕ → List ℕ → Option (Prefix ℕ)
 digits_at radix value length [] = Some (spelled value length)
 digits_at radix value length (b ∷ bytes) =
     if is_digit b radix
@@ -33,7 +33,7 @@ digits_at radix value length (b ∷ bytes) =
     else Some (spelled value length)
 
 -- the decimal number at the front: 0, or digits without a leading zero
-abbrev pub decimal_at : List ℕ → Option (Spelled ℕ)
+abbrev pub decimal_at : List ℕ → Option (Prefix ℕ)
 decimal_at [] = None
 decimal_at (b ∷ bytes) =
     if is_digit b 10 then
@@ -41,12 +41,12 @@ decimal_at (b ∷ bytes) =
     else None
 
 -- where `0x` stands before these bytes, and otherwise
-abbrev pub numeral_behind : Option (List ℕ) → List ℕ → Option (Spelled ℕ)
+abbrev pub numeral_behind : Option (List ℕ) → List ℕ → Option (Prefix ℕ)
 numeral_behind None bytes = decimal_at bytes
 numeral_behind (Some rest) bytes = if first_passes (λ d. is_digit d 16) rest then digits_at 16 0 2 rest else decimal_at bytes
 
 -- the number at the front: `0x` and hexadecimal digits, or decimal
-abbrev pub numeral_at : List ℕ → Option (Spelled ℕ)
+abbrev pub numeral_at : List ℕ → Option (Prefix ℕ)
 numeral_at bytes = numeral_behind (behind (codes "0x") bytes) bytes
 
 infixl 10 ◌>>=◌
@@ -64,7 +64,7 @@ first_of read [] text = None
 first_of read (x ∷ others) text = or_else (read x text) (first_of read others text)
 
 -- a name of five letters with its bracket, what stands behind that, and the other bracket
-abbrev pub bracketed_at : {X : Type 0} → List ℕ → (List ℕ → Option (Spelled X)) → List ℕ → Option (Spelled X)
+abbrev pub bracketed_at : {X : Type 0} → List ℕ → (List ℕ → Option (Prefix X)) → List ℕ → Option (Prefix X)
 bracketed_at name inside_at bytes = do
   inside ← behind name bytes
   x ← inside_at inside
@@ -72,16 +72,16 @@ bracketed_at name inside_at bytes = do
   Some (spelled x.value (x.length + 7))
 
 -- align(n)
-abbrev pub align_at : List ℕ → Option (Spelled ℕ)
+abbrev pub align_at : List ℕ → Option (Prefix ℕ)
 align_at bytes = bracketed_at (codes "align(") numeral_at bytes
 
 -- a number, `all` or `WAVESIZE`
-abbrev pub width_value_at : List ℕ → Option (Spelled Width)
+abbrev pub width_value_at : List ℕ → Option (Prefix Width)
 width_value_at bytes =
     if is_some (behind (codes "all") bytes) then Some (spelled All 3)
     else if is_some (behind (codes "WAVESIZE") bytes) then Some (spelled WaveSize 8)
-    else option_map (λ (n : Spelled ℕ). spelled (Number n.value) n.length) (numeral_at bytes)
+    else option_map (λ (n : Prefix ℕ). spelled (Number n.value) n.length) (numeral_at bytes)
 
 -- width(w)
-abbrev pub width_at : List ℕ → Option (Spelled Width)
+abbrev pub width_at : List ℕ → Option (Prefix Width)
 width_at bytes = bracketed_at (codes "width(") width_value_at bytes

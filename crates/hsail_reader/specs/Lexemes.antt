@@ -5,7 +5,7 @@ use Rattle.std.specs.List.{prefix_len}
 use Rattle.std.specs.Option.{is_some, option_map}
 use Rattle.hsail_reader.specs.Bytes.{behind, closing_at, decimal_at, numeral_at, align_at, width_at, or_else, ◌>>=◌}
 use Rattle.hsail_reader.specs.Spelling.{first_passes, is_blank, is_mark, is_name_byte, is_name_start, is_not_line_feed}
-use Rattle.hsail_reader.specs.Nouns.{Header, HeaderName, Lexeme, LexemeKind, RegisterClass, Spelled, TokenKind, Width, Base, Blank, Comment, Control, Default, Double, Full, Large, Near, Single, Token, Zero}
+use Rattle.hsail_reader.specs.Nouns.{Header, HeaderName, Lexeme, LexemeKind, RegisterClass, Prefix, TokenKind, Width, Base, Blank, Comment, Control, Default, Double, Full, Large, Near, Single, Token, Zero}
 use Rattle.hsail_reader.specs.declared.token.TokenKind.TheVariants as token
 
 abbrev pub lexed : LexemeKind → ℕ → Lexeme
@@ -30,7 +30,7 @@ class_at [] = None
 class_at (b ∷ bytes) =
     if b == 99 then Some Control else if b == 115 then Some Single else if b == 100 then Some Double else None
 
-abbrev pub register : RegisterClass → Spelled ℕ → Lexeme
+abbrev pub register : RegisterClass → Prefix ℕ → Lexeme
 register class n =
     lexed (Token (token.Register (record { class = class; number = n.value }))) (n.length + 2)
 
@@ -72,9 +72,9 @@ abbrev pub dollar_at : List ℕ → Option Lexeme
 dollar_at bytes = or_else (register_at bytes) (header_among header_words bytes)
 
 abbrev pub number_at : List ℕ → Option Lexeme
-number_at bytes = option_map (λ (n : Spelled ℕ). lexed (Token (token.Number n.value)) n.length) (numeral_at bytes)
+number_at bytes = option_map (λ (n : Prefix ℕ). lexed (Token (token.Number n.value)) n.length) (numeral_at bytes)
 
-abbrev pub length_of : Option (Spelled ℕ) → Option (Spelled Width) → ℕ
+abbrev pub length_of : Option (Prefix ℕ) → Option (Prefix Width) → ℕ
 length_of None None = 0
 length_of None (Some w) = w.length + 1
 length_of (Some n) w = n.length + 1
@@ -100,7 +100,7 @@ pieces_length zero before (b ∷ bytes) =
     if 0 == piece_length (b ∷ bytes) then before
     else pieces_length (piece_length (b ∷ bytes) - 1) (before + piece_length (b ∷ bytes)) bytes
 
-abbrev pub word_of : Option (Spelled ℕ) → List ℕ → Lexeme
+abbrev pub word_of : Option (Prefix ℕ) → List ℕ → Lexeme
 word_of (Some n) bytes = lexed (Token token.Word) n.length
 word_of None bytes = lexed (Token token.Word) (pieces_length 0 1 (drop 1 bytes))
 

@@ -23,7 +23,7 @@ pub use Rattle.hsail_reader.specs.declared.token.Header.{Header}
 pub use Rattle.hsail_reader.specs.declared.token.HeaderName.{HeaderName}
 pub use Rattle.hsail_reader.specs.declared.token.Lexeme.{Lexeme}
 pub use Rattle.hsail_reader.specs.declared.token.LexemeKind.{LexemeKind}
-pub use Rattle.hsail_reader.specs.declared.token.Spelled.{Spelled}
+pub use Rattle.hsail_reader.specs.declared.token.Prefix.{Prefix}
 pub use Rattle.hsail_reader.specs.declared.token.TokenKind.{TokenKind}
 pub use Rattle.hsail_reader.specs.declared.types.Alignment.{Alignment}
 pub use Rattle.hsail_reader.specs.declared.types.BinaryOperation.{BinaryOperation}

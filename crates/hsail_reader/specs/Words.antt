@@ -4,7 +4,7 @@ use Rattle.std.specs.Prelude.{ℕ, List, [], ◌∷◌, Bool, true, false, ◌==
 use Rattle.std.specs.Option.{option_map}
 use Rattle.hsail_reader.specs.Bytes.{behind, first_of, align_at, width_at, ◌>>=◌}
 use Rattle.hsail_reader.specs.Rows.{InstructionRow, allows, rows, types_of, type_name}
-use Rattle.hsail_reader.specs.Nouns.{Alignment, DataType, Form, Modifiers, Opcode, Spelled, TypeSet, Width, Word, B1, Eight, Four, Memory, One, Sixteen, Two, Untyped}
+use Rattle.hsail_reader.specs.Nouns.{Alignment, DataType, Form, Modifiers, Opcode, Prefix, TypeSet, Width, Word, B1, Eight, Four, Memory, One, Sixteen, Two, Untyped}
 use Rattle.hsail_reader.specs.declared.words.Word.TheVariants as word
 
 -- nothing stands behind
@@ -26,11 +26,11 @@ type_at Untyped [] = Some B1
 type_at set bytes = behind (codes "_") bytes >>= type_among (types_of set)
 
 -- a modifier at the front, `_` and its name with brackets, if it stands there; and what stands behind it
-abbrev pub part_behind : {X : Type 0} → Option (Spelled X) → List ℕ → List ℕ → Option X × List ℕ
+abbrev pub part_behind : {X : Type 0} → Option (Prefix X) → List ℕ → List ℕ → Option X × List ℕ
 part_behind None inside bytes = (None, bytes)
 part_behind (Some x) inside bytes = (Some x.value, drop x.length inside)
 
-abbrev pub part_at : {X : Type 0} → (List ℕ → Option (Spelled X)) → List ℕ → Option X × List ℕ
+abbrev pub part_at : {X : Type 0} → (List ℕ → Option (Prefix X)) → List ℕ → Option X × List ℕ
 part_at named_at [] = (None, [])
 part_at named_at (b ∷ bytes) =
     if b == 95 then part_behind (named_at bytes) bytes (b ∷ bytes) else (None, b ∷ bytes)
@@ -87,12 +87,12 @@ other_word None text =
     if is_some (behind (codes "group_") text) then word.Outside
     else instruction_word (instruction_at text)
 
-abbrev pub named_word : Option (Spelled ℕ) → List ℕ → Word
+abbrev pub named_word : Option (Prefix ℕ) → List ℕ → Word
 named_word (Some n) text = if n.length == length text then word.Align n.value else word.Unknown
 named_word None text = other_word (behind (codes "kernarg_") text) text
 
 -- what a word is
-abbrev pub word_of : List ℕ → Word
+unfoldable pub word_of : List ℕ → Word
 word_of text =
     if is_spelled (codes "module") text then word.Module
     else if is_spelled (codes "prog") text then word.Prog

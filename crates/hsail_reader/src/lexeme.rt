@@ -1,7 +1,6 @@
 //! The lexeme at the front of some bytes, the longest of its kind.
 
-ghost use Rattle.std.specs.Prelude.{◌≡◌, ◌+◌, ◌<◌, ◌≤◌, length, map, IfSome, Some};
-ghost use Rattle.hsail_reader.specs.Lexemes as specified;
+ghost use Rattle.std.specs.Prelude.{◌≡◌, ◌+◌, ◌<◌, ◌≤◌, length, map};
 ghost use Rattle.hsail_reader.specs.Lexemes.{comment_at, name_at, class_at, register_at, header_words, header_view, header_among, dollar_at, number_at, modifier_length, piece_length, pieces_length, word_at, lexeme_at};
 ghost use Rattle.hsail_reader.specs.Spelling.{is_blank, is_mark};
 
@@ -37,19 +36,13 @@ fn mark(byte: u8) -> bool
     b"(){}[],;:+-".contains(&byte)
 }
 
-fn lexed(kind: LexemeKind, length: usize) -> Lexeme
-    ensures { result ≡ specified.lexed kind length }
-{
-    Lexeme { kind, length }
-}
-
 /// A comment, behind its first slash.
 fn comment(bytes: &[u8]) -> Option<Lexeme>
     ensures { result ≡ comment_at bytes.now }
 {
     match bytes {
-        [b'/', line @ ..] => Some(lexed(LexemeKind::Comment, line_run(line) + 2)),
-        [b'*', inside @ ..] => Some(lexed(LexemeKind::Comment, closing(inside)? + 2)),
+        [b'/', line @ ..] => Some(Lexeme::new(LexemeKind::Comment, line_run(line) + 2)),
+        [b'*', inside @ ..] => Some(Lexeme::new(LexemeKind::Comment, closing(inside)? + 2)),
         _ => None,
     }
 }
@@ -61,7 +54,7 @@ fn name(kind: TokenKind, bytes: &[u8]) -> Option<Lexeme>
     if !has_name(bytes) {
         return None;
     }
-    Some(lexed(LexemeKind::Token(kind), name_run(bytes) + 1))
+    Some(Lexeme::new(LexemeKind::Token(kind), name_run(bytes) + 1))
 }
 
 /// The class whose letter stands at the front.
@@ -88,7 +81,7 @@ fn register(bytes: &[u8]) -> Option<Lexeme>
         number: number.value,
     };
     let kind = LexemeKind::Token(TokenKind::Register(register));
-    Some(lexed(kind, number.length + 2))
+    Some(Lexeme::new(kind, number.length + 2))
 }
 
 /// A word of the header behind its dollar.
@@ -99,7 +92,7 @@ fn header(bytes: &[u8]) -> Option<Lexeme>
     while let [HeaderName(name, header), others @ ..] = names {
         if strip(name.as_bytes(), bytes).is_some() {
             let kind = LexemeKind::Token(TokenKind::Header(*header));
-            return Some(lexed(kind, name.len() + 1));
+            return Some(Lexeme::new(kind, name.len() + 1));
         }
         names = others;
     }
@@ -121,7 +114,7 @@ fn numeral(bytes: &[u8]) -> Option<Lexeme>
 {
     let number = number(bytes)?;
     let kind = LexemeKind::Token(TokenKind::Number(number.value));
-    Some(lexed(kind, number.length))
+    Some(Lexeme::new(kind, number.length))
 }
 
 /// How many bytes the modifier at the front takes, or 0.
@@ -182,7 +175,7 @@ fn word(bytes: &[u8]) -> Lexeme
         Some(align) => align.length,
         None => pieces(bytes.split_at(1).1),
     };
-    lexed(LexemeKind::Token(TokenKind::Word), length)
+    Lexeme::new(LexemeKind::Token(TokenKind::Word), length)
 }
 
 /// The lexeme at the front, if there is one.
@@ -193,13 +186,13 @@ pub fn lexeme(bytes: &[u8]) -> Option<Lexeme>
         return None;
     };
     match *first {
-        b if blank(b) => Some(lexed(LexemeKind::Blank, 1)),
+        b if blank(b) => Some(Lexeme::new(LexemeKind::Blank, 1)),
         b'/' => comment(rest),
         b'&' => name(TokenKind::Global, rest),
         b'%' => name(TokenKind::Variable, rest),
         b'@' => name(TokenKind::Label, rest),
         b'$' => dollar(rest),
-        b if mark(b) => Some(lexed(LexemeKind::Token(TokenKind::Mark(b)), 1)),
+        b if mark(b) => Some(Lexeme::new(LexemeKind::Token(TokenKind::Mark(b)), 1)),
         b if starts_name(b) => Some(word(bytes)),
         _ => numeral(bytes),
     }

@@ -4,11 +4,10 @@ ghost use Rattle.std.specs.Prelude.{◌≡◌, ◌+◌, ◌<◌, ◌≤◌, leng
 ghost use Rattle.std.specs.List.{prefix_len};
 ghost use Rattle.std.specs.Char.{is_digit};
 ghost use Rattle.std.specs.Option.{option_copied};
-ghost use Rattle.hsail_reader.specs.Bytes as specified;
 ghost use Rattle.hsail_reader.specs.Bytes.{behind, closing_at, digits_at, decimal_at, numeral_at, align_at, width_value_at, width_at};
 ghost use Rattle.hsail_reader.specs.Spelling.{first_passes, is_name_byte, is_name_start, is_not_line_feed};
 
-use crate::token::Spelled;
+use crate::token::Prefix;
 use crate::types::Width;
 
 /// Whether a byte may begin a name: a letter or `_`.
@@ -89,12 +88,6 @@ pub fn closing(bytes: &[u8]) -> Option<usize>
     None
 }
 
-fn spelled<X>(value: X, length: usize) -> Spelled<X>
-    ensures { result ≡ specified.spelled value length }
-{
-    Spelled { value, length }
-}
-
 /// Whether the bytes begin with a digit.
 fn has_digit(radix: u32, bytes: &[u8]) -> bool
     requires low { 2 ≤ radix }
@@ -106,7 +99,7 @@ fn has_digit(radix: u32, bytes: &[u8]) -> bool
 
 /// The number that the digits at the front spell, behind `before` bytes that spell `value`; nothing
 /// where the number passes 64 bits.
-fn digits(radix: u32, value: u64, before: usize, bytes: &[u8]) -> Option<Spelled<u64>>
+fn digits(radix: u32, value: u64, before: usize, bytes: &[u8]) -> Option<Prefix<u64>>
     requires low { 2 ≤ radix }
     requires high { radix ≤ 16 }
     requires short { before ≤ 2 }
@@ -126,11 +119,11 @@ fn digits(radix: u32, value: u64, before: usize, bytes: &[u8]) -> Option<Spelled
         length += 1;
         rest = tail;
     }
-    Some(spelled(total, length))
+    Some(Prefix::new(total, length))
 }
 
 /// The decimal number at the front: 0, or digits without a leading zero.
-pub fn decimal(bytes: &[u8]) -> Option<Spelled<u64>>
+pub fn decimal(bytes: &[u8]) -> Option<Prefix<u64>>
     ensures value { result ≡ decimal_at bytes.now }
     ensures bound { IfSome result (λ n. n.length ≤ length bytes.now) }
 {
@@ -139,13 +132,13 @@ pub fn decimal(bytes: &[u8]) -> Option<Spelled<u64>>
     };
     let digit = char::from(*first).to_digit(10)?;
     if digit == 0 {
-        return Some(spelled(0, 1));
+        return Some(Prefix::new(0, 1));
     }
     digits(10, u64::from(digit), 1, rest)
 }
 
 /// The number at the front: `0x` and hexadecimal digits, or decimal.
-pub fn number(bytes: &[u8]) -> Option<Spelled<u64>>
+pub fn number(bytes: &[u8]) -> Option<Prefix<u64>>
     ensures value { result ≡ numeral_at bytes.now }
     ensures bound { IfSome result (λ n. n.length ≤ length bytes.now) }
 {
@@ -156,38 +149,38 @@ pub fn number(bytes: &[u8]) -> Option<Spelled<u64>>
 }
 
 /// `align(n)` at the front.
-pub fn align(bytes: &[u8]) -> Option<Spelled<u64>>
+pub fn align(bytes: &[u8]) -> Option<Prefix<u64>>
     ensures value { result ≡ align_at bytes.now }
     ensures bound { IfSome result (λ n. n.length ≤ length bytes.now) }
 {
     let inside = strip(b"align(", bytes)?;
     let number = number(inside)?;
     strip(b")", inside.split_at(number.length).1)?;
-    Some(spelled(number.value, number.length + 7))
+    Some(Prefix::new(number.value, number.length + 7))
 }
 
 /// A number, `all` or `WAVESIZE` at the front.
-fn width_value(bytes: &[u8]) -> Option<Spelled<Width>>
+fn width_value(bytes: &[u8]) -> Option<Prefix<Width>>
     ensures value { result ≡ width_value_at bytes.now }
     ensures bound { IfSome result (λ w. w.length ≤ length bytes.now) }
 {
     if strip(b"all", bytes).is_some() {
-        return Some(spelled(Width::All, 3));
+        return Some(Prefix::new(Width::All, 3));
     }
     if strip(b"WAVESIZE", bytes).is_some() {
-        return Some(spelled(Width::WaveSize, 8));
+        return Some(Prefix::new(Width::WaveSize, 8));
     }
     let number = number(bytes)?;
-    Some(spelled(Width::Number(number.value), number.length))
+    Some(Prefix::new(Width::Number(number.value), number.length))
 }
 
 /// `width(n)`, `width(all)` or `width(WAVESIZE)` at the front.
-pub fn width(bytes: &[u8]) -> Option<Spelled<Width>>
+pub fn width(bytes: &[u8]) -> Option<Prefix<Width>>
     ensures value { result ≡ width_at bytes.now }
     ensures bound { IfSome result (λ w. w.length ≤ length bytes.now) }
 {
     let inside = strip(b"width(", bytes)?;
     let value = width_value(inside)?;
     strip(b")", inside.split_at(value.length).1)?;
-    Some(spelled(value.value, value.length + 7))
+    Some(Prefix::new(value.value, value.length + 7))
 }

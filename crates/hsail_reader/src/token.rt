@@ -1,3 +1,7 @@
+ghost use Rattle.std.specs.Prelude.{◌≡◌};
+ghost use Rattle.hsail_reader.specs.Bytes.{spelled};
+ghost use Rattle.hsail_reader.specs.Lexemes.{lexed};
+
 use crate::types::Register;
 
 /// A lexeme at the front of some bytes: what it is, and how many bytes it takes.
@@ -5,6 +9,14 @@ use crate::types::Register;
 pub struct Lexeme {
     pub kind: LexemeKind,
     pub length: usize,
+}
+
+impl Lexeme {
+    pub fn new(kind: LexemeKind, length: usize) -> Lexeme
+        ensures { result ≡ lexed kind length }
+    {
+        Lexeme { kind, length }
+    }
 }
 
 /// Blanks and comments only separate; the others are tokens.
@@ -59,12 +71,20 @@ pub struct Token<'a> {
     pub line: u32,
 }
 
-/// What stands at the front of some bytes, as a number or what is in brackets: its value, and how many
-/// bytes spell it.
+/// A number at the front of some bytes, or a name with its brackets: its value, and how many bytes
+/// spell it.
 #[derive(Clone, Copy)]
-pub struct Spelled<X> {
+pub struct Prefix<X> {
     pub value: X,
     pub length: usize,
+}
+
+impl<X> Prefix<X> {
+    pub fn new(value: X, length: usize) -> Prefix<X>
+        ensures { result ≡ spelled value length }
+    {
+        Prefix { value, length }
+    }
 }
 
 /// A word of the header without its dollar, and what it is.

@@ -167,6 +167,7 @@ pub fn variable_alignment(n: u64) -> Option<Alignment>
 }
 
 /// What a word is.
+#[tactic(auto, unfolding(crate::specs::Words::word_of))]
 pub fn classify(text: &[u8]) -> Word
     ensures { result ≡ word_of text.now }
 {

@@ -1,5 +1,5 @@
 -- Names are found in the plain list as in the map behind it.
-use Rattle.std.proofs.Common.{◌≡◌, ℕ, Bool, true, false, cond, List, [], ◌∷◌, ◌++◌, nat_eq, Option, Some, None, refl, ap, sym, ◌∙◌}
+use Rattle.std.proofs.Common.{◌≡◌, ℕ, Bool, true, false, cond, List, [], ◌∷◌, ◌++◌, nat_eq, Option, Some, None, is_some, refl, ap, sym, ◌∙◌}
 use Rattle.std.specs.Borrow.{Bor}
 use Rattle.std.specs.Cmp.Lexicographic.{pointwise}
 use Rattle.std.specs.Map.{lookup}
@@ -61,6 +61,7 @@ kept_at q name names v w None there e = kept_none q name names v w (bytes_eq q n
 kept_at q name names v w (Some y) there e = refl
 
 -- a name that is there already isn't put in again
-pub kept : {X : Type 0} (q name : List ℕ) (names : Known X) (v w : X) → find names name ≡ Some w
+pub kept : {X : Type 0} (q name : List ℕ) (names : Known X) (v : X) (o : Option X) → o ≡ find names name → is_some o ≡ true
     → find names q ≡ or_else (find names q) (find ((name, v) ∷ []) q)
-kept q name names v w there = kept_at q name names v w (find names q) there refl
+kept q name names v None is there = cc
+kept q name names v (Some w) is there = kept_at q name names v w (find names q) (sym is) refl
