@@ -9,6 +9,5 @@ pub mod Lookups
 pub mod InPlace
 pub mod Polling
 pub mod Stopping
-pub mod OwingHost
 pub mod Held
 pub mod Granting

@@ -17,10 +17,6 @@ abbrev pub bytes_within : History → Address → ℕ → Option (List ℕ)
 bytes_within history address size =
     if is_within (region_lengths history.start) address.0 size then Some (memory_from history.start history.entries address.0 size) else None
 
--- an opening, from its parts
-abbrev pub opening_from : ClientId × AgentHandle → Opening
-opening_from parts = record { client = parts.0; agent = parts.1 }
-
 -- this is what is kept of a queue of the history: who opened it, and what became of it since
 pub record IsQueue (history : History) (queue : QueueId) (kept : Option Queue) : Type 0 where
   pub opening : option_map kept_opening kept ≡ owner history.start history.entries queue

@@ -14,7 +14,6 @@ mod running;
 mod serving;
 mod stopping;
 mod taking;
-mod told;
 mod working;
 
 use crate::queue::Queue;

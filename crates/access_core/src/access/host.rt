@@ -1,19 +1,18 @@
 //! What clients do from outside their queues: they write memory and change signals.
 
 ghost use Rattle.std.specs.Prelude.{◌≡◌, ◌-◌, ◌∷◌, [], OnOk, IfOk, IfErr, Some, true, length, slice_set};
-ghost use Rattle.regions.specs.Memory.{is_within, lengths_of};
+ghost use Rattle.regions.specs.Memory.{is_within};
 ghost use Rattle.signals.specs.Values.{applied, value_of};
 ghost use Rattle.core_model.specs.Owed.{enters, old_if_asked, refuses};
 ghost use Rattle.core_model.specs.Legal.{Meets, MeetsOrLacks, accepted, wrapped};
-ghost use Rattle.access_core.specs.OwingHost.{ChangeOwed, WriteOwed};
+ghost use Rattle.core_model.specs.Memory.{region_lengths, signals};
+ghost use Rattle.access_core.specs.InPlace.{IsOwed};
 
 use crate::access::lookups::region_at;
 use crate::access::{AccessCore, enter, lacks_room};
 use aql_packet::{Address, ClientId, SignalHandle};
 use core_model::{Effect, Effects, Event, MOST_HOST_BYTES, Outcome, Refusal};
-use grants::Grants;
-use policy::{Object, Policy, Right};
-use regions::Regions;
+use policy::{Object, Right};
 use sequences::Sequence;
 use signals::{SignalOp, Signals};
 use std::alloc::Global;
@@ -29,14 +28,7 @@ impl AccessCore {
     ) -> Result<i64, Refusal>
         ensures { Meets (Event.ChangeSignal client signal operation) self.old self.new (wrapped Outcome.Changed result) }
     {
-        let old = may_change(
-            &self.policy,
-            &self.grants,
-            &self.signals,
-            client,
-            signal,
-            operation,
-        )?;
+        let old = self.may_change(client, signal, operation)?;
         if lacks_room(self.capacity, self.audit.len(), self.flying) {
             return Err(Refusal::AuditFull);
         }
@@ -46,7 +38,7 @@ impl AccessCore {
             signal,
             operation,
         };
-        let answer = told(operation, old);
+        let answer = old_if_asked(operation, old);
         let effects = Effects::one(Effect::Signal { signal, old, new });
         enter(&mut self.audit, event, Outcome::Changed(answer), effects);
         Ok(answer)
@@ -63,14 +55,7 @@ impl AccessCore {
     ) -> Result<(), Refusal>
         ensures { MeetsOrLacks (Event.HostWrite client address bytes) self.old self.new (accepted result) }
     {
-        may_write(
-            &self.policy,
-            &self.grants,
-            &self.memory,
-            client,
-            address,
-            &bytes,
-        )?;
+        self.may_write(client, address, &bytes)?;
         if lacks_room(self.capacity, self.audit.len(), self.flying) {
             return Err(Refusal::AuditFull);
         }
@@ -88,72 +73,66 @@ impl AccessCore {
         enter(&mut self.audit, event, Outcome::Accepted, effects);
         Ok(())
     }
-}
 
-// Whether a client may write these bytes from an address on.
-#[tactic(auto, unfolding(core_model::specs::Owed::owed))]
-fn may_write(
-    policy: &Policy,
-    grants: &Grants,
-    memory: &Regions,
-    client: ClientId,
-    address: Address,
-    bytes: &Sequence<u8>,
-) -> Result<(), Refusal>
-    ensures within { OnOk result (is_within (lengths_of memory.now) address.0 (length bytes.now) ≡ true) }
-    ensures may { OnOk result (WriteOwed policy.now grants.now memory.now client address bytes.now
-        (enters Outcome.Accepted (Effect.Write address bytes.now ∷ []))) }
-    ensures why { IfErr result (λ why.
-        WriteOwed policy.now grants.now memory.now client address bytes.now (refuses why)) }
-{
-    if !policy.declares_client(client) {
-        return Err(Refusal::UnknownClient);
-    }
-    if bytes.is_empty() || bytes.len() as u64 > MOST_HOST_BYTES {
-        return Err(Refusal::BadSize);
-    }
-    let region = Object::Region(region_at(address));
-    if !lies_within(memory, address, bytes.len())
-        || !grants.is_in_force(client, region, Right::Write)
+    // Whether a client may write these bytes from an address on.
+    #[tactic(auto, unfolding(core_model::specs::Owed::owed))]
+    fn may_write(
+        &self,
+        client: ClientId,
+        address: Address,
+        bytes: &Sequence<u8>,
+    ) -> Result<(), Refusal>
+        ensures within { OnOk result (is_within (region_lengths self.now.start) address.0 (length bytes.now) ≡ true) }
+        ensures may { OnOk result (IsOwed self.now (Event.HostWrite client address bytes.now)
+            (enters Outcome.Accepted (Effect.Write address bytes.now ∷ []))) }
+        ensures why { IfErr result (λ why. IsOwed self.now (Event.HostWrite client address bytes.now) (refuses why)) }
     {
-        return Err(Refusal::Denied(Right::Write));
+        if !self.policy().declares_client(client) {
+            return Err(Refusal::UnknownClient);
+        }
+        if bytes.is_empty() || bytes.len() as u64 > MOST_HOST_BYTES {
+            return Err(Refusal::BadSize);
+        }
+        let region = Object::Region(region_at(address));
+        if !self.lies_within(address, bytes.len())
+            || !self.is_in_force(client, region, Right::Write)
+        {
+            return Err(Refusal::Denied(Right::Write));
+        }
+        Ok(())
     }
-    Ok(())
-}
 
-// Whether a range of addresses lies whole in one region.
-fn lies_within(memory: &Regions, address: Address, size: usize) -> bool
-    ensures { result ≡ is_within (lengths_of memory.now) address.0 size }
-{
-    memory.contains(address, size as u64)
-}
+    // Whether a range of addresses lies whole in one region.
+    fn lies_within(&self, address: Address, size: usize) -> bool
+        ensures { result ≡ is_within (region_lengths self.now.start) address.0 size }
+    {
+        self.memory.contains(address, size as u64)
+    }
 
-// Whether a client may change a signal, and the signal's value.
-#[tactic(auto, unfolding(core_model::specs::Owed::owed))]
-fn may_change(
-    policy: &Policy,
-    grants: &Grants,
-    signals: &Signals,
-    client: ClientId,
-    signal: SignalHandle,
-    operation: SignalOp,
-) -> Result<i64, Refusal>
-    ensures value { IfOk result (λ old. value_of signals.now signal.0 ≡ Some old) }
-    ensures may { IfOk result (λ old. ChangeOwed policy.now grants.now signals.now client signal operation
-        (enters (Outcome.Changed (old_if_asked operation old))
-        (Effect.Signal signal old (applied operation old) ∷ []))) }
-    ensures why { IfErr result (λ why.
-        ChangeOwed policy.now grants.now signals.now client signal operation (refuses why)) }
-{
-    if !policy.declares_client(client) {
-        return Err(Refusal::UnknownClient);
-    }
-    if !grants.is_in_force(client, Object::Signal(signal), Right::Change) {
-        return Err(Refusal::Denied(Right::Change));
-    }
-    match signals.load(signal) {
-        Ok(old) => Ok(old),
-        Err(_) => Err(Refusal::Denied(Right::Change)),
+    // Whether a client may change a signal, and the signal's value.
+    #[tactic(auto, unfolding(core_model::specs::Owed::owed))]
+    fn may_change(
+        &self,
+        client: ClientId,
+        signal: SignalHandle,
+        operation: SignalOp,
+    ) -> Result<i64, Refusal>
+        ensures value { IfOk result (λ old. value_of (signals self.now.start self.now.entries) signal.0 ≡ Some old) }
+        ensures may { IfOk result (λ old. IsOwed self.now (Event.ChangeSignal client signal operation)
+            (enters (Outcome.Changed (old_if_asked operation old))
+            (Effect.Signal signal old (applied operation old) ∷ []))) }
+        ensures why { IfErr result (λ why. IsOwed self.now (Event.ChangeSignal client signal operation) (refuses why)) }
+    {
+        if !self.policy().declares_client(client) {
+            return Err(Refusal::UnknownClient);
+        }
+        if !self.is_in_force(client, Object::Signal(signal), Right::Change) {
+            return Err(Refusal::Denied(Right::Change));
+        }
+        match self.signal_value(signal) {
+            Some(old) => Ok(old),
+            None => Err(Refusal::Denied(Right::Change)),
+        }
     }
 }
 
@@ -164,12 +143,12 @@ fn change(signals: &mut Signals, signal: SignalHandle, operation: SignalOp, old:
     ensures new { result ≡ applied operation old }
     ensures values { signals.new ≡ slice_set signals.old (signal.0 - 1) (applied operation old) }
 {
-    let _ = signals.apply(signal, operation);
-    operation.applied(old)
+    let before = signals.apply(signal, operation).unwrap_or(old);
+    operation.applied(before)
 }
 
-// What is told of the old value.
-fn told(operation: SignalOp, old: i64) -> i64
+// What a change answers of the old value.
+fn old_if_asked(operation: SignalOp, old: i64) -> i64
     ensures { result ≡ old_if_asked operation old }
 {
     match operation {

@@ -1,18 +1,17 @@
 //! What the core looks up before it decides a call.
 
-ghost use Rattle.std.specs.Prelude.{◌≡◌, option_map};
+ghost use Rattle.std.specs.Prelude.{◌≡◌};
 ghost use Rattle.std.specs.Option.{option_copied};
 ghost use Rattle.policy.specs.Policy.{numbered};
 ghost use Rattle.regions.specs.Memory.{region_of};
 ghost use Rattle.signals.specs.Values.{value_of};
 ghost use Rattle.core_model.specs.Grants.{in_force};
 ghost use Rattle.core_model.specs.Memory.{signals};
-ghost use Rattle.core_model.specs.Queues.{owner};
-ghost use Rattle.access_core.specs.Lookups.{IsQueue, bytes_within, opening_from};
+ghost use Rattle.access_core.specs.Lookups.{IsQueue, bytes_within};
 
 use crate::access::AccessCore;
 use crate::queue::Queue;
-use aql_packet::{Address, AgentHandle, ClientId, QueueId, RegionHandle, SignalHandle};
+use aql_packet::{Address, ClientId, QueueId, RegionHandle, SignalHandle};
 use policy::{Object, Right};
 
 impl AccessCore {
@@ -42,14 +41,6 @@ impl AccessCore {
         ensures { IsQueue self.now queue (option_copied result) }
     {
         queue_of(self.queues.as_slice(), queue)
-    }
-
-    // Whose a queue is and which agent runs its packets, if it was opened.
-    pub(crate) fn owner_of(&self, queue: QueueId) -> Option<(ClientId, AgentHandle)>
-        ensures { option_map opening_from result ≡ owner self.now.start self.now.entries queue }
-    {
-        let queue = self.queue(queue)?;
-        Some((queue.client, queue.agent))
     }
 }
 

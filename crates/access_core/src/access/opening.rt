@@ -100,10 +100,9 @@ fn length_behind(policy: &Policy, before: usize) -> u32
     requires small { before < 1024 }
     ensures { length_of policy.now (before + 1) ≡ Some result }
 {
-    match policy.region_length(RegionHandle(before as u32 + 1)) {
-        Some(length) => length,
-        None => unreachable!(),
-    }
+    policy
+        .region_length(RegionHandle(before as u32 + 1))
+        .unwrap_or(0)
 }
 
 // Memory takes the lengths of a policy's regions: each policy is within its limits.
@@ -133,10 +132,9 @@ fn value_behind(policy: &Policy, before: usize) -> i64
     requires small { before < 1024 }
     ensures { initial_of policy.now (before + 1) ≡ Some result }
 {
-    match policy.signal_initial(SignalHandle(before as u64 + 1)) {
-        Some(value) => value,
-        None => unreachable!(),
-    }
+    policy
+        .signal_initial(SignalHandle(before as u64 + 1))
+        .unwrap_or(0)
 }
 
 // A core in which nothing has happened.

@@ -1,13 +1,9 @@
 //! Requests are served, one or many: each call by its name.
 
 ghost use Rattle.std.specs.Prelude.{◌≡◌, ◌≤◌, [], IfOk, OnErr, length};
-ghost use Rattle.core_model.specs.Legal.{AreReplies, IsServed, MeetsOrLacks, RepliesOrLacks};
+ghost use Rattle.core_model.specs.Legal.{AreReplies, IsServed, MeetsOrLacks, RepliesOrLacks, as_reply};
 
 use crate::access::AccessCore;
-use crate::access::told::{
-    accepted, as_reply, bytes_told, changed, errors_told, listing_told, opened, polled, taken,
-    test_told, value_told, worked,
-};
 use core_model::{Answer, Entry, Event, Outcome, Query, Refusal, Reply, Request};
 use sequences::{Reserved, Sequence};
 use std::alloc::{AllocError, Global};
@@ -67,36 +63,50 @@ impl AccessCore {
                 client,
                 object,
                 rights,
-            } => accepted(self.grant(client, object, rights)),
+            } => self
+                .grant(client, object, rights)
+                .map(|()| Outcome::Accepted),
             Event::Revoke {
                 client,
                 object,
                 rights,
-            } => accepted(self.revoke(client, object, rights)),
+            } => self
+                .revoke(client, object, rights)
+                .map(|()| Outcome::Accepted),
             Event::OpenQueue {
                 client,
                 agent,
                 size,
-            } => opened(self.open_queue(alloc, client, agent, size)),
-            Event::Stop { queue } => accepted(self.stop(queue)),
+            } => self
+                .open_queue(alloc, client, agent, size)
+                .map(Outcome::Opened),
+            Event::Stop { queue } => self.stop(queue).map(|()| Outcome::Accepted),
             Event::Take {
                 queue,
                 packet,
                 bytes,
-            } => taken(self.take(alloc, queue, packet, &bytes)),
-            Event::RunNext { queue, packet } => worked(self.run_next(alloc, queue, packet)),
-            Event::Poll { queue, packet } => polled(self.poll(queue, packet)),
-            Event::Finish { queue, packet } => accepted(self.finish(queue, packet)),
+            } => self.take(alloc, queue, packet, &bytes).map(Outcome::Taken),
+            Event::RunNext { queue, packet } => self
+                .run_next(alloc, queue, packet)
+                .map(Outcome::Worked),
+            Event::Poll { queue, packet } => self.poll(queue, packet).map(Outcome::Polled),
+            Event::Finish { queue, packet } => self
+                .finish(queue, packet)
+                .map(|()| Outcome::Accepted),
             Event::HostWrite {
                 client,
                 address,
                 bytes,
-            } => accepted(self.host_write(alloc, client, address, bytes)),
+            } => self
+                .host_write(alloc, client, address, bytes)
+                .map(|()| Outcome::Accepted),
             Event::ChangeSignal {
                 client,
                 signal,
                 operation,
-            } => changed(self.signal_op(client, signal, operation)),
+            } => self
+                .signal_op(client, signal, operation)
+                .map(Outcome::Changed),
         }
     }
 
@@ -109,22 +119,35 @@ impl AccessCore {
                 client,
                 address,
                 length,
-            } => bytes_told(self.host_read(alloc, client, address, length)),
-            Query::LoadSignal { client, signal } => value_told(self.signal_load(client, signal)),
+            } => self
+                .host_read(alloc, client, address, length)
+                .map(Answer::Bytes),
+            Query::LoadSignal { client, signal } => self
+                .signal_load(client, signal)
+                .map(Answer::Value),
             Query::TestSignal {
                 client,
                 signal,
                 condition,
                 value,
-            } => test_told(self.signal_test(client, signal, condition, value)),
-            Query::List { client } => listing_told(self.list(alloc, client)),
-            Query::Errors { queue } => errors_told(self.errors(alloc, queue)),
+            } => self
+                .signal_test(client, signal, condition, value)
+                .map(Answer::Test),
+            Query::List { client } => self.list(alloc, client).map(Answer::Listing),
+            Query::Errors { queue } => self.errors(alloc, queue).map(Answer::Errors),
             Query::Audit => match copy_entries(alloc, self.audit()) {
                 Ok(entries) => Ok(Answer::Audit(entries)),
                 Err(_) => Err(Refusal::OutOfMemory),
             },
         }
     }
+}
+
+// What an event came to, as a reply.
+fn as_reply(made: Result<Outcome, Refusal>) -> Reply
+    ensures { result ≡ as_reply made }
+{
+    made.map(Answer::Outcome)
 }
 
 // The same entries once more.

@@ -7,11 +7,14 @@ use Rattle.aql_packet.specs.declared.ids.ClientId.{ClientId}
 use Rattle.core_model.specs.declared.event.Event.TheVariants.{HostWrite}
 use Rattle.core_model.specs.declared.entry.Effect.TheVariants.{Write}
 use Rattle.core_model.specs.declared.outcome.Outcome.TheVariants as outcome
+use Rattle.regions.specs.Memory.{is_within}
+use Rattle.core_model.specs.Memory.{region_lengths}
+use Rattle.std.proofs.Common.{subst, sym}
 use Rattle.access_core.specs.Kept.{start_of}
 use Rattle.access_core.proofs.HeldMoves.{grants-still}
 use Rattle.access_core.proofs.KeptMore.{IsKept-more, flying-still, launches-none, queues-still}
 use Rattle.access_core.proofs.QueueAt.{IsQuiet, flight-quiet}
-use Rattle.access_core.proofs.Calls.{full, entered}
+use Rattle.access_core.proofs.Calls.{full, entered, owed-inside}
 use Rattle.access_core.proofs.HostMemory.{byte_at-written}
 use Rattle.access_core.proofs.access.AccessCore.host_write.Goals as goal
 
@@ -22,7 +25,12 @@ pub returns-then-lacks_room : goal.returns-then-lacks_room
 returns-then-lacks_room c =
     let a = c.self.inside in
     let lacks : nat_lt a.capacity (length a.audit.items + 1 + a.flying) ≡ true = cc in
-    inl (full _ a _ c.self.view_is _ _ a.flying (flying-still a c.self.invariant _ _ _ (quiet c.args.client c.args.address c.args.bytes)) (c.in_ok-may_write.ensures.may _ c.self.invariant.granted c.self.invariant.lengths) lacks)
+    inl (full _ a _ c.self.view_is _ _ a.flying (flying-still a c.self.invariant _ _ _ (quiet c.args.client c.args.address c.args.bytes)) (owed-inside _ c.self.inside _ c.self.view_is _ c.in_ok-may_write.ensures.may) lacks)
+
+pub lay-requires : goal.lay-requires
+lay-requires c =
+    rw (c.as_slice.ensures, c.self.invariant.lengths)
+    (subst (λ h. is_within (region_lengths h.start) c.args.address.0 (length c.args.bytes) ≡ true) (sym c.self.view_is) c.in_ok-may_write.ensures.within)
 
 pub invariant_of-self : goal.invariant_of-self
 invariant_of-self c =
@@ -45,7 +53,7 @@ invariant_of-self c =
       queues = queues-still a c.self.invariant _ _ _ calm refl;
       launches = launches-none a c.self.invariant _ _ _ calm;
     })
-    (c.in_ok-may_write.ensures.may _ c.self.invariant.granted c.self.invariant.lengths)
+    (owed-inside _ c.self.inside _ c.self.view_is _ c.in_ok-may_write.ensures.may)
 
 pub returns : goal.returns
 returns c =
@@ -53,4 +61,4 @@ returns c =
     let room : nat_lt a.capacity (length a.audit.items + 1 + a.flying) ≡ false = cc in
     inl
     (entered _ a _ c.self.view_is _ outcome.Accepted _ a.flying (flying-still a c.self.invariant _ _ _ (quiet c.args.client c.args.address c.args.bytes)) (rw (c.one-effects.ensures, c.in_ok-written.ensures) at c.enter.ensures.entries)
-    (c.in_ok-may_write.ensures.may _ c.self.invariant.granted c.self.invariant.lengths) room)
+    (owed-inside _ c.self.inside _ c.self.view_is _ c.in_ok-may_write.ensures.may) room)

@@ -10,11 +10,14 @@ use Rattle.core_model.specs.declared.event.Event.TheVariants.{ChangeSignal}
 use Rattle.core_model.specs.declared.entry.Effect.TheVariants as effect
 use Rattle.core_model.specs.declared.outcome.Outcome.TheVariants as outcome
 use Rattle.core_model.specs.Owed.{old_if_asked}
+use Rattle.signals.specs.Values.{value_of}
+use Rattle.core_model.specs.Memory.{signals}
+use Rattle.std.proofs.Common.{Some, subst, sym}
 use Rattle.access_core.specs.Kept.{start_of}
 use Rattle.access_core.proofs.HeldMoves.{grants-still}
 use Rattle.access_core.proofs.KeptMore.{IsKept-more, flying-still, launches-none, memory-still, queues-still}
 use Rattle.access_core.proofs.QueueAt.{IsQuiet, flight-quiet}
-use Rattle.access_core.proofs.Calls.{full, entered}
+use Rattle.access_core.proofs.Calls.{full, entered, owed-inside}
 use Rattle.access_core.proofs.access.AccessCore.signal_op.Goals as goal
 
 quiet : (client : ClientId) (signal : SignalHandle) (operation : SignalOp) (old : ℤ) → IsQuiet (ChangeSignal client signal operation) (outcome.Changed (old_if_asked operation old)) (effect.Signal signal old (applied operation old) ∷ [])
@@ -24,17 +27,17 @@ pub returns-then-lacks_room : goal.returns-then-lacks_room
 returns-then-lacks_room c =
     let a = c.self.inside in
     let lacks : nat_lt a.capacity (length a.audit.items + 1 + a.flying) ≡ true = cc in
-    full _ a _ c.self.view_is _ _ a.flying (flying-still a c.self.invariant _ _ _ (quiet c.args.client c.args.signal c.args.operation c.in_ok-old.old)) (c.in_ok-old.ensures.may _ c.self.invariant.granted c.self.invariant.values) lacks
+    full _ a _ c.self.view_is _ _ a.flying (flying-still a c.self.invariant _ _ _ (quiet c.args.client c.args.signal c.args.operation c.in_ok-old.old)) (owed-inside _ c.self.inside _ c.self.view_is _ c.in_ok-old.ensures.may) lacks
 
 pub invariant_of-self : goal.invariant_of-self
 invariant_of-self c =
     let room : nat_lt c.self.inside.capacity (length c.self.inside.audit.items + 1 + c.self.inside.flying) ≡ false = cc in
     let fits : SFits w64 c.in_ok-old.old = search rules in
-    let fits-told : SFits w64 c.told-answer.result = search rules in
+    let fits-told : SFits w64 c.old_if_asked-answer.result = search rules in
     let fits-new : SFits w64 c.change-new.result = search rules in
     let values = simp to_z-of_z at c.change-new.ensures.values in
     let entries = simp (to_z-of_z, c.one-effects.ensures) at c.enter.ensures.entries in
-    let told = simp to_z-of_z at c.told-answer.ensures in
+    let told = simp to_z-of_z at c.old_if_asked-answer.ensures in
     let new = simp to_z-of_z at c.change-new.ensures.new in
     let calm = quiet c.args.client c.args.signal c.args.operation c.in_ok-old.old in
     IsKept-more c.self.inside _ (ChangeSignal c.args.client c.args.signal c.args.operation) (outcome.Changed (old_if_asked c.args.operation c.in_ok-old.old))
@@ -51,17 +54,17 @@ invariant_of-self c =
       queues = queues-still c.self.inside c.self.invariant _ _ _ calm refl;
       launches = launches-none c.self.inside c.self.invariant _ _ _ calm;
     })
-    (c.in_ok-old.ensures.may _ c.self.invariant.granted c.self.invariant.values)
+    (owed-inside _ c.self.inside _ c.self.view_is _ c.in_ok-old.ensures.may)
 
 pub returns : goal.returns
 returns c =
     let room : nat_lt c.self.inside.capacity (length c.self.inside.audit.items + 1 + c.self.inside.flying) ≡ false = cc in
     let fits : SFits w64 c.in_ok-old.old = search rules in
-    let fits-told : SFits w64 c.told-answer.result = search rules in
+    let fits-told : SFits w64 c.old_if_asked-answer.result = search rules in
     let fits-new : SFits w64 c.change-new.result = search rules in
     let entries = simp (to_z-of_z, c.one-effects.ensures) at c.enter.ensures.entries in
-    let told = simp to_z-of_z at c.told-answer.ensures in
+    let told = simp to_z-of_z at c.old_if_asked-answer.ensures in
     let new = simp to_z-of_z at c.change-new.ensures.new in
     simp to_z-of_z
     (rw told
-    (entered _ c.self.inside _ c.self.view_is _ _ _ c.self.inside.flying (flying-still c.self.inside c.self.invariant _ _ _ (quiet c.args.client c.args.signal c.args.operation c.in_ok-old.old)) (rw (told, new) at entries) (c.in_ok-old.ensures.may _ c.self.invariant.granted c.self.invariant.values) room))
+    (entered _ c.self.inside _ c.self.view_is _ _ _ c.self.inside.flying (flying-still c.self.inside c.self.invariant _ _ _ (quiet c.args.client c.args.signal c.args.operation c.in_ok-old.old)) (rw (told, new) at entries) (owed-inside _ c.self.inside _ c.self.view_is _ c.in_ok-old.ensures.may) room))
