@@ -29,16 +29,6 @@ impl Page {
         }
     }
 
-    /// Writes one byte.
-    #[inline(always)]
-    fn set(&mut self, place: usize, byte: u8)
-        requires { place < 64 }
-        ensures { (x : ℕ) → page_byte self.new x ≡ laid (page_byte self.old) place (byte ∷ []) x }
-    {
-        self.mask |= 1 << place;
-        self.bytes[place] = byte;
-    }
-
     /// The byte written at a place, if there is one.
     #[inline(always)]
     fn get(&self, place: usize) -> Option<u8>
@@ -58,9 +48,12 @@ impl Page {
         requires { place + length bytes.now ≤ 64 }
         ensures { (x : ℕ) → page_byte self.new x ≡ laid (page_byte self.old) place bytes.now x }
     {
+        let mut mask = self.mask;
         for index in 0..bytes.len() {
-            self.set(place + index, bytes[index]);
+            mask |= 1 << (place + index);
+            self.bytes[place + index] = bytes[index];
         }
+        self.mask = mask;
     }
 
     /// Lays what is written from a place on over the bytes of a buffer.
