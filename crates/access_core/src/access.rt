@@ -47,7 +47,6 @@ impl From<AllocError> for OpenFault {
 }
 
 /// The broker's core. A contract sees its history: what it began from, and its audit's entries.
-#[derive(Drop)]
 pub struct AccessCore {
     policy: Policy,
     grants: Grants,
@@ -58,6 +57,22 @@ pub struct AccessCore {
     flying: usize,
     capacity: usize,
     audit: Reserved<Entry>,
+}
+
+// Written out, so that where a core ends stands one call, and not what ends each of its parts.
+impl Drop for AccessCore {
+    fn drop(self) {
+        let AccessCore {
+            policy: _,
+            grants: _,
+            memory: _,
+            signals: _,
+            queues: _,
+            flying: _,
+            capacity: _,
+            audit: _,
+        } = self;
+    }
 }
 
 impl Model for AccessCore {

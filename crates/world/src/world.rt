@@ -18,10 +18,16 @@ use std::alloc::Global;
 use std::marker::Model;
 
 /// The core, and the ring of each of its queues, in the order in which they were opened.
-#[derive(Drop)]
 pub struct World {
     core: AccessCore,
     rings: Vec<Ring>,
+}
+
+// Written out, so that where a world ends stands one call, and not what ends each of its parts.
+impl Drop for World {
+    fn drop(self) {
+        let World { core: _, rings: _ } = self;
+    }
 }
 
 /// What a request asks of the world: to open a queue, to hand over a packet of the asker's own

@@ -2,7 +2,7 @@
 
 ghost use Rattle.std.specs.Prelude.{◌≡◌};
 ghost use Rattle.core_model.specs.declared.answer.Answer.TheVariants as answer;
-ghost use Rattle.core_model.specs.Legal.{Replies, RepliesOrLacks, wrapped};
+ghost use Rattle.core_model.specs.Legal.{IsLegal, Replies, RepliesOrLacks, wrapped};
 
 use crate::access::AccessCore;
 use crate::access::lookups::region_at;
@@ -22,9 +22,10 @@ impl AccessCore {
         &self.policy
     }
 
-    /// The audit's entries, in order.
+    /// The audit's entries, in order: a legal history, so that all laws of legal histories hold of it.
     pub fn audit(&self) -> &[Entry]
-        ensures { result.now ≡ self.now.entries }
+        ensures entries { result.now ≡ self.now.entries }
+        ensures legal { IsLegal self.now.start self.now.entries }
     {
         self.audit.as_slice()
     }

@@ -1,7 +1,7 @@
 //! Requests are served, one or many: each call by its name.
 
 ghost use Rattle.std.specs.Prelude.{◌≡◌, ◌≤◌, [], IfOk, OnErr, length};
-ghost use Rattle.core_model.specs.Legal.{AreReplies, IsServed, MeetsOrLacks, RepliesOrLacks, as_reply};
+ghost use Rattle.core_model.specs.Legal.{AreReplies, IsLegal, IsServed, MeetsOrLacks, RepliesOrLacks, as_reply};
 
 use crate::access::AccessCore;
 use core_model::{Answer, Entry, Event, Outcome, Query, Refusal, Reply, Request};
@@ -11,12 +11,12 @@ use std::alloc::{AllocError, Global};
 impl AccessCore {
     /// Serves a request: makes the call that it names.
     pub fn serve(&mut self, alloc: Global, request: Request) -> Reply
-        ensures { IsServed self.old request result self.new }
+        ensures served { IsServed self.old request result self.new }
+        ensures legal { IsLegal self.new.start self.new.entries }
     {
-        match request {
-            Request::Event(event) => as_reply(self.make(alloc, event)),
-            Request::Query(query) => self.answer(alloc, query),
-        }
+        let reply = self.obey(alloc, request);
+        self.keeps_the_law();
+        reply
     }
 
     /// Serves requests in turn, and tells the reply to each. Want of memory for the list of replies
@@ -27,11 +27,15 @@ impl AccessCore {
         requests: Vec<Request>,
     ) -> Result<Reserved<Reply>, AllocError>
         ensures replies { IfOk result (λ replies. AreReplies self.old requests.items replies.items self.new) }
+        ensures legal { IsLegal self.new.start self.new.entries }
         ensures err { OnErr result (self.new ≡ self.old) }
     {
         match Reserved::with_room(alloc, requests.len()) {
             Ok(replies) => Ok(self.serve_each(alloc, requests, replies)),
-            Err(want) => Err(want),
+            Err(want) => {
+                self.keeps_the_law();
+                Err(want)
+            }
         }
     }
 
@@ -45,13 +49,32 @@ impl AccessCore {
     ) -> Reserved<Reply>
         requires room { length requests.items ≤ replies.room }
         requires empty { replies.items ≡ [] }
-        ensures { AreReplies self.old requests.items result.items self.new }
+        ensures replies { AreReplies self.old requests.items result.items self.new }
+        ensures legal { IsLegal self.new.start self.new.entries }
     {
         for request in requests {
-            let reply = self.serve(alloc, request);
+            let reply = self.obey(alloc, request);
             replies.push(reply);
         }
+        self.keeps_the_law();
         replies
+    }
+
+    // Does nothing: what the type keeps, that the audit is a legal history, is said to callers by it.
+    fn keeps_the_law(&self)
+        ensures { IsLegal self.now.start self.now.entries }
+    {
+        self.audit.as_slice();
+    }
+
+    // Makes the call that a request names.
+    fn obey(&mut self, alloc: Global, request: Request) -> Reply
+        ensures { IsServed self.old request result self.new }
+    {
+        match request {
+            Request::Event(event) => as_reply(self.make(alloc, event)),
+            Request::Query(query) => self.answer(alloc, query),
+        }
     }
 
     // Makes the call of an event.

@@ -11,4 +11,4 @@ pub returns-in-Ok : goal.returns-in-Ok
 unfolding replied
 returns-in-Ok c =
     subst (λ (asked : Query). RepliesOrLacks asked c.args.self.now (Ok (answer.Audit c.in-Ok.entries))) (sym c.in-Audit.is)
-    (inl (ap (λ (es : List Entry). Ok (answer.Audit es)) (c.in-Ok.ensures ∙ c.audit.ensures)))
+    (inl (ap (λ (es : List Entry). Ok (answer.Audit es)) (c.in-Ok.ensures ∙ c.audit.ensures.entries)))

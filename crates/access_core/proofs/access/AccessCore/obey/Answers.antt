@@ -4,7 +4,7 @@ use Rattle.core_model.specs.declared.event.Request.{Request}
 use Rattle.core_model.specs.declared.event.Request.TheVariants as request
 use Rattle.core_model.specs.Legal.{IsServed, Replying}
 use Rattle.access_core.proofs.Serving.{served-event, served-query}
-use Rattle.access_core.proofs.access.AccessCore.serve.Goals as goal
+use Rattle.access_core.proofs.access.AccessCore.obey.Goals as goal
 
 pub returns-in-Event : goal.returns-in-Event
 returns-in-Event c =
