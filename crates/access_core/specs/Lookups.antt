@@ -2,13 +2,11 @@
 use Rattle.std.specs.Prelude.{◌≡◌, ℕ, List, Option, Some, None, if◌then◌else◌}
 use Rattle.std.specs.Option.{option_map}
 use Rattle.aql_packet.specs.declared.ids.Address.{Address}
-use Rattle.aql_packet.specs.declared.ids.ClientId.{ClientId}
-use Rattle.aql_packet.specs.declared.ids.AgentHandle.{AgentHandle}
 use Rattle.aql_packet.specs.declared.ids.QueueId.{QueueId}
 use Rattle.regions.specs.Memory.{is_within}
 use Rattle.core_model.specs.History.{History}
 use Rattle.core_model.specs.Memory.{memory_from, region_lengths}
-use Rattle.core_model.specs.Queues.{Opening, owner}
+use Rattle.core_model.specs.Queues.{owner}
 use Rattle.access_core.specs.declared.queue.Queue.{Queue}
 use Rattle.access_core.specs.CachedQueue.{cached, kept_opening, queue_at}
 

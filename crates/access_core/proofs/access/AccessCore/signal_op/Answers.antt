@@ -10,9 +10,6 @@ use Rattle.core_model.specs.declared.event.Event.TheVariants.{ChangeSignal}
 use Rattle.core_model.specs.declared.entry.Effect.TheVariants as effect
 use Rattle.core_model.specs.declared.outcome.Outcome.TheVariants as outcome
 use Rattle.core_model.specs.Owed.{old_if_asked}
-use Rattle.signals.specs.Values.{value_of}
-use Rattle.core_model.specs.Memory.{signals}
-use Rattle.std.proofs.Common.{Some, subst, sym}
 use Rattle.access_core.specs.Kept.{start_of}
 use Rattle.access_core.proofs.HeldMoves.{grants-still}
 use Rattle.access_core.proofs.KeptMore.{IsKept-more, flying-still, launches-none, memory-still, queues-still}
