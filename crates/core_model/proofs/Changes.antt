@@ -47,10 +47,10 @@ use Rattle.core_model.specs.LaunchRules.{is_barrier}
 use Rattle.core_model.specs.Work.{groups_of, number_in_memory, write_of, function_writes, function_result, result_writes, agent_writes}
 use Rattle.core_model.specs.Owed.{owed, enters, error_at, barrier_in, completed, release_of}
 use Rattle.core_model.specs.Legal.{IsLegal}
-use Rattle.core_model.specs.Headline.{ChangeIsGranted, InFlightSince, MayReach, MayReachRange, MayUseSignal, ReleaseIsDue, Releases, WriteIsGranted, packet_named, ranges_written, writes_of}
+use Rattle.core_model.specs.Headline.{ChangeIsGranted, InFlightSince, MayReach, MayReachRange, MayUseSignal, IsReleasedBy, ReleaseIsDue, WriteIsGranted, packet_named, ranges_written, writes_of}
 use Rattle.core_model.proofs.Lists.{all-left, all-one, all-right, filter-passes, found-all, found-passes}
 use Rattle.core_model.proofs.Holding.{flying-since}
-use Rattle.core_model.proofs.Entered.{named-found, IsQuiet, HasFailed, grant-effects, revoke-effects, open-effects, stop-effects, take-decided, run-entered, poll-entered, finish-entered, write-entered, change-entered}
+use Rattle.core_model.proofs.Entered.{named-found, IsQuiet, HasSeen, HasFailed, grant-effects, revoke-effects, open-effects, stop-effects, take-decided, run-entered, poll-entered, finish-entered, write-entered, change-entered}
 
 -- ---- the ranges that a function names
 
@@ -123,10 +123,10 @@ module _ (P : Effect → Type 0) where
   release-all queue None each = All-nil P
   release-all queue (Some f) each = all-one P (effect.Release queue f.id) (each f refl)
 
-  poll-all : (start : Start) (es : List Entry) (told : Outcome) (effects : List Effect) (queue : QueueId) (id : PacketId) → ((f : InFlight) → in_flight start es queue id ≡ Some f → P (effect.Release queue id)) →
-      IsQuiet start es told effects ⊎ HasFailed start es told effects queue id → All P effects
-  poll-all start es told effects queue id each (inl quiet) = subst (All P) (sym quiet.effects_are) (All-nil P)
-  poll-all start es told effects queue id each (inr failed) = subst (All P) (sym failed.effects_are) (all-one P (effect.Release queue id) (each failed.flying failed.found))
+  poll-all : (start : Start) (es : List Entry) (told : Outcome) (effects : List Effect) (queue : QueueId) (id : PacketId) → ((f : InFlight) → in_flight start es queue id ≡ Some f → told ≡ outcome.Polled (polled_as.Failed (error_at queue id.0 B1)) → P (effect.Release queue id)) →
+      HasSeen start es told effects queue id ⊎ HasFailed start es told effects queue id → All P effects
+  poll-all start es told effects queue id each (inl seen) = subst (All P) (sym seen.is_quiet.effects_are) (All-nil P)
+  poll-all start es told effects queue id each (inr failed) = subst (All P) (sym failed.effects_are) (all-one P (effect.Release queue id) (each failed.flying failed.found failed.outcome_is))
 
   -- a completion's change and its release
   completed-all : (values : List ℤ) (s : SignalHandle) (queue : QueueId) (id : PacketId) →
@@ -165,59 +165,69 @@ module _ (start : Start) (es : List Entry) (legal : IsLegal start es) where
   flies : (queue : QueueId) (id : PacketId) (f : InFlight) → in_flight start es queue id ≡ Some f → Contains (flight start es) f
   flies queue id f found = found-all (Contains (flight start es)) (is_packet queue id) (flight start es) f (All-contains_itself (flight start es)) found
 
-  named-release : (event : Event) (queue : QueueId) (id : PacketId) → ((f : InFlight) → queue ≡ f.queue → id ≡ f.id → Releases event f) → (f : InFlight) → in_flight start es queue id ≡ Some f → ReleaseIsDue start es event (effect.Release queue id)
-  named-release event queue id by f found =
+  named-release : (event : Event) (told : Outcome) (queue : QueueId) (id : PacketId) → ((f : InFlight) → queue ≡ f.queue → id ≡ f.id → IsReleasedBy event told f) → (f : InFlight) → in_flight start es queue id ≡ Some f → ReleaseIsDue start es event told (effect.Release queue id)
+  named-release event told queue id by f found =
       let named = named-found start es queue id f found in
       (f, flies queue id f found, named.0, named.1, by f (sym named.0) (sym named.1))
 
   -- the changes of an event, given what holds of each kind of change
-  module _ (P : Event → Effect → Type 0)
-      (ran : (queue : QueueId) (id : PacketId) (s : InFlightSince start es queue id) (d : AgentDispatch) → s.flying.packet ≡ packet.Agent d → (progress start es queue id).groups_run < groups_of s.flying.packet → All (P (RunNext queue id)) (agent_writes start es d))
-      (completed_so : (queue : QueueId) (id : PacketId) (s : InFlightSince start es queue id) (v : ℤ) → ((completion s.flying.packet).0 == 0) ≡ false → value_of (signals start es) (completion s.flying.packet).0 ≡ Some v →
-      P (Finish queue id) (effect.Signal (completion s.flying.packet) v (applied (Subtract (pos 1)) v)))
-      (released : (event : Event) (queue : QueueId) (id : PacketId) → ReleaseIsDue start es event (effect.Release queue id) → P event (effect.Release queue id))
-      (wrote : (client : ClientId) (address : Address) (bytes : List ℕ) → 0 < length bytes → MayReach start es client right.Write address.0 (length bytes) → P (HostWrite client address bytes) (effect.Write address bytes))
-      (changed : (client : ClientId) (signal : SignalHandle) (operation : SignalOp) (old : ℤ) → value_of (signals start es) signal.0 ≡ Some old → in_force start es client (object.Signal signal) right.Change ≡ true →
-      P (ChangeSignal client signal operation) (effect.Signal signal old (applied operation old)))
+  module _ (P : Event → Outcome → Effect → Type 0)
+      (ran : (told : Outcome) (queue : QueueId) (id : PacketId) (s : InFlightSince start es queue id) (d : AgentDispatch) → s.flying.packet ≡ packet.Agent d → (progress start es queue id).groups_run < groups_of s.flying.packet → All (P (RunNext queue id) told) (agent_writes start es d))
+      (completed_so : (told : Outcome) (queue : QueueId) (id : PacketId) (s : InFlightSince start es queue id) (v : ℤ) → ((completion s.flying.packet).0 == 0) ≡ false → value_of (signals start es) (completion s.flying.packet).0 ≡ Some v →
+      P (Finish queue id) told (effect.Signal (completion s.flying.packet) v (applied (Subtract (pos 1)) v)))
+      (released : (event : Event) (told : Outcome) (queue : QueueId) (id : PacketId) → ReleaseIsDue start es event told (effect.Release queue id) → P event told (effect.Release queue id))
+      (wrote : (told : Outcome) (client : ClientId) (address : Address) (bytes : List ℕ) → 0 < length bytes → MayReach start es client right.Write address.0 (length bytes) → P (HostWrite client address bytes) told (effect.Write address bytes))
+      (changed : (told : Outcome) (client : ClientId) (signal : SignalHandle) (operation : SignalOp) (old : ℤ) → value_of (signals start es) signal.0 ≡ Some old → in_force start es client (object.Signal signal) right.Change ≡ true →
+      P (ChangeSignal client signal operation) told (effect.Signal signal old (applied operation old)))
     where
-      quietly : (event : Event) (told : Outcome) (effects : List Effect) → IsQuiet start es told effects → All (P event) effects
-      quietly event told effects quiet = subst (All (P event)) (sym quiet.effects_are) (All-nil (P event))
+      quietly : (event : Event) (told : Outcome) (effects : List Effect) → IsQuiet start es told effects → All (P event told) effects
+      quietly event told effects quiet = subst (All (P event told)) (sym quiet.effects_are) (All-nil (P event told))
 
-      stopped : (queue : QueueId) → All (P (Stop queue)) (release_of queue (barrier_in (flight_of start es queue)))
-      stopped queue = release-all (P (Stop queue)) queue (find (λ f. is_barrier f.packet) (flight_of start es queue)) (λ f found.
+      stopped : (queue : QueueId) → All (P (Stop queue) outcome.Accepted) (release_of queue (barrier_in (flight_of start es queue)))
+      stopped queue = release-all (P (Stop queue) outcome.Accepted) queue (find (λ f. is_barrier f.packet) (flight_of start es queue)) (λ f found.
           let barrier : is_barrier f.packet ≡ true = found-passes (λ f. is_barrier f.packet) (flight_of start es queue) f found in
           let own : (f.queue.0 == queue.0) ≡ true = found-all (λ g. (g.queue.0 == queue.0) ≡ true) (λ f. is_barrier f.packet) (flight_of start es queue) f (filter-passes (λ g. g.queue.0 == queue.0) (flight start es)) found in
           let queue_is : f.queue ≡ queue = ap (λ n. record { 0 = n }) (eqb-true _ _ own) in
           let there : Contains (flight start es) f = found-all (Contains (flight start es)) (λ f. is_barrier f.packet) (flight_of start es queue) f (All-filter (λ g. g.queue.0 == queue.0) (Contains (flight start es)) (flight start es) (All-contains_itself (flight start es))) found in
-          released (Stop queue) queue f.id (f, there, queue_is, refl, (sym (eqb-true _ _ own), barrier)))
+          released (Stop queue) outcome.Accepted queue f.id (f, there, queue_is, refl, (sym (eqb-true _ _ own), barrier)))
 
-      pub each-change : (event : Event) (told : Outcome) (effects : List Effect) → owed start es event ≡ enters told effects → All (P event) effects
+      finished : (queue : QueueId) (id : PacketId) (flying : InFlight) → in_flight start es queue id ≡ Some flying → All (P (Finish queue id) outcome.Accepted) (completed (signals start es) (completion flying.packet) ++ effect.Release queue id ∷ [])
+      finished queue id flying found =
+          let since = flying-since start es legal queue id flying found in
+          let s = since.0 in
+          subst (λ f. All (P (Finish queue id) outcome.Accepted) (completed (signals start es) (completion f.packet) ++ effect.Release queue id ∷ [])) since.1
+          (completed-all (P (Finish queue id) outcome.Accepted) (signals start es) (completion s.flying.packet) queue id (completed_so outcome.Accepted queue id s)
+          (released (Finish queue id) outcome.Accepted queue id (named-release (Finish queue id) outcome.Accepted queue id (λ f q i. (q, i)) flying found)))
+
+      abbrev failing : QueueId → PacketId → Outcome
+      failing queue id = outcome.Polled (polled_as.Failed (error_at queue id.0 B1))
+
+      pub each-change : (event : Event) (told : Outcome) (effects : List Effect) → owed start es event ≡ enters told effects → All (P event told) effects
       each-change (Grant client on rights) told effects owing = quietly _ told effects (grant-effects start es told effects client on rights owing).0
       each-change (Revoke client on rights) told effects owing = quietly _ told effects (revoke-effects start es told effects client on rights owing).is_quiet
       each-change (OpenQueue client agent size) told effects owing = quietly _ told effects (open-effects start es told effects client agent size owing).is_quiet
-      each-change (Stop queue) told effects owing = subst (All (P (Stop queue))) (sym (stop-effects start es told effects queue owing).effects_are) (stopped queue)
-      each-change (Take queue id bytes) told effects owing = subst (All (P (Take queue id bytes))) (sym (take-decided start es told effects queue id bytes owing).effects_are) (All-nil _)
+      each-change (Stop queue) told effects owing =
+          let stop = stop-effects start es told effects queue owing in
+          subst (λ o. All (P (Stop queue) o) effects) (sym stop.outcome_is) (subst (All (P (Stop queue) outcome.Accepted)) (sym stop.effects_are) (stopped queue))
+      each-change (Take queue id bytes) told effects owing = subst (All (P (Take queue id bytes) told)) (sym (take-decided start es told effects queue id bytes owing).effects_are) (All-nil _)
       each-change (RunNext queue id) told effects owing =
           let has_run = run-entered start es told effects queue id owing in
           let group = has_run.group in
           let since = flying-since start es legal queue id has_run.flying has_run.found in
-          subst (All (P (RunNext queue id))) (sym group.effects_are)
-          (ran queue id since.0 group.dispatch (ap (λ f. f.packet) since.1 ∙ group.is_agent) (subst (λ f. (progress start es queue id).groups_run < groups_of f.packet) (sym since.1) group.is_left))
+          subst (All (P (RunNext queue id) told)) (sym group.effects_are)
+          (ran told queue id since.0 group.dispatch (ap (λ f. f.packet) since.1 ∙ group.is_agent) (subst (λ f. (progress start es queue id).groups_run < groups_of f.packet) (sym since.1) group.is_left))
       each-change (Poll queue id) told effects owing =
-          poll-all (P (Poll queue id)) start es told effects queue id (λ f found. released (Poll queue id) queue id (named-release (Poll queue id) queue id (λ f q i. (q, i)) f found)) (poll-entered start es told effects queue id owing)
+          poll-all (P (Poll queue id) told) start es told effects queue id (λ f found is. subst (λ o. P (Poll queue id) o (effect.Release queue id)) (sym is)
+          (released (Poll queue id) (failing queue id) queue id (named-release (Poll queue id) (failing queue id) queue id (λ f q i. (q, i)) f found))) (poll-entered start es told effects queue id owing)
       each-change (Finish queue id) told effects owing =
           let done = finish-entered start es told effects queue id owing in
-          let since = flying-since start es legal queue id done.flying done.found in
-          let s = since.0 in
-          subst (All (P (Finish queue id))) (sym (done.effects_are ∙ ap (λ f. completed (signals start es) (completion f.packet) ++ effect.Release queue id ∷ []) (sym since.1)))
-          (completed-all (P (Finish queue id)) (signals start es) (completion s.flying.packet) queue id (completed_so queue id s)
-          (released (Finish queue id) queue id (named-release (Finish queue id) queue id (λ f q i. (q, i)) done.flying done.found)))
+          subst (λ o. All (P (Finish queue id) o) effects) (sym done.outcome_is) (subst (All (P (Finish queue id) outcome.Accepted)) (sym done.effects_are) (finished queue id done.flying done.found))
       each-change (HostWrite client address bytes) told effects owing =
           let w = write-entered start es told effects client address bytes owing in
-          subst (All (P (HostWrite client address bytes))) (sym w.effects_are) (all-one (P (HostWrite client address bytes)) (effect.Write address bytes) (wrote client address bytes w.some (record { lies_whole = w.whole; granted = w.granted })))
+          subst (All (P (HostWrite client address bytes) told)) (sym w.effects_are) (all-one (P (HostWrite client address bytes) told) (effect.Write address bytes) (wrote told client address bytes w.some (record { lies_whole = w.whole; granted = w.granted })))
       each-change (ChangeSignal client signal operation) told effects owing =
           let c = change-entered start es told effects client signal operation owing in
-          subst (All (P (ChangeSignal client signal operation))) (sym c.effects_are) (all-one (P (ChangeSignal client signal operation)) (effect.Signal signal c.old (applied operation c.old)) (changed client signal operation c.old c.was c.granted))
+          subst (All (P (ChangeSignal client signal operation) told)) (sym c.effects_are) (all-one (P (ChangeSignal client signal operation) told) (effect.Signal signal c.old (applied operation c.old)) (changed told client signal operation c.old c.was c.granted))
 
   -- ---- writes, changes of signals, releases
 
@@ -232,14 +242,14 @@ module _ (start : Start) (es : List Entry) (legal : IsLegal start es) where
       reached target bytes long some (inr reach) = rw long reach
 
   pub write-granted : (event : Event) (told : Outcome) (effects : List Effect) → owed start es event ≡ enters told effects → All (WriteIsGranted start es event) effects
-  write-granted = each-change (WriteIsGranted start es) group-writes (λ queue id s v null is. tt) (λ event queue id due. tt)
-      (λ client address bytes some reach. (some, inl (record { client = client; event_is = refl; allowed = reach }))) (λ client signal operation old was granted. tt)
+  write-granted = each-change (λ event told. WriteIsGranted start es event) (λ told. group-writes) (λ told queue id s v null is. tt) (λ event told queue id due. tt)
+      (λ told client address bytes some reach. (some, inl (record { client = client; event_is = refl; allowed = reach }))) (λ told client signal operation old was granted. tt)
 
   pub change-granted : (event : Event) (told : Outcome) (effects : List Effect) → owed start es event ≡ enters told effects → All (ChangeIsGranted start es event) effects
-  change-granted = each-change (ChangeIsGranted start es) (λ queue id s d is left. agent-writes (ChangeIsGranted start es (RunNext queue id)) (λ address bytes. tt) start es d)
-      (λ queue id s v null is. (is, inr (record { queue = queue; id = id; event_is = refl; result = refl; packet = s; signal_is = refl; allowed = may_change queue id s null })))
-      (λ event queue id due. tt) (λ client address bytes some reach. tt)
-      (λ client signal operation old was granted. (was, inl (record { client = client; operation = operation; event_is = refl; result = refl; allowed = granted })))
+  change-granted = each-change (λ event told. ChangeIsGranted start es event) (λ told queue id s d is left. agent-writes (ChangeIsGranted start es (RunNext queue id)) (λ address bytes. tt) start es d)
+      (λ told queue id s v null is. (is, inr (record { queue = queue; id = id; event_is = refl; result = refl; packet = s; signal_is = refl; allowed = may_change queue id s null })))
+      (λ event told queue id due. tt) (λ told client address bytes some reach. tt)
+      (λ told client signal operation old was granted. (was, inl (record { client = client; operation = operation; event_is = refl; result = refl; allowed = granted })))
     where
       may_change : (queue : QueueId) (id : PacketId) (s : InFlightSince start es queue id) → ((completion s.flying.packet).0 == 0) ≡ false → in_force start s.launch.before s.launch.opening.client (object.Signal (completion s.flying.packet)) right.Change ≡ true
       may_change queue id s null = some (subst (λ p. MayUseSignal start s.launch.before s.launch.opening.client right.Change (completion p)) s.packet_is s.launch.allowed.rights.completes)
@@ -248,9 +258,9 @@ module _ (start : Start) (es : List Entry) (legal : IsLegal start es) where
           some (inl is) = let e : ((completion s.flying.packet).0 == 0) ≡ true = rw is refl in absurd cc
           some (inr granted) = granted
 
-  pub release-due : (event : Event) (told : Outcome) (effects : List Effect) → owed start es event ≡ enters told effects → All (ReleaseIsDue start es event) effects
-  release-due = each-change (ReleaseIsDue start es) (λ queue id s d is left. agent-writes (ReleaseIsDue start es (RunNext queue id)) (λ address bytes. tt) start es d)
-      (λ queue id s v null is. tt) (λ event queue id due. due) (λ client address bytes some reach. tt) (λ client signal operation old was granted. tt)
+  pub release-due : (event : Event) (told : Outcome) (effects : List Effect) → owed start es event ≡ enters told effects → All (ReleaseIsDue start es event told) effects
+  release-due = each-change (ReleaseIsDue start es) (λ told queue id s d is left. agent-writes (ReleaseIsDue start es (RunNext queue id) told) (λ address bytes. tt) start es d)
+      (λ told queue id s v null is. tt) (λ event told queue id due. due) (λ told client address bytes some reach. tt) (λ told client signal operation old was granted. tt)
 
   -- ---- errors
 
@@ -286,8 +296,8 @@ module _ (start : Start) (es : List Entry) (legal : IsLegal start es) where
   error-named (RunNext queue id) told effects error owing is = none-told told error is (ap error_of (run-entered start es told effects queue id owing).group.outcome_is)
   error-named (Poll queue id) told effects error owing is = by_poll (poll-entered start es told effects queue id owing)
     where
-      by_poll : IsQuiet start es told effects ⊎ HasFailed start es told effects queue id → named queue id ≡ named error.queue error.packet
-      by_poll (inl quiet) = none-told told error is quiet.no_error
+      by_poll : HasSeen start es told effects queue id ⊎ HasFailed start es told effects queue id → named queue id ≡ named error.queue error.packet
+      by_poll (inl seen) = none-told told error is seen.is_quiet.no_error
       by_poll (inr failed) = ap (λ x. named x.queue x.packet) (failed-error told effects error queue id failed is)
   error-named (Finish queue id) told effects error owing is = none-told told error is (finish-entered start es told effects queue id owing).no_error
   error-named (HostWrite client address bytes) told effects error owing is = none-told told error is (write-entered start es told effects client address bytes owing).no_error
@@ -308,8 +318,8 @@ module _ (start : Start) (es : List Entry) (legal : IsLegal start es) where
   fault-released (RunNext queue id) told effects error owing faults = none-told told error (error-told told error faults) (ap error_of (run-entered start es told effects queue id owing).group.outcome_is)
   fault-released (Poll queue id) told effects error owing faults = by_poll (poll-entered start es told effects queue id owing)
     where
-      by_poll : IsQuiet start es told effects ⊎ HasFailed start es told effects queue id → effects ≡ effect.Release error.queue error.packet ∷ []
-      by_poll (inl quiet) = none-told told error (error-told told error faults) quiet.no_error
+      by_poll : HasSeen start es told effects queue id ⊎ HasFailed start es told effects queue id → effects ≡ effect.Release error.queue error.packet ∷ []
+      by_poll (inl seen) = none-told told error (error-told told error faults) seen.is_quiet.no_error
       by_poll (inr failed) = failed.effects_are ∙ ap (λ e. effect.Release e.queue e.packet ∷ []) (failed-error told effects error queue id failed (error-told told error faults))
   fault-released (Finish queue id) told effects error owing faults = none-told told error (error-told told error faults) (finish-entered start es told effects queue id owing).no_error
   fault-released (HostWrite client address bytes) told effects error owing faults = none-told told error (error-told told error faults) (write-entered start es told effects client address bytes owing).no_error

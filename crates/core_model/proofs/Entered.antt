@@ -119,6 +119,7 @@ module _ (start : Start) (es : List Entry) (told : Outcome) (effects : List Effe
 
   pub record HasStopped (queue : QueueId) : Type 0 where
     pub effects_are : effects ≡ release_of queue (barrier_in (flight_of start es queue))
+    pub outcome_is : told ≡ outcome.Accepted
     pub no_error : error_of told ≡ None
 
   pub stop-effects : (queue : QueueId) → owed start es (Stop queue) ≡ enters told effects → HasStopped queue
@@ -127,7 +128,7 @@ module _ (start : Start) (es : List Entry) (told : Outcome) (effects : List Effe
       let found = for_some-found (owner start es queue) _ _ told effects owing in
       let last = refuse_if-passed (is_stopped start es queue) _ _ told effects found.rest_is in
       let is : outcome.Accepted ≡ told = cc in
-      record { effects_are = cc; no_error = ap error_of (sym is) }
+      record { effects_are = cc; outcome_is = sym is; no_error = ap error_of (sym is) }
 
   -- ---- a packet that is handed over
 
@@ -214,45 +215,61 @@ module _ (start : Start) (es : List Entry) (told : Outcome) (effects : List Effe
 
   -- ---- a poll fails, or changes nothing
 
+  -- what a poll tells that sees something new
+  abbrev pub sighting : Packet → Seen → Seen → Outcome
+  sighting p satisfied new = outcome.Polled (if is_ready p (seen_with satisfied new) then polled_as.Ready new else polled_as.Pending new)
+
+  pub record HasSeen (queue : QueueId) (id : PacketId) : Type 0 where
+    pub is_quiet : IsQuiet
+    pub flying : InFlight
+    pub found : in_flight start es queue id ≡ Some flying
+    pub outcome_is : told ≡ sighting flying.packet (progress start es queue id).satisfied (newly_seen (signals start es) flying.packet (progress start es queue id).satisfied)
+
   pub record HasFailed (queue : QueueId) (id : PacketId) : Type 0 where
     pub flying : InFlight
     pub found : in_flight start es queue id ≡ Some flying
     pub effects_are : effects ≡ effect.Release queue id ∷ []
     pub outcome_is : told ≡ outcome.Polled (polled_as.Failed (error_at queue id.0 B1))
+    pub negative : list_any (is_negative (signals start es)) (awaited flying.packet (progress start es queue id).satisfied) ≡ true
 
-  poll-end : (queue : QueueId) (id : PacketId) (f : InFlight) (so_far : Progress) → in_flight start es queue id ≡ Some f → owed_poll (signals start es) queue id f.packet so_far ≡ enters told effects → IsQuiet ⊎ HasFailed queue id
-  poll-end queue id f so_far found same =
+  poll-end : (queue : QueueId) (id : PacketId) (f : InFlight) → in_flight start es queue id ≡ Some f → owed_poll (signals start es) queue id f.packet (progress start es queue id) ≡ enters told effects → HasSeen queue id ⊎ HasFailed queue id
+  poll-end queue id f found same =
       let barrier = refuse_unless-passed (is_barrier f.packet) _ _ told effects same in
-      ready (is_ready f.packet so_far.satisfied) (list_any (is_negative (signals start es)) (awaited f.packet so_far.satisfied)) barrier.rest_is
+      ready (is_ready f.packet satisfied) (list_any (is_negative (signals start es)) (awaited f.packet satisfied)) refl barrier.rest_is
     where
+      satisfied : Seen
+      satisfied = (progress start es queue id).satisfied
+
       new : Seen
-      new = newly_seen (signals start es) f.packet so_far.satisfied
+      new = newly_seen (signals start es) f.packet satisfied
 
-      seen_some : (b : Bool) (seen : Outcome) → error_of seen ≡ None → (if b then enters seen [] else answers (outcome.Polled (polled_as.Pending none_seen))) ≡ enters told effects → IsQuiet
-      seen_some true seen plain same = quiet seen plain same
-      seen_some false seen plain same = absurd cc
+      some_seen : (b : Bool) → error_of (sighting f.packet satisfied new) ≡ None → (if b then enters (sighting f.packet satisfied new) [] else answers (outcome.Polled (polled_as.Pending none_seen))) ≡ enters told effects → HasSeen queue id
+      some_seen true plain same = record { is_quiet = quiet (sighting f.packet satisfied new) plain same; flying = f; found = found; outcome_is = cc }
+      some_seen false plain same = absurd cc
 
-      either : (b : Bool) (seen : Seen) → error_of (outcome.Polled (if b then polled_as.Ready seen else polled_as.Pending seen)) ≡ None
-      either true seen = refl
-      either false seen = refl
+      either : (b : Bool) → error_of (outcome.Polled (if b then polled_as.Ready new else polled_as.Pending new)) ≡ None
+      either true = refl
+      either false = refl
 
-      ready : (is negative : Bool) → (if is then answers (outcome.Polled (polled_as.Ready none_seen)) else if negative then enters (outcome.Polled (polled_as.Failed (error_at queue id.0 B1))) (effect.Release queue id ∷ []) else polled f.packet so_far.satisfied new) ≡ enters told effects → IsQuiet ⊎ HasFailed queue id
-      ready true negative same = absurd cc
-      ready false true same = inr (record { flying = f; found = found; effects_are = cc; outcome_is = cc })
-      ready false false same =
-          inl (seen_some (list_any (λ at. at) new.0) (outcome.Polled (if is_ready f.packet (seen_with so_far.satisfied new) then polled_as.Ready new else polled_as.Pending new)) (either (is_ready f.packet (seen_with so_far.satisfied new)) new) same)
+      ready : (is negative : Bool) → list_any (is_negative (signals start es)) (awaited f.packet satisfied) ≡ negative →
+          (if is then answers (outcome.Polled (polled_as.Ready none_seen)) else if negative then enters (outcome.Polled (polled_as.Failed (error_at queue id.0 B1))) (effect.Release queue id ∷ []) else polled f.packet satisfied new) ≡ enters told effects → HasSeen queue id ⊎ HasFailed queue id
+      ready true negative looked same = absurd cc
+      ready false true looked same = inr (record { flying = f; found = found; effects_are = cc; outcome_is = cc; negative = looked })
+      ready false false looked same = inl (some_seen (list_any (λ at. at) new.0) (either (is_ready f.packet (seen_with satisfied new))) same)
 
-  pub poll-entered : (queue : QueueId) (id : PacketId) → owed start es (Poll queue id) ≡ enters told effects → IsQuiet ⊎ HasFailed queue id
+  pub poll-entered : (queue : QueueId) (id : PacketId) → owed start es (Poll queue id) ≡ enters told effects → HasSeen queue id ⊎ HasFailed queue id
   unfolding owed
   poll-entered queue id owing =
       let there = flying-found queue id (owed_poll (signals start es) queue id) owing in
-      poll-end queue id there.flying (progress start es queue id) there.found there.rest_is
+      poll-end queue id there.flying there.found there.rest_is
 
   -- ---- a packet's completion
 
   pub record Completed (queue : QueueId) (id : PacketId) : Type 0 where
     pub flying : InFlight
     pub found : in_flight start es queue id ≡ Some flying
+    pub is_done : is_finished flying.packet (progress start es queue id) ≡ true
+    pub outcome_is : told ≡ outcome.Accepted
     pub no_error : error_of told ≡ None
     pub effects_are : effects ≡ completed (signals start es) (completion flying.packet) ++ effect.Release queue id ∷ []
 
@@ -263,11 +280,12 @@ module _ (start : Start) (es : List Entry) (told : Outcome) (effects : List Effe
       let last = refuse_unless-passed (is_finished there.flying.packet (progress start es queue id)) _ _ told effects there.rest_is in
       let same = last.rest_is in
       let accepted : outcome.Accepted ≡ told = cc in
-      record { flying = there.flying; found = there.found; no_error = ap error_of (sym accepted); effects_are = cc }
+      record { flying = there.flying; found = there.found; is_done = last.test_is; outcome_is = sym accepted; no_error = ap error_of (sym accepted); effects_are = cc }
 
   -- ---- a client's own write and change
 
   pub record HostWrote (client : ClientId) (address : Address) (bytes : List ℕ) : Type 0 where
+    pub outcome_is : told ≡ outcome.Accepted
     pub no_error : error_of told ≡ None
     pub effects_are : effects ≡ effect.Write address bytes ∷ []
     pub some : 0 < length bytes
@@ -283,10 +301,11 @@ module _ (start : Start) (es : List Entry) (told : Outcome) (effects : List Effe
       let both = and_parts (is_within (region_lengths start) address.0 (length bytes)) _ three.test_is in
       let last = three.rest_is in
       let is : outcome.Accepted ≡ told = cc in
-      record { no_error = ap error_of (sym is); effects_are = cc; some = leb-true 1 (length bytes) (and_parts (nat_le 1 (length bytes)) _ two.test_is).0; whole = both.0; granted = both.1 }
+      record { outcome_is = sym is; no_error = ap error_of (sym is); effects_are = cc; some = leb-true 1 (length bytes) (and_parts (nat_le 1 (length bytes)) _ two.test_is).0; whole = both.0; granted = both.1 }
 
   pub record ClientChanged (client : ClientId) (signal : SignalHandle) (operation : SignalOp) : Type 0 where
     pub old : ℤ
+    pub outcome_is : told ≡ outcome.Changed (old_if_asked operation old)
     pub no_error : error_of told ≡ None
     pub was : value_of (signals start es) signal.0 ≡ Some old
     pub granted : in_force start es client (object.Signal signal) right.Change ≡ true
@@ -300,4 +319,4 @@ module _ (start : Start) (es : List Entry) (told : Outcome) (effects : List Effe
       let three = for_some-found (value_of (signals start es) signal.0) _ _ told effects two.rest_is in
       let last = three.rest_is in
       let is : outcome.Changed (old_if_asked operation three.found) ≡ told = cc in
-      record { old = three.found; no_error = ap error_of (sym is); was = three.is; granted = two.test_is; effects_are = cc }
+      record { old = three.found; outcome_is = sym is; no_error = ap error_of (sym is); was = three.is; granted = two.test_is; effects_are = cc }

@@ -12,3 +12,6 @@ pub mod Turns
 pub mod Seeing
 pub mod Served
 pub mod FlightLaw
+mod Allowed
+mod Denied
+mod Working

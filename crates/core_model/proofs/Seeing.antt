@@ -16,7 +16,7 @@ use Rattle.aql_packet.specs.declared.packet.AgentDispatch.{AgentDispatch}
 use Rattle.aql_packet.specs.declared.packet.Packet.{Packet}
 use Rattle.aql_packet.specs.declared.packet.Packet.TheVariants as packet
 use Rattle.signals.specs.Values.{meets, value_of}
-use Rattle.aql_packet.specs.Reading.{packet_at, packet_type}
+use Rattle.aql_packet.specs.Reading.{barrier_bit, packet_at, packet_type}
 use Rattle.policy.specs.declared.object.Object.{Object}
 use Rattle.policy.specs.declared.object.Object.TheVariants as object
 use Rattle.policy.specs.declared.rights.Right.TheVariants as right
@@ -33,7 +33,7 @@ use Rattle.core_model.specs.declared.outcome.Taken.TheVariants as taken
 use Rattle.core_model.specs.declared.outcome.Worked.TheVariants as worked
 use Rattle.core_model.specs.declared.flight.InFlight.{InFlight}
 use Rattle.core_model.specs.declared.flight.Progress.{Progress}
-use Rattle.core_model.specs.Flight.{in_flight}
+use Rattle.core_model.specs.Flight.{flight_of, in_flight}
 use Rattle.core_model.specs.declared.refusal.Refusal.{Refusal}
 use Rattle.core_model.specs.declared.entry.Effect.{Effect}
 use Rattle.core_model.specs.declared.entry.Entry.{Entry}
@@ -43,9 +43,9 @@ use Rattle.core_model.specs.declared.need.Range.{Range}
 use Rattle.core_model.specs.History.{Start}
 use Rattle.core_model.specs.Grants.{in_force, rights_in_force}
 use Rattle.core_model.specs.Memory.{memory_from, region_lengths, signals}
-use Rattle.core_model.specs.Queues.{Opening, owner}
+use Rattle.core_model.specs.Queues.{Opening, owner, is_down, next_id}
 use Rattle.core_model.specs.Needs.{function_of}
-use Rattle.core_model.specs.LaunchRules.{Facts, first_failing, holds_rule, launch_rules}
+use Rattle.core_model.specs.LaunchRules.{Facts, first_failing, holds_rule, launch_rules, may_start}
 use Rattle.core_model.specs.Work.{number_in_memory, write_of, function_writes, function_result, agent_writes}
 use Rattle.core_model.specs.Owed.{owed, answers, enters, error_at, facts_of, is_host_size, owed_group}
 use Rattle.core_model.specs.Legal.{IsLegal}
@@ -84,15 +84,15 @@ pub denied : (start : Start) (es : List Entry) (queue : QueueId) (id : PacketId)
     owed start es (Take queue id bytes) ≡ enters (outcome.Taken (taken.Denied error)) effects → IsDenied start es queue id bytes error × (effects ≡ [])
 denied start es queue id bytes error effects owing =
     let decided = take-decided start es (outcome.Taken (taken.Denied error)) effects queue id bytes owing in
-    (by_rule decided.opening decided.owner_is decided.verdict decided.verdict_is decided.outcome_is, decided.effects_are)
+    (by_rule decided.opening decided.owner_is decided.launches_yet decided.is_next decided.may_start decided.verdict decided.verdict_is decided.outcome_is, decided.effects_are)
   where
-    by_rule : (opening : Opening) → owner start es queue ≡ Some opening → (verdict : Option Rule) → first_failing (facts_of start es opening) bytes ≡ verdict →
+    by_rule : (opening : Opening) → owner start es queue ≡ Some opening → is_down start es queue ≡ false → id.0 ≡ next_id start es queue → may_start (map (λ f. f.packet) (flight_of start es queue)) (barrier_bit bytes) ≡ None → (verdict : Option Rule) → first_failing (facts_of start es opening) bytes ≡ verdict →
         outcome.Taken (taken.Denied error) ≡ (elim verdict [ None ↦ outcome.Taken taken.Launched | Some r ↦ outcome.Taken (taken.Denied (error_at queue id.0 r)) ]) → IsDenied start es queue id bytes error
-    by_rule opening opened None is same = absurd cc
-    by_rule opening opened (Some r) is same =
+    by_rule opening opened up next free None is same = absurd cc
+    by_rule opening opened up next free (Some r) is same =
         let first = first-failing (facts_of start es opening) bytes r is in
         let error_is : error ≡ error_at queue id.0 r = cc in
-        record { opening = opening; owner_is = opened; rule = r; error_is = error_is; earlier = first.earlier; later = first.later; in_order = first.in_order; hold = first.hold; fails = first.fails }
+        record { opening = opening; owner_is = opened; launches_yet = up; is_next = next; need_not_wait = free; rule = r; error_is = error_is; earlier = first.earlier; later = first.later; in_order = first.in_order; hold = first.hold; fails = first.fails }
 
 -- ---- what groups read
 

@@ -1,5 +1,5 @@
 -- Packets are taken in turn, each id once; queues are opened in turn; and beginnings of legal histories are legal.
-use Rattle.std.proofs.Common.{rules, ◌≡◌, ◌<◌, ℕ, ◌+◌, ◌-◌, List, [], ◌∷◌, ◌++◌, length, refl, sym, ◌∙◌, ap, subst, Bool, true, false, Some, None, arith}
+use Rattle.std.proofs.Common.{rules, ◌≡◌, ◌<◌, ℕ, ◌+◌, ◌-◌, List, [], ◌∷◌, ◌++◌, length, refl, sym, ◌∙◌, ap, subst, Bool, true, false, Option, Some, None, arith, append_assoc, ◌⊎◌, inl, inr}
 use Rattle.std.specs.Prelude.{option_map, slice_get, nat_lt, ◌||◌}
 use Rattle.std.proofs.lemmas.Bool.{and_from, eq-eqb}
 use Rattle.aql_packet.specs.declared.ids.AgentHandle.{AgentHandle}
@@ -7,24 +7,28 @@ use Rattle.aql_packet.specs.declared.ids.ClientId.{ClientId}
 use Rattle.aql_packet.specs.declared.ids.QueueId.{QueueId}
 use Rattle.aql_packet.specs.declared.ids.PacketId.{PacketId}
 use Rattle.policy.specs.Policy.{numbered}
+use Rattle.queue_error.specs.declared.error.QueueError.{QueueError}
+use Rattle.queue_error.specs.declared.rule.Rule.{Rule}
 use Rattle.core_model.specs.declared.event.Event.TheVariants.{OpenQueue, Take}
 use Rattle.core_model.specs.declared.outcome.Outcome.{Outcome}
 use Rattle.core_model.specs.declared.outcome.Outcome.TheVariants as outcome
-use Rattle.core_model.specs.declared.outcome.Taken.TheVariants.{Launched}
+use Rattle.core_model.specs.declared.outcome.Taken.TheVariants.{Launched, Denied}
 use Rattle.core_model.specs.declared.entry.Effect.{Effect}
 use Rattle.core_model.specs.declared.entry.Entry.{Entry}
 use Rattle.core_model.specs.History.{Start}
-use Rattle.core_model.specs.Queues.{openings, next_id}
+use Rattle.core_model.specs.Queues.{Opening, openings, owner, next_id}
 use Rattle.core_model.specs.declared.flight.InFlight.{InFlight}
 use Rattle.core_model.specs.Flight.{launched_by}
 use Rattle.core_model.specs.Holds.{is_launch}
-use Rattle.core_model.specs.Owed.{owed, enters}
+use Rattle.core_model.specs.Owed.{owed, enters, error_at}
 use Rattle.core_model.specs.Legal.{IsLegal, IsLegalAfter, entry_of}
 use Rattle.core_model.specs.Headline.{Launch, IsOpened}
+use Rattle.std.proofs.lemmas.List.{append-nil}
+use Rattle.core_model.proofs.Holding.{owner-more}
 use Rattle.core_model.proofs.More.{openings-more}
 use Rattle.core_model.proofs.Launches.{was_launched, AreBelowNext-legal}
 use Rattle.core_model.proofs.Launching.{legal-at}
-use Rattle.core_model.proofs.Entered.{open-effects}
+use Rattle.core_model.proofs.Entered.{open-effects, take-decided}
 
 -- ---- beginnings
 
@@ -34,6 +38,19 @@ legal-before start pre (x ∷ xs) more legal = (legal.0, legal-before start (pre
 
 pub legal-beginning : (start : Start) (before more : List Entry) → IsLegal start (before ++ more) → IsLegal start before
 legal-beginning start before more legal = legal-before start [] before more legal
+
+-- ---- a packet that is taken is launched or denied
+
+pub taken-or-denied : (start : Start) (es : List Entry) (told : Outcome) (effects : List Effect) (queue : QueueId) (id : PacketId) (bytes : List ℕ) → owed start es (Take queue id bytes) ≡ enters told effects →
+    (told ≡ outcome.Taken Launched) ⊎ (error : QueueError) × (told ≡ outcome.Taken (Denied error))
+taken-or-denied start es told effects queue id bytes owing =
+    let decided = take-decided start es told effects queue id bytes owing in
+    by_verdict decided.verdict decided.outcome_is
+  where
+    by_verdict : (verdict : Option Rule) → told ≡ (elim verdict [ None ↦ outcome.Taken Launched | Some rule ↦ outcome.Taken (Denied (error_at queue id.0 rule)) ]) →
+        (told ≡ outcome.Taken Launched) ⊎ (error : QueueError) × (told ≡ outcome.Taken (Denied error))
+    by_verdict None is = inl is
+    by_verdict (Some rule) is = inr (error_at queue id.0 rule, is)
 
 -- ---- a packet is launched once
 
@@ -111,6 +128,13 @@ numbered-new xs x =
     let place : length xs + 1 - 1 ≡ length xs = omega arith in
     rw (positive, place) (slice_get-last xs x)
 
+-- a queue stays its opener's, whatever entries follow
+owner-stays : (start : Start) (es more : List Entry) (queue : QueueId) (opening : Opening) → owner start es queue ≡ Some opening → owner start (es ++ more) queue ≡ Some opening
+owner-stays start es [] queue opening is = subst (λ (now : List Entry). owner start now queue ≡ Some opening) (sym (append-nil es)) is
+owner-stays start es (e ∷ more) queue opening is =
+    subst (λ (now : List Entry). owner start now queue ≡ Some opening) (append_assoc es (e ∷ []) more)
+    (owner-stays start (es ++ e ∷ []) more queue opening (owner-more start es e queue opening is))
+
 pub queue-opened : (start : Start) (es : List Entry) (told : Outcome) (effects : List Effect) (client : ClientId) (agent : AgentHandle) (size : ℕ) → owed start es (OpenQueue client agent size) ≡ enters told effects →
     IsOpened start es (entry_of (OpenQueue client agent size) told effects) client agent
 queue-opened start es told effects client agent size owing =
@@ -120,5 +144,6 @@ queue-opened start es told effects client agent size owing =
       outcome_is = made.outcome_is;
       granted = made.granted;
       is_new = numbered-next (openings start es);
-      owner_is = ap (λ os. numbered os (length (openings start es) + 1)) (openings-more start es (entry_of (OpenQueue client agent size) told effects)) ∙ numbered-new (openings start es) (record { client = client; agent = agent });
+      owner_is = λ more. owner-stays start (es ++ entry_of (OpenQueue client agent size) told effects ∷ []) more (record { 0 = length (openings start es) + 1 }) (record { client = client; agent = agent })
+          (ap (λ os. numbered os (length (openings start es) + 1)) (openings-more start es (entry_of (OpenQueue client agent size) told effects)) ∙ numbered-new (openings start es) (record { client = client; agent = agent }));
     }

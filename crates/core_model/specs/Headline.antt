@@ -1,13 +1,13 @@
 -- What a legal history shows: for each thing that it tells, who asked for it and which grant in force allowed it.
 use Rattle.std.specs.Prelude.{ℕ, ℤ, pos, ◌≡◌, ◌<◌, ◌⊎◌, true, false, List, [], ◌∷◌, ◌++◌, length, map, Option, Some, None, All}
-use Rattle.std.specs.List.{Contains}
+use Rattle.std.specs.List.{Contains, list_any}
 use Rattle.aql_packet.specs.declared.ids.AgentHandle.{AgentHandle}
 use Rattle.aql_packet.specs.declared.ids.ClientId.{ClientId}
 use Rattle.aql_packet.specs.declared.ids.QueueId.{QueueId}
 use Rattle.aql_packet.specs.declared.ids.PacketId.{PacketId}
 use Rattle.aql_packet.specs.declared.ids.SignalHandle.{SignalHandle}
 use Rattle.aql_packet.specs.declared.packet.Packet.{Packet}
-use Rattle.aql_packet.specs.declared.packet.Packet.TheVariants.{Agent}
+use Rattle.aql_packet.specs.declared.packet.Packet.TheVariants.{Kernel, Agent, BarrierAnd, BarrierOr}
 use Rattle.aql_packet.specs.Layout.{Are64Bytes, PacketOf}
 use Rattle.aql_packet.specs.Reading.{barrier_bit, decoded, packet_at, packet_type}
 use Rattle.regions.specs.Memory.{is_within, region_of}
@@ -21,11 +21,17 @@ use Rattle.policy.specs.declared.rights.Right.TheVariants as right
 use Rattle.policy.specs.declared.rights.Rights.{Rights}
 use Rattle.policy.specs.Rights.{has}
 use Rattle.queue_error.specs.declared.rule.Rule.{Rule}
+use Rattle.queue_error.specs.declared.rule.Rule.TheVariants.{B1}
 use Rattle.queue_error.specs.declared.error.QueueError.{QueueError}
 use Rattle.core_model.specs.declared.event.Event.{Event}
 use Rattle.core_model.specs.declared.event.Event.TheVariants.{Take, RunNext, Poll, Finish, Stop, HostWrite, ChangeSignal}
 use Rattle.core_model.specs.declared.outcome.Outcome.TheVariants as outcome
 use Rattle.core_model.specs.declared.outcome.Taken.TheVariants.{Launched}
+use Rattle.core_model.specs.declared.outcome.Worked.TheVariants.{Faulted}
+use Rattle.core_model.specs.declared.outcome.Polled.{Polled}
+use Rattle.core_model.specs.declared.outcome.Polled.TheVariants.{Pending, Ready, Failed}
+use Rattle.core_model.specs.declared.outcome.Seen.{Seen}
+use Rattle.core_model.specs.declared.outcome.Outcome.{Outcome}
 use Rattle.core_model.specs.declared.entry.Effect.{Effect}
 use Rattle.core_model.specs.declared.entry.Effect.TheVariants as effect
 use Rattle.core_model.specs.declared.entry.Entry.{Entry}
@@ -37,12 +43,12 @@ use Rattle.core_model.specs.History.{Start, History}
 use Rattle.core_model.specs.Grants.{in_force}
 use Rattle.core_model.specs.Memory.{region_lengths, signals}
 use Rattle.core_model.specs.Queues.{Opening, owner, is_down, next_id}
-use Rattle.core_model.specs.Flight.{flight, flight_of, in_flight, progress}
+use Rattle.core_model.specs.Flight.{flight, flight_of, in_flight, progress, seen_with}
 use Rattle.core_model.specs.Needs.{function_of, result_range, dependencies, completion}
 use Rattle.core_model.specs.LaunchRules.{holds_rule, launch_rules, may_start, is_barrier}
-use Rattle.core_model.specs.Work.{groups_of}
+use Rattle.core_model.specs.Work.{awaited, groups_of, is_negative, is_ready, newly_seen}
 use Rattle.core_model.specs.Holds.{held}
-use Rattle.core_model.specs.Owed.{error_at, facts_of}
+use Rattle.core_model.specs.Owed.{completed, error_at, facts_of, is_finished}
 use Rattle.core_model.specs.Legal.{IsLegal, entry_of}
 use Rattle.core_model.specs.Queries.{has_some}
 
@@ -83,12 +89,16 @@ ranges_written (Some (Add64 number addend)) = number ∷ []
 -- the ranges that a packet's work reads: of an agent dispatch those of its function (own)
 abbrev pub reads_of : Packet → List Range
 reads_of (Agent dispatch) = ranges_read (function_of dispatch)
-reads_of _ = []
+reads_of (Kernel _) = []
+reads_of (BarrierAnd _) = []
+reads_of (BarrierOr _) = []
 
 -- the ranges that a packet's work writes: of an agent dispatch those of its function, and its result (own)
 abbrev pub writes_of : Packet → List Range
 writes_of (Agent dispatch) = ranges_written (function_of dispatch) ++ result_range dispatch ∷ []
-writes_of _ = []
+writes_of (Kernel _) = []
+writes_of (BarrierAnd _) = []
+writes_of (BarrierOr _) = []
 
 -- each right that a packet works with is in force for the owner of its queue (own)
 pub record HasItsRights (start : Start) (entries : List Entry) (opening : Opening) (p : Packet) : Type 0 where
@@ -130,10 +140,14 @@ pub record InFlightSince (start : Start) (entries : List Entry) (queue : QueueId
   pub launch : Launch start entries queue id
   pub packet_is : launch.packet ≡ flying.packet
 
--- a packet was denied, by what was in force behind these entries: its error names it and the first launch rule that fails (own)
+-- a packet was denied, by what was in force behind these entries: it is the next of a queue that is open and launches yet, it need
+-- not wait, and its error names it and the first launch rule that fails (own)
 pub record IsDenied (start : Start) (before : List Entry) (queue : QueueId) (id : PacketId) (bytes : List ℕ) (error : QueueError) : Type 0 where
   pub opening : Opening
   pub owner_is : owner start before queue ≡ Some opening
+  pub launches_yet : is_down start before queue ≡ false
+  pub is_next : id.0 ≡ next_id start before queue
+  pub need_not_wait : may_start (map (λ f. f.packet) (flight_of start before queue)) (barrier_bit bytes) ≡ None
   pub rule : Rule
   pub error_is : error ≡ error_at queue id.0 rule
   -- the rules before it hold, and it fails
@@ -197,19 +211,38 @@ ChangeIsGranted start before event _ = Unit {0}
 
 -- ---- releases
 
--- what releases this packet: its completion, its fault, or the stop of its queue, if it is a barrier packet (own)
-abbrev pub Releases : Event → InFlight → Type 0
-Releases (Finish queue id) f = (queue ≡ f.queue) × (id ≡ f.id)
-Releases (RunNext queue id) f = (queue ≡ f.queue) × (id ≡ f.id)
-Releases (Poll queue id) f = (queue ≡ f.queue) × (id ≡ f.id)
-Releases (Stop queue) f = (queue.0 ≡ f.queue.0) × (is_barrier f.packet ≡ true)
-Releases _ f = ⊥
+-- what releases this packet: that it completes, that it faults, or that its queue is stopped, if it is a barrier packet (own)
+abbrev pub IsReleasedBy : Event → Outcome → InFlight → Type 0
+IsReleasedBy (Finish queue id) outcome.Accepted f = (queue ≡ f.queue) × (id ≡ f.id)
+IsReleasedBy (RunNext queue id) (outcome.Worked (Faulted error)) f = (queue ≡ f.queue) × (id ≡ f.id)
+IsReleasedBy (Poll queue id) (outcome.Polled (Failed error)) f = (queue ≡ f.queue) × (id ≡ f.id)
+IsReleasedBy (Stop queue) outcome.Accepted f = (queue.0 ≡ f.queue.0) × (is_barrier f.packet ≡ true)
+IsReleasedBy _ _ f = ⊥
 
 -- a packet is released that is in flight, by what releases it (own)
-abbrev pub ReleaseIsDue : Start → List Entry → Event → Effect → Type 0
-ReleaseIsDue start before event (effect.Release queue id) =
-    (f : InFlight) × Contains (flight start before) f × (f.queue ≡ queue) × (f.id ≡ id) × Releases event f
-ReleaseIsDue start before event _ = Unit {0}
+abbrev pub ReleaseIsDue : Start → List Entry → Event → Outcome → Effect → Type 0
+ReleaseIsDue start before event told (effect.Release queue id) =
+    (f : InFlight) × Contains (flight start before) f × (f.queue ≡ queue) × (f.id ≡ id) × IsReleasedBy event told f
+ReleaseIsDue start before event told _ = Unit {0}
+
+-- ---- completions and polls
+
+-- a packet in flight whose work is done behind these entries: its completion signal, unless it is null, is decremented once, and it
+-- is released (own)
+pub record IsCompleted (start : Start) (before : List Entry) (queue : QueueId) (id : PacketId) (effects : List Effect) : Type 0 where
+  pub packet : InFlightSince start before queue id
+  pub is_done : is_finished packet.flying.packet (progress start before queue id) ≡ true
+  pub effects_are : effects ≡ completed (signals start before) (completion packet.flying.packet) ++ effect.Release queue id ∷ []
+
+-- what a poll of a barrier packet tells, by the signals just before and by what polls since its launch have seen: it failed where a
+-- dependency still looked at is negative; else it saw those that are 0, and is ready where they suffice with those seen before (own)
+abbrev pub IsPolled : Start → List Entry → QueueId → PacketId → Packet → Seen → Polled → Type 0
+IsPolled start before queue id p satisfied (Failed error) =
+    (error ≡ error_at queue id.0 B1) × (list_any (is_negative (signals start before)) (awaited p satisfied) ≡ true)
+IsPolled start before queue id p satisfied (Pending new) =
+    (new ≡ newly_seen (signals start before) p satisfied) × (is_ready p (seen_with satisfied new) ≡ false)
+IsPolled start before queue id p satisfied (Ready new) =
+    (new ≡ newly_seen (signals start before) p satisfied) × (is_ready p (seen_with satisfied new) ≡ true)
 
 -- the packet that an event concerns, if it concerns one (own)
 abbrev pub packet_named : Event → Option (QueueId × PacketId)
@@ -230,13 +263,14 @@ pub record HoldsInForce (start : Start) (entries : List Entry) (f : InFlight) : 
 
 -- ---- queues
 
--- an entry behind these opens a queue that wasn't there, for a client that may use the agent, whose it is from then on (own)
+-- an entry behind these opens a queue that wasn't there, for a client that may use the agent, whose it is from then on, whatever
+-- entries follow (own)
 pub record IsOpened (start : Start) (before : List Entry) (entry : Entry) (client : ClientId) (agent : AgentHandle) : Type 0 where
   pub queue : QueueId
   pub outcome_is : entry.outcome ≡ outcome.Opened queue
   pub granted : in_force start before client (object.Agent agent) right.Use ≡ true
   pub is_new : owner start before queue ≡ None
-  pub owner_is : owner start (before ++ entry ∷ []) queue ≡ Some (record { client = client; agent = agent })
+  pub owner_is : (more : List Entry) → owner start ((before ++ entry ∷ []) ++ more) queue ≡ Some (record { client = client; agent = agent })
 
 -- ---- listings
 

@@ -1,7 +1,7 @@
 //! What a legal history shows: for each thing that it tells, who asked for it, and which grant in
 //! force allowed it; and what clients are told.
 
-ghost use Rattle.std.specs.Prelude.{ℕ, ℤ, List, [], ◌∷◌, ◌++◌, ◌≡◌, ◌⊎◌, All, Option, Some, Result, Ok, Err, true, length};
+ghost use Rattle.std.specs.Prelude.{ℕ, ℤ, List, [], ◌∷◌, ◌++◌, ◌≡◌, ◌⊎◌, All, Option, Some, Result, Ok, Err, true, false, length};
 ghost use Rattle.aql_packet.specs.declared.ids.Address.{Address};
 ghost use Rattle.aql_packet.specs.declared.ids.AgentHandle.{AgentHandle};
 ghost use Rattle.aql_packet.specs.declared.ids.ClientId.{ClientId};
@@ -14,9 +14,10 @@ ghost use Rattle.aql_packet.specs.declared.packet.Packet.TheVariants as packet;
 ghost use Rattle.signals.specs.Values.{applied, meets, value_of};
 ghost use Rattle.signals.specs.declared.operation.Condition.{Condition};
 ghost use Rattle.signals.specs.declared.operation.SignalOp.{SignalOp};
-ghost use Rattle.policy.specs.Policy.{allows};
+ghost use Rattle.policy.specs.Policy.{allowed, allows, declares_client};
 ghost use Rattle.policy.specs.declared.object.Object.{Object};
 ghost use Rattle.policy.specs.declared.object.Object.TheVariants as object;
+ghost use Rattle.policy.specs.declared.rights.Right.{Right};
 ghost use Rattle.policy.specs.declared.rights.Right.TheVariants as right;
 ghost use Rattle.policy.specs.declared.rights.Rights.{Rights};
 ghost use Rattle.queue_error.specs.declared.error.QueueError.{QueueError};
@@ -26,27 +27,29 @@ ghost use Rattle.core_model.specs.declared.entry.Effect.{Effect};
 ghost use Rattle.core_model.specs.declared.entry.Effect.TheVariants as effect;
 ghost use Rattle.core_model.specs.declared.entry.Entry.{Entry};
 ghost use Rattle.core_model.specs.declared.event.Event.{Event};
-ghost use Rattle.core_model.specs.declared.event.Event.TheVariants.{ChangeSignal, Grant, HostWrite, OpenQueue, RunNext, Take};
+ghost use Rattle.core_model.specs.declared.event.Event.TheVariants.{ChangeSignal, Finish, Grant, HostWrite, OpenQueue, Poll, RunNext, Take};
 ghost use Rattle.core_model.specs.declared.event.Query.TheVariants as query;
 ghost use Rattle.core_model.specs.declared.event.Request.{Request};
 ghost use Rattle.core_model.specs.declared.flight.InFlight.{InFlight};
 ghost use Rattle.core_model.specs.declared.flight.Progress.{Progress};
 ghost use Rattle.core_model.specs.declared.outcome.Outcome.{Outcome};
 ghost use Rattle.core_model.specs.declared.outcome.Outcome.TheVariants as outcome;
+ghost use Rattle.core_model.specs.declared.outcome.Polled.{Polled};
 ghost use Rattle.core_model.specs.declared.outcome.Polled.TheVariants as polled;
 ghost use Rattle.core_model.specs.declared.outcome.Taken.TheVariants as taken;
 ghost use Rattle.core_model.specs.declared.outcome.Worked.TheVariants as worked;
 ghost use Rattle.core_model.specs.declared.refusal.Refusal.{Refusal};
+ghost use Rattle.core_model.specs.declared.refusal.Refusal.TheVariants as refusal;
 ghost use Rattle.core_model.specs.History.{Start, History};
 ghost use Rattle.core_model.specs.Grants.{in_force};
 ghost use Rattle.core_model.specs.Memory.{memory_from, signals};
 ghost use Rattle.core_model.specs.Queues.{Opening, error_of, next_id};
-ghost use Rattle.core_model.specs.Flight.{LawOfFlight, flight, in_flight};
+ghost use Rattle.core_model.specs.Flight.{LawOfFlight, flight, in_flight, progress};
 ghost use Rattle.core_model.specs.Work.{agent_writes};
-ghost use Rattle.core_model.specs.Owed.{owed_group};
+ghost use Rattle.core_model.specs.Owed.{is_host_size, old_if_asked, owed, owed_group, refuses};
 ghost use Rattle.core_model.specs.Legal.{AreReplies, IsLegal, IsServed, MeetsOrLacks, Replying, entry_of};
 ghost use Rattle.core_model.specs.Queries.{replied};
-ghost use Rattle.core_model.specs.Headline.{ChangeIsGranted, GoesOn, HoldsInForce, InFlightSince, IsDenied, IsEntryBehind, IsListed, IsOpened, Launch, MayBeLaunched, MayReach, MayReachRange, ReleaseIsDue, WriteIsGranted, packet_named, reads_of};
+ghost use Rattle.core_model.specs.Headline.{ChangeIsGranted, GoesOn, HoldsInForce, InFlightSince, IsCompleted, IsDenied, IsEntryBehind, IsListed, IsOpened, IsPolled, Launch, MayBeLaunched, MayReach, MayReachRange, ReleaseIsDue, WriteIsGranted, packet_named, reads_of};
 
 /// A launched packet is the next of a queue that is open and need not wait, is laid out by its bytes, and
 /// meets every launch rule by the grants in force just before; its launch has no effect.
@@ -56,10 +59,14 @@ pub fn each_launch_was_granted()
         (opening : Opening) × (packet : Packet) × MayBeLaunched start before queue id bytes opening packet × (effects ≡ []) }
 {}
 
-/// A packet is launched or denied under the id that is its queue's next, and so launched once at most.
+/// A packet that is taken is launched or denied, under the id that is its queue's next, and so launched
+/// once at most.
 pub fn each_packet_is_taken_in_turn()
     ensures turn { (start : Start) (entries before : List Entry) (queue : QueueId) (id : PacketId) (bytes : List ℕ) (told : Outcome) (effects : List Effect) →
         IsLegal start entries → IsEntryBehind entries before (entry_of (Take queue id bytes) told effects) → id.0 ≡ next_id start before queue }
+    ensures decided { (start : Start) (entries before : List Entry) (queue : QueueId) (id : PacketId) (bytes : List ℕ) (told : Outcome) (effects : List Effect) →
+        IsLegal start entries → IsEntryBehind entries before (entry_of (Take queue id bytes) told effects) →
+        (told ≡ outcome.Taken taken.Launched) ⊎ (error : QueueError) × (told ≡ outcome.Taken (taken.Denied error)) }
     ensures once { (start : Start) (entries : List Entry) (queue : QueueId) (id : PacketId) →
         IsLegal start entries → (one other : Launch start entries queue id) → (one.before ≡ other.before) × (one.packet ≡ other.packet) }
 {}
@@ -87,15 +94,34 @@ pub fn each_signal_change_was_granted()
         IsLegal start entries → IsEntryBehind entries before entry → All (ChangeIsGranted start before entry.event) entry.effects }
 {}
 
-/// Each packet that is released is in flight, and is the one that completes, faults, or is the barrier
-/// packet of a queue that is stopped.
+/// Each packet that is released is in flight, and is the one that completes, or faults, or is the
+/// barrier packet of a queue that is stopped.
 pub fn each_release_is_due()
     ensures { (start : Start) (entries before : List Entry) (entry : Entry) →
-        IsLegal start entries → IsEntryBehind entries before entry → All (ReleaseIsDue start before entry.event) entry.effects }
+        IsLegal start entries → IsEntryBehind entries before entry → All (ReleaseIsDue start before entry.event entry.outcome) entry.effects }
+{}
+
+/// A packet that completes is in flight and has its work done; its completion signal, unless it is null,
+/// is decremented once, and it is released.
+pub fn each_completion_comes_after_the_work()
+    ensures { (start : Start) (entries before : List Entry) (queue : QueueId) (id : PacketId) (told : Outcome) (effects : List Effect) →
+        IsLegal start entries → IsEntryBehind entries before (entry_of (Finish queue id) told effects) →
+        (told ≡ outcome.Accepted) × IsCompleted start before queue id effects }
+{}
+
+/// A poll that leaves an entry is of a packet in flight, and tells what the signals were just before: a
+/// dependency that is negative fails it, and it is ready just where what was seen as 0 since its launch
+/// suffices.
+pub fn each_poll_is_by_the_signals()
+    ensures { (start : Start) (entries before : List Entry) (queue : QueueId) (id : PacketId) (told : Outcome) (effects : List Effect) →
+        IsLegal start entries → IsEntryBehind entries before (entry_of (Poll queue id) told effects) →
+        (s : InFlightSince start before queue id) × (found : Polled) × (told ≡ outcome.Polled found)
+        × IsPolled start before queue id s.flying.packet (progress start before queue id).satisfied found }
 {}
 
 /// A packet whose group runs is in flight, and was launched with READ in force, for the owner of its
-/// queue, on all that its work reads; what a group of an agent dispatch changes is what it writes.
+/// queue, on all that its work reads; a group of an agent dispatch changes just its function's target and
+/// its result's 8 bytes, as the function says.
 pub fn each_read_of_a_group_was_granted()
     ensures reads { (start : Start) (entries before : List Entry) (queue : QueueId) (id : PacketId) (told : Outcome) (effects : List Effect) →
         IsLegal start entries → IsEntryBehind entries before (entry_of (RunNext queue id) told effects) →
@@ -146,15 +172,15 @@ pub fn each_queue_is_its_openers()
 {}
 
 /// A client's write is made only with WRITE in force, and then whole; its change of a signal only with
-/// CHANGE in force, and then as the operation says.
+/// CHANGE in force, and then as the operation says, and it is told the old value only where it asked.
 pub fn each_host_call_was_granted()
     ensures write { (start : Start) (entries before : List Entry) (client : ClientId) (address : Address) (bytes : List ℕ) (told : Outcome) (effects : List Effect) →
         IsLegal start entries → IsEntryBehind entries before (entry_of (HostWrite client address bytes) told effects) →
-        MayReach start before client right.Write address.0 (length bytes) × (effects ≡ effect.Write address bytes ∷ []) }
+        MayReach start before client right.Write address.0 (length bytes) × (effects ≡ effect.Write address bytes ∷ []) × (told ≡ outcome.Accepted) }
     ensures change { (start : Start) (entries before : List Entry) (client : ClientId) (signal : SignalHandle) (operation : SignalOp) (told : Outcome) (effects : List Effect) →
         IsLegal start entries → IsEntryBehind entries before (entry_of (ChangeSignal client signal operation) told effects) →
         (in_force start before client (object.Signal signal) right.Change ≡ true) × (old : ℤ) × (value_of (signals start before) signal.0 ≡ Some old)
-        × (effects ≡ effect.Signal signal old (applied operation old) ∷ []) }
+        × (effects ≡ effect.Signal signal old (applied operation old) ∷ []) × (told ≡ outcome.Changed (old_if_asked operation old)) }
 {}
 
 /// A client that is told bytes of memory is told those of the range, which lies whole in a region on
@@ -182,6 +208,35 @@ pub fn each_listed_right_is_in_force()
     ensures { (start : Start) (entries : List Entry) (client : ClientId) (told : Answer) →
         replied start entries (query.List client) ≡ Ok told →
         (rows : List (Object × Rights)) × (told ≡ answer.Listing rows) × All (IsListed start entries client) rows }
+{}
+
+/// Each right in force is one that the policy allows the client.
+pub fn each_right_in_force_is_allowed()
+    ensures { (start : Start) (entries : List Entry) (client : ClientId) (on : Object) (right : Right) →
+        IsLegal start entries → in_force start entries client on right ≡ true → allowed start.policy client on right ≡ true }
+{}
+
+/// A known client's own call is denied where the right that it needs is not in force: a write or a read of
+/// a good size, a change of a signal or a look at it, and the opening of a queue.
+pub fn calls_without_their_right_are_denied()
+    ensures write { (start : Start) (entries : List Entry) (client : ClientId) (address : Address) (bytes : List ℕ) →
+        declares_client start.policy client ≡ true → is_host_size (length bytes) ≡ true → (MayReach start entries client right.Write address.0 (length bytes) → ⊥) →
+        owed start entries (HostWrite client address bytes) ≡ refuses (refusal.Denied right.Write) }
+    ensures change { (start : Start) (entries : List Entry) (client : ClientId) (signal : SignalHandle) (operation : SignalOp) →
+        declares_client start.policy client ≡ true → in_force start entries client (object.Signal signal) right.Change ≡ false →
+        owed start entries (ChangeSignal client signal operation) ≡ refuses (refusal.Denied right.Change) }
+    ensures opening { (start : Start) (entries : List Entry) (client : ClientId) (agent : AgentHandle) (size : ℕ) →
+        declares_client start.policy client ≡ true → in_force start entries client (object.Agent agent) right.Use ≡ false →
+        owed start entries (OpenQueue client agent size) ≡ refuses (refusal.Denied right.Use) }
+    ensures read { (start : Start) (entries : List Entry) (client : ClientId) (address : Address) (size : ℕ) →
+        declares_client start.policy client ≡ true → is_host_size size ≡ true → (MayReach start entries client right.Read address.0 size → ⊥) →
+        replied start entries (query.HostRead client address size) ≡ Err (refusal.Denied right.Read) }
+    ensures load { (start : Start) (entries : List Entry) (client : ClientId) (signal : SignalHandle) →
+        declares_client start.policy client ≡ true → in_force start entries client (object.Signal signal) right.Wait ≡ false →
+        replied start entries (query.LoadSignal client signal) ≡ Err (refusal.Denied right.Wait) }
+    ensures test { (start : Start) (entries : List Entry) (client : ClientId) (signal : SignalHandle) (condition : Condition) (value : ℤ) →
+        declares_client start.policy client ≡ true → in_force start entries client (object.Signal signal) right.Wait ≡ false →
+        replied start entries (query.TestSignal client signal condition value) ≡ Err (refusal.Denied right.Wait) }
 {}
 
 /// What is refused, an event or a query, for whatever cause, leaves the history as it was.

@@ -1,0 +1,67 @@
+-- Completions come after the work, and polls tell what the signals are.
+use Rattle.std.proofs.Common.{◌≡◌, List, [], ◌∷◌, ◌++◌, refl, sym, ◌∙◌, ap, subst, Bool, true, false, inl, inr, ◌⊎◌}
+use Rattle.std.specs.Prelude.{if◌then◌else◌}
+use Rattle.std.specs.List.{list_any}
+use Rattle.aql_packet.specs.declared.ids.QueueId.{QueueId}
+use Rattle.aql_packet.specs.declared.ids.PacketId.{PacketId}
+use Rattle.aql_packet.specs.declared.packet.Packet.{Packet}
+use Rattle.queue_error.specs.declared.rule.Rule.TheVariants.{B1}
+use Rattle.core_model.specs.declared.event.Event.TheVariants.{Finish, Poll}
+use Rattle.core_model.specs.declared.outcome.Outcome.{Outcome}
+use Rattle.core_model.specs.declared.outcome.Outcome.TheVariants as outcome
+use Rattle.core_model.specs.declared.outcome.Polled.{Polled}
+use Rattle.core_model.specs.declared.outcome.Polled.TheVariants as polled_as
+use Rattle.core_model.specs.declared.outcome.Seen.{Seen}
+use Rattle.core_model.specs.declared.entry.Effect.{Effect}
+use Rattle.core_model.specs.declared.entry.Effect.TheVariants as effect
+use Rattle.core_model.specs.declared.entry.Entry.{Entry}
+use Rattle.core_model.specs.declared.flight.InFlight.{InFlight}
+use Rattle.core_model.specs.History.{Start}
+use Rattle.core_model.specs.Memory.{signals}
+use Rattle.core_model.specs.Flight.{progress, seen_with}
+use Rattle.core_model.specs.Needs.{completion}
+use Rattle.core_model.specs.Work.{awaited, is_negative, is_ready, newly_seen}
+use Rattle.core_model.specs.Owed.{completed, enters, error_at, is_finished, owed}
+use Rattle.core_model.specs.Legal.{IsLegal}
+use Rattle.core_model.specs.Headline.{InFlightSince, IsCompleted, IsPolled}
+use Rattle.core_model.proofs.Holding.{flying-since}
+use Rattle.core_model.proofs.Entered.{HasSeen, HasFailed, finish-entered, poll-entered}
+
+module _ (start : Start) (es : List Entry) (legal : IsLegal start es) (told : Outcome) (effects : List Effect) (queue : QueueId) (id : PacketId) where
+  pub completion-due : owed start es (Finish queue id) ≡ enters told effects → (told ≡ outcome.Accepted) × IsCompleted start es queue id effects
+  completion-due owing =
+      let done = finish-entered start es told effects queue id owing in
+      let since = flying-since start es legal queue id done.flying done.found in
+      (done.outcome_is, record {
+        packet = since.0;
+        is_done = ap (λ f. is_finished f.packet (progress start es queue id)) since.1 ∙ done.is_done;
+        effects_are = done.effects_are ∙ sym (ap (λ f. completed (signals start es) (completion f.packet) ++ effect.Release queue id ∷ []) since.1);
+      })
+
+  abbrev pub satisfied : Seen
+  satisfied = (progress start es queue id).satisfied
+
+  abbrev sight : Packet → Seen
+  sight p = newly_seen (signals start es) p satisfied
+
+  -- what was seen suffices or doesn't
+  as-polled : (p : Packet) (b : Bool) → is_ready p (seen_with satisfied (sight p)) ≡ b → IsPolled start es queue id p satisfied (if b then polled_as.Ready (sight p) else polled_as.Pending (sight p))
+  as-polled p true is = (refl, is)
+  as-polled p false is = (refl, is)
+
+  pub poll-due : owed start es (Poll queue id) ≡ enters told effects →
+      (s : InFlightSince start es queue id) × (found : Polled) × (told ≡ outcome.Polled found) × IsPolled start es queue id s.flying.packet satisfied found
+  poll-due owing = by_end (poll-entered start es told effects queue id owing)
+    where
+      by_end : HasSeen start es told effects queue id ⊎ HasFailed start es told effects queue id →
+          (s : InFlightSince start es queue id) × (found : Polled) × (told ≡ outcome.Polled found) × IsPolled start es queue id s.flying.packet satisfied found
+      by_end (inl seen) =
+          let since = flying-since start es legal queue id seen.flying seen.found in
+          let p = since.0.flying.packet in
+          (since.0, (if is_ready p (seen_with satisfied (sight p)) then polled_as.Ready (sight p) else polled_as.Pending (sight p)),
+          seen.outcome_is ∙ sym (ap (λ f. outcome.Polled (if is_ready f.packet (seen_with satisfied (sight f.packet)) then polled_as.Ready (sight f.packet) else polled_as.Pending (sight f.packet))) since.1),
+          as-polled p (is_ready p (seen_with satisfied (sight p))) refl)
+      by_end (inr failed) =
+          let since = flying-since start es legal queue id failed.flying failed.found in
+          (since.0, polled_as.Failed (error_at queue id.0 B1), failed.outcome_is,
+          (refl, ap (λ f. list_any (is_negative (signals start es)) (awaited f.packet satisfied)) since.1 ∙ failed.negative))
