@@ -31,12 +31,14 @@ module _ (start : Start) (es : List Entry) (legal : IsLegal start es) (told : Ou
   pub completion-due : owed start es (Finish queue id) ≡ enters told effects → (told ≡ outcome.Accepted) × IsCompleted start es queue id effects
   completion-due owing =
       let done = finish-entered start es told effects queue id owing in
-      let since = flying-since start es legal queue id done.flying done.found in
-      (done.outcome_is, record {
-        packet = since.0;
-        is_done = ap (λ f. is_finished f.packet (progress start es queue id)) since.1 ∙ done.is_done;
-        effects_are = done.effects_are ∙ sym (ap (λ f. completed (signals start es) (completion f.packet) ++ effect.Release queue id ∷ []) since.1);
-      })
+      let since = flying-since start es legal queue id done.flying done.found in (
+        done.outcome_is,
+        record {
+          packet = since.0;
+          is_done = ap (λ f. is_finished f.packet (progress start es queue id)) since.1 ∙ done.is_done;
+          effects_are = done.effects_are ∙ sym (ap (λ f. completed (signals start es) (completion f.packet) ++ effect.Release queue id ∷ []) since.1);
+        },
+      )
 
   abbrev pub satisfied : Seen
   satisfied = (progress start es queue id).satisfied
@@ -57,11 +59,16 @@ module _ (start : Start) (es : List Entry) (legal : IsLegal start es) (told : Ou
           (s : InFlightSince start es queue id) × (found : Polled) × (told ≡ outcome.Polled found) × IsPolled start es queue id s.flying.packet satisfied found
       by_end (inl seen) =
           let since = flying-since start es legal queue id seen.flying seen.found in
-          let p = since.0.flying.packet in
-          (since.0, (if is_ready p (seen_with satisfied (sight p)) then polled_as.Ready (sight p) else polled_as.Pending (sight p)),
-          seen.outcome_is ∙ sym (ap (λ f. outcome.Polled (if is_ready f.packet (seen_with satisfied (sight f.packet)) then polled_as.Ready (sight f.packet) else polled_as.Pending (sight f.packet))) since.1),
-          as-polled p (is_ready p (seen_with satisfied (sight p))) refl)
+          let p = since.0.flying.packet in (
+            since.0,
+            (if is_ready p (seen_with satisfied (sight p)) then polled_as.Ready (sight p) else polled_as.Pending (sight p)),
+            seen.outcome_is ∙ sym (ap (λ f. outcome.Polled (if is_ready f.packet (seen_with satisfied (sight f.packet)) then polled_as.Ready (sight f.packet) else polled_as.Pending (sight f.packet))) since.1),
+            as-polled p (is_ready p (seen_with satisfied (sight p))) refl,
+          )
       by_end (inr failed) =
-          let since = flying-since start es legal queue id failed.flying failed.found in
-          (since.0, polled_as.Failed (error_at queue id.0 B1), failed.outcome_is,
-          (refl, ap (λ f. list_any (is_negative (signals start es)) (awaited f.packet satisfied)) since.1 ∙ failed.negative))
+          let since = flying-since start es legal queue id failed.flying failed.found in (
+            since.0,
+            polled_as.Failed (error_at queue id.0 B1),
+            failed.outcome_is,
+            (refl, ap (λ f. list_any (is_negative (signals start es)) (awaited f.packet satisfied)) since.1 ∙ failed.negative),
+          )
