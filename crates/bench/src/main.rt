@@ -33,29 +33,41 @@ const FAILED: u8 = 1;
 /// The exit status for a command line that isn't understood.
 const NOT_UNDERSTOOD: u8 = 2;
 
-// The command line that the program understands.
-fn command<'a>(alloc: Global) -> Result<Command<'a>, Error> {
-    let packets = Arg::new(alloc, "PACKETS")
+// The argument that says how many packets are sent.
+fn packets<'a>(alloc: Global) -> Arg<'a> {
+    Arg::new(alloc, "PACKETS")
         .required(true)
         .action(ArgAction::Set)
         .value_parser(ValueParser::Unsigned(1, MOST_PACKETS))
-        .help("How many packets each producer sends, 1 to 1000000000");
-    let runs = Arg::new(alloc, "runs")
+        .help("How many packets each producer sends, 1 to 1000000000")
+}
+
+// The argument that says how often all is measured.
+fn runs<'a>(alloc: Global) -> Arg<'a> {
+    Arg::new(alloc, "runs")
         .long("runs")
         .value_name("N")
         .action(ArgAction::Set)
         .value_parser(ValueParser::Unsigned(1, MOST_RUNS))
-        .help("How often all is measured, 1 to 1000, of which the least is told; 1 if not given");
-    let ring = Command::new(alloc, "ring")
+        .help("How often all is measured, 1 to 1000, of which the least is told; 1 if not given")
+}
+
+// The command that measures the ring.
+fn ring_command<'a>(alloc: Global) -> Result<Command<'a>, AllocError> {
+    Command::new(alloc, "ring")
         .about("Measures the ring over atomics, with 64 slots")
-        .arg(packets)?
-        .arg(runs)?;
-    let program = Command::new(alloc, "bench")
+        .arg(packets(alloc))?
+        .arg(runs(alloc))
+}
+
+// The command line that the program understands.
+fn command<'a>(alloc: Global) -> Result<Command<'a>, AllocError> {
+    let ring = ring_command(alloc)?;
+    Command::new(alloc, "bench")
         .about("Measures the broker; the figures go to standard error")
         .version("0.1.0")
         .subcommand_required(true)
-        .subcommand(ring)?;
-    Ok(program)
+        .subcommand(ring)
 }
 
 // What a command line asks for.
@@ -71,20 +83,38 @@ fn each(packets: u64, least: Duration) -> (u128, u128) {
     (tenths / 10, tenths % 10)
 }
 
+// The least time of all runs on one thread.
+fn least_of_one(rt: &(impl Clock + AllocGlobal), request: Request) -> Result<Duration, Fault> {
+    let mut least = one_thread(rt, rt.alloc(), request.packets)?;
+    for _ in 1..request.runs {
+        least = least.min(one_thread(rt, rt.alloc(), request.packets)?);
+    }
+    Ok(least)
+}
+
 // Measures one thread.
 fn measure_one<R: Print + Eprint + Clock + AllocGlobal>(
     rt: &R,
     request: Request,
 ) -> Result<(), Fault> {
     let packets = request.packets;
-    let mut least = one_thread(rt, rt.alloc(), packets)?;
-    for _ in 1..request.runs {
-        least = least.min(one_thread(rt, rt.alloc(), packets)?);
-    }
+    let (whole, tenth) = each(packets, least_of_one(rt, request)?);
     println!(rt; "one thread: {packets} packets, each whole")?;
-    let (whole, tenth) = each(packets, least);
     eprintln!(rt; "one thread: {whole}.{tenth} ns a packet")?;
     Ok(())
+}
+
+// The least time of all runs with so many producers.
+fn least_of_many<R: Clock + AllocGlobal + Threads + Sync>(
+    rt: &R,
+    request: Request,
+    producers: u64,
+) -> Result<Duration, Fault> {
+    let mut least = many_threads(rt, rt.alloc(), producers, request.packets)?;
+    for _ in 1..request.runs {
+        least = least.min(many_threads(rt, rt.alloc(), producers, request.packets)?);
+    }
+    Ok(least)
 }
 
 // Measures so many producers, each on a thread, and the processor on another.
@@ -93,14 +123,9 @@ fn measure_many<R: Print + Eprint + Clock + AllocGlobal + Threads + Sync>(
     request: Request,
     producers: u64,
 ) -> Result<(), Fault> {
-    let packets = request.packets;
-    let mut least = many_threads(rt, rt.alloc(), producers, packets)?;
-    for _ in 1..request.runs {
-        least = least.min(many_threads(rt, rt.alloc(), producers, packets)?);
-    }
-    let all = packets.saturating_mul(producers);
+    let all = request.packets.saturating_mul(producers);
+    let (whole, tenth) = each(all, least_of_many(rt, request, producers)?);
     println!(rt; "producers {producers}: {all} packets, each whole and in order")?;
-    let (whole, tenth) = each(all, least);
     eprintln!(rt; "producers {producers}: {whole}.{tenth} ns a packet")?;
     Ok(())
 }
@@ -117,25 +142,30 @@ fn measure<R: Print + Eprint + Clock + AllocGlobal + Threads + Sync>(
     Ok(())
 }
 
+// What the words of a command line are, if they are understood.
+fn matched<'a>(alloc: Global, words: &'a [String]) -> Result<ArgMatches<'a>, Error> {
+    command(alloc)?.try_get_matches_from(words)
+}
+
+// Tells what a command line is refused for, or its help, and the exit status.
+fn refused(rt: &HostRuntime, error: &Error) -> u8 {
+    if error.kind() == ErrorKind::OutOfMemory {
+        return failed(rt, Fault::OutOfMemory);
+    }
+    let _ = error.print(rt);
+    if error.use_stderr() {
+        NOT_UNDERSTOOD
+    } else {
+        0
+    }
+}
+
 // What a command line asks for; or else the exit status, after what it is refused for, or its help, is
 // told.
-fn understand<'a>(rt: &HostRuntime, words: &'a [&'a str]) -> Result<Request, u8> {
-    let Ok(command) = command(rt.alloc()) else {
-        return Err(failed(rt, Fault::OutOfMemory));
-    };
-    match command.try_get_matches_from(words) {
+fn understand(rt: &HostRuntime, words: &[String]) -> Result<Request, u8> {
+    match matched(rt.alloc(), words) {
         Ok(matches) => requested(&matches).ok_or(NOT_UNDERSTOOD),
-        Err(error) if error.kind() == ErrorKind::OutOfMemory => {
-            Err(failed(rt, Fault::OutOfMemory))
-        }
-        Err(error) => {
-            let _ = error.print(rt);
-            Err(if error.use_stderr() {
-                NOT_UNDERSTOOD
-            } else {
-                0
-            })
-        }
+        Err(error) => Err(refused(rt, &error)),
     }
 }
 
@@ -155,29 +185,13 @@ fn failed(rt: &impl Eprint, fault: Fault) -> u8 {
 
 // The words of the command line, the program's own name first.
 fn words(rt: &HostRuntime) -> io::Result<Vec<String>> {
-    let mut words = Vec::new(rt.alloc());
-    for word in env::args(rt)? {
-        words.push(word)?;
-    }
-    Ok(words)
-}
-
-// The words as texts.
-fn texts<'a>(alloc: Global, words: &'a Vec<String>) -> Result<Vec<&'a str>, AllocError> {
-    let mut texts = Vec::new(alloc);
-    for word in words {
-        texts.push(word.as_str())?;
-    }
-    Ok(texts)
+    Ok(env::args(rt)?.collect(rt.alloc())?)
 }
 
 // What the program's command line asks for, or else the exit status.
 fn asked(rt: &HostRuntime) -> Result<Request, u8> {
-    let Ok(words) = words(rt) else {
-        return Err(failed(rt, Fault::OutOfMemory));
-    };
-    match texts(rt.alloc(), &words) {
-        Ok(texts) => understand(rt, texts.as_slice()),
+    match words(rt) {
+        Ok(words) => understand(rt, words.as_slice()),
         Err(_) => Err(failed(rt, Fault::OutOfMemory)),
     }
 }

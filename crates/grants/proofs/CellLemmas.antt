@@ -1,5 +1,5 @@
 -- Counts right by right, and what one changed cell leaves in the table.
-use Rattle.std.proofs.Common.{◌≡◌, ℕ, ◌<◌, ◌≤◌, List, length, get_or, Bool, true, false, not, ◌||◌, Option, refl, sym, ap, subst, ◌∙◌, arith, true≢false}
+use Rattle.std.proofs.Common.{◌≡◌, ℕ, ◌<◌, ◌≤◌, List, length, get_or, Bool, true, false, not, ◌||◌, Option, Some, refl, sym, ap, subst, ◌∙◌, arith, true≢false}
 use Rattle.std.specs.Prelude.{if◌then◌else◌}
 use Rattle.std.specs.List.{list_all}
 use Rattle.std.proofs.lemmas.List.Folds.{list_all_at}
@@ -11,7 +11,7 @@ use Rattle.policy.specs.declared.rights.Rights.{Rights}
 use Rattle.policy.specs.Rights.{has, each_right}
 use Rattle.grants.specs.declared.cell.Cell.{Cell}
 use Rattle.grants.specs.Pairs.{same_pair}
-use Rattle.grants.specs.Cells.{Table, SameRights, cell_of, replacement, one_for_right}
+use Rattle.grants.specs.Cells.{Table, SameRights, SameCounts, cell_of, has_right, count_in, count_of, replacement, one_for_right}
 use Rattle.grants.proofs.PairLemmas.{both, same_pair_is}
 
 -- what is so of each of the six is so of every right
@@ -66,6 +66,28 @@ module _ (old : Table) (c : ClientId) (o : Object) (before : Option Cell) (is : 
           let was : cell_of old c' o' ≡ before = (λ i. cell_of old (these.0 i) (these.1 i)) ∙ is in
           subst (λ s. P true s s) (sym was) here
       by_test false same = others (cell_of old c' o')
+
+-- a cell with the holds of the one before leaves all counts as they were
+pub same_held : (old : Table) (c : ClientId) (o : Object) (before : Cell) → cell_of old c o ≡ Some before
+    → (new : Table) (cell : Cell) → new.rules ≡ old.rules
+    → ((c' : ClientId) (o' : Object) → cell_of new c' o' ≡ (if same_pair c' o' c o then replacement cell (cell_of old c' o') else cell_of old c' o'))
+    → cell.held ≡ before.held → SameCounts old new
+same_held old c o before is new cell rules change held = record {
+  same_rules = rules;
+  same_counts = λ client object right.
+      at_each old c o (Some before) is (λ same s t. count_in right t ≡ count_in right s) (λ s. refl) new cell change (ap (λ h. count_of h right) held) client object;
+}
+
+-- a cell with the rights of the one before leaves all rights in force as they were
+pub same_granted : (old : Table) (c : ClientId) (o : Object) (before : Cell) → cell_of old c o ≡ Some before
+    → (new : Table) (cell : Cell) → new.rules ≡ old.rules
+    → ((c' : ClientId) (o' : Object) → cell_of new c' o' ≡ (if same_pair c' o' c o then replacement cell (cell_of old c' o') else cell_of old c' o'))
+    → cell.rights ≡ before.rights → SameRights old new
+same_granted old c o before is new cell rules change rights = record {
+  same_rules = rules;
+  same_rights = λ client object right.
+      at_each old c o (Some before) is (λ same s t. has_right right t ≡ has_right right s) (λ s. refl) new cell change (ap (λ r. has r right) rights) client object;
+}
 
 -- rights that are in force are so where the same are in force
 pub each_right-same : (rights : Rights) (f g : Right → Bool) → ((right : Right) → g right ≡ f right) → each_right rights f ≡ true → each_right rights g ≡ true

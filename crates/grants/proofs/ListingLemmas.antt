@@ -34,7 +34,7 @@ module _ (has_right : Object → Right → Bool) where
       ∙ ap (λ xs. first ++ xs) (sym (listed-append (map (object_of of) (range_with_len 1 before)) (object_of of (before + 1) ∷ [])))
       ∙ ap (λ xs. first ++ listing_by has_right xs) (sym (map-range_with_len_more (object_of of) 1 before (before + 1) (omega arith)))
 
-  -- the rows of all kinds, put behind each other
-  pub listed-kinds : (a r s k : List Object) →
-      ((listing_by has_right a ++ listing_by has_right r) ++ listing_by has_right s) ++ listing_by has_right k ≡ listing_by has_right (a ++ r ++ s ++ k)
-  listed-kinds a r s k = simp (listed-append, append_assoc)
+  -- the rows of all kinds, put behind each other and behind the first rows
+  pub listed-kinds : (first : List (Object × Rights)) (a r s k : List Object) →
+      (((first ++ listing_by has_right a) ++ listing_by has_right r) ++ listing_by has_right s) ++ listing_by has_right k ≡ first ++ listing_by has_right (a ++ r ++ s ++ k)
+  listed-kinds first a r s k = simp (listed-append, append_assoc)

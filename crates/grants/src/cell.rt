@@ -10,7 +10,7 @@ use crate::sets::{difference, union};
 use policy::{Right, Rights};
 
 /// How many holds there are of each right.
-#[derive(Clone, Copy, Debug, PartialEq, Eq)]
+#[derive(Clone, Copy)]
 pub struct Counts {
     pub use_agent: usize,
     pub read: usize,
@@ -85,7 +85,7 @@ fn one_for_right(rights: Rights, right: Right) -> usize
 }
 
 /// A client's rights on an object, and how many holds there are of each.
-#[derive(Clone, Copy, Debug, PartialEq, Eq)]
+#[derive(Clone, Copy)]
 pub struct Cell {
     /// The rights in force.
     pub rights: Rights,

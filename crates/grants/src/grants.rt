@@ -258,11 +258,23 @@ impl Grants {
         ensures { IfOk result (λ rows. rows ≡ listing self.now client) }
     {
         let mut rows = Sequence::new(alloc);
-        self.list_kind(&mut rows, client, Kind::Agent)?;
-        self.list_kind(&mut rows, client, Kind::Region)?;
-        self.list_kind(&mut rows, client, Kind::Signal)?;
-        self.list_kind(&mut rows, client, Kind::Kernel)?;
+        self.list_kinds(&mut rows, client)?;
         Ok(rows)
+    }
+
+    // Puts the objects on which the client has a right behind the others.
+    fn list_kinds(
+        &self,
+        rows: &mut Sequence<(Object, Rights)>,
+        client: ClientId,
+    ) -> Result<(), AllocError>
+        ensures { OnOk result (rows.new ≡ rows.old ++ listing self.now client) }
+    {
+        self.list_kind(rows, client, Kind::Agent)?;
+        self.list_kind(rows, client, Kind::Region)?;
+        self.list_kind(rows, client, Kind::Signal)?;
+        self.list_kind(rows, client, Kind::Kernel)?;
+        Ok(())
     }
 
     // Puts the objects of a kind on which the client has a right behind the others.

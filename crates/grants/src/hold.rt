@@ -9,7 +9,7 @@ use aql_packet::{ClientId, PacketId, QueueId};
 use policy::{Object, Right, Rights};
 
 /// Rights on an object that a packet holds.
-#[derive(Clone, Copy, Debug, PartialEq, Eq)]
+#[derive(Clone, Copy)]
 pub struct Hold {
     /// The packet's queue.
     pub queue: QueueId,

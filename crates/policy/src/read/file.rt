@@ -11,7 +11,7 @@ use crate::fault::{Cause, PolicyFault, ReadPolicyError, Section};
 use crate::policy::Policy;
 use crate::read::arrays::{allow_array, named_array};
 use crate::read::rows::{self, Keys};
-use crate::read::values;
+use crate::read::values::{self, same_text};
 use crate::table::Table as Rows;
 use std::alloc::Global;
 use toml::{Table, Value};
@@ -23,13 +23,13 @@ impl Keys for FileKeys {
     ghost known = { file_keys };
 
     fn knows(key: &str) -> bool {
-        key == "version"
-            || key == "client"
-            || key == "agent"
-            || key == "region"
-            || key == "signal"
-            || key == "kernel"
-            || key == "allow"
+        same_text(key, "version")
+            || same_text(key, "client")
+            || same_text(key, "agent")
+            || same_text(key, "region")
+            || same_text(key, "signal")
+            || same_text(key, "kernel")
+            || same_text(key, "allow")
     }
 }
 

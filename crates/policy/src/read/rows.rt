@@ -20,7 +20,7 @@ use crate::kernel_source::KernelSource;
 use crate::object::Kind;
 use crate::policy::Policy;
 use crate::read::values;
-use crate::read::values::Choice;
+use crate::read::values::{Choice, same_text};
 use crate::rights::Rights;
 use crate::row::{AllowRow, Subject, Takes, Target};
 use crate::table::Table as Rows;
@@ -214,7 +214,10 @@ impl Keys for AllowRow {
     ghost known = { allow_keys };
 
     fn knows(key: &str) -> bool {
-        key == "client" || key == "kind" || key == "object" || key == "rights"
+        same_text(key, "client")
+            || same_text(key, "kind")
+            || same_text(key, "object")
+            || same_text(key, "rights")
     }
 }
 
@@ -222,7 +225,7 @@ impl Keys for () {
     ghost known = { client_keys };
 
     fn knows(key: &str) -> bool {
-        key == "name"
+        same_text(key, "name")
     }
 }
 
@@ -238,7 +241,7 @@ impl Keys for Takes {
     ghost known = { agent_keys };
 
     fn knows(key: &str) -> bool {
-        key == "name" || key == "takes"
+        same_text(key, "name") || same_text(key, "takes")
     }
 }
 
@@ -255,7 +258,7 @@ impl Keys for u32 {
     ghost known = { region_keys };
 
     fn knows(key: &str) -> bool {
-        key == "name" || key == "length"
+        same_text(key, "name") || same_text(key, "length")
     }
 }
 
@@ -272,7 +275,7 @@ impl Keys for i64 {
     ghost known = { signal_keys };
 
     fn knows(key: &str) -> bool {
-        key == "name" || key == "initial"
+        same_text(key, "name") || same_text(key, "initial")
     }
 }
 
@@ -288,7 +291,7 @@ impl Keys for KernelSource {
     ghost known = { kernel_keys };
 
     fn knows(key: &str) -> bool {
-        key == "name" || key == "entry" || key == "text"
+        same_text(key, "name") || same_text(key, "entry") || same_text(key, "text")
     }
 }
 

@@ -3,6 +3,7 @@
 ghost use Rattle.std.specs.Prelude.{◌≡◌, ◌&&◌, ◌||◌, ◌==◌, nat_le, codes, map, length, slice_index, option_map};
 ghost use Rattle.std.specs.List.{list_any, list_all};
 ghost use Rattle.std.specs.Option.{option_copied};
+ghost use Rattle.std.specs.Str.{bytes_eq};
 ghost use Rattle.toml.specs.Data.{get_member};
 ghost use Rattle.toml.specs.View.{view, table_view};
 ghost use Rattle.policy.specs.Object.{same_kind};
@@ -102,6 +103,13 @@ fn length_of_number(number: i64) -> Option<u32>
     }
 }
 
+/// Whether a text is another.
+pub fn same_text(text: &str, wanted: &str) -> bool
+    ensures { result ≡ bytes_eq text.now wanted.now }
+{
+    text == wanted
+}
+
 // Whether a value is a text.
 fn is_text(value: &Value, wanted: &str) -> bool
     ensures { result ≡ is_text wanted.now (view value.now) }
@@ -163,13 +171,13 @@ pub fn some_dispatches(value: &Value) -> Option<Takes>
 fn kind_named(text: &str) -> Option<Kind>
     ensures { result ≡ kind_named text.now }
 {
-    if text == "agent" {
+    if same_text(text, "agent") {
         Some(Kind::Agent)
-    } else if text == "region" {
+    } else if same_text(text, "region") {
         Some(Kind::Region)
-    } else if text == "signal" {
+    } else if same_text(text, "signal") {
         Some(Kind::Signal)
-    } else if text == "kernel" {
+    } else if same_text(text, "kernel") {
         Some(Kind::Kernel)
     } else {
         None
@@ -259,7 +267,7 @@ pub fn a_choice(value: &Value) -> Option<Choice<'_>>
 fn choice_of(text: &str) -> Option<Choice<'_>>
     ensures { option_map chosen result ≡ choice_of text.now }
 {
-    if text == "*" {
+    if same_text(text, "*") {
         Some(Choice::Any)
     } else if is_name(text) {
         Some(Choice::Named(text))

@@ -1,10 +1,10 @@
 -- One more hold of each of its rights is counted in the cell of its client and object, and nowhere else.
-use Rattle.std.proofs.Common.{◌≡◌, ◌∙◌, ◌+◌, ◌<◌, ◌&&◌, Bool, false, sym, refl, ap, subst, Some, None, arith, true≢false}
+use Rattle.std.proofs.Common.{◌≡◌, ◌∙◌, ◌+◌, ◌<◌, ◌&&◌, Bool, false, sym, ap, subst, Some, None, arith, true≢false}
 use Rattle.std.specs.Prelude.{if◌then◌else◌}
 use Rattle.std.proofs.lemmas.Bool.{false_from_ne_true}
 use Rattle.policy.specs.Rights.{has}
 use Rattle.grants.specs.Cells.{has_right, count_in, cell_of, in_table}
-use Rattle.grants.proofs.CellLemmas.{at_each, at_each_same, each_right-has}
+use Rattle.grants.proofs.CellLemmas.{at_each, at_each_same, each_right-has, same_granted}
 use Rattle.grants.proofs.cells.Cells.count_hold.Goals as goal
 
 pub with_hold-more-requires : goal.with_hold-more-requires
@@ -18,13 +18,9 @@ returns-in-Some-clause-counts c = λ client object right.
     c.set.new.self c.with_hold-more.result c.set.ensures.cells (c.with_hold-more.ensures.held right) client object
 
 pub returns-in-Some-clause-rights : goal.returns-in-Some-clause-rights
-returns-in-Some-clause-rights c = record {
-  same_rules = c.set.ensures.rules;
-  same_rights = λ client object right.
-      at_each c.args.self.now c.args.hold.now.client c.args.hold.now.object (Some c.in-Some.cell) (sym c.get.ensures.cell ∙ c.in-Some.is)
-      (λ same s t. has_right right t ≡ has_right right s) (λ s. refl)
-      c.set.new.self c.with_hold-more.result c.set.ensures.cells (ap (λ rights. has rights right) c.with_hold-more.ensures.rights) client object;
-}
+returns-in-Some-clause-rights c =
+    same_granted c.args.self.now c.args.hold.now.client c.args.hold.now.object c.in-Some.cell (sym c.get.ensures.cell ∙ c.in-Some.is)
+    c.set.new.self c.with_hold-more.result c.set.ensures.rules c.set.ensures.cells c.with_hold-more.ensures.rights
 
 pub returns-in_default-clause-counts : goal.returns-in_default-clause-counts
 returns-in_default-clause-counts c = λ client object right.

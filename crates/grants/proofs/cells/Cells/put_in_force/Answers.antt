@@ -3,7 +3,7 @@ use Rattle.std.proofs.Common.{◌≡◌, ◌∙◌, ◌&&◌, ◌||◌, sym, Som
 use Rattle.policy.specs.Rights.{has}
 use Rattle.grants.specs.Cells.{has_right}
 use Rattle.grants.proofs.HoldLemmas.{or-false}
-use Rattle.grants.proofs.CellLemmas.{at_each}
+use Rattle.grants.proofs.CellLemmas.{at_each, same_held}
 use Rattle.grants.proofs.cells.Cells.put_in_force.Goals as goal
 
 pub returns-in-Some-clause-in_force : goal.returns-in-Some-clause-in_force
@@ -11,3 +11,8 @@ returns-in-Some-clause-in_force c = λ client object right.
     at_each c.args.self.now c.args.client c.args.object (Some c.in-Some.cell) (sym c.get.ensures.cell ∙ c.in-Some.is)
     (λ same s t. has_right right t ≡ (has_right right s || (same && has c.args.rights right))) (λ s. sym (or-false (has_right right s)))
     c.set.new.self c.with.result c.set.ensures.cells (c.with.ensures.rights right) client object
+
+pub returns-in-Some-clause-counts : goal.returns-in-Some-clause-counts
+returns-in-Some-clause-counts c =
+    same_held c.args.self.now c.args.client c.args.object c.in-Some.cell (sym c.get.ensures.cell ∙ c.in-Some.is)
+    c.set.new.self c.with.result c.set.ensures.rules c.set.ensures.cells c.with.ensures.held

@@ -3,7 +3,7 @@ use Rattle.std.proofs.Common.{◌≡◌, ◌∙◌, ◌&&◌, not, sym, refl, So
 use Rattle.policy.specs.Rights.{has}
 use Rattle.grants.specs.Cells.{has_right}
 use Rattle.grants.proofs.HoldLemmas.{and-true}
-use Rattle.grants.proofs.CellLemmas.{at_each, at_each_same}
+use Rattle.grants.proofs.CellLemmas.{at_each, at_each_same, same_held}
 use Rattle.grants.proofs.cells.Cells.take_out_of_force.Goals as goal
 
 pub returns-in-Some-clause-in_force : goal.returns-in-Some-clause-in_force
@@ -17,3 +17,8 @@ returns-in_default-clause-in_force c = λ client object right.
     at_each_same c.args.self.now c.args.client c.args.object None (sym c.get.ensures.cell ∙ c.in_default.is)
     (λ same s t. has_right right t ≡ (has_right right s && not (same && has c.args.rights right))) (λ s. sym (and-true (has_right right s)))
     refl client object
+
+pub returns-in-Some-clause-counts : goal.returns-in-Some-clause-counts
+returns-in-Some-clause-counts c =
+    same_held c.args.self.now c.args.client c.args.object c.in-Some.cell (sym c.get.ensures.cell ∙ c.in-Some.is)
+    c.set.new.self c.without.result c.set.ensures.rules c.set.ensures.cells c.without.ensures.held

@@ -3,7 +3,7 @@ use Rattle.std.proofs.Common.{◌≡◌, ◌∙◌, ◌+◌, ◌≤◌, ◌&&◌
 use Rattle.std.specs.Prelude.{if◌then◌else◌}
 use Rattle.policy.specs.Rights.{has}
 use Rattle.grants.specs.Cells.{count_in, cell_of, one_for_right}
-use Rattle.grants.proofs.CellLemmas.{at_each, at_each_same}
+use Rattle.grants.proofs.CellLemmas.{at_each, at_each_same, same_granted}
 use Rattle.grants.proofs.cells.Cells.uncount_hold.Goals as goal
 
 pub returns-in-Some-clause-counts : goal.returns-in-Some-clause-counts
@@ -11,6 +11,11 @@ returns-in-Some-clause-counts c = λ client object right.
     at_each c.args.self.now c.args.hold.now.client c.args.hold.now.object (Some c.in-Some.cell) (sym c.get.ensures.cell ∙ c.in-Some.is)
     (λ same s t. count_in right s ≡ count_in right t + (if same && has c.args.hold.now.rights right then 1 else 0)) (λ s. omega arith)
     c.set.new.self c.without_hold-fewer.result c.set.ensures.cells (sym (c.without_hold-fewer.ensures.held right)) client object
+
+pub returns-in-Some-clause-rights : goal.returns-in-Some-clause-rights
+returns-in-Some-clause-rights c =
+    same_granted c.args.self.now c.args.hold.now.client c.args.hold.now.object c.in-Some.cell (sym c.get.ensures.cell ∙ c.in-Some.is)
+    c.set.new.self c.without_hold-fewer.result c.set.ensures.rules c.set.ensures.cells c.without_hold-fewer.ensures.rights
 
 pub returns-in_default-clause-counts : goal.returns-in_default-clause-counts
 returns-in_default-clause-counts c = λ client object right.

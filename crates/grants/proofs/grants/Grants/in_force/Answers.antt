@@ -1,5 +1,5 @@
 -- The set has the rights of the cell, and no other; without a cell, none.
-use Rattle.std.proofs.Common.{◌≡◌, ◌∙◌, ap, sym, refl, Option, Some, None}
+use Rattle.std.proofs.Common.{◌∙◌, ap, sym, Option}
 use Rattle.policy.specs.declared.rights.Rights.{Rights}
 use Rattle.policy.specs.Rights.{has, rights_that}
 use Rattle.policy.proofs.RightsLemmas.{has-rights_that}
