@@ -1,6 +1,6 @@
 -- What a ring state is known to be, for the code that steps it.
 use Rattle.std.proofs.Common.{◌≡◌, ℕ, zero, suc, ◌+◌, ◌-◌, ◌*◌, ◌^◌, ◌<◌, ◌≤◌, Bool, true, false, List, [], ◌∷◌, ◌++◌, length, get_or, set, take, refl, ap, ◌∙◌, sym, subst, arith, cond, inl, inr, length-set}
-use Rattle.std.specs.Prelude.{unwrap_or, sum_by, nat_lt}
+use Rattle.std.specs.Prelude.{unwrap_or, sum_by, nat_lt, Result, Err}
 use Rattle.std.proofs.lemmas.Bool.Decides.{nat_tests, leb_tells}
 use Rattle.std.proofs.lemmas.List.{length-replicate, get_or_read, take_more, take_all}
 use Rattle.ring_core.specs.declared.access.Access.{Access}
@@ -8,6 +8,9 @@ use Rattle.ring_core.specs.declared.access.Access.TheVariants.{Reserve, LoadRead
 use Rattle.ring_core.specs.declared.access.Step.{Step}
 use Rattle.ring_core.specs.declared.access.Seen.{Seen}
 use Rattle.ring_core.specs.declared.part.Part.{Part}
+use Rattle.ring_core.specs.declared.state.StepFault.{StepFault}
+use Rattle.ring_core.specs.declared.state.StepFault.TheVariants as step
+use Rattle.ring_core.specs.Faults.{IsReplayFault, fault_at}
 use Rattle.ring_core.specs.declared.part.Part.TheVariants.{Producer, Processor}
 use Rattle.ring_core.specs.Words.{word, is_body}
 use Rattle.ring_core.specs.Tickets.{blank, is_published, IsAbove}
@@ -220,3 +223,9 @@ stops_here machine (first ∷ steps) (suc i) d mid lt leads stop = (leads.0, sto
 pub replays_push : (size producers : ℕ) (steps : List Step) (mid next : Machine) (step : Step) (seen : Seen) → Replays size producers steps mid → Makes mid step seen next → Replays size producers (steps ++ step ∷ []) next
 replays_push size producers steps mid next step seen leads makes =
     subst (λ (m : Machine). Replays size producers (steps ++ step ∷ []) m) (sym makes.leads) (leads_push (opened size producers) steps mid step leads makes.allowed)
+
+-- a step that is refused stops the list, unless memory was wanted
+pub fault_stops : (size producers : ℕ) (steps : List Step) (i : ℕ) (d : Step) (mid : Machine) (result : Result Seen StepFault) (fault : StepFault) → i < length steps → Leads (opened size producers) (take i steps) mid →
+    (result ≡ Err step.NotAStep → is_allowed mid (get_or steps i d) ≡ false) → result ≡ Err fault → IsReplayFault size producers steps (fault_at i fault)
+fault_stops size producers steps i d mid result step.OutOfMemory lt leads exact is = tt
+fault_stops size producers steps i d mid result step.NotAStep lt leads exact is = stops_here (opened size producers) steps i d mid lt leads (exact is)

@@ -4,3 +4,4 @@ pub mod Parts
 pub mod Machine
 pub mod Rule
 pub mod Faults
+pub mod Runs

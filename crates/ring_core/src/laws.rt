@@ -1,10 +1,11 @@
-//! The ring rule as laws of the machine, whatever memory there is.
+//! The ring rule, and what a run leaves with each seat, as laws of the machine, whatever memory there is.
 
-ghost use Rattle.std.specs.Prelude.{ℕ, ◌<◌, List};
+ghost use Rattle.std.specs.Prelude.{ℕ, ◌<◌, ◌≤◌, ◌≡◌, List, length, true};
 ghost use Rattle.ring_core.specs.declared.access.Step.{Step};
 ghost use Rattle.ring_core.specs.declared.access.Seen.{Seen};
-ghost use Rattle.ring_core.specs.Machine.{Machine, Makes, Replays};
+ghost use Rattle.ring_core.specs.Machine.{Machine, Makes, Replays, is_ring_size, read_index};
 ghost use Rattle.ring_core.specs.Rule.{IsRule};
+ghost use Rattle.ring_core.specs.Runs.{KnowsItsOwn, retired_at, ticket_words, all_known};
 
 /// Each step keeps the ring rule.
 pub fn each_step_keeps_the_rule()
@@ -16,4 +17,27 @@ pub fn each_step_keeps_the_rule()
 pub fn every_run_meets_the_rule()
     ensures { (size producers : ℕ) (steps : List Step) (machine : Machine) →
         0 < size → Replays size producers steps machine → IsRule producers machine }
+{}
+
+/// After any list of steps each seat, the processor at 0 and the producers behind it, has just the steps that
+/// were its own, in order, and its part is what follows from them and from what they read: the fold of its
+/// steps over the part with which it began.
+pub fn each_part_follows_from_its_own_steps()
+    ensures { (size producers : ℕ) (steps : List Step) (machine : Machine) (seat : ℕ) →
+        Replays size producers steps machine → seat ≤ producers → KnowsItsOwn steps machine seat }
+{}
+
+/// After any list of steps each retired packet is the eight words of the ticket of its id, whole.
+pub fn each_retired_packet_is_its_tickets()
+    ensures eight { (size producers : ℕ) (steps : List Step) (machine : Machine) (id : ℕ) →
+        0 < size → Replays size producers steps machine → id < read_index machine → length (retired_at machine id) ≡ 8 }
+    ensures words { (size producers : ℕ) (steps : List Step) (machine : Machine) (id : ℕ) →
+        0 < size → Replays size producers steps machine → id < read_index machine →
+        ticket_words machine id ≡ all_known (retired_at machine id) }
+{}
+
+/// A ring has 2 to 4,096 slots.
+pub fn ring_sizes_are_bounded()
+    ensures least { (size : ℕ) → is_ring_size size ≡ true → 2 ≤ size }
+    ensures most { (size : ℕ) → is_ring_size size ≡ true → size ≤ 4096 }
 {}

@@ -11,7 +11,10 @@ mod ticket;
 mod tickets;
 
 pub use access::{Access, FIRST_SLOT, Made, READ_PLACE, Seen, Step, WRITE_PLACE, word_place};
-pub use laws::{each_step_keeps_the_rule, every_run_meets_the_rule};
+pub use laws::{
+    each_part_follows_from_its_own_steps, each_retired_packet_is_its_tickets,
+    each_step_keeps_the_rule, every_run_meets_the_rule, ring_sizes_are_bounded,
+};
 pub use part::{ALLOWANCE, Part, ProcessorPart, ProducerPart};
 pub use state::{
     RING_SIZES, ReplayFault, RingState, StepFault, is_ring_size, opening_words, replay,

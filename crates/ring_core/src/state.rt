@@ -1,9 +1,9 @@
 //! The machine: a ring's words and the part of each seat.
 
-ghost use Rattle.std.specs.Prelude.{◌≡◌, ◌↔◌, IfOk, IfErr, OnErr, Err, true, false};
+ghost use Rattle.std.specs.Prelude.{◌≡◌, ◌≤◌, ◌↔◌, IfOk, IfErr, OnErr, Err, true, false};
 ghost use Rattle.ring_core.specs.Machine.{Makes, is_allowed, opened, Replays, is_ring_size, IsProducerCount, producers_of, write_index, read_index};
 ghost use Rattle.ring_core.specs.Rule.{IsRule, processor_of};
-ghost use Rattle.ring_core.specs.Faults.{IsReplayFault};
+ghost use Rattle.ring_core.specs.Faults.{IsReplayFault, fault_at};
 
 use crate::access::{READ_PLACE, Seen, Step, WRITE_PLACE};
 use crate::part::{Part, ProcessorPart};
@@ -73,9 +73,10 @@ impl RingState {
         Ok(RingState { size, words, parts })
     }
 
-    /// How many slots the ring has.
+    /// How many slots the ring has: 4,096 at most.
     pub fn size(&self) -> u64
-        ensures { result ≡ self.now.size }
+        ensures size { result ≡ self.now.size }
+        ensures most { self.now.size ≤ 4096 }
     {
         self.size
     }
@@ -189,11 +190,20 @@ pub fn replay(
     for (index, step) in steps.iter().enumerate() {
         match ring.step(*step) {
             Ok(_) => {}
-            Err(StepFault::OutOfMemory) => return Err(ReplayFault::OutOfMemory),
-            Err(StepFault::NotAStep) => return Err(ReplayFault::NotAStep(index)),
+            Err(fault) => return Err(fault_at(index, fault)),
         }
     }
     Ok(ring)
+}
+
+// What a fault of the step at an index is to the list that it stands in.
+fn fault_at(index: usize, fault: StepFault) -> ReplayFault
+    ensures { result ≡ fault_at index fault }
+{
+    match fault {
+        StepFault::OutOfMemory => ReplayFault::OutOfMemory,
+        StepFault::NotAStep => ReplayFault::NotAStep(index),
+    }
 }
 
 /// The words of a ring as it opens: both indices 0, and each slot free.
