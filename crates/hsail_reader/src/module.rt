@@ -1,7 +1,5 @@
-use crate::types::{
-    Alignment, BinaryOperation, Constant, DataType, Modifiers, Query, Register, Segment, Source,
-    TernaryOperation, UnaryOperation, Width,
-};
+use crate::rows::Form;
+use crate::types::{Alignment, Constant, DataType, Modifiers, Register, Segment, Source};
 use sequences::Sequence;
 
 /// A module as its text spells it (PRM, Modules). Each name has its first byte, `&`, `%` or `@`,
@@ -72,87 +70,83 @@ pub struct Instruction {
     pub operation: Operation,
 }
 
-/// What an instruction does, by the family of its operands (PRM, HSAIL Instructions).
-#[derive(Debug, Drop)]
-pub enum Operation {
-    Unary(Unary),
-    Binary(Binary),
-    Ternary(Ternary),
-    Load(Load),
-    Store(Store),
-    /// `br @x`, with the label's name
-    Branch(Sequence<u8>),
-    ConditionalBranch(ConditionalBranch),
-    /// `ret`
-    Return,
-    Identify(Identify),
-}
-
-/// `mov_T`, `not_T`, `cvt_U_T`: `target, source`.
-#[derive(Clone, Copy, Debug)]
-pub struct Unary {
-    pub operation: UnaryOperation,
-    pub kind: DataType,
-    pub target: Register,
-    pub source: Source,
-}
-
-/// `add_T` to `shr_T` and `cmp_OP_b1_T`: `target, left, right`.
-#[derive(Clone, Copy, Debug)]
-pub struct Binary {
-    pub operation: BinaryOperation,
-    pub kind: DataType,
-    pub target: Register,
-    pub left: Source,
-    pub right: Source,
-}
-
-/// `mad_T` and `cmov_T`: `target, first, second, third`.
-#[derive(Clone, Copy, Debug)]
-pub struct Ternary {
-    pub operation: TernaryOperation,
-    pub kind: DataType,
-    pub target: Register,
-    pub first: Source,
-    pub second: Source,
-    pub third: Source,
-}
-
-/// `ld_SEG_T target, [address]`.
-#[derive(Debug, Drop)]
-pub struct Load {
-    pub segment: Segment,
+/// What an instruction does (PRM, HSAIL Instructions): what its row does, the modifiers and the type
+/// of its word, and its operands in order.
+#[derive(Debug)]
+pub struct Operation {
+    pub form: Form,
     pub modifiers: Modifiers,
+    /// The type of the word; b1 where it has none.
     pub kind: DataType,
-    pub target: Register,
-    pub address: Address,
+    pub operands: Operands,
 }
 
-/// `st_global_T source, [address]`.
+// Written out, so that where an operation ends stands one call, and not what ends each of its parts.
+impl Drop for Operation {
+    fn drop(self) {
+        let Operation {
+            form: _,
+            modifiers: _,
+            kind: _,
+            operands: _,
+        } = self;
+    }
+}
+
+/// The operands of an instruction, each as the row has it at its place.
+#[derive(Debug)]
+pub struct Operands {
+    pub first: Operand,
+    pub second: Operand,
+    pub third: Operand,
+    pub fourth: Operand,
+}
+
+impl Drop for Operands {
+    fn drop(self) {
+        let Operands {
+            first: _,
+            second: _,
+            third: _,
+            fourth: _,
+        } = self;
+    }
+}
+
+/// An operand (PRM, Operands), with the type that the row gives to its place.
 #[derive(Debug, Drop)]
-pub struct Store {
-    pub align: Option<u64>,
+pub enum Operand {
+    /// The row has none here.
+    Absent,
+    Target(Target),
+    Source(TypedSource),
+    Address(Access),
+    /// `@x`, with the label's name
+    Label(Sequence<u8>),
+    /// The number that the text spells; 0, 1 and 2 are dimensions.
+    Dimension(u64),
+}
+
+/// A register that is written, at a type.
+#[derive(Clone, Copy, Debug)]
+pub struct Target {
+    pub kind: DataType,
+    pub register: Register,
+}
+
+/// A register or a constant that is read, at a type.
+#[derive(Clone, Copy, Debug)]
+pub struct TypedSource {
     pub kind: DataType,
     pub source: Source,
-    pub address: Address,
 }
 
-/// `cbr_b1 condition, @label`, with the label's name.
+/// `[address]` in a segment, where a value of a type is read or written.
 #[derive(Debug, Drop)]
-pub struct ConditionalBranch {
-    pub width: Option<Width>,
-    pub condition: Source,
-    pub label: Sequence<u8>,
-}
-
-/// `workitemid_u32` and its kin: `target, dimension`.
-#[derive(Clone, Copy, Debug)]
-pub struct Identify {
-    pub query: Query,
+pub struct Access {
+    pub segment: Segment,
     pub kind: DataType,
-    pub target: Register,
-    /// The number that the text spells; 0, 1 and 2 are dimensions.
-    pub dimension: u64,
+    pub address: Address,
 }
 
 /// What stands in the brackets of a load or a store (PRM, Address Expressions).
