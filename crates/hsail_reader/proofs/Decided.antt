@@ -1,7 +1,7 @@
 -- Each line of the grammar decides its choices by the next token.
 use Rattle.std.proofs.Common.{◌≡◌, ℕ, ⊎_elim, inl, inr, List, [], ◌∷◌, Bool, true, false, Option, None, refl, sym, ap, subst, ◌∙◌}
 use Rattle.std.specs.Option.{option_map}
-use Rattle.hsail_reader.specs.Grammar.{signed, constant, source, offset, place, place_inside, index, address_inside, address, target, typed_source, access, jump_label, dimension, operand, next_operand, operands, labelled, performed, unlabelled, item, items, body, alignment, kernarg_flaw, argument, next_argument, some_arguments, signature, kernel_begin, kernel, is_none_left, kernels, fields, module_text}
+use Rattle.hsail_reader.specs.Grammar.{signed, constant, source, offset, place, place_inside, index, address_inside, address, operand, next_operand, operation, operands, labelled, performed, unlabelled, item, items, body, alignment, kernarg_flaw, argument, next_argument, some_arguments, signature, kernel_begin, kernel, is_none_left, kernels, fields, module_text}
 use Rattle.hsail_reader.specs.Grammars.{Grammar, give, behind, spells, begun_by, begins, read}
 use Rattle.hsail_reader.specs.Terminals.{mark_of, number_of, register_of, same_kind, same_word, word_at, picked, align_of, align, semicolon, open_bracket, close_parenthesis, close_brace, syntax, at_begin, behind_align}
 use Rattle.hsail_reader.specs.TextTokens.{PlacedToken}
@@ -144,7 +144,6 @@ given value F law to b = subst (λ ts. begins open_bracket ts ≡ false) (sym b.
 
 -- an operand, before no opening bracket
 operand_decides : (s : Shape) (kind : DataType) (F : Front) → BeforeNoBracket F → Decides (operand s kind) F
-unfolding target typed_source access jump_label dimension
 operand_decides shapes.Absent kind F law = tt
 operand_decides (shapes.Target at) kind F law = (registers, λ r. tt)
 operand_decides (shapes.Source at) kind F law = (sources _, λ s. tt)
@@ -164,20 +163,9 @@ next_first shapes.Absent kind f F law to (a, x, end, (b, between, s, rest), may)
 next_first s kind f F law to (a, x, end, (b, between, (one, front, comma, there), rest), may) =
     other_kind (mark_of 91) (kinds.Mark 44) to (comma.0, front, comma.1, comma.2) refl
 
--- what the operands of a row come to, and what stands behind its third, second and first
-abbrev whole : Opcode → Operand → Operand → Operand → Operand → Operation
-whole code a b c d = record {
-  form = code.form;
-  modifiers = code.modifiers;
-  kind = code.kind;
-  operands = record { first = a; second = b; third = c; fourth = d };
-}
-
-abbrev ends : Opcode → Operand → Operand → Operand → Operand → Grammar Operation
-ends code a b c d = give (whole code a b c d)
-
+-- what stands behind the second operand of a row, and behind its first
 abbrev from_fourth : Opcode → Operand → Operand → Operand → Grammar Operation
-from_fourth code a b c = behind (next_operand code.operands.3 code.kind) (ends code a b c)
+from_fourth code a b c = behind (next_operand code.operands.3 code.kind) (λ d. give (operation code a b c d))
 
 abbrev from_third : Opcode → Operand → Operand → Grammar Operation
 from_third code a b = behind (next_operand code.operands.2 code.kind) (from_fourth code a b)
@@ -187,15 +175,15 @@ operations : (code : Opcode) (F : Front) → BeforeNoBracket F → Decides (oper
 unfolding operands
 operations code F law =
     let third : (a b : Operand) → BeforeNoBracket (Behind (from_fourth code a b) F) =
-        λ a b. next_first code.operands.3 code.kind (ends code a b) F (λ c. given (whole code a b c) F law) in
+    λ a b. next_first code.operands.3 code.kind (λ c d. give (operation code a b c d)) F (λ c. given (operation code a b c) F law) in
     let second : (a : Operand) → BeforeNoBracket (Behind (from_third code a) F) =
-        λ a. next_first code.operands.2 code.kind (from_fourth code a) F (third a) in (
+    λ a. next_first code.operands.2 code.kind (from_fourth code a) F (third a) in (
       operand_decides code.operands.0 code.kind _ (next_first code.operands.1 code.kind (from_third code) F second),
       λ a. (
         next_decides code.operands.1 code.kind _ (second a),
         λ b. (
           next_decides code.operands.2 code.kind _ (third a b),
-          λ c. (next_decides code.operands.3 code.kind _ (given (whole code a b c) F law), λ d. tt),
+          λ c. (next_decides code.operands.3 code.kind _ (given (operation code a b c) F law), λ d. tt),
         ),
       ),
     )

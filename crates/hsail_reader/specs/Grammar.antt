@@ -7,7 +7,7 @@ use Rattle.hsail_reader.specs.Grammars.{Grammar, give, either, many, on_line, sp
 use Rattle.hsail_reader.specs.Terminals.{◌>>=◌, ◌>>◌, optional, open_parenthesis, close_parenthesis, open_bracket, close_bracket, open_brace, close_brace, plus, minus, comma, colon, semicolon, register, number, global, variable, label, major, minor, profile, large, rounding, module_word, prog, kernel_word, align, kernarg, opcode, outside, syntax, at_begin, behind_align}
 use Rattle.hsail_reader.specs.TextTokens.{AreTokens, PlacedToken}
 use Rattle.hsail_reader.specs.Rows.{kind_at}
-use Rattle.hsail_reader.specs.Nouns.{Address, Alignment, Argument, Constant, DataType, Fields, Flaw, Item, Kernel, Module, Opcode, Operand, Operation, Place, ReadError, Segment, Shape, Source}
+use Rattle.hsail_reader.specs.Nouns.{Address, Alignment, Argument, Constant, DataType, Fields, Flaw, Item, Kernel, Module, Opcode, Operand, Operation, Place, ReadError, Shape, Source}
 use Rattle.hsail_reader.specs.declared.fault.ReadError.TheVariants as error
 use Rattle.hsail_reader.specs.declared.module.Address.TheVariants as addresses
 use Rattle.hsail_reader.specs.declared.module.Item.TheVariants as an_item
@@ -69,41 +69,31 @@ address_inside = either (do
 unfoldable pub address : Grammar Address
 address = open_bracket >> address_inside
 
--- d, of a type
-unfoldable pub target : DataType → Grammar Operand
-target kind = register >>= λ r. give (an_operand.Target (record { kind = kind; register = r }))
-
--- a, of a type
-unfoldable pub typed_source : DataType → Grammar Operand
-typed_source kind = source >>= λ s. give (an_operand.Source (record { kind = kind; source = s }))
-
--- [address] in a segment, for a value of a type
-unfoldable pub access : Segment → DataType → Grammar Operand
-access segment kind =
-    address >>= λ a. give (an_operand.Address (record { segment = segment; kind = kind; address = a }))
-
--- @x
-unfoldable pub jump_label : Grammar Operand
-jump_label = label >>= λ x. give (an_operand.Label x)
-
--- k
-unfoldable pub dimension : Grammar Operand
-dimension = number >>= λ n. give (an_operand.Dimension n)
-
 -- an operand as a row has it, behind a word of a type (the check asks for registers' classes and numbers, for
 -- the range of constants, and that a dimension is 0, 1 or 2)
 abbrev pub operand : Shape → DataType → Grammar Operand
 operand shape.Absent kind = give an_operand.Absent
-operand (shape.Target at) kind = target (kind_at at kind)
-operand (shape.Source at) kind = typed_source (kind_at at kind)
-operand (shape.Address segment) kind = access segment kind
-operand shape.Label kind = jump_label
-operand shape.Dimension kind = dimension
+operand (shape.Target at) kind =
+    register >>= λ r. give (an_operand.Target (record { kind = kind_at at kind; register = r }))
+operand (shape.Source at) kind =
+    source >>= λ s. give (an_operand.Source (record { kind = kind_at at kind; source = s }))
+operand (shape.Address segment) kind =
+    address >>= λ a. give (an_operand.Address (record { segment = segment; kind = kind; address = a }))
+operand shape.Label kind = label >>= λ x. give (an_operand.Label x)
+operand shape.Dimension kind = number >>= λ n. give (an_operand.Dimension n)
 
 -- an operand behind a comma, where the row has one
 abbrev pub next_operand : Shape → DataType → Grammar Operand
 next_operand shape.Absent kind = give an_operand.Absent
 next_operand s kind = comma >> operand s kind
+
+abbrev pub operation : Opcode → Operand → Operand → Operand → Operand → Operation
+operation code a b c d = record {
+  form = code.form;
+  modifiers = code.modifiers;
+  kind = code.kind;
+  operands = record { first = a; second = b; third = c; fourth = d };
+}
 
 -- the operands of a row, with commas between
 unfoldable pub operands : Opcode → Grammar Operation
@@ -112,12 +102,7 @@ operands code = do
   b ← next_operand code.operands.1 code.kind
   c ← next_operand code.operands.2 code.kind
   d ← next_operand code.operands.3 code.kind
-  give (record {
-    form = code.form;
-    modifiers = code.modifiers;
-    kind = code.kind;
-    operands = record { first = a; second = b; third = c; fourth = d };
-  })
+  give (operation code a b c d)
 
 -- a label: @name :
 unfoldable pub labelled : Grammar Item

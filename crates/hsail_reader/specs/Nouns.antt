@@ -30,17 +30,12 @@ pub use Rattle.hsail_reader.specs.declared.token.LexemeKind.{LexemeKind}
 pub use Rattle.hsail_reader.specs.declared.token.Prefix.{Prefix}
 pub use Rattle.hsail_reader.specs.declared.token.TokenKind.{TokenKind}
 pub use Rattle.hsail_reader.specs.declared.types.Alignment.{Alignment}
-pub use Rattle.hsail_reader.specs.declared.types.BinaryOperation.{BinaryOperation}
 pub use Rattle.hsail_reader.specs.declared.types.Constant.{Constant}
 pub use Rattle.hsail_reader.specs.declared.types.DataType.{DataType}
 pub use Rattle.hsail_reader.specs.declared.types.Modifiers.{Modifiers}
-pub use Rattle.hsail_reader.specs.declared.types.Query.{Query}
 pub use Rattle.hsail_reader.specs.declared.types.Register.{Register}
 pub use Rattle.hsail_reader.specs.declared.types.RegisterClass.{RegisterClass}
-pub use Rattle.hsail_reader.specs.declared.types.Segment.{Segment}
 pub use Rattle.hsail_reader.specs.declared.types.Source.{Source}
-pub use Rattle.hsail_reader.specs.declared.types.TernaryOperation.{TernaryOperation}
-pub use Rattle.hsail_reader.specs.declared.types.UnaryOperation.{UnaryOperation}
 pub use Rattle.hsail_reader.specs.declared.types.Width.{Width}
 pub use Rattle.hsail_reader.specs.declared.words.Opcode.{Opcode}
 pub use Rattle.hsail_reader.specs.declared.words.Word.{Word}

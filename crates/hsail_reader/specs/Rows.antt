@@ -3,7 +3,7 @@ use Rattle.std.specs.Prelude.{ℕ, List, [], ◌∷◌, Bool, true, ◌&&◌, co
 use Rattle.hsail_reader.specs.Nouns.{DataType, Form, KindAt, Modifiers, ModifierSet, Row, Shape, Shapes, TypeSet, Bit, Bits, BitsAndIntegers, Convertible, Integers, Memory, Unsigned32, Unsigned32And64, Untyped}
 use Rattle.hsail_reader.specs.declared.rows.Form.TheVariants as form
 use Rattle.hsail_reader.specs.declared.rows.KindAt.TheVariants.{Given, Own}
-use Rattle.hsail_reader.specs.declared.rows.Shape.TheVariants.{Absent, Address, Dimension, Label, Source, Target}
+use Rattle.hsail_reader.specs.declared.rows.Shape.TheVariants.{Absent as no, Address, Dimension, Label, Source, Target}
 use Rattle.hsail_reader.specs.declared.rows.ModifierSet.TheVariants.{Align, AlignAndWidth, Plain, Width}
 use Rattle.hsail_reader.specs.declared.types.DataType.TheVariants as type
 use Rattle.hsail_reader.specs.declared.types.UnaryOperation.TheVariants as unary
@@ -76,10 +76,6 @@ a = Source Own
 abbrev pub a_of : DataType → Shape
 a_of kind = Source (Given kind)
 
--- no operand
-abbrev pub no : Shape
-no = Absent
-
 -- how a type is spelled (PRM, Data Types)
 abbrev pub type_name : DataType → List ℕ
 type_name type.B1 = codes "b1"
@@ -96,8 +92,7 @@ type_name type.S16 = codes "s16"
 type_name type.S32 = codes "s32"
 type_name type.S64 = codes "s64"
 
--- the table, in the order of the format: the count of a shift has 32 bits, the answer of a comparison and the
--- condition of cmov have one
+-- the table, in the order of the format (a shift's count has 32 bits; cmp answers one bit, and cmov asks one)
 abbrev pub rows : List InstructionRow
 rows =
     row (codes "mov") Plain BitsAndIntegers (form.Unary unary.Move) d a no no

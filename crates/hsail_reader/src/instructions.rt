@@ -8,81 +8,48 @@ ghost use Rattle.hsail_reader.specs.Grammars.{read};
 use crate::module::{Access, Operand, Operands, Operation, Target, TypedSource};
 use crate::operands::{Read, Tokens, address, label, mark, number, register, source};
 use crate::rows::{Shape, Shapes};
-use crate::types::{DataType, Segment};
+use crate::types::DataType;
 use crate::words::Opcode;
 use std::alloc::Global;
 
-/// `d`
-#[tactic(auto, unfolding(crate::specs::Grammar::target))]
-fn read_target<'a, 't>(kind: DataType, tokens: Tokens<'a, 't>) -> Read<'a, 't, Operand>
-    ensures { Gives (λ x. (x.0, token_views x.1.now)) result (read (grammar.target kind) (token_views tokens.now)) }
-{
-    let (register, rest) = register(tokens)?;
-    Ok((Operand::Target(Target { kind, register }), rest))
-}
-
-/// `a`
-#[tactic(auto, unfolding(crate::specs::Grammar::typed_source))]
-fn read_source<'a, 't>(kind: DataType, tokens: Tokens<'a, 't>) -> Read<'a, 't, Operand>
-    ensures { Gives (λ x. (x.0, token_views x.1.now)) result (read (grammar.typed_source kind) (token_views tokens.now)) }
-{
-    let (source, rest) = source(tokens)?;
-    Ok((Operand::Source(TypedSource { kind, source }), rest))
-}
-
-/// `[address]`
-#[tactic(auto, unfolding(crate::specs::Grammar::access))]
-fn read_access<'a, 't>(
-    alloc: Global,
-    segment: Segment,
-    kind: DataType,
-    tokens: Tokens<'a, 't>,
-) -> Read<'a, 't, Operand>
-    ensures { Gives (λ x. (x.0, token_views x.1.now)) result (read (grammar.access segment kind) (token_views tokens.now)) }
-{
-    let (address, rest) = address(alloc, tokens)?;
-    let access = Access {
-        segment,
-        kind,
-        address,
-    };
-    Ok((Operand::Address(access), rest))
-}
-
-/// `@x`
-#[tactic(auto, unfolding(crate::specs::Grammar::jump_label))]
-fn read_label<'a, 't>(alloc: Global, tokens: Tokens<'a, 't>) -> Read<'a, 't, Operand>
-    ensures { Gives (λ x. (x.0, token_views x.1.now)) result (read grammar.jump_label (token_views tokens.now)) }
-{
-    let (name, rest) = label(alloc, tokens)?;
-    Ok((Operand::Label(name), rest))
-}
-
-/// `k`
-#[tactic(auto, unfolding(crate::specs::Grammar::dimension))]
-fn read_dimension<'a, 't>(tokens: Tokens<'a, 't>) -> Read<'a, 't, Operand>
-    ensures { Gives (λ x. (x.0, token_views x.1.now)) result (read grammar.dimension (token_views tokens.now)) }
-{
-    let (number, rest) = number(tokens)?;
-    Ok((Operand::Dimension(number), rest))
-}
-
-/// An operand of a row.
+/// An operand of a row, behind a word of a type.
 fn operand<'a, 't>(
     alloc: Global,
     shape: Shape,
-    kind: DataType,
+    word: DataType,
     tokens: Tokens<'a, 't>,
 ) -> Read<'a, 't, Operand>
-    ensures { Gives (λ x. (x.0, token_views x.1.now)) result (read (grammar.operand shape kind) (token_views tokens.now)) }
+    ensures { Gives (λ x. (x.0, token_views x.1.now)) result (read (grammar.operand shape word) (token_views tokens.now)) }
 {
     match shape {
         Shape::Absent => Ok((Operand::Absent, tokens)),
-        Shape::Target(at) => read_target(at.kind(kind), tokens),
-        Shape::Source(at) => read_source(at.kind(kind), tokens),
-        Shape::Address(segment) => read_access(alloc, segment, kind, tokens),
-        Shape::Label => read_label(alloc, tokens),
-        Shape::Dimension => read_dimension(tokens),
+        Shape::Target(at) => {
+            let (register, rest) = register(tokens)?;
+            let kind = at.kind(word);
+            Ok((Operand::Target(Target { kind, register }), rest))
+        }
+        Shape::Source(at) => {
+            let (source, rest) = source(tokens)?;
+            let kind = at.kind(word);
+            Ok((Operand::Source(TypedSource { kind, source }), rest))
+        }
+        Shape::Address(segment) => {
+            let (address, rest) = address(alloc, tokens)?;
+            let access = Access {
+                segment,
+                kind: word,
+                address,
+            };
+            Ok((Operand::Address(access), rest))
+        }
+        Shape::Label => {
+            let (name, rest) = label(alloc, tokens)?;
+            Ok((Operand::Label(name), rest))
+        }
+        Shape::Dimension => {
+            let (number, rest) = number(tokens)?;
+            Ok((Operand::Dimension(number), rest))
+        }
     }
 }
 

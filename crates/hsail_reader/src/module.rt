@@ -4,7 +4,6 @@ use sequences::Sequence;
 
 /// A module as its text spells it (PRM, Modules). Each name has its first byte, `&`, `%` or `@`,
 /// and each line counts from 1.
-#[derive(Debug, Drop)]
 pub struct Module {
     pub name: Sequence<u8>,
     /// The minor version: 0, 1 or 2. The major version is 1.
@@ -13,6 +12,19 @@ pub struct Module {
     pub rounding: Rounding,
     /// The kernels, in the order of the text.
     pub kernels: Sequence<Kernel>,
+}
+
+// Written out, so that where a module ends stands one call, and not what ends each of its parts.
+impl Drop for Module {
+    fn drop(self) {
+        let Module {
+            name: _,
+            minor: _,
+            profile: _,
+            rounding: _,
+            kernels: _,
+        } = self;
+    }
 }
 
 /// The profile of a module (PRM, Profiles).
@@ -31,7 +43,7 @@ pub enum Rounding {
 }
 
 /// A kernel (PRM, Kernel), with the line of its first token.
-#[derive(Debug, Drop)]
+#[derive(Drop)]
 pub struct Kernel {
     pub line: u32,
     pub name: Sequence<u8>,
@@ -41,7 +53,7 @@ pub struct Kernel {
 
 /// A kernel argument `align(n) kernarg_T %name` (PRM, Kernarg Segment), with the line of its first
 /// token. Its type is not b1.
-#[derive(Debug, Drop)]
+#[derive(Drop)]
 pub struct Argument {
     pub line: u32,
     pub align: Option<Alignment>,
@@ -50,21 +62,21 @@ pub struct Argument {
 }
 
 /// What stands between the braces of a kernel.
-#[derive(Debug, Drop)]
+#[derive(Drop)]
 pub enum Item {
     Label(Label),
     Instruction(Instruction),
 }
 
 /// A label `@name :` (PRM, Labels), with its line.
-#[derive(Debug, Drop)]
+#[derive(Drop)]
 pub struct Label {
     pub line: u32,
     pub name: Sequence<u8>,
 }
 
 /// An instruction, with the line of its first token.
-#[derive(Debug, Drop)]
+#[derive(Drop)]
 pub struct Instruction {
     pub line: u32,
     pub operation: Operation,
@@ -72,7 +84,7 @@ pub struct Instruction {
 
 /// What an instruction does (PRM, HSAIL Instructions): what its row does, the modifiers and the type
 /// of its word, and its operands in order.
-#[derive(Debug)]
+#[derive(Drop)]
 pub struct Operation {
     pub form: Form,
     pub modifiers: Modifiers,
@@ -81,20 +93,8 @@ pub struct Operation {
     pub operands: Operands,
 }
 
-// Written out, so that where an operation ends stands one call, and not what ends each of its parts.
-impl Drop for Operation {
-    fn drop(self) {
-        let Operation {
-            form: _,
-            modifiers: _,
-            kind: _,
-            operands: _,
-        } = self;
-    }
-}
-
 /// The operands of an instruction, each as the row has it at its place.
-#[derive(Debug)]
+#[derive(Drop)]
 pub struct Operands {
     pub first: Operand,
     pub second: Operand,
@@ -102,19 +102,8 @@ pub struct Operands {
     pub fourth: Operand,
 }
 
-impl Drop for Operands {
-    fn drop(self) {
-        let Operands {
-            first: _,
-            second: _,
-            third: _,
-            fourth: _,
-        } = self;
-    }
-}
-
 /// An operand (PRM, Operands), with the type that the row gives to its place.
-#[derive(Debug, Drop)]
+#[derive(Drop)]
 pub enum Operand {
     /// The row has none here.
     Absent,
@@ -128,21 +117,21 @@ pub enum Operand {
 }
 
 /// A register that is written, at a type.
-#[derive(Clone, Copy, Debug)]
+#[derive(Clone, Copy)]
 pub struct Target {
     pub kind: DataType,
     pub register: Register,
 }
 
 /// A register or a constant that is read, at a type.
-#[derive(Clone, Copy, Debug)]
+#[derive(Clone, Copy)]
 pub struct TypedSource {
     pub kind: DataType,
     pub source: Source,
 }
 
 /// `[address]` in a segment, where a value of a type is read or written.
-#[derive(Debug, Drop)]
+#[derive(Drop)]
 pub struct Access {
     pub segment: Segment,
     pub kind: DataType,
@@ -150,7 +139,7 @@ pub struct Access {
 }
 
 /// What stands in the brackets of a load or a store (PRM, Address Expressions).
-#[derive(Debug, Drop)]
+#[derive(Drop)]
 pub enum Address {
     /// `[%x]`
     Variable(Sequence<u8>),
@@ -161,7 +150,7 @@ pub enum Address {
 }
 
 /// `[%x][..]`: a variable, and a place counted from it.
-#[derive(Debug, Drop)]
+#[derive(Drop)]
 pub struct Indexed {
     pub variable: Sequence<u8>,
     pub place: Place,

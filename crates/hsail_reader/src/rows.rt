@@ -17,7 +17,7 @@ use crate::types::{BinaryOperation, DataType, Query, Segment, TernaryOperation, 
 use Form::{Binary, Branch, ConditionalBranch, Identify, Load, Return, Store, Ternary, Unary};
 use KindAt::{Given, Own};
 use ModifierSet::{Align, AlignAndWidth, Plain, Width};
-use Shape::{Absent, Address, Dimension, Label, Source, Target};
+use Shape::{Absent as NO, Address, Dimension, Label, Source, Target};
 use TypeSet::{
     Bit, Bits, BitsAndIntegers, Convertible, Integers, Memory, Unsigned32, Unsigned32And64, Untyped,
 };
@@ -127,8 +127,6 @@ const D: Shape = Target(Own);
 
 /// `a`, a source of the word's type
 const A: Shape = Source(Own);
-
-const NO: Shape = Absent;
 
 macro_rules! rows {
     ($($stem:expr, $modifiers:expr, $types:expr, $form:expr, $a:expr, $b:expr, $c:expr, $d:expr;)*) => {

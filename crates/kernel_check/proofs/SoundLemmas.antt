@@ -90,12 +90,12 @@ kind_bytes_positive type.S16 = lit≤ tt
 kind_bytes_positive type.S32 = lit≤ tt
 kind_bytes_positive type.S64 = lit≤ tt
 
-boundary_positive : (kind : DataType) (a : Option Alignment) → 1 ≤ boundary_of kind a
+pub boundary_positive : (kind : DataType) (a : Option Alignment) → 1 ≤ boundary_of kind a
 boundary_positive kind None = kind_bytes_positive kind
 boundary_positive kind (Some a) = let p : 1 ≤ kind_bytes kind = kind_bytes_positive kind in omega arith
 
 -- the next multiple isn't before
-le_next_multiple : (end n : ℕ) → 1 ≤ n → end ≤ next_multiple end n
+pub le_next_multiple : (end n : ℕ) → 1 ≤ n → end ≤ next_multiple end n
 le_next_multiple end n p = omega (arith, p)
 
 end_behind_above : (end : ℕ) (a : Argument) → end ≤ end_behind end a
@@ -214,11 +214,7 @@ module _ (arguments : List ℕ → Option Placed) (labels : List ℕ → Option 
   form_within number form.Store op fine = store_at_within (read_in op.operands.first) op.operands.second
   form_within number form.Branch op fine = next_at_within op.operands.first
   form_within number form.ConditionalBranch op fine = next_at_within op.operands.second
-  form_within number form.Return op fine = tt
-  form_within number (form.Unary u) op fine = tt
-  form_within number (form.Binary b) op fine = tt
-  form_within number (form.Ternary t) op fine = tt
-  form_within number (form.Identify q) op fine = tt
+  form_within number _ op fine = tt
 
   -- the step of an instruction in which nothing fails
   pub step_within : (number : ℕ) (op : Operation) → least_cause (instruction_fails arguments labels number op) ≡ None

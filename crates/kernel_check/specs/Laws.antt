@@ -1,5 +1,5 @@
 -- What the definitions of the check come to, in plain words.
-use Rattle.std.specs.Prelude.{◌≡◌, ℕ, ◌≤◌, List, ◌∷◌, ◌++◌, Bool, true, false, Option, Some, None}
+use Rattle.std.specs.Prelude.{◌≡◌, ℕ, ◌<◌, ◌≤◌, List, [], ◌∷◌, ◌++◌, Bool, true, false, Option, Some, None}
 use Rattle.std.specs.List.{All}
 use Rattle.kernel_check.specs.Faults.{Checkpoint, fault_at}
 use Rattle.kernel_check.specs.Steps.{slot_of, next_of}
@@ -35,6 +35,11 @@ pub record IsEarliest (checks : List Checkpoint) (f : CheckFault) : Type 0 where
   pub split : checks ≡ before ++ item ∷ behind
   pub pass : All (λ c. c.cause ≡ None) before
   pub here : fault_at item ≡ Some f
+
+-- numbers that ascend, each below all behind it
+abbrev pub Ascends : List ℕ → Type 0
+Ascends [] = Unit {0}
+Ascends (n ∷ later) = All (λ m. n < m) later × Ascends later
 
 -- a register's number is kept
 abbrev pub IsKept : Register → Type 0

@@ -165,7 +165,10 @@ fn check_subtraction(rt: &impl Abort, operation: &Operation) {
 }
 
 fn check_conversion(rt: &impl Abort, operation: &Operation) {
-    assert_eq!(rt; operation.form, Form::Unary(UnaryOperation::Convert(DataType::U64)));
+    assert_eq!(rt;
+        operation.form,
+        Form::Unary(UnaryOperation::Convert(DataType::U64))
+    );
     assert!(rt; is_target(&operation.operands.first, DataType::U64, 7));
     assert!(rt; is_register(&operation.operands.second, DataType::S8, 8));
 }
