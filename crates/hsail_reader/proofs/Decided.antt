@@ -1,15 +1,15 @@
 -- Each line of the grammar decides its choices by the next token.
 use Rattle.std.proofs.Common.{◌≡◌, ℕ, ⊎_elim, inl, inr, List, [], ◌∷◌, Bool, true, false, Option, None, refl, sym, ap, subst, ◌∙◌}
 use Rattle.std.specs.Option.{option_map}
-use Rattle.hsail_reader.specs.Grammar.{signed, constant, source, next_source, offset, place, place_inside, index, address_inside, address, unary, binary, ternary, load, store, branch, conditional_branch, identify, operands_of, labelled, performed, unlabelled, item, items, body, alignment, kernarg_flaw, argument, next_argument, some_arguments, signature, kernel_begin, kernel, is_none_left, kernels, fields, module_text}
-use Rattle.hsail_reader.specs.Grammars.{spells, begun_by, begins, read}
-use Rattle.hsail_reader.specs.Terminals.{mark_of, number_of, register_of, same_kind, same_word, word_at, picked, align_of, align, semicolon, close_parenthesis, close_brace, syntax, at_begin, behind_align}
+use Rattle.hsail_reader.specs.Grammar.{signed, constant, source, offset, place, place_inside, index, address_inside, address, operand, next_operand, operation, operands, labelled, performed, unlabelled, item, items, body, alignment, kernarg_flaw, argument, next_argument, some_arguments, signature, kernel_begin, kernel, is_none_left, kernels, fields, module_text}
+use Rattle.hsail_reader.specs.Grammars.{Grammar, give, behind, spells, begun_by, begins, read}
+use Rattle.hsail_reader.specs.Terminals.{mark_of, number_of, register_of, same_kind, same_word, word_at, picked, align_of, align, semicolon, open_bracket, close_parenthesis, close_brace, syntax, at_begin, behind_align}
 use Rattle.hsail_reader.specs.TextTokens.{PlacedToken}
-use Rattle.hsail_reader.specs.Nouns.{Argument, Constant, DataType, Form, Item, Kernel, Modifiers, Place, TokenKind}
+use Rattle.hsail_reader.specs.Nouns.{Argument, Constant, DataType, Item, Kernel, Opcode, Operand, Operation, Place, Shape, TokenKind}
 use Rattle.hsail_reader.specs.declared.token.TokenKind.TheVariants as kinds
-use Rattle.hsail_reader.specs.declared.rows.Form.TheVariants as forms
+use Rattle.hsail_reader.specs.declared.rows.Shape.TheVariants as shapes
 use Rattle.hsail_reader.specs.declared.words.Word.TheVariants as words
-use Rattle.hsail_reader.proofs.Grammars.{Front, Next, Takes, Decides, shortens}
+use Rattle.hsail_reader.proofs.Grammars.{Front, Behind, Next, Takes, Decides, shortens}
 use Rattle.hsail_reader.proofs.Loop.{Shortens}
 use Rattle.hsail_reader.proofs.Terminals.{unbegun, marks, registers, numbers, majors, minors, profiles_found, large_found, roundings_found, names, these_words, word_there, aligns, kernargs, opcodes, outsides}
 
@@ -72,10 +72,6 @@ sources F = (
   λ x from to s may. constant_first s.0 from s.1 s.2,
 )
 
-next_sources : (F : Front) → Decides next_source F
-unfolding next_source
-next_sources F = (marks 44, λ one. sources F)
-
 offsets : (F : Front) → ((to : List PlacedToken) → F to → FirstIs (kinds.Mark 93) to) → Decides offset F
 unfolding offset
 offsets F law = (
@@ -118,19 +114,19 @@ place_inside_first : (p : Place) (from to : List PlacedToken) → spells place_i
 unfolding place_inside
 place_inside_first p from to s = place_first s.0 from s.1 s.2
 
--- what is followed by a semicolon
-abbrev BeforeSemicolon : Front → Type 0
-BeforeSemicolon F = (to : List PlacedToken) → F to → FirstIs (kinds.Mark 59) to
+-- what is followed by no opening bracket
+abbrev BeforeNoBracket : Front → Type 0
+BeforeNoBracket F = (to : List PlacedToken) → F to → begins open_bracket to ≡ false
 
-indices : (x : List ℕ) (F : Front) → BeforeSemicolon F → Decides (index x) F
+indices : (x : List ℕ) (F : Front) → BeforeNoBracket F → Decides (index x) F
 unfolding index
 indices x F law = (
   (marks 91, λ one. (places_inside _, λ p. tt)),
   tt,
-  λ a from to s may. other_kind (mark_of 91) (kinds.Mark 59) from (law from (subst F (sym s.0) may)) refl,
+  λ a from to s may. subst (λ ts. begins open_bracket ts ≡ false) (sym s.0) (law to may),
 )
 
-addresses_inside : (F : Front) → BeforeSemicolon F → Decides address_inside F
+addresses_inside : (F : Front) → BeforeNoBracket F → Decides address_inside F
 unfolding address_inside
 addresses_inside F law = (
   (names kinds.Variable refl, λ x. (marks 93, λ one. indices x F law)),
@@ -138,30 +134,59 @@ addresses_inside F law = (
   λ a from to s may. place_inside_first s.0 from s.1 s.2,
 )
 
-addresses : (F : Front) → BeforeSemicolon F → Decides address F
+addresses : (F : Front) → BeforeNoBracket F → Decides address F
 unfolding address
 addresses F law = (marks 91, λ one. addresses_inside F law)
 
--- the operands, before the semicolon of their instruction
-operations : (form : Form) (modifiers : Modifiers) (kind : DataType) (F : Front) → BeforeSemicolon F →
-    Decides (operands_of form modifiers kind) F
-unfolding unary binary ternary load store branch conditional_branch identify
-operations (forms.Unary op) modifiers kind F law = (registers, λ d. (next_sources _, λ a. tt))
-operations (forms.Binary op) modifiers kind F law = (registers, λ d. (next_sources _, λ a. (next_sources _, λ b. tt)))
-operations (forms.Ternary op) modifiers kind F law =
-    (registers, λ d. (next_sources _, λ a. (next_sources _, λ b. (next_sources _, λ c. tt))))
-operations (forms.Load segment) modifiers kind F law = (
-  registers,
-  λ d. (marks 44, λ one. (addresses _ (λ to b. subst (FirstIs (kinds.Mark 59)) (sym b.3.0) (law b.2 b.4)), λ a. tt)),
-)
-operations forms.Store modifiers kind F law = (
-  sources _,
-  λ s. (marks 44, λ one. (addresses _ (λ to b. subst (FirstIs (kinds.Mark 59)) (sym b.3.0) (law b.2 b.4)), λ a. tt)),
-)
-operations forms.Branch modifiers kind F law = (names kinds.Label refl, λ x. tt)
-operations forms.ConditionalBranch modifiers kind F law = (sources _, λ a. (marks 44, λ one. (names kinds.Label refl, λ x. tt)))
-operations forms.Return modifiers kind F law = tt
-operations (forms.Identify query) modifiers kind F law = (registers, λ d. (marks 44, λ one. (numbers, λ k. tt)))
+-- behind what is given stands what stood behind it
+given : {A X : Type 0} (value : A → X) (F : Front) → BeforeNoBracket F → BeforeNoBracket (Behind (λ a. give (value a)) F)
+given value F law to b = subst (λ ts. begins open_bracket ts ≡ false) (sym b.3.0) (law b.2 b.4)
+
+-- an operand, before no opening bracket
+operand_decides : (s : Shape) (kind : DataType) (F : Front) → BeforeNoBracket F → Decides (operand s kind) F
+operand_decides shapes.Absent kind F law = tt
+operand_decides (shapes.Target at) kind F law = (registers, λ r. tt)
+operand_decides (shapes.Source at) kind F law = (sources _, λ s. tt)
+operand_decides (shapes.Address segment) kind F law = (addresses _ (given _ F law), λ a. tt)
+operand_decides shapes.Label kind F law = (names kinds.Label refl, λ x. tt)
+operand_decides shapes.Dimension kind F law = (numbers, λ n. tt)
+
+next_decides : (s : Shape) (kind : DataType) (F : Front) → BeforeNoBracket F → Decides (next_operand s kind) F
+next_decides shapes.Absent kind F law = tt
+next_decides s kind F law = (marks 44, λ one. operand_decides s kind F law)
+
+-- a further operand begins with a comma, or stands before no opening bracket
+next_first : {A X : Type 0} (s : Shape) (kind : DataType) (f : A → Operand → Grammar X) (F : Front) →
+    ((a : A) → BeforeNoBracket (Behind (f a) F)) → BeforeNoBracket (Behind (λ a. behind (next_operand s kind) (f a)) F)
+next_first shapes.Absent kind f F law to (a, x, end, (b, between, s, rest), may) =
+    subst (λ ts. begins open_bracket ts ≡ false) (sym s.0) (law a between (b, x, end, rest, may))
+next_first s kind f F law to (a, x, end, (b, between, (one, front, comma, there), rest), may) =
+    other_kind (mark_of 91) (kinds.Mark 44) to (comma.0, front, comma.1, comma.2) refl
+
+-- what stands behind the second operand of a row, and behind its first
+abbrev from_fourth : Opcode → Operand → Operand → Operand → Grammar Operation
+from_fourth code a b c = behind (next_operand code.operands.3 code.kind) (λ d. give (operation code a b c d))
+
+abbrev from_third : Opcode → Operand → Operand → Grammar Operation
+from_third code a b = behind (next_operand code.operands.2 code.kind) (from_fourth code a b)
+
+-- the operands of a row, before no opening bracket
+operations : (code : Opcode) (F : Front) → BeforeNoBracket F → Decides (operands code) F
+unfolding operands
+operations code F law =
+    let third : (a b : Operand) → BeforeNoBracket (Behind (from_fourth code a b) F) =
+    λ a b. next_first code.operands.3 code.kind (λ c d. give (operation code a b c d)) F (λ c. given (operation code a b c) F law) in
+    let second : (a : Operand) → BeforeNoBracket (Behind (from_third code a) F) =
+    λ a. next_first code.operands.2 code.kind (from_fourth code a) F (third a) in (
+      operand_decides code.operands.0 code.kind _ (next_first code.operands.1 code.kind (from_third code) F second),
+      λ a. (
+        next_decides code.operands.1 code.kind _ (second a),
+        λ b. (
+          next_decides code.operands.2 code.kind _ (third a b),
+          λ c. (next_decides code.operands.3 code.kind _ (given (operation code a b c) F law), λ d. tt),
+        ),
+      ),
+    )
 
 labelleds : (F : Front) → Decides labelled F
 unfolding labelled
@@ -170,7 +195,7 @@ labelleds F line = (names kinds.Label refl, λ x. (marks 58, λ one. tt))
 performeds : (F : Front) → Decides performed F
 unfolding performed
 performeds F line =
-    (opcodes, λ code. (operations code.form code.modifiers code.kind _ (λ to b. (b.3.2.0, b.3.1, b.3.2.1, b.3.2.2)), λ x. (marks 59, λ one. tt)))
+    (opcodes, λ code. (operations code _ (λ to b. other_kind (mark_of 91) (kinds.Mark 59) to (b.3.2.0, b.3.1, b.3.2.1, b.3.2.2) refl), λ x. (marks 59, λ one. tt)))
 
 -- an instruction begins with its word
 performed_first : (i : Item) (from to : List PlacedToken) → spells performed i from to →

@@ -126,12 +126,13 @@ type_not_modifier set t text (e, c) = subst NoModifier (sym e) (named t)
 -- what stands behind the stem of a row is read
 pub row_is_read : (row : InstructionRow) (code : Opcode) (text : List ℕ) → SpellsBehindStem row code text →
     opcode_at row text ≡ Some code
-row_is_read row code text (words, type, e, spelled, allowed, typed, same) =
+row_is_read row code text (words, type, e, spelled, allowed, typed, same, placed) =
     ap (opcode_at row) e
     ∙ ap (opcode_behind row)
     (modifiers_are_read code.modifiers words type spelled (type_not_modifier row.types code.kind type typed))
-    ∙ rw allowed (ap (option_map (opcode row.form code.modifiers)) (type_is_read row.types code.kind type typed)
-    ∙ ap (λ f. Some (opcode f code.modifiers code.kind)) same)
+    ∙ rw allowed (ap (option_map (opcode row.form row.operands code.modifiers)) (type_is_read row.types code.kind type typed)
+    ∙ ap (λ f. Some (opcode f row.operands code.modifiers code.kind)) same
+    ∙ ap (λ o. Some (opcode code.form o code.modifiers code.kind)) placed)
 
 -- what is read behind the stem of a row is spelled there
 pub row_is_spelled : (row : InstructionRow) (code : Opcode) (text : List ℕ) → opcode_at row text ≡ Some code →
@@ -140,8 +141,8 @@ row_is_spelled row code text is =
     let m = modifiers_at text in
     let f = modifiers_are_found text in
     ⊎_elim
-    (λ w. let o = mapped (opcode row.form m.0) (type_at row.types m.1) code w.1 in
-    subst (λ c. SpellsBehindStem row c text) (same_some (opcode row.form m.0 o.0) code o.2)
-    (f.0, m.1, f.1, f.2, w.0, type_is_found row.types m.1 o.0 o.1, refl))
+    (λ w. let o = mapped (opcode row.form row.operands m.0) (type_at row.types m.1) code w.1 in
+    subst (λ c. SpellsBehindStem row c text) (same_some (opcode row.form row.operands m.0 o.0) code o.2)
+    (f.0, m.1, f.1, f.2, w.0, type_is_found row.types m.1 o.0 o.1, refl, refl))
     (λ w. nothing code w.1)
-    (chosen (allows row.modifiers m.0) (option_map (opcode row.form m.0) (type_at row.types m.1)) None (Some code) is)
+    (chosen (allows row.modifiers m.0) (option_map (opcode row.form row.operands m.0) (type_at row.types m.1)) None (Some code) is)

@@ -3,13 +3,14 @@ use Rattle.std.proofs.Common.{◌≡◌, ℕ, ◌<◌, ◌≤◌, ⊎_elim, List
 use Rattle.std.proofs.lemmas.Bool.{cases_Bool}
 use Rattle.std.proofs.lemmas.Bool.Decides.{nat_tests}
 use Rattle.hsail_reader.proofs.Options.{no_ok, same_ok}
-use Rattle.hsail_reader.specs.Faults.{too_long}
-use Rattle.hsail_reader.specs.Grammar.{is_none_left, kernels, module_text, SpellModule, IsTextOf, place_inside, index, address_inside, address, load, performed, labelled, unlabelled, item, items, body, alignment, argument, next_argument, some_arguments, signature, kernel_begin, kernel, fields}
+use Rattle.hsail_reader.specs.Faults.{error_of, too_long, Fails}
+use Rattle.hsail_reader.specs.Grammar.{AnswersByGrammar, is_none_left, kernels, module_text, SpellModule, IsTextOf, place_inside, index, address_inside, address, operands, performed, labelled, unlabelled, item, items, body, alignment, argument, next_argument, some_arguments, signature, kernel_begin, kernel, fields}
 use Rattle.hsail_reader.specs.Grammars.{spells, read, ◌>>=◌}
 use Rattle.hsail_reader.specs.TextTokens.{PlacedToken}
 use Rattle.hsail_reader.specs.Syntax.{module_at, read_at, located, reading}
 use Rattle.hsail_reader.specs.Tokens.{tokens_of}
-use Rattle.hsail_reader.specs.Nouns.{Module, Refusal}
+use Rattle.hsail_reader.specs.Nouns.{Module, ReadError, Refusal, Stop}
+use Rattle.hsail_reader.specs.declared.fault.Stop.TheVariants as stop
 use Rattle.hsail_reader.proofs.Decided.{module_decides}
 use Rattle.hsail_reader.proofs.Grammars.{Front, complete, sound, bound}
 use Rattle.hsail_reader.proofs.TextCut.{cut, spelled}
@@ -69,9 +70,12 @@ short_is_text text m fits is =
     let tokens = bound (tokens_of text) module_at m is in
     (fits, (tokens.0, spelled text tokens.0 tokens.1, module_spelled tokens.0 m tokens.2))
 
--- what is refused is a text of no module
-pub refused_is_no_text : (text : List ℕ) (r : Refusal) → read_at text ≡ Err r → (m : Module) → IsTextOf text m → ⊥
-refused_is_no_text text r is m s = no_ok r m (sym is ∙ text_at text m s)
+-- what a stop is told as is by the grammar
+pub told_by_grammar : (text : List ℕ) (s : Stop) (x : ReadError) → x ≡ error_of text s → Fails s (read_at text)
+    → AnswersByGrammar text (Err x)
+told_by_grammar text stop.OutOfMemory x is fails = subst (λ e. AnswersByGrammar text (Err e)) (sym is) tt
+told_by_grammar text (stop.Refused r) x is fails =
+    subst (λ e. AnswersByGrammar text (Err e)) (sym is) (λ m s. no_ok r m (sym fails ∙ text_at text m s))
 
 fits_of : (text : List ℕ) (m : Module) → IsTextOf text m → length text ≤ 65536
 unfolding IsTextOf
@@ -103,7 +107,7 @@ text_is_spelled text m is =
     (cases_Bool (nat_lt 65536 (length text)))
 
 sample_is_read : reading sample ≡ Ok sample_module
-unfolding sample sample_module reading module_at module_text fields kernels kernel kernel_begin body signature some_arguments next_argument argument alignment items item labelled unlabelled performed load index place_inside address_inside address instruction_at word_of
+unfolding sample sample_module reading module_at module_text fields kernels kernel kernel_begin body signature some_arguments next_argument argument alignment items item labelled unlabelled performed operands index place_inside address_inside address instruction_at word_of
 sample_is_read = refl
 
 pub sample_is_text : IsTextOf sample sample_module

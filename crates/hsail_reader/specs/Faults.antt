@@ -1,8 +1,10 @@
 -- Where and why a text is not read (own).
-use Rattle.std.specs.Prelude.{◌≡◌, ℕ, ◌+◌, List, [], ◌∷◌, ◌++◌, ◌==◌, if◌then◌else◌, Option, Some, None, Result, Ok, Err, take}
-use Rattle.hsail_reader.specs.Nouns.{Cause, Flaw, ReadFault, Refusal, Stop}
+use Rattle.std.specs.Prelude.{◌≡◌, ℕ, ◌+◌, List, [], ◌∷◌, ◌++◌, codes, ◌==◌, if◌then◌else◌, Option, Some, None, Result, Ok, Err, take}
+use Rattle.std.specs.Fmt.{decimal}
+use Rattle.hsail_reader.specs.Nouns.{Cause, Flaw, ReadError, ReadFault, Refusal, Stop}
 use Rattle.hsail_reader.specs.declared.fault.Cause.TheVariants.{Lexeme, Syntax, NotInProfile, TooLong}
 use Rattle.hsail_reader.specs.declared.fault.Flaw.TheVariants as flaw
+use Rattle.hsail_reader.specs.declared.fault.ReadError.TheVariants as error
 use Rattle.hsail_reader.specs.declared.fault.Stop.TheVariants as stop
 
 -- the numbers of the causes (own)
@@ -11,6 +13,21 @@ cause_number Lexeme = 1
 cause_number Syntax = 2
 cause_number NotInProfile = 3
 cause_number TooLong = 4
+
+abbrev pub cause_name : Cause → List ℕ
+cause_name Lexeme = codes "Lexeme"
+cause_name Syntax = codes "Syntax"
+cause_name NotInProfile = codes "NotInProfile"
+cause_name TooLong = codes "TooLong"
+
+-- how a fault is told, by its line, its column and its cause's name
+abbrev pub text_of_fault : ReadFault → List ℕ
+text_of_fault f =
+    codes "line " ++ decimal f.line ++ codes ", column " ++ decimal f.column ++ codes ": " ++ cause_name f.cause
+
+abbrev pub text_of_error : ReadError → List ℕ
+text_of_error error.OutOfMemory = codes "out of memory"
+text_of_error (error.Fault f) = text_of_fault f
 
 -- the fault behind these bytes, of which the first stands at this line and column
 abbrev pub fault_at : ℕ → ℕ → List ℕ → Cause → ReadFault
@@ -34,6 +51,11 @@ before_place (Some place) text = take place text
 -- the fault of a text, with its line and column
 abbrev pub fault_of : List ℕ → Refusal → ReadFault
 fault_of text r = fault_at 1 1 (before_place r.place text) (cause_of r.flaw)
+
+-- what a stop is to a reader of the whole text
+abbrev pub error_of : List ℕ → Stop → ReadError
+error_of text stop.OutOfMemory = error.OutOfMemory
+error_of text (stop.Refused r) = error.Fault (fault_of text r)
 
 -- the fault of a text over 65,536 bytes
 abbrev pub too_long : ReadFault

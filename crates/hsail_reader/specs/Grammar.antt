@@ -6,14 +6,15 @@ use Rattle.std.specs.Prelude.{ℕ, ◌≤◌, List, [], ◌∷◌, Bool, true, f
 use Rattle.hsail_reader.specs.Grammars.{Grammar, give, either, many, on_line, spells, begins}
 use Rattle.hsail_reader.specs.Terminals.{◌>>=◌, ◌>>◌, optional, open_parenthesis, close_parenthesis, open_bracket, close_bracket, open_brace, close_brace, plus, minus, comma, colon, semicolon, register, number, global, variable, label, major, minor, profile, large, rounding, module_word, prog, kernel_word, align, kernarg, opcode, outside, syntax, at_begin, behind_align}
 use Rattle.hsail_reader.specs.TextTokens.{AreTokens, PlacedToken}
-use Rattle.hsail_reader.specs.Nouns.{Address, Alignment, Argument, BinaryOperation, Constant, DataType, Fields, Flaw, Form, Item, Kernel, Modifiers, Module, Opcode, Operation, Place, Query, ReadError, Segment, Source, TernaryOperation, UnaryOperation, Width}
+use Rattle.hsail_reader.specs.Rows.{kind_at}
+use Rattle.hsail_reader.specs.Nouns.{Address, Alignment, Argument, Constant, DataType, Fields, Flaw, Item, Kernel, Module, Opcode, Operand, Operation, Place, ReadError, Shape, Source}
 use Rattle.hsail_reader.specs.declared.fault.ReadError.TheVariants as error
 use Rattle.hsail_reader.specs.declared.module.Address.TheVariants as addresses
 use Rattle.hsail_reader.specs.declared.module.Item.TheVariants as an_item
-use Rattle.hsail_reader.specs.declared.module.Operation.TheVariants as operations
+use Rattle.hsail_reader.specs.declared.module.Operand.TheVariants as an_operand
 use Rattle.hsail_reader.specs.declared.module.Place.TheVariants as places
+use Rattle.hsail_reader.specs.declared.rows.Shape.TheVariants as shape
 use Rattle.hsail_reader.specs.declared.types.Source.TheVariants as sources
-use Rattle.hsail_reader.specs.declared.rows.Form.TheVariants as forms
 
 -- a number, with the sign that stood before it
 unfoldable pub signed : Bool → Grammar Constant
@@ -28,10 +29,6 @@ constant = either (minus >> signed true) (either (plus >> signed false) (signed 
 -- a source: a register or a constant
 unfoldable pub source : Grammar Source
 source = either (register >>= λ r. give (sources.Register r)) (constant >>= λ c. give (sources.Constant c))
-
--- a source behind a comma
-unfoldable pub next_source : Grammar Source
-next_source = comma >> source
 
 abbrev pub no_offset : Constant
 no_offset = record { negative = false; magnitude = 0 }
@@ -72,81 +69,40 @@ address_inside = either (do
 unfoldable pub address : Grammar Address
 address = open_bracket >> address_inside
 
--- d, a
-unfoldable pub unary : UnaryOperation → DataType → Grammar Operation
-unary op kind = do
-  d ← register
-  a ← next_source
-  give (operations.Unary (record { operation = op; kind = kind; target = d; source = a }))
+-- an operand as a row has it, behind a word of a type (the check asks for registers' classes and numbers, for
+-- the range of constants, and that a dimension is 0, 1 or 2)
+abbrev pub operand : Shape → DataType → Grammar Operand
+operand shape.Absent kind = give an_operand.Absent
+operand (shape.Target at) kind =
+    register >>= λ r. give (an_operand.Target (record { kind = kind_at at kind; register = r }))
+operand (shape.Source at) kind =
+    source >>= λ s. give (an_operand.Source (record { kind = kind_at at kind; source = s }))
+operand (shape.Address segment) kind =
+    address >>= λ a. give (an_operand.Address (record { segment = segment; kind = kind; address = a }))
+operand shape.Label kind = label >>= λ x. give (an_operand.Label x)
+operand shape.Dimension kind = number >>= λ n. give (an_operand.Dimension n)
 
--- d, a, b
-unfoldable pub binary : BinaryOperation → DataType → Grammar Operation
-binary op kind = do
-  d ← register
-  a ← next_source
-  b ← next_source
-  give (operations.Binary (record { operation = op; kind = kind; target = d; left = a; right = b }))
+-- an operand behind a comma, where the row has one
+abbrev pub next_operand : Shape → DataType → Grammar Operand
+next_operand shape.Absent kind = give an_operand.Absent
+next_operand s kind = comma >> operand s kind
 
--- d, a, b, c
-unfoldable pub ternary : TernaryOperation → DataType → Grammar Operation
-ternary op kind = do
-  d ← register
-  a ← next_source
-  b ← next_source
-  c ← next_source
-  give (operations.Ternary (record { operation = op; kind = kind; target = d; first = a; second = b; third = c }))
+abbrev pub operation : Opcode → Operand → Operand → Operand → Operand → Operation
+operation code a b c d = record {
+  form = code.form;
+  modifiers = code.modifiers;
+  kind = code.kind;
+  operands = record { first = a; second = b; third = c; fourth = d };
+}
 
--- d, [address]
-unfoldable pub load : Segment → Modifiers → DataType → Grammar Operation
-load segment modifiers kind = do
-  d ← register
-  comma
-  a ← address
-  give (operations.Load (record { segment = segment; modifiers = modifiers; kind = kind; target = d; address = a }))
-
--- a, [address]
-unfoldable pub store : Option ℕ → DataType → Grammar Operation
-store align kind = do
-  s ← source
-  comma
-  a ← address
-  give (operations.Store (record { align = align; kind = kind; source = s; address = a }))
-
--- @x
-unfoldable pub branch : Grammar Operation
-branch = label >>= λ x. give (operations.Branch x)
-
--- a, @x
-unfoldable pub conditional_branch : Option Width → Grammar Operation
-conditional_branch width = do
-  a ← source
-  comma
-  x ← label
-  give (operations.ConditionalBranch (record { width = width; condition = a; label = x }))
-
--- d, k
-unfoldable pub identify : Query → DataType → Grammar Operation
-identify query kind = do
-  d ← register
-  comma
-  k ← number
-  give (operations.Identify (record { query = query; kind = kind; target = d; dimension = k }))
-
--- the operands of a form, behind a word with modifiers and a type (the check asks for registers' classes and
--- numbers, for the range of constants, and that a dimension is 0, 1 or 2)
-abbrev pub operands_of : Form → Modifiers → DataType → Grammar Operation
-operands_of (forms.Unary op) modifiers kind = unary op kind
-operands_of (forms.Binary op) modifiers kind = binary op kind
-operands_of (forms.Ternary op) modifiers kind = ternary op kind
-operands_of (forms.Load segment) modifiers kind = load segment modifiers kind
-operands_of forms.Store modifiers kind = store modifiers.align kind
-operands_of forms.Branch modifiers kind = branch
-operands_of forms.ConditionalBranch modifiers kind = conditional_branch modifiers.width
-operands_of forms.Return modifiers kind = give operations.Return
-operands_of (forms.Identify query) modifiers kind = identify query kind
-
-abbrev pub operands : Opcode → Grammar Operation
-operands code = operands_of code.form code.modifiers code.kind
+-- the operands of a row, with commas between
+unfoldable pub operands : Opcode → Grammar Operation
+operands code = do
+  a ← operand code.operands.0 code.kind
+  b ← next_operand code.operands.1 code.kind
+  c ← next_operand code.operands.2 code.kind
+  d ← next_operand code.operands.3 code.kind
+  give (operation code a b c d)
 
 -- a label: @name :
 unfoldable pub labelled : Grammar Item

@@ -1,7 +1,9 @@
 -- The table of instructions (PRM, the chapters on instructions; which rows and types there are is (own)).
 use Rattle.std.specs.Prelude.{ℕ, List, [], ◌∷◌, Bool, true, ◌&&◌, codes, is_none}
-use Rattle.hsail_reader.specs.Nouns.{DataType, Form, Modifiers, ModifierSet, Row, TypeSet, Bit, Bits, BitsAndIntegers, Convertible, Integers, Memory, Unsigned32, Unsigned32And64, Untyped}
+use Rattle.hsail_reader.specs.Nouns.{DataType, Form, KindAt, Modifiers, ModifierSet, Row, Shape, Shapes, TypeSet, Bit, Bits, BitsAndIntegers, Convertible, Integers, Memory, Unsigned32, Unsigned32And64, Untyped}
 use Rattle.hsail_reader.specs.declared.rows.Form.TheVariants as form
+use Rattle.hsail_reader.specs.declared.rows.KindAt.TheVariants.{Given, Own}
+use Rattle.hsail_reader.specs.declared.rows.Shape.TheVariants.{Absent as no, Address, Dimension, Label, Source, Target}
 use Rattle.hsail_reader.specs.declared.rows.ModifierSet.TheVariants.{Align, AlignAndWidth, Plain, Width}
 use Rattle.hsail_reader.specs.declared.types.DataType.TheVariants as type
 use Rattle.hsail_reader.specs.declared.types.UnaryOperation.TheVariants as unary
@@ -11,15 +13,26 @@ use Rattle.hsail_reader.specs.declared.types.Comparison.TheVariants as compariso
 use Rattle.hsail_reader.specs.declared.types.Segment.TheVariants as segment
 use Rattle.hsail_reader.specs.declared.types.Query.TheVariants as query
 
--- a row: the front of its words, the modifiers and the types that may stand behind it, and what it does
+-- a row: the front of its words, the modifiers and the types that may stand behind it, what it does, and its
+-- operands, each with the type at its place
 pub record InstructionRow : Type 0 where
   pub stem : List ℕ
   pub modifiers : ModifierSet
   pub types : TypeSet
   pub form : Form
+  pub operands : Shapes
 
-abbrev pub row : List ℕ → ModifierSet → TypeSet → Form → InstructionRow
-row stem modifiers types form = record { stem = stem; modifiers = modifiers; types = types; form = form }
+abbrev pub shapes : Shape → Shape → Shape → Shape → Shapes
+shapes first second third fourth = record { 0 = first; 1 = second; 2 = third; 3 = fourth }
+
+abbrev pub row : List ℕ → ModifierSet → TypeSet → Form → Shape → Shape → Shape → Shape → InstructionRow
+row stem modifiers types form first second third fourth = record {
+  stem = stem;
+  modifiers = modifiers;
+  types = types;
+  form = form;
+  operands = shapes first second third fourth;
+}
 
 -- the types of a set
 abbrev pub types_of : TypeSet → List DataType
@@ -44,6 +57,25 @@ allows Align m = is_none m.width
 allows Width m = is_none m.align
 allows AlignAndWidth m = true
 
+-- the type at a place: that of the word, or the row's
+abbrev pub kind_at : KindAt → DataType → DataType
+kind_at Own kind = kind
+kind_at (Given t) kind = t
+
+-- d, a register of the word's type; d_of, of another
+abbrev pub d : Shape
+d = Target Own
+
+abbrev pub d_of : DataType → Shape
+d_of kind = Target (Given kind)
+
+-- a, a source of the word's type; a_of, of another
+abbrev pub a : Shape
+a = Source Own
+
+abbrev pub a_of : DataType → Shape
+a_of kind = Source (Given kind)
+
 -- how a type is spelled (PRM, Data Types)
 abbrev pub type_name : DataType → List ℕ
 type_name type.B1 = codes "b1"
@@ -60,53 +92,53 @@ type_name type.S16 = codes "s16"
 type_name type.S32 = codes "s32"
 type_name type.S64 = codes "s64"
 
--- the table, in the order of the format
+-- the table, in the order of the format (a shift's count has 32 bits; cmp answers one bit, and cmov asks one)
 abbrev pub rows : List InstructionRow
 rows =
-    row (codes "mov") Plain BitsAndIntegers (form.Unary unary.Move)
-    ∷ row (codes "add") Plain Integers (form.Binary binary.Add)
-    ∷ row (codes "sub") Plain Integers (form.Binary binary.Subtract)
-    ∷ row (codes "mul") Plain Integers (form.Binary binary.Multiply)
-    ∷ row (codes "mad") Plain Integers (form.Ternary ternary.MultiplyAdd)
-    ∷ row (codes "div") Plain Integers (form.Binary binary.Divide)
-    ∷ row (codes "rem") Plain Integers (form.Binary binary.Remainder)
-    ∷ row (codes "min") Plain Integers (form.Binary binary.Minimum)
-    ∷ row (codes "max") Plain Integers (form.Binary binary.Maximum)
-    ∷ row (codes "and") Plain Bits (form.Binary binary.And)
-    ∷ row (codes "or") Plain Bits (form.Binary binary.Or)
-    ∷ row (codes "xor") Plain Bits (form.Binary binary.Xor)
-    ∷ row (codes "not") Plain Bits (form.Unary unary.Not)
-    ∷ row (codes "shl") Plain Integers (form.Binary binary.ShiftLeft)
-    ∷ row (codes "shr") Plain Integers (form.Binary binary.ShiftRight)
-    ∷ row (codes "cmp_eq_b1") Plain BitsAndIntegers (form.Binary (binary.Compare comparison.Equal))
-    ∷ row (codes "cmp_ne_b1") Plain BitsAndIntegers (form.Binary (binary.Compare comparison.NotEqual))
-    ∷ row (codes "cmp_lt_b1") Plain Integers (form.Binary (binary.Compare comparison.Less))
-    ∷ row (codes "cmp_le_b1") Plain Integers (form.Binary (binary.Compare comparison.LessOrEqual))
-    ∷ row (codes "cmp_gt_b1") Plain Integers (form.Binary (binary.Compare comparison.Greater))
-    ∷ row (codes "cmp_ge_b1") Plain Integers (form.Binary (binary.Compare comparison.GreaterOrEqual))
-    ∷ row (codes "cmov") Plain Bits (form.Ternary ternary.ConditionalMove)
-    ∷ row (codes "cvt_b1") Plain Convertible (form.Unary (unary.Convert type.B1))
-    ∷ row (codes "cvt_u8") Plain Convertible (form.Unary (unary.Convert type.U8))
-    ∷ row (codes "cvt_u16") Plain Convertible (form.Unary (unary.Convert type.U16))
-    ∷ row (codes "cvt_u32") Plain Convertible (form.Unary (unary.Convert type.U32))
-    ∷ row (codes "cvt_u64") Plain Convertible (form.Unary (unary.Convert type.U64))
-    ∷ row (codes "cvt_s8") Plain Convertible (form.Unary (unary.Convert type.S8))
-    ∷ row (codes "cvt_s16") Plain Convertible (form.Unary (unary.Convert type.S16))
-    ∷ row (codes "cvt_s32") Plain Convertible (form.Unary (unary.Convert type.S32))
-    ∷ row (codes "cvt_s64") Plain Convertible (form.Unary (unary.Convert type.S64))
-    ∷ row (codes "ld_kernarg") AlignAndWidth Memory (form.Load segment.Kernarg)
-    ∷ row (codes "ld_global") AlignAndWidth Memory (form.Load segment.Global)
-    ∷ row (codes "st_global") Align Memory form.Store
-    ∷ row (codes "br") Plain Untyped form.Branch
-    ∷ row (codes "cbr") Width Bit form.ConditionalBranch
-    ∷ row (codes "ret") Plain Untyped form.Return
-    ∷ row (codes "workitemid") Plain Unsigned32 (form.Identify query.WorkItemId)
-    ∷ row (codes "workgroupid") Plain Unsigned32 (form.Identify query.WorkGroupId)
-    ∷ row (codes "workgroupsize") Plain Unsigned32 (form.Identify query.WorkGroupSize)
-    ∷ row (codes "currentworkgroupsize") Plain Unsigned32 (form.Identify query.CurrentWorkGroupSize)
-    ∷ row (codes "workitemabsid") Plain Unsigned32And64 (form.Identify query.WorkItemAbsoluteId)
-    ∷ row (codes "gridsize") Plain Unsigned32And64 (form.Identify query.GridSize) ∷ []
+    row (codes "mov") Plain BitsAndIntegers (form.Unary unary.Move) d a no no
+    ∷ row (codes "add") Plain Integers (form.Binary binary.Add) d a a no
+    ∷ row (codes "sub") Plain Integers (form.Binary binary.Subtract) d a a no
+    ∷ row (codes "mul") Plain Integers (form.Binary binary.Multiply) d a a no
+    ∷ row (codes "mad") Plain Integers (form.Ternary ternary.MultiplyAdd) d a a a
+    ∷ row (codes "div") Plain Integers (form.Binary binary.Divide) d a a no
+    ∷ row (codes "rem") Plain Integers (form.Binary binary.Remainder) d a a no
+    ∷ row (codes "min") Plain Integers (form.Binary binary.Minimum) d a a no
+    ∷ row (codes "max") Plain Integers (form.Binary binary.Maximum) d a a no
+    ∷ row (codes "and") Plain Bits (form.Binary binary.And) d a a no
+    ∷ row (codes "or") Plain Bits (form.Binary binary.Or) d a a no
+    ∷ row (codes "xor") Plain Bits (form.Binary binary.Xor) d a a no
+    ∷ row (codes "not") Plain Bits (form.Unary unary.Not) d a no no
+    ∷ row (codes "shl") Plain Integers (form.Binary binary.ShiftLeft) d a (a_of type.U32) no
+    ∷ row (codes "shr") Plain Integers (form.Binary binary.ShiftRight) d a (a_of type.U32) no
+    ∷ row (codes "cmp_eq_b1") Plain BitsAndIntegers (form.Binary (binary.Compare comparison.Equal)) (d_of type.B1) a a no
+    ∷ row (codes "cmp_ne_b1") Plain BitsAndIntegers (form.Binary (binary.Compare comparison.NotEqual)) (d_of type.B1) a a no
+    ∷ row (codes "cmp_lt_b1") Plain Integers (form.Binary (binary.Compare comparison.Less)) (d_of type.B1) a a no
+    ∷ row (codes "cmp_le_b1") Plain Integers (form.Binary (binary.Compare comparison.LessOrEqual)) (d_of type.B1) a a no
+    ∷ row (codes "cmp_gt_b1") Plain Integers (form.Binary (binary.Compare comparison.Greater)) (d_of type.B1) a a no
+    ∷ row (codes "cmp_ge_b1") Plain Integers (form.Binary (binary.Compare comparison.GreaterOrEqual)) (d_of type.B1) a a no
+    ∷ row (codes "cmov") Plain Bits (form.Ternary ternary.ConditionalMove) d (a_of type.B1) a a
+    ∷ row (codes "cvt_b1") Plain Convertible (form.Unary (unary.Convert type.B1)) (d_of type.B1) a no no
+    ∷ row (codes "cvt_u8") Plain Convertible (form.Unary (unary.Convert type.U8)) (d_of type.U8) a no no
+    ∷ row (codes "cvt_u16") Plain Convertible (form.Unary (unary.Convert type.U16)) (d_of type.U16) a no no
+    ∷ row (codes "cvt_u32") Plain Convertible (form.Unary (unary.Convert type.U32)) (d_of type.U32) a no no
+    ∷ row (codes "cvt_u64") Plain Convertible (form.Unary (unary.Convert type.U64)) (d_of type.U64) a no no
+    ∷ row (codes "cvt_s8") Plain Convertible (form.Unary (unary.Convert type.S8)) (d_of type.S8) a no no
+    ∷ row (codes "cvt_s16") Plain Convertible (form.Unary (unary.Convert type.S16)) (d_of type.S16) a no no
+    ∷ row (codes "cvt_s32") Plain Convertible (form.Unary (unary.Convert type.S32)) (d_of type.S32) a no no
+    ∷ row (codes "cvt_s64") Plain Convertible (form.Unary (unary.Convert type.S64)) (d_of type.S64) a no no
+    ∷ row (codes "ld_kernarg") AlignAndWidth Memory form.Load d (Address segment.Kernarg) no no
+    ∷ row (codes "ld_global") AlignAndWidth Memory form.Load d (Address segment.Global) no no
+    ∷ row (codes "st_global") Align Memory form.Store a (Address segment.Global) no no
+    ∷ row (codes "br") Plain Untyped form.Branch Label no no no
+    ∷ row (codes "cbr") Width Bit form.ConditionalBranch a Label no no
+    ∷ row (codes "ret") Plain Untyped form.Return no no no no
+    ∷ row (codes "workitemid") Plain Unsigned32 (form.Identify query.WorkItemId) d Dimension no no
+    ∷ row (codes "workgroupid") Plain Unsigned32 (form.Identify query.WorkGroupId) d Dimension no no
+    ∷ row (codes "workgroupsize") Plain Unsigned32 (form.Identify query.WorkGroupSize) d Dimension no no
+    ∷ row (codes "currentworkgroupsize") Plain Unsigned32 (form.Identify query.CurrentWorkGroupSize) d Dimension no no
+    ∷ row (codes "workitemabsid") Plain Unsigned32And64 (form.Identify query.WorkItemAbsoluteId) d Dimension no no
+    ∷ row (codes "gridsize") Plain Unsigned32And64 (form.Identify query.GridSize) d Dimension no no ∷ []
 
 -- a row of the code, with its stem as bytes
 abbrev pub row_view : Row → InstructionRow
-row_view r = row r.0.now r.1 r.2 r.3
+row_view r = row r.0.now r.1 r.2 r.3 r.4.0 r.4.1 r.4.2 r.4.3

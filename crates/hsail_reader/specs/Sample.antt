@@ -3,9 +3,10 @@ use Rattle.std.specs.Prelude.{ℕ, List, [], ◌∷◌, Some, None, codes}
 use Rattle.hsail_reader.specs.declared.module.Address.TheVariants as addresses
 use Rattle.hsail_reader.specs.Nouns.{Argument, Item, Kernel, Module}
 use Rattle.hsail_reader.specs.declared.module.Item.TheVariants as items
-use Rattle.hsail_reader.specs.declared.module.Operation.TheVariants as operations
+use Rattle.hsail_reader.specs.declared.module.Operand.TheVariants as operand
 use Rattle.hsail_reader.specs.declared.module.Profile.TheVariants as profiles
 use Rattle.hsail_reader.specs.declared.module.Rounding.TheVariants as roundings
+use Rattle.hsail_reader.specs.declared.rows.Form.TheVariants as forms
 use Rattle.hsail_reader.specs.declared.types.DataType.TheVariants as types
 use Rattle.hsail_reader.specs.declared.types.RegisterClass.TheVariants as classes
 use Rattle.hsail_reader.specs.declared.types.Segment.TheVariants as segments
@@ -20,13 +21,21 @@ sample_argument = record { line = 2; align = None; kind = types.U64; name = code
 abbrev pub sample_item : Item
 sample_item = items.Instruction (record {
   line = 4;
-  operation = operations.Load (record {
-    segment = segments.Kernarg;
+  operation = record {
+    form = forms.Load;
     modifiers = record { align = Some 8; width = None };
     kind = types.U64;
-    target = record { class = classes.Double; number = 0 };
-    address = addresses.Variable (codes "%p");
-  });
+    operands = record {
+      first = operand.Target (record { kind = types.U64; register = record { class = classes.Double; number = 0 } });
+      second = operand.Address (record {
+        segment = segments.Kernarg;
+        kind = types.U64;
+        address = addresses.Variable (codes "%p");
+      });
+      third = operand.Absent;
+      fourth = operand.Absent;
+    };
+  };
 })
 
 abbrev pub sample_kernel : Kernel

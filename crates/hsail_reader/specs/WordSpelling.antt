@@ -57,12 +57,13 @@ abbrev pub SpellsType : TypeSet → DataType → List ℕ → Type 0
 SpellsType Untyped t text = (text ≡ []) × (t ≡ B1)
 SpellsType set t text = (text ≡ codes "_" ++ type_name t) × Contains (types_of set) t
 
--- what stands behind the stem of a row: modifiers that it allows, and a type that it has
+-- what stands behind the stem of a row: modifiers that it allows, and a type that it has; the row says what it
+-- does and which operands it has
 abbrev pub SpellsBehindStem : InstructionRow → Opcode → List ℕ → Type 0
 SpellsBehindStem row code text =
     (modifiers : List ℕ) × (type : List ℕ) × (text ≡ modifiers ++ type)
     × SpellsModifiers code.modifiers modifiers × (allows row.modifiers code.modifiers ≡ true)
-    × SpellsType row.types code.kind type × (row.form ≡ code.form)
+    × SpellsType row.types code.kind type × (row.form ≡ code.form) × (row.operands ≡ code.operands)
 
 -- the word of an instruction: a row of the table spells it
 abbrev pub SpellsOpcode : Opcode → List ℕ → Type 0

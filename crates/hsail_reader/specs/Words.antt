@@ -4,7 +4,7 @@ use Rattle.std.specs.Prelude.{ℕ, List, [], ◌∷◌, Bool, true, false, ◌==
 use Rattle.std.specs.Option.{option_map}
 use Rattle.hsail_reader.specs.Bytes.{behind, first_of, align_at, width_at, ◌>>=◌}
 use Rattle.hsail_reader.specs.Rows.{InstructionRow, allows, rows, types_of, type_name}
-use Rattle.hsail_reader.specs.Nouns.{Alignment, DataType, Form, Modifiers, Opcode, Prefix, TypeSet, Width, Word, B1, Eight, Four, Memory, One, Sixteen, Two, Untyped}
+use Rattle.hsail_reader.specs.Nouns.{Alignment, DataType, Form, Modifiers, Opcode, Prefix, Shapes, TypeSet, Width, Word, B1, Eight, Four, Memory, One, Sixteen, Two, Untyped}
 use Rattle.hsail_reader.specs.declared.words.Word.TheVariants as word
 
 -- nothing stands behind
@@ -47,13 +47,14 @@ modifiers_behind a w =
 abbrev pub modifiers_at : List ℕ → Modifiers × List ℕ
 modifiers_at bytes = modifiers_behind (part_at align_at bytes) (part_at width_at (part_at align_at bytes).1)
 
-abbrev pub opcode : Form → Modifiers → DataType → Opcode
-opcode form modifiers kind = record { form = form; modifiers = modifiers; kind = kind }
+abbrev pub opcode : Form → Shapes → Modifiers → DataType → Opcode
+opcode form operands modifiers kind =
+    record { form = form; modifiers = modifiers; kind = kind; operands = operands }
 
 -- the rest of a word behind the stem of a row: the modifiers that the row allows, and its type
 abbrev pub opcode_behind : InstructionRow → Modifiers × List ℕ → Option Opcode
 opcode_behind row m =
-    if allows row.modifiers m.0 then option_map (opcode row.form m.0) (type_at row.types m.1) else None
+    if allows row.modifiers m.0 then option_map (opcode row.form row.operands m.0) (type_at row.types m.1) else None
 
 abbrev pub opcode_at : InstructionRow → List ℕ → Option Opcode
 opcode_at row rest = opcode_behind row (modifiers_at rest)

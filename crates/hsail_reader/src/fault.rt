@@ -2,11 +2,11 @@
 
 ghost use Rattle.std.specs.Prelude.{◌≡◌, ◌+◌, ◌≤◌, ◌^◌, length, take};
 ghost use Rattle.hsail_reader.specs.declared.fault.Stop.TheVariants as stop;
-ghost use Rattle.hsail_reader.specs.Faults.{fault_at, cause_number, cause_of, fault_of};
+ghost use Rattle.hsail_reader.specs.Faults.{fault_at, cause_name, cause_number, cause_of, error_of, fault_of};
 
 use std::alloc::{AllocError, AllocFailed};
+use std::error::Error;
 use std::fmt;
-use thiserror::Error;
 
 /// What is wrong with a text.
 #[derive(Clone, Copy, Debug, PartialEq, Eq)]
@@ -33,6 +33,18 @@ impl Cause {
             Cause::TooLong => 4,
         }
     }
+
+    /// The name of the cause, as faults are told.
+    fn name(self) -> &'static str
+        ensures { result.now ≡ cause_name self }
+    {
+        match self {
+            Cause::Lexeme => "Lexeme",
+            Cause::Syntax => "Syntax",
+            Cause::NotInProfile => "NotInProfile",
+            Cause::TooLong => "TooLong",
+        }
+    }
 }
 
 /// The fault of a text: the place, with lines and columns from 1 and columns in bytes, and the cause.
@@ -43,25 +55,46 @@ pub struct ReadFault {
     pub cause: Cause,
 }
 
+/// It prints as `line 4, column 3: Syntax`.
 impl fmt::Display for ReadFault {
+    ghost use Rattle.std.specs.Prelude.{Some};
+    ghost use Rattle.hsail_reader.specs.Faults.{text_of_fault};
+
+    ghost output = { λ fault. Some (text_of_fault fault) };
+
     fn fmt<W: fmt::Write>(&self, f: &mut fmt::Formatter<W>) -> fmt::Result {
         let line = self.line;
         let column = self.column;
-        let cause = self.cause;
-        write!(f, "line {line}, column {column}: {cause:?}")
+        let cause = self.cause.name();
+        write!(f, "line {line}, column {column}: {cause}")
     }
 }
 
 /// Why no module was read.
-#[derive(Clone, Copy, Debug, PartialEq, Eq, Error)]
+#[derive(Clone, Copy, Debug, PartialEq, Eq)]
 pub enum ReadError {
     /// There was no memory for the tokens or the module.
-    #[error("out of memory")]
     OutOfMemory,
     /// The text is not one of a module.
-    #[error("{0}")]
     Fault(ReadFault),
 }
+
+/// It prints as `out of memory`, or as its fault.
+impl fmt::Display for ReadError {
+    ghost use Rattle.std.specs.Prelude.{Some};
+    ghost use Rattle.hsail_reader.specs.Faults.{text_of_error};
+
+    ghost output = { λ error. Some (text_of_error error) };
+
+    fn fmt<W: fmt::Write>(&self, f: &mut fmt::Formatter<W>) -> fmt::Result {
+        match self {
+            ReadError::OutOfMemory => write!(f, "out of memory"),
+            ReadError::Fault(fault) => write!(f, "{fault}"),
+        }
+    }
+}
+
+impl Error for ReadError {}
 
 /// What is wrong with a text that isn't too long.
 #[derive(Clone, Copy)]
@@ -139,7 +172,7 @@ fn fault_behind(before: &[u8], cause: Cause) -> ReadFault
 }
 
 /// The fault of a text, with its line and column.
-pub fn located(text: &[u8], refusal: Refusal) -> ReadFault
+fn located(text: &[u8], refusal: Refusal) -> ReadFault
     requires { length text.now ≤ 65536 }
     ensures { result ≡ fault_of text.now refusal }
 {
@@ -148,4 +181,15 @@ pub fn located(text: &[u8], refusal: Refusal) -> ReadFault
         _ => text,
     };
     fault_behind(before, refusal.flaw.cause())
+}
+
+/// What a stop is to a reader of the whole text: want of memory, or the fault. It takes no memory.
+pub fn told(text: &[u8], stop: Stop) -> ReadError
+    requires { length text.now ≤ 65536 }
+    ensures { result ≡ error_of text.now stop }
+{
+    match stop {
+        Stop::OutOfMemory => ReadError::OutOfMemory,
+        Stop::Refused(refusal) => ReadError::Fault(located(text, refusal)),
+    }
 }

@@ -23,10 +23,11 @@ pub use grammar::{
     words_are_read_as_spelled,
 };
 pub use module::{
-    Address, Argument, Binary, ConditionalBranch, Identify, Indexed, Instruction, Item, Kernel,
-    Label, Load, Module, Operation, Place, Profile, Relative, Rounding, Store, Ternary, Unary,
+    Access, Address, Argument, Indexed, Instruction, Item, Kernel, Label, Module, Operand,
+    Operands, Operation, Place, Profile, Relative, Rounding, Target, TypedSource,
 };
 pub use reading::read_module;
+pub use rows::Form;
 pub use types::{
     Alignment, BinaryOperation, Comparison, Constant, DataType, Modifiers, Query, Register,
     RegisterClass, Segment, Source, TernaryOperation, UnaryOperation, Width,

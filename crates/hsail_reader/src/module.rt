@@ -1,12 +1,9 @@
-use crate::types::{
-    Alignment, BinaryOperation, Constant, DataType, Modifiers, Query, Register, Segment, Source,
-    TernaryOperation, UnaryOperation, Width,
-};
+use crate::rows::Form;
+use crate::types::{Alignment, Constant, DataType, Modifiers, Register, Segment, Source};
 use sequences::Sequence;
 
 /// A module as its text spells it (PRM, Modules). Each name has its first byte, `&`, `%` or `@`,
 /// and each line counts from 1.
-#[derive(Debug, Drop)]
 pub struct Module {
     pub name: Sequence<u8>,
     /// The minor version: 0, 1 or 2. The major version is 1.
@@ -15,6 +12,19 @@ pub struct Module {
     pub rounding: Rounding,
     /// The kernels, in the order of the text.
     pub kernels: Sequence<Kernel>,
+}
+
+// Written out, so that where a module ends stands one call, and not what ends each of its parts.
+impl Drop for Module {
+    fn drop(self) {
+        let Module {
+            name: _,
+            minor: _,
+            profile: _,
+            rounding: _,
+            kernels: _,
+        } = self;
+    }
 }
 
 /// The profile of a module (PRM, Profiles).
@@ -33,7 +43,7 @@ pub enum Rounding {
 }
 
 /// A kernel (PRM, Kernel), with the line of its first token.
-#[derive(Debug, Drop)]
+#[derive(Drop)]
 pub struct Kernel {
     pub line: u32,
     pub name: Sequence<u8>,
@@ -43,7 +53,7 @@ pub struct Kernel {
 
 /// A kernel argument `align(n) kernarg_T %name` (PRM, Kernarg Segment), with the line of its first
 /// token. Its type is not b1.
-#[derive(Debug, Drop)]
+#[derive(Drop)]
 pub struct Argument {
     pub line: u32,
     pub align: Option<Alignment>,
@@ -52,111 +62,84 @@ pub struct Argument {
 }
 
 /// What stands between the braces of a kernel.
-#[derive(Debug, Drop)]
+#[derive(Drop)]
 pub enum Item {
     Label(Label),
     Instruction(Instruction),
 }
 
 /// A label `@name :` (PRM, Labels), with its line.
-#[derive(Debug, Drop)]
+#[derive(Drop)]
 pub struct Label {
     pub line: u32,
     pub name: Sequence<u8>,
 }
 
 /// An instruction, with the line of its first token.
-#[derive(Debug, Drop)]
+#[derive(Drop)]
 pub struct Instruction {
     pub line: u32,
     pub operation: Operation,
 }
 
-/// What an instruction does, by the family of its operands (PRM, HSAIL Instructions).
-#[derive(Debug, Drop)]
-pub enum Operation {
-    Unary(Unary),
-    Binary(Binary),
-    Ternary(Ternary),
-    Load(Load),
-    Store(Store),
-    /// `br @x`, with the label's name
-    Branch(Sequence<u8>),
-    ConditionalBranch(ConditionalBranch),
-    /// `ret`
-    Return,
-    Identify(Identify),
-}
-
-/// `mov_T`, `not_T`, `cvt_U_T`: `target, source`.
-#[derive(Clone, Copy, Debug)]
-pub struct Unary {
-    pub operation: UnaryOperation,
-    pub kind: DataType,
-    pub target: Register,
-    pub source: Source,
-}
-
-/// `add_T` to `shr_T` and `cmp_OP_b1_T`: `target, left, right`.
-#[derive(Clone, Copy, Debug)]
-pub struct Binary {
-    pub operation: BinaryOperation,
-    pub kind: DataType,
-    pub target: Register,
-    pub left: Source,
-    pub right: Source,
-}
-
-/// `mad_T` and `cmov_T`: `target, first, second, third`.
-#[derive(Clone, Copy, Debug)]
-pub struct Ternary {
-    pub operation: TernaryOperation,
-    pub kind: DataType,
-    pub target: Register,
-    pub first: Source,
-    pub second: Source,
-    pub third: Source,
-}
-
-/// `ld_SEG_T target, [address]`.
-#[derive(Debug, Drop)]
-pub struct Load {
-    pub segment: Segment,
+/// What an instruction does (PRM, HSAIL Instructions): what its row does, the modifiers and the type
+/// of its word, and its operands in order.
+#[derive(Drop)]
+pub struct Operation {
+    pub form: Form,
     pub modifiers: Modifiers,
+    /// The type of the word; b1 where it has none.
     pub kind: DataType,
-    pub target: Register,
-    pub address: Address,
+    pub operands: Operands,
 }
 
-/// `st_global_T source, [address]`.
-#[derive(Debug, Drop)]
-pub struct Store {
-    pub align: Option<u64>,
+/// The operands of an instruction, each as the row has it at its place.
+#[derive(Drop)]
+pub struct Operands {
+    pub first: Operand,
+    pub second: Operand,
+    pub third: Operand,
+    pub fourth: Operand,
+}
+
+/// An operand (PRM, Operands), with the type that the row gives to its place.
+#[derive(Drop)]
+pub enum Operand {
+    /// The row has none here.
+    Absent,
+    Target(Target),
+    Source(TypedSource),
+    Address(Access),
+    /// `@x`, with the label's name
+    Label(Sequence<u8>),
+    /// The number that the text spells; 0, 1 and 2 are dimensions.
+    Dimension(u64),
+}
+
+/// A register that is written, at a type.
+#[derive(Clone, Copy)]
+pub struct Target {
+    pub kind: DataType,
+    pub register: Register,
+}
+
+/// A register or a constant that is read, at a type.
+#[derive(Clone, Copy)]
+pub struct TypedSource {
     pub kind: DataType,
     pub source: Source,
-    pub address: Address,
 }
 
-/// `cbr_b1 condition, @label`, with the label's name.
-#[derive(Debug, Drop)]
-pub struct ConditionalBranch {
-    pub width: Option<Width>,
-    pub condition: Source,
-    pub label: Sequence<u8>,
-}
-
-/// `workitemid_u32` and its kin: `target, dimension`.
-#[derive(Clone, Copy, Debug)]
-pub struct Identify {
-    pub query: Query,
+/// `[address]` in a segment, where a value of a type is read or written.
+#[derive(Drop)]
+pub struct Access {
+    pub segment: Segment,
     pub kind: DataType,
-    pub target: Register,
-    /// The number that the text spells; 0, 1 and 2 are dimensions.
-    pub dimension: u64,
+    pub address: Address,
 }
 
 /// What stands in the brackets of a load or a store (PRM, Address Expressions).
-#[derive(Debug, Drop)]
+#[derive(Drop)]
 pub enum Address {
     /// `[%x]`
     Variable(Sequence<u8>),
@@ -167,7 +150,7 @@ pub enum Address {
 }
 
 /// `[%x][..]`: a variable, and a place counted from it.
-#[derive(Debug, Drop)]
+#[derive(Drop)]
 pub struct Indexed {
     pub variable: Sequence<u8>,
     pub place: Place,

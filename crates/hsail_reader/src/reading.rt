@@ -8,7 +8,7 @@ ghost use Rattle.hsail_reader.specs.Grammars.{read};
 ghost use Rattle.hsail_reader.specs.Syntax.{module_at, read_at, reading, Answers};
 ghost use Rattle.hsail_reader.specs.Terminals as terminals;
 
-use crate::fault::{Cause, Flaw, ReadError, ReadFault, Stop, located};
+use crate::fault::{Cause, Flaw, ReadError, ReadFault, Stop, told};
 use crate::kernels::{kernels, word_of_token};
 use crate::module::{Module, Profile, Rounding};
 use crate::operands::{Read, Tokens, global, mark, refused};
@@ -173,7 +173,6 @@ pub fn read_module(alloc: Global, text: &[u8]) -> Result<Module, ReadError>
     }
     match parsed(alloc, text) {
         Ok(module) => Ok(module),
-        Err(Stop::OutOfMemory) => Err(ReadError::OutOfMemory),
-        Err(Stop::Refused(refusal)) => Err(ReadError::Fault(located(text, refusal))),
+        Err(stop) => Err(told(text, stop)),
     }
 }

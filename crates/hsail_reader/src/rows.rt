@@ -1,5 +1,5 @@
 ghost use Rattle.std.specs.Prelude.{◌≡◌, map};
-ghost use Rattle.hsail_reader.specs.Rows.{row_view, rows, types_of, type_name};
+ghost use Rattle.hsail_reader.specs.Rows.{kind_at, row_view, rows, types_of, type_name};
 
 use crate::types::BinaryOperation::{
     Add, And, Compare, Divide, Maximum, Minimum, Multiply, Or, Remainder, ShiftLeft, ShiftRight,
@@ -15,34 +15,66 @@ use crate::types::TernaryOperation::{ConditionalMove, MultiplyAdd};
 use crate::types::UnaryOperation::{Convert, Move, Not};
 use crate::types::{BinaryOperation, DataType, Query, Segment, TernaryOperation, UnaryOperation};
 use Form::{Binary, Branch, ConditionalBranch, Identify, Load, Return, Store, Ternary, Unary};
+use KindAt::{Given, Own};
 use ModifierSet::{Align, AlignAndWidth, Plain, Width};
+use Shape::{Absent as NO, Address, Dimension, Label, Source, Target};
 use TypeSet::{
     Bit, Bits, BitsAndIntegers, Convertible, Integers, Memory, Unsigned32, Unsigned32And64, Untyped,
 };
 
-/// What a row does, by the family of its operands, with T for the type of its word (PRM, HSAIL
-/// Instructions).
-#[derive(Clone, Copy)]
+/// What a row does (PRM, HSAIL Instructions).
+#[derive(Clone, Copy, Debug, PartialEq, Eq)]
 pub enum Form {
-    /// `OP_T d, a`
     Unary(UnaryOperation),
-    /// `OP_T d, a, b`
     Binary(BinaryOperation),
-    /// `OP_T d, a, b, c`
     Ternary(TernaryOperation),
-    /// `ld_SEG_T d, [address]`
-    Load(Segment),
-    /// `st_SEG_T a, [address]`
+    Load,
     Store,
-    /// `br @x`
     Branch,
-    /// `cbr_b1 a, @x`
     ConditionalBranch,
-    /// `ret`
     Return,
-    /// `OP_T d, k`
     Identify(Query),
 }
+
+/// The type at an operand's place: that of the word, or one that the row gives.
+#[derive(Clone, Copy)]
+pub enum KindAt {
+    Own,
+    Given(DataType),
+}
+
+impl KindAt {
+    /// The type at the place, behind a word of a type.
+    pub fn kind(self, word: DataType) -> DataType
+        ensures { result ≡ kind_at self word }
+    {
+        match self {
+            KindAt::Own => word,
+            KindAt::Given(kind) => kind,
+        }
+    }
+}
+
+/// What a row has at a place of its operands.
+#[derive(Clone, Copy)]
+pub enum Shape {
+    /// nothing
+    Absent,
+    /// `d`: a register of a type, which is written
+    Target(KindAt),
+    /// `a`: a register or a constant of a type
+    Source(KindAt),
+    /// `[addr]` in a segment, at the type of the word
+    Address(Segment),
+    /// `@x`
+    Label,
+    /// `k`: a dimension's number
+    Dimension,
+}
+
+/// The operands of a row, with commas between; behind one that is absent stands none.
+#[derive(Clone, Copy)]
+pub struct Shapes(pub Shape, pub Shape, pub Shape, pub Shape);
 
 /// Modifiers that a row takes, behind its stem and before its type.
 #[derive(Clone, Copy)]
@@ -80,76 +112,75 @@ pub enum TypeSet {
 }
 
 /// A row of the table of instructions: the front of its words, the modifiers and the types that may
-/// stand behind it, and what it does.
+/// stand behind it, what it does, and its operands, each with the type at its place.
 #[derive(Clone, Copy)]
-pub struct Row(pub &'static str, pub ModifierSet, pub TypeSet, pub Form);
+pub struct Row(
+    pub &'static str,
+    pub ModifierSet,
+    pub TypeSet,
+    pub Form,
+    pub Shapes,
+);
 
-/// The table of instructions, in the order of the format.
-const ROWS: [Row; 43] = [
-    Row("mov", Plain, BitsAndIntegers, Unary(Move)),
-    Row("add", Plain, Integers, Binary(Add)),
-    Row("sub", Plain, Integers, Binary(Subtract)),
-    Row("mul", Plain, Integers, Binary(Multiply)),
-    Row("mad", Plain, Integers, Ternary(MultiplyAdd)),
-    Row("div", Plain, Integers, Binary(Divide)),
-    Row("rem", Plain, Integers, Binary(Remainder)),
-    Row("min", Plain, Integers, Binary(Minimum)),
-    Row("max", Plain, Integers, Binary(Maximum)),
-    Row("and", Plain, Bits, Binary(And)),
-    Row("or", Plain, Bits, Binary(Or)),
-    Row("xor", Plain, Bits, Binary(Xor)),
-    Row("not", Plain, Bits, Unary(Not)),
-    Row("shl", Plain, Integers, Binary(ShiftLeft)),
-    Row("shr", Plain, Integers, Binary(ShiftRight)),
-    Row("cmp_eq_b1", Plain, BitsAndIntegers, Binary(Compare(Equal))),
-    Row(
-        "cmp_ne_b1",
-        Plain,
-        BitsAndIntegers,
-        Binary(Compare(NotEqual)),
-    ),
-    Row("cmp_lt_b1", Plain, Integers, Binary(Compare(Less))),
-    Row("cmp_le_b1", Plain, Integers, Binary(Compare(LessOrEqual))),
-    Row("cmp_gt_b1", Plain, Integers, Binary(Compare(Greater))),
-    Row(
-        "cmp_ge_b1",
-        Plain,
-        Integers,
-        Binary(Compare(GreaterOrEqual)),
-    ),
-    Row("cmov", Plain, Bits, Ternary(ConditionalMove)),
-    Row("cvt_b1", Plain, Convertible, Unary(Convert(B1))),
-    Row("cvt_u8", Plain, Convertible, Unary(Convert(U8))),
-    Row("cvt_u16", Plain, Convertible, Unary(Convert(U16))),
-    Row("cvt_u32", Plain, Convertible, Unary(Convert(U32))),
-    Row("cvt_u64", Plain, Convertible, Unary(Convert(U64))),
-    Row("cvt_s8", Plain, Convertible, Unary(Convert(S8))),
-    Row("cvt_s16", Plain, Convertible, Unary(Convert(S16))),
-    Row("cvt_s32", Plain, Convertible, Unary(Convert(S32))),
-    Row("cvt_s64", Plain, Convertible, Unary(Convert(S64))),
-    Row("ld_kernarg", AlignAndWidth, Memory, Load(Kernarg)),
-    Row("ld_global", AlignAndWidth, Memory, Load(Global)),
-    Row("st_global", Align, Memory, Store),
-    Row("br", Plain, Untyped, Branch),
-    Row("cbr", Width, Bit, ConditionalBranch),
-    Row("ret", Plain, Untyped, Return),
-    Row("workitemid", Plain, Unsigned32, Identify(WorkItemId)),
-    Row("workgroupid", Plain, Unsigned32, Identify(WorkGroupId)),
-    Row("workgroupsize", Plain, Unsigned32, Identify(WorkGroupSize)),
-    Row(
-        "currentworkgroupsize",
-        Plain,
-        Unsigned32,
-        Identify(CurrentWorkGroupSize),
-    ),
-    Row(
-        "workitemabsid",
-        Plain,
-        Unsigned32And64,
-        Identify(WorkItemAbsoluteId),
-    ),
-    Row("gridsize", Plain, Unsigned32And64, Identify(GridSize)),
-];
+/// `d`, a register of the word's type
+const D: Shape = Target(Own);
+
+/// `a`, a source of the word's type
+const A: Shape = Source(Own);
+
+macro_rules! rows {
+    ($($stem:expr, $modifiers:expr, $types:expr, $form:expr, $a:expr, $b:expr, $c:expr, $d:expr;)*) => {
+        [$(Row($stem, $modifiers, $types, $form, Shapes($a, $b, $c, $d))),*]
+    };
+}
+
+/// The table of instructions, in the order of the format. A shift's count has 32 bits; a comparison's
+/// answer and the condition of `cmov` have one.
+const ROWS: [Row; 43] = rows! {
+    "mov", Plain, BitsAndIntegers, Unary(Move), D, A, NO, NO;
+    "add", Plain, Integers, Binary(Add), D, A, A, NO;
+    "sub", Plain, Integers, Binary(Subtract), D, A, A, NO;
+    "mul", Plain, Integers, Binary(Multiply), D, A, A, NO;
+    "mad", Plain, Integers, Ternary(MultiplyAdd), D, A, A, A;
+    "div", Plain, Integers, Binary(Divide), D, A, A, NO;
+    "rem", Plain, Integers, Binary(Remainder), D, A, A, NO;
+    "min", Plain, Integers, Binary(Minimum), D, A, A, NO;
+    "max", Plain, Integers, Binary(Maximum), D, A, A, NO;
+    "and", Plain, Bits, Binary(And), D, A, A, NO;
+    "or", Plain, Bits, Binary(Or), D, A, A, NO;
+    "xor", Plain, Bits, Binary(Xor), D, A, A, NO;
+    "not", Plain, Bits, Unary(Not), D, A, NO, NO;
+    "shl", Plain, Integers, Binary(ShiftLeft), D, A, Source(Given(U32)), NO;
+    "shr", Plain, Integers, Binary(ShiftRight), D, A, Source(Given(U32)), NO;
+    "cmp_eq_b1", Plain, BitsAndIntegers, Binary(Compare(Equal)), Target(Given(B1)), A, A, NO;
+    "cmp_ne_b1", Plain, BitsAndIntegers, Binary(Compare(NotEqual)), Target(Given(B1)), A, A, NO;
+    "cmp_lt_b1", Plain, Integers, Binary(Compare(Less)), Target(Given(B1)), A, A, NO;
+    "cmp_le_b1", Plain, Integers, Binary(Compare(LessOrEqual)), Target(Given(B1)), A, A, NO;
+    "cmp_gt_b1", Plain, Integers, Binary(Compare(Greater)), Target(Given(B1)), A, A, NO;
+    "cmp_ge_b1", Plain, Integers, Binary(Compare(GreaterOrEqual)), Target(Given(B1)), A, A, NO;
+    "cmov", Plain, Bits, Ternary(ConditionalMove), D, Source(Given(B1)), A, A;
+    "cvt_b1", Plain, Convertible, Unary(Convert(B1)), Target(Given(B1)), A, NO, NO;
+    "cvt_u8", Plain, Convertible, Unary(Convert(U8)), Target(Given(U8)), A, NO, NO;
+    "cvt_u16", Plain, Convertible, Unary(Convert(U16)), Target(Given(U16)), A, NO, NO;
+    "cvt_u32", Plain, Convertible, Unary(Convert(U32)), Target(Given(U32)), A, NO, NO;
+    "cvt_u64", Plain, Convertible, Unary(Convert(U64)), Target(Given(U64)), A, NO, NO;
+    "cvt_s8", Plain, Convertible, Unary(Convert(S8)), Target(Given(S8)), A, NO, NO;
+    "cvt_s16", Plain, Convertible, Unary(Convert(S16)), Target(Given(S16)), A, NO, NO;
+    "cvt_s32", Plain, Convertible, Unary(Convert(S32)), Target(Given(S32)), A, NO, NO;
+    "cvt_s64", Plain, Convertible, Unary(Convert(S64)), Target(Given(S64)), A, NO, NO;
+    "ld_kernarg", AlignAndWidth, Memory, Load, D, Address(Kernarg), NO, NO;
+    "ld_global", AlignAndWidth, Memory, Load, D, Address(Global), NO, NO;
+    "st_global", Align, Memory, Store, A, Address(Global), NO, NO;
+    "br", Plain, Untyped, Branch, Label, NO, NO, NO;
+    "cbr", Width, Bit, ConditionalBranch, A, Label, NO, NO;
+    "ret", Plain, Untyped, Return, NO, NO, NO, NO;
+    "workitemid", Plain, Unsigned32, Identify(WorkItemId), D, Dimension, NO, NO;
+    "workgroupid", Plain, Unsigned32, Identify(WorkGroupId), D, Dimension, NO, NO;
+    "workgroupsize", Plain, Unsigned32, Identify(WorkGroupSize), D, Dimension, NO, NO;
+    "currentworkgroupsize", Plain, Unsigned32, Identify(CurrentWorkGroupSize), D, Dimension, NO, NO;
+    "workitemabsid", Plain, Unsigned32And64, Identify(WorkItemAbsoluteId), D, Dimension, NO, NO;
+    "gridsize", Plain, Unsigned32And64, Identify(GridSize), D, Dimension, NO, NO;
+};
 
 /// The rows of the table.
 pub fn table() -> &'static [Row]

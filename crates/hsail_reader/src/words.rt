@@ -5,7 +5,7 @@ ghost use Rattle.hsail_reader.specs.Bytes.{align_at, width_at};
 ghost use Rattle.hsail_reader.specs.Rows.{allows, row_view};
 ghost use Rattle.hsail_reader.specs.Words.{is_spelled, type_among, type_at, part_at, modifiers_at, opcode_at, instruction_at, alignment_of, word_of};
 
-use crate::rows::{Form, ModifierSet, Row, TypeSet, spelling, table, types};
+use crate::rows::{Form, ModifierSet, Row, Shapes, TypeSet, spelling, table, types};
 use crate::scan::{align, strip, width};
 use crate::types::{Alignment, DataType, Modifiers, Width};
 
@@ -27,12 +27,14 @@ pub enum Word {
     Unknown,
 }
 
-/// The word of an instruction: what its row does, and the modifiers and the type of the word.
+/// The word of an instruction: what its row does, the modifiers and the type of the word, and the
+/// operands of its row.
 #[derive(Clone, Copy)]
 pub struct Opcode {
     pub form: Form,
     pub modifiers: Modifiers,
     pub kind: DataType,
+    pub operands: Shapes,
 }
 
 /// Whether the text is this spelling.
@@ -122,7 +124,7 @@ fn allowed(set: ModifierSet, modifiers: Modifiers) -> bool
 fn finish(row: Row, rest: &[u8]) -> Option<Opcode>
     ensures { result ≡ opcode_at (row_view row) rest.now }
 {
-    let Row(_, set, types, form) = row;
+    let Row(_, set, types, form, operands) = row;
     let (modifiers, rest) = modifiers(rest);
     if !allowed(set, modifiers) {
         return None;
@@ -132,6 +134,7 @@ fn finish(row: Row, rest: &[u8]) -> Option<Opcode>
         form,
         modifiers,
         kind,
+        operands,
     })
 }
 

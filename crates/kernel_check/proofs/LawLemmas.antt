@@ -5,6 +5,8 @@ use Rattle.std.proofs.lemmas.Bool.Decides.{nat_tests}
 use Rattle.std.proofs.lemmas.List.Elements.{All-nil, All-cons}
 use Rattle.hsail_reader.specs.declared.module.Address.{Address}
 use Rattle.hsail_reader.specs.declared.module.Address.TheVariants as address
+use Rattle.hsail_reader.specs.declared.module.Operand.{Operand}
+use Rattle.hsail_reader.specs.declared.module.Operand.TheVariants as operand
 use Rattle.hsail_reader.specs.declared.module.Operation.{Operation}
 use Rattle.hsail_reader.specs.declared.module.Place.{Place}
 use Rattle.hsail_reader.specs.declared.module.Place.TheVariants as place
@@ -14,17 +16,15 @@ use Rattle.hsail_reader.specs.declared.types.Segment.{Segment}
 use Rattle.hsail_reader.specs.declared.types.Segment.TheVariants as segment
 use Rattle.hsail_reader.specs.declared.types.Source.{Source}
 use Rattle.hsail_reader.specs.declared.types.Source.TheVariants as source
-use Rattle.kernel_check.specs.Causes.{instruction_fails, is_far_address, is_far_place, names_unknown, is_bad, has_far_address, has_far_dimension}
+use Rattle.kernel_check.specs.Causes.{instruction_fails, misses_label, misses_argument, names_unknown, is_bad, has_bad_address}
 use Rattle.kernel_check.specs.Faults.{Checkpoint, first_fault, fault_or, least_cause, first_cause}
-use Rattle.kernel_check.specs.Laws.{IsFirst, IsEarliest, IfThere, IsKept, IsKeptOperand, IsKeptSource, IsKeptPlace, IsGlobal, IsArgument, IsReached, IsThere, IsFaithful}
-use Rattle.kernel_check.specs.Operands.{MemoryAccess, access_of, asked_dimension, label_of, is_far, is_over, is_over_source, passes, any_operand, operands_of}
-use Rattle.kernel_check.specs.declared.operands.Typed.{Typed}
-use Rattle.kernel_check.specs.declared.operands.Operands.{Operands}
+use Rattle.kernel_check.specs.Laws.{IsFirst, IsEarliest, IsKept, IsKeptSource, IsKeptPlace, IsGlobal, IsArgument, IsReached, IsThere, IsFaithfulOperand, IsFaithful}
+use Rattle.kernel_check.specs.Operands.{is_far, is_far_address, is_far_place, is_over, is_over_source, any_operand}
 use Rattle.kernel_check.specs.declared.fault.Cause.{Cause}
 use Rattle.kernel_check.specs.declared.fault.Cause.TheVariants as cause
 use Rattle.kernel_check.specs.declared.fault.CheckFault.{CheckFault}
 use Rattle.kernel_check.specs.declared.layout.Placed.{Placed}
-use Rattle.kernel_check.proofs.SoundLemmas.{none_fails, no_fault}
+use Rattle.kernel_check.proofs.SoundLemmas.{none_fails, no_fault, four}
 
 -- where a fault is told, its item is the first that fails
 earliest_at : (line : ℕ) (c : Option Cause) (later : List Checkpoint) (f : CheckFault) → fault_or line c (first_fault later) ≡ Some f
@@ -58,17 +58,9 @@ all_pass (c ∷ later) e =
     let p = no_fault c.line c.cause (first_fault later) e in
     All-cons (λ (c : Checkpoint). c.cause ≡ None) c later p.0 (all_pass later p.1)
 
-four : (a b c d : Bool) → (a || b || c || d) ≡ false → (a ≡ false) × (b ≡ false) × (c ≡ false) × (d ≡ false)
-four true b c d e = cc
-four false true c d e = cc
-four false false true d e = cc
-four false false false true e = cc
-four false false false false e = (refl, refl, refl, refl)
-
--- none of some operands is over
-operands_fine : (o : Operands) → any_operand is_over o ≡ false
-    → (passes is_over o.target ≡ false) × (passes is_over o.first ≡ false) × (passes is_over o.second ≡ false) × (passes is_over o.third ≡ false)
-operands_fine o e = four (passes is_over o.target) (passes is_over o.first) (passes is_over o.second) (passes is_over o.third) e
+second_false : (a b : Bool) → (a || b) ≡ false → b ≡ false
+second_false true b e = cc
+second_false false b e = e
 
 kept : (r : Register) → is_far r ≡ false → IsKept r
 kept r near = grind (arith, nat_tests)
@@ -76,14 +68,6 @@ kept r near = grind (arith, nat_tests)
 kept_source : (kind : DataType) (s : Source) → is_over_source kind s ≡ false → IsKeptSource s
 kept_source kind (source.Register r) near = kept r near
 kept_source kind (source.Constant c) near = tt
-
-kept_operand : (o : Option Typed) → passes is_over o ≡ false → IsKeptOperand o
-kept_operand None near = tt
-kept_operand (Some t) near = kept_source t.kind t.source near
-
-dimension_fits : (o : Option ℕ) → passes (nat_lt 2) o ≡ false → IfThere (λ d. d ≤ 2) o
-dimension_fits None near = tt
-dimension_fits (Some d) near = grind (arith, nat_tests)
 
 kept_place : (p : Place) → is_far_place p ≡ false → IsKeptPlace p
 kept_place (place.Absolute n) near = tt
@@ -112,38 +96,29 @@ module _ (arguments : List ℕ → Option Placed) (labels : List ℕ → Option 
   reached segment.Kernarg a near there good = in_block a there good
   reached segment.Global a near there good = global a near good
 
-  accessed : (o : Option MemoryAccess) → passes (λ a. is_far_address a.address) o ≡ false
-      → passes (λ a. names_unknown arguments a.address) o ≡ false → passes (λ a. is_bad a.segment a.address) o ≡ false
-      → IfThere (λ a. IsReached arguments a.segment a.address) o
-  accessed None near known good = tt
-  accessed (Some a) near known good = reached a.segment a.address near known good
-
-  there : (o : Option (List ℕ)) → passes (λ x. is_none (labels x)) o ≡ false → IfThere (IsThere labels) o
-  there None known = tt
-  there (Some x) known = found (labels x) known
-
-  -- what is too large in no way: operands, address and dimension
-  sizes : (number : ℕ) (op : Operation) → least_cause (instruction_fails arguments labels number op) ≡ None
-      → (any_operand is_over (operands_of op) ≡ false) × (has_far_address op ≡ false) × (has_far_dimension op ≡ false)
-  sizes number op none =
-      let p = four (nat_le 4096 number) (any_operand is_over (operands_of op)) (has_far_address op) (has_far_dimension op)
-      (none_fails (instruction_fails arguments labels number op) none cause.TooLarge) in
-      (p.1, p.2, p.3)
+  -- an operand by which an instruction fails by no cause
+  faithful_operand : (o : Operand) → misses_label labels o ≡ false → misses_argument arguments o ≡ false → is_over o ≡ false
+      → has_bad_address o ≡ false → IsFaithfulOperand arguments labels o
+  faithful_operand operand.Absent known there near good = tt
+  faithful_operand (operand.Target t) known there near good = kept t.register near
+  faithful_operand (operand.Source s) known there near good = kept_source s.kind s.source near
+  faithful_operand (operand.Address a) known there near good = reached a.segment a.address near there good
+  faithful_operand (operand.Label x) known there near good = found (labels x) known
+  faithful_operand (operand.Dimension n) known there near good = grind (arith, nat_tests)
 
   pub faithful : (number : ℕ) (op : Operation) → least_cause (instruction_fails arguments labels number op) ≡ None
       → IsFaithful arguments labels op
   faithful number op none =
-      let s = sizes number op none in
-      let p = operands_fine (operands_of op) s.0 in
       let fine = none_fails (instruction_fails arguments labels number op) none in
+      let known = four _ _ _ _ (fine cause.UnknownLabel) in
+      let there = four _ _ _ _ (fine cause.UnknownArgument) in
+      let near = four _ _ _ _ (second_false (nat_le 4096 number) (any_operand is_over op.operands) (fine cause.TooLarge)) in
+      let good = four _ _ _ _ (fine cause.BadAddress) in
       record {
-        target = kept_operand (operands_of op).target p.0;
-        first = kept_operand (operands_of op).first p.1;
-        second = kept_operand (operands_of op).second p.2;
-        third = kept_operand (operands_of op).third p.3;
-        access = accessed (access_of op) s.1 (fine cause.UnknownArgument) (fine cause.BadAddress);
-        label = there (label_of op) (fine cause.UnknownLabel);
-        dimension = dimension_fits (asked_dimension op) s.2;
+        first = faithful_operand op.operands.first known.0 there.0 near.0 good.0;
+        second = faithful_operand op.operands.second known.1 there.1 near.1 good.1;
+        third = faithful_operand op.operands.third known.2 there.2 near.2 good.2;
+        fourth = faithful_operand op.operands.fourth known.3 there.3 near.3 good.3;
       }
 
 -- the first of some causes by which an item fails

@@ -8,3 +8,4 @@ pub mod SoundLemmas
 pub mod DoneLemmas
 pub mod ModuleLemmas
 pub mod LawLemmas
+mod WideLemmas

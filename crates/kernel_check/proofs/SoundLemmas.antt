@@ -1,5 +1,5 @@
 -- A kernel in which nothing fails is sound: its steps stay within its steps and its argument block.
-use Rattle.std.proofs.Common.{◌≡◌, ℕ, ◌+◌, ◌/◌, ◌≤◌, Bool, true, false, cond, List, [], ◌∷◌, ◌++◌, length, Option, Some, None, is_none, unwrap_or, arith, refl, ap, subst, lit≤}
+use Rattle.std.proofs.Common.{◌≡◌, ℕ, ◌+◌, ◌/◌, ◌≤◌, Bool, true, false, ◌||◌, cond, List, [], ◌∷◌, ◌++◌, length, Option, Some, None, is_none, unwrap_or, arith, refl, ap, subst, lit≤}
 use Rattle.std.specs.List.{All}
 use Rattle.std.specs.Str.{bytes_eq}
 use Rattle.std.proofs.lemmas.Bool.Decides.{nat_tests}
@@ -11,21 +11,26 @@ use Rattle.hsail_reader.specs.declared.module.Argument.{Argument}
 use Rattle.hsail_reader.specs.declared.module.Item.{Item}
 use Rattle.hsail_reader.specs.declared.module.Item.TheVariants as item
 use Rattle.hsail_reader.specs.declared.module.Kernel.{Kernel}
-use Rattle.hsail_reader.specs.declared.module.Load.{Load}
+use Rattle.hsail_reader.specs.declared.module.Access.{Access}
+use Rattle.hsail_reader.specs.declared.module.Operand.{Operand}
+use Rattle.hsail_reader.specs.declared.module.Operand.TheVariants as operand
 use Rattle.hsail_reader.specs.declared.module.Operation.{Operation}
-use Rattle.hsail_reader.specs.declared.module.Operation.TheVariants as operation
+use Rattle.hsail_reader.specs.declared.module.TypedSource.{TypedSource}
+use Rattle.hsail_reader.specs.declared.rows.Form.{Form}
+use Rattle.hsail_reader.specs.declared.rows.Form.TheVariants as form
+use Rattle.hsail_reader.specs.declared.types.Register.{Register}
 use Rattle.hsail_reader.specs.declared.types.Alignment.{Alignment}
 use Rattle.hsail_reader.specs.declared.types.DataType.{DataType}
 use Rattle.hsail_reader.specs.declared.types.DataType.TheVariants as type
 use Rattle.hsail_reader.specs.declared.types.Segment.{Segment}
 use Rattle.hsail_reader.specs.declared.types.Segment.TheVariants as segment
-use Rattle.kernel_check.specs.Causes.{instruction_fails, differs, is_of_other_width, names_unknown, is_bad}
+use Rattle.kernel_check.specs.Causes.{instruction_fails, differs, is_of_other_width, names_unknown, is_bad, has_wrong_type, misses_argument, has_bad_address}
 use Rattle.kernel_check.specs.Checks.{item_checks, steps_from, labels_from, lined, arguments_of, labels_of, program_of}
 use Rattle.kernel_check.specs.Faults.{first_fault, fault_or, least_cause}
 use Rattle.kernel_check.specs.Layout.{kind_bytes, is_wide, boundary_of, next_multiple, end_behind, placed_from, end_from, wide_at, wide_from}
 use Rattle.kernel_check.specs.Names.{Known, find}
 use Rattle.kernel_check.specs.Programs.{StaysWithin, IsSound}
-use Rattle.kernel_check.specs.Steps.{step_of, known_offset, offset_of, load_from}
+use Rattle.kernel_check.specs.Steps.{step_of, form_step, known_offset, offset_of, load_from, load_at, store_at, next_at, target_in, read_in}
 use Rattle.kernel_check.specs.declared.fault.Cause.{Cause}
 use Rattle.kernel_check.specs.declared.fault.Cause.TheVariants as cause
 use Rattle.kernel_check.specs.declared.fault.CheckFault.{CheckFault}
@@ -57,6 +62,14 @@ none_fails fails none c =
       | cause.BadAddress ↦ p7.0
     ]
 
+-- none of four holds
+pub four : (a b c d : Bool) → (a || b || c || d) ≡ false → (a ≡ false) × (b ≡ false) × (c ≡ false) × (d ≡ false)
+four true b c d e = cc
+four false true c d e = cc
+four false false true d e = cc
+four false false false true e = cc
+four false false false false e = (refl, refl, refl, refl)
+
 -- where there is no first fault, none of the items fails
 pub no_fault : (line : ℕ) (c : Option Cause) (rest : Option CheckFault) → fault_or line c rest ≡ None → (c ≡ None) × (rest ≡ None)
 no_fault line None rest e = (refl, e)
@@ -77,12 +90,12 @@ kind_bytes_positive type.S16 = lit≤ tt
 kind_bytes_positive type.S32 = lit≤ tt
 kind_bytes_positive type.S64 = lit≤ tt
 
-boundary_positive : (kind : DataType) (a : Option Alignment) → 1 ≤ boundary_of kind a
+pub boundary_positive : (kind : DataType) (a : Option Alignment) → 1 ≤ boundary_of kind a
 boundary_positive kind None = kind_bytes_positive kind
 boundary_positive kind (Some a) = let p : 1 ≤ kind_bytes kind = kind_bytes_positive kind in omega arith
 
 -- the next multiple isn't before
-le_next_multiple : (end n : ℕ) → 1 ≤ n → end ≤ next_multiple end n
+pub le_next_multiple : (end n : ℕ) → 1 ≤ n → end ≤ next_multiple end n
 le_next_multiple end n p = omega (arith, p)
 
 end_behind_above : (end : ℕ) (a : Argument) → end ≤ end_behind end a
@@ -164,20 +177,49 @@ module _ (arguments : List ℕ → Option Placed) (labels : List ℕ → Option 
   offset_within kind (address.Place p) same known good = cc
   offset_within kind (address.Indexed i) same known good = cc
 
-  load_within : (l : Load) (s : Segment) → is_of_other_width arguments l.kind s l.address ≡ false → names_unknown arguments l.address ≡ false
-      → is_bad s l.address ≡ false → StaysWithin count bytes (load_from arguments s l)
-  load_within l segment.Kernarg same known good = offset_within l.kind l.address same known good
-  load_within l segment.Global same known good = tt
+  load_within : (d : Register) (a : Access) (s : Segment) → is_of_other_width arguments a.kind s a.address ≡ false
+      → names_unknown arguments a.address ≡ false → is_bad s a.address ≡ false → StaysWithin count bytes (load_from arguments s d a)
+  load_within d a segment.Kernarg same known good = offset_within a.kind a.address same known good
+  load_within d a segment.Global same known good = tt
+
+  load_at_within : (d : Register) (o : Operand) → has_wrong_type arguments o ≡ false → misses_argument arguments o ≡ false
+      → has_bad_address o ≡ false → StaysWithin count bytes (load_at arguments d o)
+  load_at_within d (operand.Address a) same known good = load_within d a a.segment same known good
+  load_at_within d operand.Absent same known good = tt
+  load_at_within d (operand.Target t) same known good = tt
+  load_at_within d (operand.Source s) same known good = tt
+  load_at_within d (operand.Label x) same known good = tt
+  load_at_within d (operand.Dimension n) same known good = tt
+
+  store_at_within : (s : TypedSource) (o : Operand) → StaysWithin count bytes (store_at s o)
+  store_at_within s (operand.Address a) = tt
+  store_at_within s operand.Absent = tt
+  store_at_within s (operand.Target t) = tt
+  store_at_within s (operand.Source r) = tt
+  store_at_within s (operand.Label x) = tt
+  store_at_within s (operand.Dimension n) = tt
+
+  next_at_within : (o : Operand) → next_at labels o ≤ count
+  next_at_within (operand.Label x) = next_within x (labels x) refl
+  next_at_within operand.Absent = omega arith
+  next_at_within (operand.Target t) = omega arith
+  next_at_within (operand.Source s) = omega arith
+  next_at_within (operand.Address a) = omega arith
+  next_at_within (operand.Dimension n) = omega arith
+
+  form_within : (number : ℕ) (f : Form) (op : Operation) → ((c : Cause) → instruction_fails arguments labels number op c ≡ false)
+      → StaysWithin count bytes (form_step arguments labels f op)
+  form_within number form.Load op fine = load_at_within (target_in op.operands.first) op.operands.second
+      (four _ _ _ _ (fine cause.WrongType)).1 (four _ _ _ _ (fine cause.UnknownArgument)).1 (four _ _ _ _ (fine cause.BadAddress)).1
+  form_within number form.Store op fine = store_at_within (read_in op.operands.first) op.operands.second
+  form_within number form.Branch op fine = next_at_within op.operands.first
+  form_within number form.ConditionalBranch op fine = next_at_within op.operands.second
+  form_within number _ op fine = tt
 
   -- the step of an instruction in which nothing fails
   pub step_within : (number : ℕ) (op : Operation) → least_cause (instruction_fails arguments labels number op) ≡ None
       → StaysWithin count bytes (step_of arguments labels op)
-  step_within number (operation.Load l) none =
-      let fine = none_fails (instruction_fails arguments labels number (operation.Load l)) none in
-      load_within l l.segment (fine cause.WrongType) (fine cause.UnknownArgument) (fine cause.BadAddress)
-  step_within number (operation.Branch x) none = next_within x (labels x) refl
-  step_within number (operation.ConditionalBranch b) none = next_within b.label (labels b.label) refl
-  step_within number _ none = tt
+  step_within number op none = form_within number op.form op (none_fails (instruction_fails arguments labels number op) none)
 
   -- the steps of items in which nothing fails
   pub steps_within : (before : Known ℕ) (n : ℕ) (items : List Item) → first_fault (item_checks arguments labels before n items) ≡ None

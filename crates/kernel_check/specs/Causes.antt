@@ -3,7 +3,7 @@
 use Rattle.std.specs.Prelude.{ℕ, List, Bool, true, false, not, ◌||◌, ◌==◌, nat_lt, nat_le, Option, Some, None, is_some, is_none, length}
 use Rattle.kernel_check.specs.Layout.{end_behind}
 use Rattle.kernel_check.specs.Names.{Known, find}
-use Rattle.kernel_check.specs.Operands.{access_of, asked_dimension, label_of, operands_of, any_operand, is_wrong, is_over, is_far, passes}
+use Rattle.kernel_check.specs.Operands.{any_operand, is_wrong, is_over}
 use Rattle.kernel_check.specs.declared.fault.Cause.{Cause}
 use Rattle.kernel_check.specs.declared.fault.Cause.TheVariants.{UnknownLabel, DoubleName, WrongRegister, WrongType, UnknownArgument, TooLarge, BadAddress}
 use Rattle.kernel_check.specs.declared.layout.Placed.{Placed}
@@ -11,6 +11,8 @@ use Rattle.hsail_reader.specs.Types.{type_bits}
 use Rattle.hsail_reader.specs.declared.module.Address.{Address}
 use Rattle.hsail_reader.specs.declared.module.Address.TheVariants as address
 use Rattle.hsail_reader.specs.declared.module.Argument.{Argument}
+use Rattle.hsail_reader.specs.declared.module.Operand.{Operand}
+use Rattle.hsail_reader.specs.declared.module.Operand.TheVariants as operand
 use Rattle.hsail_reader.specs.declared.module.Operation.{Operation}
 use Rattle.hsail_reader.specs.declared.module.Place.{Place}
 use Rattle.hsail_reader.specs.declared.module.Place.TheVariants as place
@@ -20,9 +22,10 @@ use Rattle.hsail_reader.specs.declared.types.RegisterClass.TheVariants.{Control,
 use Rattle.hsail_reader.specs.declared.types.Segment.{Segment}
 use Rattle.hsail_reader.specs.declared.types.Segment.TheVariants as segment
 
--- a branch to a label that the kernel doesn't have
-abbrev pub misses_label : (List ℕ → Option ℕ) → Operation → Bool
-misses_label labels op = passes (λ x. is_none (labels x)) (label_of op)
+-- the label of a branch that the kernel doesn't have
+abbrev pub misses_label : (List ℕ → Option ℕ) → Operand → Bool
+misses_label labels (operand.Label x) = is_none (labels x)
+misses_label labels _ = false
 
 -- an argument of another width
 abbrev pub differs : DataType → Option Placed → Bool
@@ -33,9 +36,10 @@ abbrev pub is_of_other_width : (List ℕ → Option Placed) → DataType → Seg
 is_of_other_width arguments kind segment.Kernarg (address.Variable x) = differs kind (arguments x)
 is_of_other_width arguments kind _ _ = false
 
--- a load of an argument by a type of another width
-abbrev pub has_wrong_type : (List ℕ → Option Placed) → Operation → Bool
-has_wrong_type arguments op = passes (λ a. is_of_other_width arguments a.kind a.segment a.address) (access_of op)
+-- an access to an argument by a type of another width
+abbrev pub has_wrong_type : (List ℕ → Option Placed) → Operand → Bool
+has_wrong_type arguments (operand.Address a) = is_of_other_width arguments a.kind a.segment a.address
+has_wrong_type arguments _ = false
 
 -- a variable in brackets that the kernel doesn't declare
 abbrev pub names_unknown : (List ℕ → Option Placed) → Address → Bool
@@ -43,30 +47,9 @@ names_unknown arguments (address.Variable x) = is_none (arguments x)
 names_unknown arguments (address.Indexed i) = is_none (arguments i.variable)
 names_unknown arguments (address.Place p) = false
 
-abbrev pub misses_argument : (List ℕ → Option Placed) → Operation → Bool
-misses_argument arguments op = passes (λ a. names_unknown arguments a.address) (access_of op)
-
--- a register in brackets whose number is over 63
-abbrev pub is_far_place : Place → Bool
-is_far_place (place.Absolute n) = false
-is_far_place (place.Relative r) = is_far r.register
-
-abbrev pub is_far_address : Address → Bool
-is_far_address (address.Variable x) = false
-is_far_address (address.Place p) = is_far_place p
-is_far_address (address.Indexed i) = is_far_place i.place
-
-abbrev pub has_far_address : Operation → Bool
-has_far_address op = passes (λ a. is_far_address a.address) (access_of op)
-
--- a dimension over 2
-abbrev pub has_far_dimension : Operation → Bool
-has_far_dimension op = passes (nat_lt 2) (asked_dimension op)
-
--- more than 4,096 instructions, or a number in it too large
-abbrev pub is_too_large : ℕ → Operation → Bool
-is_too_large number op =
-    nat_le 4096 number || any_operand is_over (operands_of op) || has_far_address op || has_far_dimension op
+abbrev pub misses_argument : (List ℕ → Option Placed) → Operand → Bool
+misses_argument arguments (operand.Address a) = names_unknown arguments a.address
+misses_argument arguments _ = false
 
 -- global memory is reached by $d registers
 abbrev pub is_bad_class : RegisterClass → Bool
@@ -85,18 +68,20 @@ is_bad segment.Kernarg _ = true
 is_bad segment.Global (address.Place p) = is_bad_place p
 is_bad segment.Global _ = true
 
-abbrev pub has_bad_address : Operation → Bool
-has_bad_address op = passes (λ a. is_bad a.segment a.address) (access_of op)
+abbrev pub has_bad_address : Operand → Bool
+has_bad_address (operand.Address a) = is_bad a.segment a.address
+has_bad_address _ = false
 
--- by which causes an instruction fails that stands behind these many
+-- by which causes an instruction with these operands fails that stands behind these many: an operand fails, or
+-- there are more than 4,096 instructions
 abbrev pub instruction_fails : (List ℕ → Option Placed) → (List ℕ → Option ℕ) → ℕ → Operation → Cause → Bool
-instruction_fails arguments labels number op UnknownLabel = misses_label labels op
+instruction_fails arguments labels number op UnknownLabel = any_operand (misses_label labels) op.operands
 instruction_fails arguments labels number op DoubleName = false
-instruction_fails arguments labels number op WrongRegister = any_operand is_wrong (operands_of op)
-instruction_fails arguments labels number op WrongType = has_wrong_type arguments op
-instruction_fails arguments labels number op UnknownArgument = misses_argument arguments op
-instruction_fails arguments labels number op TooLarge = is_too_large number op
-instruction_fails arguments labels number op BadAddress = has_bad_address op
+instruction_fails arguments labels number op WrongRegister = any_operand is_wrong op.operands
+instruction_fails arguments labels number op WrongType = any_operand (has_wrong_type arguments) op.operands
+instruction_fails arguments labels number op UnknownArgument = any_operand (misses_argument arguments) op.operands
+instruction_fails arguments labels number op TooLarge = nat_le 4096 number || any_operand is_over op.operands
+instruction_fails arguments labels number op BadAddress = any_operand has_bad_address op.operands
 
 -- by which causes a label fails that stands behind these
 abbrev pub label_fails : Known ℕ → List ℕ → Cause → Bool

@@ -1,5 +1,6 @@
 -- Why an item of a module is refused.
-use Rattle.std.specs.Prelude.{◌≡◌, ℕ, List, [], ◌∷◌, Bool, if◌then◌else◌, Option, Some, None, Result, Ok, Err}
+use Rattle.std.specs.Prelude.{◌≡◌, ℕ, List, [], ◌∷◌, ◌++◌, codes, Bool, if◌then◌else◌, Option, Some, None, Result, Ok, Err}
+use Rattle.std.specs.Fmt.{decimal}
 use Rattle.kernel_check.specs.declared.fault.Cause.{Cause}
 use Rattle.kernel_check.specs.declared.fault.Cause.TheVariants.{UnknownLabel, DoubleName, WrongRegister, WrongType, UnknownArgument, TooLarge, BadAddress}
 use Rattle.kernel_check.specs.declared.fault.CheckError.{CheckError}
@@ -15,6 +16,23 @@ cause_number WrongType = 4
 cause_number UnknownArgument = 5
 cause_number TooLarge = 6
 cause_number BadAddress = 7
+
+abbrev pub cause_name : Cause → List ℕ
+cause_name UnknownLabel = codes "UnknownLabel"
+cause_name DoubleName = codes "DoubleName"
+cause_name WrongRegister = codes "WrongRegister"
+cause_name WrongType = codes "WrongType"
+cause_name UnknownArgument = codes "UnknownArgument"
+cause_name TooLarge = codes "TooLarge"
+cause_name BadAddress = codes "BadAddress"
+
+-- how a fault is told, by its line and its cause's name
+abbrev pub text_of_fault : CheckFault → List ℕ
+text_of_fault f = codes "line " ++ decimal f.line ++ codes ": " ++ cause_name f.cause
+
+abbrev pub text_of_error : CheckError → List ℕ
+text_of_error error.OutOfMemory = codes "out of memory"
+text_of_error (error.Fault f) = text_of_fault f
 
 -- the causes by number
 abbrev pub causes : List Cause

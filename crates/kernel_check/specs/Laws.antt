@@ -1,15 +1,15 @@
 -- What the definitions of the check come to, in plain words.
-use Rattle.std.specs.Prelude.{◌≡◌, ℕ, ◌≤◌, List, ◌∷◌, ◌++◌, Bool, true, false, Option, Some, None}
+use Rattle.std.specs.Prelude.{◌≡◌, ℕ, ◌<◌, ◌≤◌, List, [], ◌∷◌, ◌++◌, Bool, true, false, Option, Some, None}
 use Rattle.std.specs.List.{All}
 use Rattle.kernel_check.specs.Faults.{Checkpoint, fault_at}
-use Rattle.kernel_check.specs.Operands.{access_of, asked_dimension, label_of, operands_of}
 use Rattle.kernel_check.specs.Steps.{slot_of, next_of}
-use Rattle.kernel_check.specs.declared.operands.Typed.{Typed}
 use Rattle.kernel_check.specs.declared.fault.Cause.{Cause}
 use Rattle.kernel_check.specs.declared.fault.CheckFault.{CheckFault}
 use Rattle.kernel_check.specs.declared.layout.Placed.{Placed}
 use Rattle.hsail_reader.specs.declared.module.Address.{Address}
 use Rattle.hsail_reader.specs.declared.module.Address.TheVariants as address
+use Rattle.hsail_reader.specs.declared.module.Operand.{Operand}
+use Rattle.hsail_reader.specs.declared.module.Operand.TheVariants as operand
 use Rattle.hsail_reader.specs.declared.module.Operation.{Operation}
 use Rattle.hsail_reader.specs.declared.module.Place.{Place}
 use Rattle.hsail_reader.specs.declared.module.Place.TheVariants as place
@@ -35,6 +35,11 @@ pub record IsEarliest (checks : List Checkpoint) (f : CheckFault) : Type 0 where
   pub split : checks ≡ before ++ item ∷ behind
   pub pass : All (λ c. c.cause ≡ None) before
   pub here : fault_at item ≡ Some f
+
+-- numbers that ascend, each below all behind it
+abbrev pub Ascends : List ℕ → Type 0
+Ascends [] = Unit {0}
+Ascends (n ∷ later) = All (λ m. n < m) later × Ascends later
 
 -- a register's number is kept
 abbrev pub IsKept : Register → Type 0
@@ -66,21 +71,19 @@ IsReached arguments segment.Global a = IsGlobal a
 abbrev pub IsThere : (List ℕ → Option ℕ) → List ℕ → Type 0
 IsThere labels x = labels x ≡ Some (next_of labels x)
 
--- what is there is so
-abbrev pub IfThere : {X : Type 0} → (X → Type 0) → Option X → Type 0
-IfThere Is None = Unit {0}
-IfThere Is (Some x) = Is x
+-- an operand that makes nothing up: each number is kept, each name stands for something, and a dimension is
+-- 0, 1 or 2
+abbrev pub IsFaithfulOperand : (List ℕ → Option Placed) → (List ℕ → Option ℕ) → Operand → Type 0
+IsFaithfulOperand arguments labels operand.Absent = Unit {0}
+IsFaithfulOperand arguments labels (operand.Target t) = IsKept t.register
+IsFaithfulOperand arguments labels (operand.Source s) = IsKeptSource s.source
+IsFaithfulOperand arguments labels (operand.Address a) = IsReached arguments a.segment a.address
+IsFaithfulOperand arguments labels (operand.Label x) = IsThere labels x
+IsFaithfulOperand arguments labels (operand.Dimension n) = n ≤ 2
 
-abbrev pub IsKeptOperand : Option Typed → Type 0
-IsKeptOperand o = IfThere (λ t. IsKeptSource t.source) o
-
--- the step of an instruction makes nothing up: each number is kept, each name stands for something, and the
--- dimension is 0, 1 or 2
+-- the step of an instruction makes nothing up
 pub record IsFaithful (arguments : List ℕ → Option Placed) (labels : List ℕ → Option ℕ) (op : Operation) : Type 0 where
-  pub target : IsKeptOperand (operands_of op).target
-  pub first : IsKeptOperand (operands_of op).first
-  pub second : IsKeptOperand (operands_of op).second
-  pub third : IsKeptOperand (operands_of op).third
-  pub access : IfThere (λ a. IsReached arguments a.segment a.address) (access_of op)
-  pub label : IfThere (IsThere labels) (label_of op)
-  pub dimension : IfThere (λ d. d ≤ 2) (asked_dimension op)
+  pub first : IsFaithfulOperand arguments labels op.operands.first
+  pub second : IsFaithfulOperand arguments labels op.operands.second
+  pub third : IsFaithfulOperand arguments labels op.operands.third
+  pub fourth : IsFaithfulOperand arguments labels op.operands.fourth

@@ -1,18 +1,19 @@
 //! By which causes an item of a module fails.
 
-ghost use Rattle.std.specs.Prelude.{◌≡◌, ◌≤◌, ◌<◌, None, false, length};
+ghost use Rattle.std.specs.Prelude.{◌≡◌, ◌≤◌, ◌<◌, ◌||◌, nat_le, None, false, length};
 ghost use Rattle.kernel_check.specs.Names.{find};
 ghost use Rattle.kernel_check.specs.Faults.{least_cause};
 ghost use Rattle.kernel_check.specs.Layout.{end_behind};
-ghost use Rattle.kernel_check.specs.Causes.{misses_label, differs, has_wrong_type, names_unknown, misses_argument, is_far_place, is_far_address, has_far_address, has_far_dimension, is_too_large, is_bad_place, is_bad, has_bad_address, instruction_fails, label_fails, argument_fails, kernel_fails};
+ghost use Rattle.kernel_check.specs.Causes.{misses_label, differs, is_of_other_width, has_wrong_type, names_unknown, misses_argument, is_bad_place, is_bad, has_bad_address, instruction_fails, label_fails, argument_fails, kernel_fails};
+ghost use Rattle.kernel_check.specs.Operands.{any_operand, is_over};
 
 use crate::fault::Cause;
 use crate::layout::{Placed, end};
 use crate::names::Names;
-use crate::operands::{
-    any_over, any_wrong, asked_dimension, far, find_access, label, typed_operands,
+use crate::operands::{any_over, any_wrong};
+use hsail_reader::{
+    Address, Argument, DataType, Operand, Operands, Operation, Place, RegisterClass, Segment,
 };
-use hsail_reader::{Address, Argument, DataType, Operation, Place, RegisterClass, Segment};
 
 /// The most instructions of a kernel.
 const MAX_INSTRUCTIONS: usize = 4096;
@@ -23,17 +24,23 @@ const MAX_ARGUMENT_BYTES: u32 = 4096;
 /// The most kernels of a module.
 const MAX_KERNELS: usize = 64;
 
-/// The greatest number of a dimension.
-const MAX_DIMENSION: u64 = 2;
-
-/// Whether a branch names no label of the kernel.
-fn unknown_label(labels: &Names<'_, usize>, operation: &Operation) -> bool
-    ensures { result ≡ misses_label (find labels.now) operation.now }
+/// Whether an operand is a label that the kernel doesn't have.
+fn unknown_label(labels: &Names<'_, usize>, operand: &Operand) -> bool
+    ensures { result ≡ misses_label (find labels.now) operand.now }
 {
-    match label(operation) {
-        Some(name) => labels.get(name).is_none(),
-        None => false,
+    match operand {
+        Operand::Label(name) => labels.get(name.as_slice()).is_none(),
+        _ => false,
     }
+}
+
+fn any_unknown_label(labels: &Names<'_, usize>, operands: &Operands) -> bool
+    ensures { result ≡ any_operand (misses_label (find labels.now)) operands.now }
+{
+    unknown_label(labels, &operands.first)
+        || unknown_label(labels, &operands.second)
+        || unknown_label(labels, &operands.third)
+        || unknown_label(labels, &operands.fourth)
 }
 
 /// Whether a known argument is of another width than a type.
@@ -46,19 +53,42 @@ fn other_width(kind: DataType, argument: Option<Placed>) -> bool
     }
 }
 
-/// Whether a load takes an argument by a type that isn't as wide.
-fn wrong_type(arguments: &Names<'_, Placed>, operation: &Operation) -> bool
-    ensures { result ≡ has_wrong_type (find arguments.now) operation.now }
+/// Whether an access takes an argument by a type that isn't as wide.
+fn argument_of_other_width(
+    arguments: &Names<'_, Placed>,
+    kind: DataType,
+    segment: Segment,
+    address: &Address,
+) -> bool
+    ensures { result ≡ is_of_other_width (find arguments.now) kind segment address.now }
 {
-    let Some(access) = find_access(operation) else {
-        return false;
-    };
-    match (access.segment, access.address) {
+    match (segment, address) {
         (Segment::Kernarg, Address::Variable(name)) => {
-            other_width(access.kind, arguments.get(name.as_slice()))
+            other_width(kind, arguments.get(name.as_slice()))
         }
         _ => false,
     }
+}
+
+/// Whether an operand takes an argument by a type that isn't as wide.
+fn wrong_type(arguments: &Names<'_, Placed>, operand: &Operand) -> bool
+    ensures { result ≡ has_wrong_type (find arguments.now) operand.now }
+{
+    match operand {
+        Operand::Address(access) => {
+            argument_of_other_width(arguments, access.kind, access.segment, &access.address)
+        }
+        _ => false,
+    }
+}
+
+fn any_wrong_type(arguments: &Names<'_, Placed>, operands: &Operands) -> bool
+    ensures { result ≡ any_operand (has_wrong_type (find arguments.now)) operands.now }
+{
+    wrong_type(arguments, &operands.first)
+        || wrong_type(arguments, &operands.second)
+        || wrong_type(arguments, &operands.third)
+        || wrong_type(arguments, &operands.fourth)
 }
 
 /// Whether an address names no variable of the kernel.
@@ -72,66 +102,31 @@ fn unknown_variable(arguments: &Names<'_, Placed>, address: &Address) -> bool
     }
 }
 
-/// Whether an operation's address names no variable of the kernel.
-fn unknown_argument(arguments: &Names<'_, Placed>, operation: &Operation) -> bool
-    ensures { result ≡ misses_argument (find arguments.now) operation.now }
+/// Whether an operand's address names no variable of the kernel.
+fn unknown_argument(arguments: &Names<'_, Placed>, operand: &Operand) -> bool
+    ensures { result ≡ misses_argument (find arguments.now) operand.now }
 {
-    match find_access(operation) {
-        Some(access) => unknown_variable(arguments, access.address),
-        None => false,
+    match operand {
+        Operand::Address(access) => unknown_variable(arguments, &access.address),
+        _ => false,
     }
 }
 
-/// Whether a place has a register whose number is over 63.
-fn far_place(place: Place) -> bool
-    ensures { result ≡ is_far_place place }
+fn any_unknown_argument(arguments: &Names<'_, Placed>, operands: &Operands) -> bool
+    ensures { result ≡ any_operand (misses_argument (find arguments.now)) operands.now }
 {
-    match place {
-        Place::Absolute(_) => false,
-        Place::Relative(relative) => far(relative.register),
-    }
-}
-
-/// Whether an address has a register whose number is over 63.
-fn far_in_brackets(address: &Address) -> bool
-    ensures { result ≡ is_far_address address.now }
-{
-    match address {
-        Address::Variable(_) => false,
-        Address::Place(place) => far_place(*place),
-        Address::Indexed(indexed) => far_place(indexed.place),
-    }
-}
-
-/// Whether an operation's address has a register whose number is over 63.
-fn far_address(operation: &Operation) -> bool
-    ensures { result ≡ has_far_address operation.now }
-{
-    match find_access(operation) {
-        Some(access) => far_in_brackets(access.address),
-        None => false,
-    }
-}
-
-/// Whether an operation asks for a dimension over 2.
-fn far_dimension(operation: &Operation) -> bool
-    ensures { result ≡ has_far_dimension operation.now }
-{
-    match asked_dimension(operation) {
-        Some(dimension) => dimension > MAX_DIMENSION,
-        None => false,
-    }
+    unknown_argument(arguments, &operands.first)
+        || unknown_argument(arguments, &operands.second)
+        || unknown_argument(arguments, &operands.third)
+        || unknown_argument(arguments, &operands.fourth)
 }
 
 /// Whether an instruction is too many behind these, or a number in it is too large.
-fn too_large(number: usize, operation: &Operation) -> bool
-    ensures value { result ≡ is_too_large number operation.now }
+fn too_large(number: usize, operands: &Operands) -> bool
+    ensures value { result ≡ (nat_le 4096 number || any_operand is_over operands.now) }
     ensures room { result ≡ false → number < 4096 }
 {
-    number >= MAX_INSTRUCTIONS
-        || any_over(typed_operands(operation))
-        || far_address(operation)
-        || far_dimension(operation)
+    number >= MAX_INSTRUCTIONS || any_over(operands)
 }
 
 /// Whether a place in brackets is none of global memory.
@@ -159,14 +154,23 @@ fn bad_in_brackets(segment: Segment, address: &Address) -> bool
     }
 }
 
-/// Whether an operation's address has a form that its segment doesn't have.
-fn bad_address(operation: &Operation) -> bool
-    ensures { result ≡ has_bad_address operation.now }
+/// Whether an operand's address has a form that its segment doesn't have.
+fn bad_address(operand: &Operand) -> bool
+    ensures { result ≡ has_bad_address operand.now }
 {
-    match find_access(operation) {
-        Some(access) => bad_in_brackets(access.segment, access.address),
-        None => false,
+    match operand {
+        Operand::Address(access) => bad_in_brackets(access.segment, &access.address),
+        _ => false,
     }
+}
+
+fn any_bad_address(operands: &Operands) -> bool
+    ensures { result ≡ any_operand has_bad_address operands.now }
+{
+    bad_address(&operands.first)
+        || bad_address(&operands.second)
+        || bad_address(&operands.third)
+        || bad_address(&operands.fourth)
 }
 
 /// The least cause by which an instruction fails that stands behind these many.
@@ -179,22 +183,23 @@ pub fn instruction_cause(
     ensures value { result ≡ least_cause (instruction_fails (find arguments.now) (find labels.now) number operation.now) }
     ensures room { result ≡ None → number < 4096 }
 {
-    if unknown_label(labels, operation) {
+    let operands = &operation.operands;
+    if any_unknown_label(labels, operands) {
         return Some(Cause::UnknownLabel);
     }
-    if any_wrong(typed_operands(operation)) {
+    if any_wrong(operands) {
         return Some(Cause::WrongRegister);
     }
-    if wrong_type(arguments, operation) {
+    if any_wrong_type(arguments, operands) {
         return Some(Cause::WrongType);
     }
-    if unknown_argument(arguments, operation) {
+    if any_unknown_argument(arguments, operands) {
         return Some(Cause::UnknownArgument);
     }
-    if too_large(number, operation) {
+    if too_large(number, operands) {
         return Some(Cause::TooLarge);
     }
-    if bad_address(operation) {
+    if any_bad_address(operands) {
         return Some(Cause::BadAddress);
     }
     None

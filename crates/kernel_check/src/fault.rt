@@ -2,11 +2,11 @@
 
 ghost use Rattle.std.specs.Prelude.{◌≡◌};
 ghost use Rattle.kernel_check.specs.declared.fault.CheckError.TheVariants as check_error;
-ghost use Rattle.kernel_check.specs.Faults.{cause_number};
+ghost use Rattle.kernel_check.specs.Faults.{cause_name, cause_number};
 
 use std::alloc::{AllocError, AllocFailed};
+use std::error::Error;
 use std::fmt;
-use thiserror::Error;
 
 /// What is wrong with an item of a module. An item with several faults has the one of least number.
 #[derive(Clone, Copy, Debug, PartialEq, Eq)]
@@ -43,6 +43,21 @@ impl Cause {
             Cause::BadAddress => 7,
         }
     }
+
+    /// The name of the cause, as faults are told.
+    fn name(self) -> &'static str
+        ensures { result.now ≡ cause_name self }
+    {
+        match self {
+            Cause::UnknownLabel => "UnknownLabel",
+            Cause::DoubleName => "DoubleName",
+            Cause::WrongRegister => "WrongRegister",
+            Cause::WrongType => "WrongType",
+            Cause::UnknownArgument => "UnknownArgument",
+            Cause::TooLarge => "TooLarge",
+            Cause::BadAddress => "BadAddress",
+        }
+    }
 }
 
 /// The fault of a module: the line of the item's first token, from 1, and the cause.
@@ -52,24 +67,45 @@ pub struct CheckFault {
     pub cause: Cause,
 }
 
+/// It prints as `line 4: UnknownLabel`.
 impl fmt::Display for CheckFault {
+    ghost use Rattle.std.specs.Prelude.{Some};
+    ghost use Rattle.kernel_check.specs.Faults.{text_of_fault};
+
+    ghost output = { λ fault. Some (text_of_fault fault) };
+
     fn fmt<W: fmt::Write>(&self, f: &mut fmt::Formatter<W>) -> fmt::Result {
         let line = self.line;
-        let cause = self.cause;
-        write!(f, "line {line}: {cause:?}")
+        let cause = self.cause.name();
+        write!(f, "line {line}: {cause}")
     }
 }
 
 /// Why a module was not checked to its end.
-#[derive(Clone, Copy, Debug, PartialEq, Eq, Error)]
+#[derive(Clone, Copy, Debug, PartialEq, Eq)]
 pub enum CheckError {
     /// There was no memory for the checked kernels.
-    #[error("out of memory")]
     OutOfMemory,
     /// The module has a fault.
-    #[error("{0}")]
     Fault(CheckFault),
 }
+
+/// It prints as `out of memory`, or as its fault.
+impl fmt::Display for CheckError {
+    ghost use Rattle.std.specs.Prelude.{Some};
+    ghost use Rattle.kernel_check.specs.Faults.{text_of_error};
+
+    ghost output = { λ error. Some (text_of_error error) };
+
+    fn fmt<W: fmt::Write>(&self, f: &mut fmt::Formatter<W>) -> fmt::Result {
+        match self {
+            CheckError::OutOfMemory => write!(f, "out of memory"),
+            CheckError::Fault(fault) => write!(f, "{fault}"),
+        }
+    }
+}
+
+impl Error for CheckError {}
 
 impl From<AllocError> for CheckError {
     ghost from_gives = { λ _ e. e ≡ check_error.OutOfMemory };

@@ -3,11 +3,13 @@
 ghost use Rattle.std.specs.Prelude.{◌≡◌, ℕ, List, Bool, false, Option, Some, None};
 ghost use Rattle.std.specs.List.{All};
 ghost use Rattle.kernel_check.specs.Causes.{instruction_fails};
+ghost use Rattle.kernel_check.specs.Checks.{program_of};
 ghost use Rattle.kernel_check.specs.Faults.{Checkpoint, causes, first_fault, least_cause};
-ghost use Rattle.kernel_check.specs.Laws.{IsFirst, IsEarliest, IsFaithful};
+ghost use Rattle.kernel_check.specs.Laws.{Ascends, IsFirst, IsEarliest, IsFaithful};
 ghost use Rattle.kernel_check.specs.declared.fault.Cause.{Cause};
 ghost use Rattle.kernel_check.specs.declared.fault.CheckFault.{CheckFault};
 ghost use Rattle.kernel_check.specs.declared.layout.Placed.{Placed};
+ghost use Rattle.hsail_reader.specs.declared.module.Kernel.{Kernel};
 ghost use Rattle.hsail_reader.specs.declared.module.Operation.{Operation};
 
 /// The fault of a list of items is that of the earliest item that fails, and its cause the one of
@@ -24,4 +26,9 @@ pub fn faults_are_earliest()
 pub fn steps_are_faithful()
     ensures { (arguments : List ℕ → Option Placed) (labels : List ℕ → Option ℕ) (number : ℕ) (op : Operation)
         → least_cause (instruction_fails arguments labels number op) ≡ None → IsFaithful arguments labels op }
+{}
+
+/// The offsets of a kernel's arguments of 64 bits ascend. It does nothing.
+pub fn wide_arguments_ascend()
+    ensures { (kernel : Kernel) → Ascends (program_of kernel).wide }
 {}

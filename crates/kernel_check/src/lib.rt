@@ -22,7 +22,7 @@ mod translate;
 pub use checked::Checked;
 pub use checking::check;
 pub use fault::{Cause, CheckError, CheckFault};
-pub use laws::{faults_are_earliest, steps_are_faithful};
+pub use laws::{faults_are_earliest, steps_are_faithful, wide_arguments_ascend};
 pub use program::Program;
 pub use step::{
     ArgumentStep, BinaryStep, BranchStep, Dimension, IdentifyStep, LinedStep, LoadStep, Operand,

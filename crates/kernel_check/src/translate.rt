@@ -2,20 +2,50 @@
 
 ghost use Rattle.std.specs.Prelude.{◌≡◌};
 ghost use Rattle.kernel_check.specs.Names.{find};
-ghost use Rattle.kernel_check.specs.Steps.{slot_of, operand_of, pointer_of, pointer_in, offset_of, load_of, dimension_of, next_of, step_of, unary_of, binary_of, ternary_of};
+ghost use Rattle.kernel_check.specs.Steps.{slot_of, operand_of, pointer_of, pointer_in, offset_of, load_from, load_at, store_at, dimension_of, dimension_in, next_of, next_at, step_of, target_in, read_in, unary_of, binary_of, ternary_of, as_unary, as_binary, as_ternary};
 
 use crate::constants::bits;
 use crate::layout::Placed;
 use crate::names::Names;
-use crate::operands::{binary_right_kind, ternary_first_kind};
 use crate::step;
 use crate::step::{
-    ArgumentStep, BinaryStep, BranchStep, Dimension, IdentifyStep, LoadStep, Operand, Pointer,
-    Slot, Step, StoreStep, TernaryStep, UnaryStep,
+    ArgumentStep, BinaryStep, BranchStep, Dimension, IdentifyStep, LoadStep, Pointer, Slot, Step,
+    StoreStep, TernaryStep, UnaryStep,
 };
 use hsail_reader::{
-    Address, Binary, DataType, Load, Operation, Place, Register, Segment, Source, Ternary, Unary,
+    Access, Address, BinaryOperation, Constant, DataType, Form, Operand, Operation, Place,
+    Register, RegisterClass, Segment, Source, TernaryOperation, TypedSource, UnaryOperation,
 };
+
+/// An operation `d, a`.
+#[derive(Clone, Copy)]
+pub struct Unary {
+    pub operation: UnaryOperation,
+    pub kind: DataType,
+    pub target: Register,
+    pub source: TypedSource,
+}
+
+/// An operation `d, a, b`.
+#[derive(Clone, Copy)]
+pub struct Binary {
+    pub operation: BinaryOperation,
+    pub kind: DataType,
+    pub target: Register,
+    pub left: TypedSource,
+    pub right: TypedSource,
+}
+
+/// An operation `d, a, b, c`.
+#[derive(Clone, Copy)]
+pub struct Ternary {
+    pub operation: TernaryOperation,
+    pub kind: DataType,
+    pub target: Register,
+    pub first: TypedSource,
+    pub second: TypedSource,
+    pub third: TypedSource,
+}
 
 /// A register by its number.
 fn slot(register: Register) -> Slot
@@ -29,12 +59,12 @@ fn slot(register: Register) -> Slot
 }
 
 /// A source at the type of its place.
-fn operand(kind: DataType, source: Source) -> Operand
-    ensures { result ≡ operand_of kind source }
+fn operand(typed: TypedSource) -> step::Operand
+    ensures { result ≡ operand_of typed.kind typed.source }
 {
-    match source {
-        Source::Register(register) => Operand::Register(slot(register)),
-        Source::Constant(constant) => Operand::Constant(bits(kind, constant)),
+    match typed.source {
+        Source::Register(register) => step::Operand::Register(slot(register)),
+        Source::Constant(constant) => step::Operand::Constant(bits(typed.kind, constant)),
     }
 }
 
@@ -74,22 +104,73 @@ fn argument_offset(arguments: &Names<'_, Placed>, address: &Address) -> u32
     }
 }
 
-fn load_step(arguments: &Names<'_, Placed>, load: &Load) -> Step
-    ensures { result ≡ load_of (find arguments.now) load.now }
+/// The register that is written.
+fn target_in(operand: &Operand) -> Register
+    ensures { result ≡ target_in operand.now }
 {
-    let kind = load.kind;
-    let target = slot(load.target);
-    match load.segment {
+    match operand {
+        Operand::Target(target) => target.register,
+        _ => Register {
+            class: RegisterClass::Control,
+            number: 0,
+        },
+    }
+}
+
+/// The source that is read.
+fn read_in(operand: &Operand) -> TypedSource
+    ensures { result ≡ read_in operand.now }
+{
+    match operand {
+        Operand::Source(typed) => *typed,
+        _ => TypedSource {
+            kind: DataType::B1,
+            source: Source::Constant(Constant {
+                negative: false,
+                magnitude: 0,
+            }),
+        },
+    }
+}
+
+fn load_step(arguments: &Names<'_, Placed>, target: Register, access: &Access) -> Step
+    ensures { result ≡ load_from (find arguments.now) access.now.segment target access.now }
+{
+    let kind = access.kind;
+    let target = slot(target);
+    match access.segment {
         Segment::Kernarg => Step::Argument(ArgumentStep {
             kind,
             target,
-            offset: argument_offset(arguments, &load.address),
+            offset: argument_offset(arguments, &access.address),
         }),
         Segment::Global => Step::Load(LoadStep {
             kind,
             target,
-            pointer: pointer_in_brackets(&load.address),
+            pointer: pointer_in_brackets(&access.address),
         }),
+    }
+}
+
+fn load_at(arguments: &Names<'_, Placed>, target: Register, operand: &Operand) -> Step
+    ensures { result ≡ load_at (find arguments.now) target operand.now }
+{
+    match operand {
+        Operand::Address(access) => load_step(arguments, target, access),
+        _ => Step::Return,
+    }
+}
+
+fn store_at(source: TypedSource, address: &Operand) -> Step
+    ensures { result ≡ store_at source address.now }
+{
+    match address {
+        Operand::Address(access) => Step::Store(StoreStep {
+            kind: access.kind,
+            source: operand(source),
+            pointer: pointer_in_brackets(&access.address),
+        }),
+        _ => Step::Return,
     }
 }
 
@@ -104,6 +185,16 @@ fn dimension(number: u64) -> Dimension
     }
 }
 
+/// The dimension that an operand is.
+fn dimension_in(operand: &Operand) -> Dimension
+    ensures { result ≡ dimension_in operand.now }
+{
+    match operand {
+        Operand::Dimension(number) => dimension(*number),
+        _ => Dimension::X,
+    }
+}
+
 /// The number of the step behind a label.
 fn next(labels: &Names<'_, usize>, name: &[u8]) -> usize
     ensures { result ≡ next_of (find labels.now) name.now }
@@ -114,41 +205,85 @@ fn next(labels: &Names<'_, usize>, name: &[u8]) -> usize
     }
 }
 
-fn unary_step(unary: &Unary) -> Step
-    ensures { result ≡ unary_of unary.now }
+/// The number of the step behind the label that an operand is.
+fn next_at(labels: &Names<'_, usize>, operand: &Operand) -> usize
+    ensures { result ≡ next_at (find labels.now) operand.now }
+{
+    match operand {
+        Operand::Label(name) => next(labels, name.as_slice()),
+        _ => 0,
+    }
+}
+
+fn as_unary(operation: UnaryOperation, whole: &Operation) -> Unary
+    ensures { result ≡ as_unary operation whole.now }
+{
+    Unary {
+        operation,
+        kind: whole.kind,
+        target: target_in(&whole.operands.first),
+        source: read_in(&whole.operands.second),
+    }
+}
+
+fn unary_step(unary: Unary) -> Step
+    ensures { result ≡ unary_of unary }
 {
     Step::Unary(UnaryStep {
         operation: unary.operation,
         kind: unary.kind,
         target: slot(unary.target),
-        source: operand(unary.kind, unary.source),
+        source: operand(unary.source),
     })
 }
 
-fn binary_step(binary: &Binary) -> Step
-    ensures { result ≡ binary_of binary.now }
+fn as_binary(operation: BinaryOperation, whole: &Operation) -> Binary
+    ensures { result ≡ as_binary operation whole.now }
 {
-    let right = binary_right_kind(binary.operation, binary.kind);
+    Binary {
+        operation,
+        kind: whole.kind,
+        target: target_in(&whole.operands.first),
+        left: read_in(&whole.operands.second),
+        right: read_in(&whole.operands.third),
+    }
+}
+
+fn binary_step(binary: Binary) -> Step
+    ensures { result ≡ binary_of binary }
+{
     Step::Binary(BinaryStep {
         operation: binary.operation,
         kind: binary.kind,
         target: slot(binary.target),
-        left: operand(binary.kind, binary.left),
-        right: operand(right, binary.right),
+        left: operand(binary.left),
+        right: operand(binary.right),
     })
 }
 
-fn ternary_step(ternary: &Ternary) -> Step
-    ensures { result ≡ ternary_of ternary.now }
+fn as_ternary(operation: TernaryOperation, whole: &Operation) -> Ternary
+    ensures { result ≡ as_ternary operation whole.now }
 {
-    let first = ternary_first_kind(ternary.operation, ternary.kind);
+    Ternary {
+        operation,
+        kind: whole.kind,
+        target: target_in(&whole.operands.first),
+        first: read_in(&whole.operands.second),
+        second: read_in(&whole.operands.third),
+        third: read_in(&whole.operands.fourth),
+    }
+}
+
+fn ternary_step(ternary: Ternary) -> Step
+    ensures { result ≡ ternary_of ternary }
+{
     Step::Ternary(TernaryStep {
         operation: ternary.operation,
         kind: ternary.kind,
         target: slot(ternary.target),
-        first: operand(first, ternary.first),
-        second: operand(ternary.kind, ternary.second),
-        third: operand(ternary.kind, ternary.third),
+        first: operand(ternary.first),
+        second: operand(ternary.second),
+        third: operand(ternary.third),
     })
 }
 
@@ -160,27 +295,24 @@ pub fn translated(
 ) -> Step
     ensures { result ≡ step_of (find arguments.now) (find labels.now) operation.now }
 {
-    match operation {
-        Operation::Unary(unary) => unary_step(unary),
-        Operation::Binary(binary) => binary_step(binary),
-        Operation::Ternary(ternary) => ternary_step(ternary),
-        Operation::Load(load) => load_step(arguments, load),
-        Operation::Store(store) => Step::Store(StoreStep {
-            kind: store.kind,
-            source: operand(store.kind, store.source),
-            pointer: pointer_in_brackets(&store.address),
+    let operands = &operation.operands;
+    match operation.form {
+        Form::Unary(unary) => unary_step(as_unary(unary, operation)),
+        Form::Binary(binary) => binary_step(as_binary(binary, operation)),
+        Form::Ternary(ternary) => ternary_step(as_ternary(ternary, operation)),
+        Form::Load => load_at(arguments, target_in(&operands.first), &operands.second),
+        Form::Store => store_at(read_in(&operands.first), &operands.second),
+        Form::Branch => Step::Branch(next_at(labels, &operands.first)),
+        Form::ConditionalBranch => Step::ConditionalBranch(BranchStep {
+            condition: operand(read_in(&operands.first)),
+            next: next_at(labels, &operands.second),
         }),
-        Operation::Branch(label) => Step::Branch(next(labels, label.as_slice())),
-        Operation::ConditionalBranch(branch) => Step::ConditionalBranch(BranchStep {
-            condition: operand(DataType::B1, branch.condition),
-            next: next(labels, branch.label.as_slice()),
-        }),
-        Operation::Return => Step::Return,
-        Operation::Identify(identify) => Step::Identify(IdentifyStep {
-            query: identify.query,
-            kind: identify.kind,
-            target: slot(identify.target),
-            dimension: dimension(identify.dimension),
+        Form::Return => Step::Return,
+        Form::Identify(query) => Step::Identify(IdentifyStep {
+            query,
+            kind: operation.kind,
+            target: slot(target_in(&operands.first)),
+            dimension: dimension_in(&operands.second),
         }),
     }
 }

@@ -4,6 +4,7 @@ use crate::sample::{inc, module_of};
 use hsail_reader::Module;
 use kernel_check::{
     Cause, CheckError, CheckFault, Checked, check, faults_are_earliest, steps_are_faithful,
+    wide_arguments_ascend,
 };
 use std::alloc::Global;
 use std::process::Abort;
@@ -48,6 +49,7 @@ fn check_inc(rt: &(impl Abort + AllocGlobal), text: &str) -> Result<(), Fail> {
 fn a_kernel_is_found_by_its_name(rt: HostRuntime) -> Result<(), Fail> {
     faults_are_earliest();
     steps_are_faithful();
+    wide_arguments_ascend();
     check_inc(&rt, inc())
 }
 

@@ -2,9 +2,9 @@
 
 use crate::sample::{inc, module_of};
 use hsail_reader::{
-    Address, Alignment, Argument, Binary, BinaryOperation, Cause, DataType, Indexed, Item, Kernel,
-    Load, Module, Operation, Place, Profile, ReadError, ReadFault, Relative, Rounding, Segment,
-    Source, Unary, UnaryOperation, Width,
+    Access, Address, Alignment, Argument, BinaryOperation, Cause, DataType, Form, Indexed, Item,
+    Kernel, Module, Operand, Operation, Place, Profile, ReadError, ReadFault, Relative, Rounding,
+    Segment, Source, UnaryOperation, Width,
 };
 use std::alloc::{AllocError, Global};
 use std::process::Abort;
@@ -129,31 +129,48 @@ fn first_operation<'a>(module: &'a Module) -> Option<&'a Operation> {
     }
 }
 
-fn is_register(source: &Source, number: u64) -> bool {
-    match source {
-        Source::Register(register) => register.number == number,
-        Source::Constant(_) => false,
+fn is_target(operand: &Operand, kind: DataType, number: u64) -> bool {
+    match operand {
+        Operand::Target(target) => target.kind == kind && target.register.number == number,
+        _ => false,
     }
 }
 
-fn is_constant(source: &Source, negative: bool, magnitude: u64) -> bool {
-    match source {
-        Source::Register(_) => false,
-        Source::Constant(c) => c.negative == negative && c.magnitude == magnitude,
+fn is_register(operand: &Operand, kind: DataType, number: u64) -> bool {
+    match operand {
+        Operand::Source(typed) => match typed.source {
+            Source::Register(register) => typed.kind == kind && register.number == number,
+            Source::Constant(_) => false,
+        },
+        _ => false,
     }
 }
 
-fn check_subtraction(rt: &impl Abort, binary: &Binary) {
-    assert_eq!(rt; binary.operation, BinaryOperation::Subtract);
-    assert_eq!(rt; binary.kind, DataType::S64);
-    assert_eq!(rt; binary.target.number, 7);
-    assert!(rt; is_register(&binary.left, 8));
-    assert!(rt; is_constant(&binary.right, true, 9));
+fn is_constant(operand: &Operand, negative: bool, magnitude: u64) -> bool {
+    match operand {
+        Operand::Source(typed) => match typed.source {
+            Source::Register(_) => false,
+            Source::Constant(c) => c.negative == negative && c.magnitude == magnitude,
+        },
+        _ => false,
+    }
 }
 
-fn check_conversion(rt: &impl Abort, unary: &Unary) {
-    assert_eq!(rt; unary.operation, UnaryOperation::Convert(DataType::U64));
-    assert_eq!(rt; unary.kind, DataType::S8);
+fn check_subtraction(rt: &impl Abort, operation: &Operation) {
+    assert_eq!(rt; operation.form, Form::Binary(BinaryOperation::Subtract));
+    assert_eq!(rt; operation.kind, DataType::S64);
+    assert!(rt; is_target(&operation.operands.first, DataType::S64, 7));
+    assert!(rt; is_register(&operation.operands.second, DataType::S64, 8));
+    assert!(rt; is_constant(&operation.operands.third, true, 9));
+}
+
+fn check_conversion(rt: &impl Abort, operation: &Operation) {
+    assert_eq!(rt;
+        operation.form,
+        Form::Unary(UnaryOperation::Convert(DataType::U64))
+    );
+    assert!(rt; is_target(&operation.operands.first, DataType::U64, 7));
+    assert!(rt; is_register(&operation.operands.second, DataType::S8, 8));
 }
 
 fn is_relative(place: &Relative, register: u64, negative: bool, magnitude: u64) -> bool {
@@ -171,34 +188,20 @@ fn check_index(rt: &impl Abort, indexed: &Indexed) -> Result<(), Fail> {
     Ok(())
 }
 
-fn check_load(rt: &impl Abort, load: &Load) -> Result<(), Fail> {
-    assert_eq!(rt; load.segment, Segment::Global);
-    assert_eq!(rt; load.modifiers.align, Some(16));
-    assert_eq!(rt; load.modifiers.width, Some(Width::All));
-    match &load.address {
+fn check_access(rt: &impl Abort, access: &Access) -> Result<(), Fail> {
+    assert_eq!(rt; access.segment, Segment::Global);
+    match &access.address {
         Address::Indexed(indexed) => check_index(rt, indexed),
         _ => Err(Fail::from("an index")),
     }
 }
 
-fn first_binary<'a>(module: &'a Module) -> Option<&'a Binary> {
-    match first_operation(module)? {
-        Operation::Binary(binary) => Some(binary),
-        _ => None,
-    }
-}
-
-fn first_unary<'a>(module: &'a Module) -> Option<&'a Unary> {
-    match first_operation(module)? {
-        Operation::Unary(unary) => Some(unary),
-        _ => None,
-    }
-}
-
-fn first_load<'a>(module: &'a Module) -> Option<&'a Load> {
-    match first_operation(module)? {
-        Operation::Load(load) => Some(load),
-        _ => None,
+fn check_load(rt: &impl Abort, operation: &Operation) -> Result<(), Fail> {
+    assert_eq!(rt; operation.modifiers.align, Some(16));
+    assert_eq!(rt; operation.modifiers.width, Some(Width::All));
+    match &operation.operands.second {
+        Operand::Address(access) => check_access(rt, access),
+        _ => Err(Fail::from("an address")),
     }
 }
 
@@ -210,7 +213,7 @@ fn module_with(alloc: Global, item: &str) -> Result<Module, Fail> {
 
 fn check_operands(rt: &(impl Abort + AllocGlobal), item: &str) -> Result<(), Fail> {
     let read = module_with(rt.alloc(), item)?;
-    check_subtraction(rt, first_binary(&read).ok_or("a subtraction")?);
+    check_subtraction(rt, first_operation(&read).ok_or("a subtraction")?);
     Ok(())
 }
 
@@ -221,7 +224,7 @@ fn operands_stand_in_their_order(rt: HostRuntime) -> Result<(), Fail> {
 
 fn check_types(rt: &(impl Abort + AllocGlobal), item: &str) -> Result<(), Fail> {
     let read = module_with(rt.alloc(), item)?;
-    check_conversion(rt, first_unary(&read).ok_or("a conversion")?);
+    check_conversion(rt, first_operation(&read).ok_or("a conversion")?);
     Ok(())
 }
 
@@ -232,7 +235,7 @@ fn types_of_a_conversion_stand_in_their_order(rt: HostRuntime) -> Result<(), Fai
 
 fn check_modifiers(rt: &(impl Abort + AllocGlobal), item: &str) -> Result<(), Fail> {
     let read = module_with(rt.alloc(), item)?;
-    check_load(rt, first_load(&read).ok_or("a load")?)
+    check_load(rt, first_operation(&read).ok_or("a load")?)
 }
 
 #[test]
