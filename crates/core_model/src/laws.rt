@@ -44,8 +44,8 @@ ghost use Rattle.core_model.specs.Queues.{Opening, error_of, next_id};
 ghost use Rattle.core_model.specs.Flight.{LawOfFlight, flight, in_flight};
 ghost use Rattle.core_model.specs.Work.{agent_writes};
 ghost use Rattle.core_model.specs.Owed.{owed_group};
-ghost use Rattle.core_model.specs.Legal.{AreReplies, IsLegal, IsServed, MeetsOrLacks, Replying, entry_of};
-ghost use Rattle.core_model.specs.Queries.{replied};
+ghost use Rattle.core_model.specs.Legal.{AreReplies, IsLegal, IsServed, MeetsOrLacks, entry_of};
+ghost use Rattle.core_model.specs.Queries.{Replying, replied};
 ghost use Rattle.core_model.specs.Headline.{ChangeIsGranted, GoesOn, HoldsInForce, InFlightSince, IsDenied, IsEntryBehind, IsListed, IsOpened, Launch, MayBeLaunched, MayReach, MayReachRange, ReleaseIsDue, WriteIsGranted, packet_named, reads_of};
 
 /// A launched packet is the next of a queue that is open and need not wait, is laid out by its bytes, and
