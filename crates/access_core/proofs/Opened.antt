@@ -1,5 +1,5 @@
 -- What is kept of a core in which nothing has happened.
-use Rattle.std.proofs.Common.{◌≡◌, ℕ, ◌≤◌, ◌^◌, List, [], length, refl, sym, ◌∙◌, ap, subst, Bool, true, false, Some, None, arith}
+use Rattle.std.proofs.Common.{◌≡◌, ℕ, ◌≤◌, List, [], length, refl, sym, ◌∙◌, ap, subst, Bool, true, false, Some, None, arith}
 use Rattle.std.specs.Prelude.{map, ◌-◌, filter, slice_get, nat_lt, ◌==◌, All, if◌then◌else◌}
 use Rattle.std.proofs.lemmas.List.Elements.{All-nil}
 use Rattle.aql_packet.specs.declared.ids.QueueId.{QueueId}

@@ -1,5 +1,5 @@
 -- Groups that ran: what their writes leave, and how many there can be.
-use Rattle.std.proofs.Common.{◌≡◌, ℕ, ◌+◌, ◌^◌, List, [], ◌++◌, length, refl, sym, ◌∙◌, ap, subst, Bool, true, false, Option, Some, None}
+use Rattle.std.proofs.Common.{◌≡◌, ℕ, ◌+◌, ◌^◌, List, [], ◌++◌, length, refl, sym, ◌∙◌, ap, Bool, true, false, Option, Some, None}
 use Rattle.std.specs.Prelude.{ℤ, ◌==◌, ◌%◌, fold, nat_lt, replicate, if◌then◌else◌}
 use Rattle.std.specs.Option.{IfSome}
 use Rattle.std.specs.Int.{w64, to_le_bytes}

@@ -1,7 +1,7 @@
 -- Stops of queues: what is owed by what is kept, and the room that is left.
-use Rattle.std.proofs.Common.{◌≡◌, ℕ, ◌+◌, ◌-◌, ◌≤◌, List, [], ◌∷◌, length, map, refl, sym, ◌∙◌, ap, subst, Bool, true, false, Option, Some, None, arith}
-use Rattle.std.specs.Prelude.{ℤ, ◌==◌, Err, IfNone, IfSome, find, fold, is_some, nat_lt, not, option_map, if◌then◌else◌}
-use Rattle.std.proofs.lemmas.Bool.{le-ltb, ltb-false}
+use Rattle.std.proofs.Common.{◌≡◌, ℕ, ◌-◌, ◌≤◌, List, [], ◌∷◌, length, map, refl, sym, ◌∙◌, ap, subst, Bool, true, false, Option, Some, None, arith}
+use Rattle.std.specs.Prelude.{ℤ, ◌==◌, IfNone, IfSome, find, fold, is_some, not, option_map, if◌then◌else◌}
+use Rattle.std.proofs.lemmas.Bool.{le-ltb}
 use Rattle.aql_packet.specs.declared.ids.QueueId.{QueueId}
 use Rattle.aql_packet.specs.declared.ids.PacketId.{PacketId}
 use Rattle.policy.specs.Policy.{numbered}
@@ -35,7 +35,7 @@ use Rattle.access_core.proofs.PlacesMore.{flight-unlaunched, places-still}
 use Rattle.access_core.proofs.QueueAt.{IsRelease, flight-released}
 use Rattle.access_core.proofs.ChangedQueue.{freed-at}
 use Rattle.access_core.proofs.TakeLemmas.{IsOpen, is-open, owner-kept, queues-after, view-kept}
-use Rattle.access_core.proofs.WorkLemmas.{flying-released, freed-below, in-place, queues-released, release-room, sound-released}
+use Rattle.access_core.proofs.WorkLemmas.{freed-below, in-place, queues-released, release-room, sound-released}
 
 -- the barrier packet among the places is the one in flight
 barrier-placed : (g : InFlight → Place) (fs : List InFlight) → ((f : InFlight) → (g f).id ≡ f.id) → ((f : InFlight) → (g f).packet ≡ f.packet)

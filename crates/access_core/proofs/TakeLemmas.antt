@@ -1,6 +1,6 @@
 -- What is owed to a packet that is handed over, by what is kept.
-use Rattle.std.proofs.Common.{◌≡◌, ℕ, ◌-◌, ◌<◌, ◌≤◌, ◌^◌, List, [], ◌∷◌, ◌++◌, length, refl, sym, ◌∙◌, ap, Bool, true, false, Option, Some, None, arith}
-use Rattle.std.specs.Prelude.{nat_lt, nat_le, All, not, ◌||◌, ◌&&◌, ◌==◌, map, slice_get, option_map, if◌then◌else◌}
+use Rattle.std.proofs.Common.{◌≡◌, ℕ, ◌<◌, ◌≤◌, ◌^◌, List, [], ◌∷◌, ◌++◌, length, refl, sym, ◌∙◌, ap, Bool, true, false, Option, Some, None, arith}
+use Rattle.std.specs.Prelude.{nat_lt, nat_le, All, not, ◌||◌, ◌&&◌, ◌==◌, map, option_map, if◌then◌else◌}
 use Rattle.aql_packet.specs.declared.ids.QueueId.{QueueId}
 use Rattle.aql_packet.specs.declared.ids.PacketId.{PacketId}
 use Rattle.aql_packet.specs.declared.packet.Packet.{Packet}

@@ -18,7 +18,7 @@ use Rattle.core_model.specs.Memory.{region_lengths}
 use Rattle.core_model.specs.Flight.{flight, flight_after, flight_after_effect, in_flight, is_packet, progress, with_launched}
 use Rattle.core_model.specs.declared.flight.Progress.{Progress}
 use Rattle.core_model.specs.Owed.{Owed, owed, enters, error_at, refuses, completed, for_packet}
-use Rattle.core_model.specs.Legal.{due, entry_of, lacks_room, with_entry}
+use Rattle.core_model.specs.Legal.{due, entry_of, lacks_room}
 use Rattle.core_model.specs.Queues.{error_of, opening_of, owner, stops}
 use Rattle.core_model.specs.declared.event.Event.{Event}
 use Rattle.core_model.specs.declared.event.Event.TheVariants.{Finish, Poll}
@@ -30,7 +30,7 @@ use Rattle.core_model.specs.declared.entry.Effect.{Effect}
 use Rattle.core_model.specs.declared.outcome.Outcome.{Outcome}
 use Rattle.core_model.specs.declared.outcome.Outcome.TheVariants as outcome
 use Rattle.core_model.specs.History.{History}
-use Rattle.core_model.proofs.More.{with_error, with_some}
+use Rattle.core_model.proofs.More.{with_error}
 use Rattle.aql_packet.specs.declared.packet.Packet.{Packet}
 use Rattle.std.proofs.lemmas.List.{length-map}
 use Rattle.std.proofs.lemmas.List.Elements.{All-filter, All-head, All-tail}

@@ -1,9 +1,6 @@
 -- The queue has its first error, and the entry tells it.
-use Rattle.std.proofs.Common.{◌≡◌, ◌+◌, ◌∙◌, refl, sym, ap, subst, inl, true, false, Some, None, [], length}
-use Rattle.std.specs.Prelude.{nat_lt}
-use Rattle.std.proofs.lemmas.Bool.{ltb-false}
+use Rattle.std.proofs.Common.{refl, sym, subst, []}
 use Rattle.core_model.specs.declared.event.Event.TheVariants.{Take}
-use Rattle.core_model.specs.declared.flight.InFlight.{InFlight}
 use Rattle.core_model.specs.declared.outcome.Outcome.TheVariants as outcome
 use Rattle.core_model.specs.declared.outcome.Taken.TheVariants.{Denied}
 use Rattle.core_model.specs.Owed.{error_at}

@@ -1,13 +1,11 @@
 -- What is kept moves along with the failure, which always finds room: a packet leaves flight for its entry.
-use Rattle.std.proofs.Common.{◌≡◌, ◌++◌, refl, sym, ap, true, false, Bool, [], ◌∷◌, None, Some, length, arith}
+use Rattle.std.proofs.Common.{◌≡◌, ◌++◌, refl, true, false, Bool, [], ◌∷◌}
 use Rattle.std.specs.Prelude.{◌==◌, if◌then◌else◌}
-use Rattle.std.proofs.lemmas.Bool.{le-ltb}
 use Rattle.aql_packet.specs.declared.ids.QueueId.{QueueId}
 use Rattle.aql_packet.specs.declared.ids.PacketId.{PacketId}
 use Rattle.queue_error.specs.declared.rule.Rule.TheVariants.{B1}
 use Rattle.core_model.specs.declared.event.Event.TheVariants.{Poll}
 use Rattle.core_model.specs.declared.entry.Effect.TheVariants as effect
-use Rattle.core_model.specs.declared.flight.InFlight.{InFlight}
 use Rattle.core_model.specs.declared.outcome.Outcome.TheVariants as outcome
 use Rattle.core_model.specs.declared.outcome.Polled.TheVariants.{Failed}
 use Rattle.core_model.specs.Owed.{error_at}
@@ -17,9 +15,9 @@ use Rattle.access_core.specs.inner.Cached.{start_of}
 use Rattle.access_core.specs.inner.QueueChanges.{with_failure}
 use Rattle.access_core.proofs.HeldAfter.{grants-released}
 use Rattle.access_core.proofs.CachedMore.{IsCached-more, has_place, memory-still}
-use Rattle.access_core.proofs.QueueAt.{IsRelease, flight-released}
+use Rattle.access_core.proofs.QueueAt.{flight-released}
 use Rattle.access_core.proofs.TakeLemmas.{is-open}
-use Rattle.access_core.proofs.WorkLemmas.{failure-releases, can-fail, flying-released, freed-below, place-inside, queues-released, release-room, sound-failed}
+use Rattle.access_core.proofs.WorkLemmas.{failure-releases, can-fail, freed-below, place-inside, queues-released, sound-failed}
 use Rattle.access_core.proofs.access.AccessCore.fail.Goals as goal
 
 abbrev failed : QueueId → PacketId → QueueView → QueueView

@@ -1,11 +1,7 @@
 -- What is kept moves along with the completion, which always finds room: a packet leaves flight for its entry.
-use Rattle.std.proofs.Common.{◌≡◌, refl, sym, ap, true, false, Bool, List, None, Some, length, arith}
-use Rattle.std.specs.Prelude.{ℤ, if◌then◌else◌}
-use Rattle.core_model.specs.declared.flight.InFlight.{InFlight}
-use Rattle.std.proofs.lemmas.Bool.{le-ltb}
-use Rattle.aql_packet.specs.declared.ids.QueueId.{QueueId}
+use Rattle.std.proofs.Common.{◌≡◌, refl, true, false, Bool}
+use Rattle.std.specs.Prelude.{if◌then◌else◌}
 use Rattle.aql_packet.specs.declared.ids.PacketId.{PacketId}
-use Rattle.aql_packet.specs.declared.packet.Packet.{Packet}
 use Rattle.core_model.specs.declared.event.Event.TheVariants.{Finish}
 use Rattle.core_model.specs.declared.outcome.Outcome.TheVariants as outcome
 use Rattle.core_model.specs.Needs.{completion}
@@ -16,9 +12,9 @@ use Rattle.access_core.specs.inner.Cached.{start_of}
 use Rattle.access_core.specs.inner.QueueChanges.{with_release}
 use Rattle.access_core.proofs.HeldAfter.{grants-released}
 use Rattle.access_core.proofs.CachedMore.{IsCached-more, has_place, memory-still}
-use Rattle.access_core.proofs.QueueAt.{IsRelease, flight-released}
+use Rattle.access_core.proofs.QueueAt.{flight-released}
 use Rattle.access_core.proofs.TakeLemmas.{is-open}
-use Rattle.access_core.proofs.WorkLemmas.{finish-releases, flight-completed, flying-released, freed-below, memory-completed, finish-due, place-inside, queues-released, release-room, sound-released}
+use Rattle.access_core.proofs.WorkLemmas.{finish-releases, freed-below, memory-completed, finish-due, place-inside, queues-released, sound-released}
 use Rattle.access_core.proofs.access.AccessCore.finish.Goals as goal
 
 pick : (id : PacketId) (b : Bool) (v : QueueView) → record { next = v.next; stopped = v.stopped; errors = v.errors; places = (if b then without id v.places else v.places) } ≡ (if b then record v { places = without id v.places } else v)

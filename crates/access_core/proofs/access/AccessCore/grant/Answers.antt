@@ -1,11 +1,11 @@
 -- What is cached follows the grant, which is entered where there is room.
-use Rattle.std.proofs.Common.{◌≡◌, refl, sym, ◌∙◌, true, false, []}
+use Rattle.std.proofs.Common.{refl, sym, ◌∙◌, true, false, []}
 use Rattle.aql_packet.specs.declared.ids.ClientId.{ClientId}
 use Rattle.policy.specs.declared.object.Object.{Object}
 use Rattle.policy.specs.declared.rights.Rights.{Rights}
 use Rattle.core_model.specs.declared.event.Event.TheVariants.{Grant}
 use Rattle.core_model.specs.declared.outcome.Outcome.TheVariants as outcome
-use Rattle.access_core.specs.inner.Cached.{is_full, start_of}
+use Rattle.access_core.specs.inner.Cached.{start_of}
 use Rattle.access_core.proofs.CachedMore.{IsCached-more, has_place, memory-still, queues-still}
 use Rattle.access_core.proofs.QueueAt.{IsQuiet, flight-quiet}
 use Rattle.access_core.proofs.Calls.{due-by, met-refusal, met-entry}

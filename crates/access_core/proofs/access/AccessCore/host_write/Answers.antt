@@ -1,7 +1,5 @@
 -- What is kept moves along with a client's write, which is entered where there is room.
-use Rattle.std.proofs.Common.{◌≡◌, refl, inl, true, false, List, [], ◌∷◌, ◌+◌, ℕ, length}
-use Rattle.std.specs.Prelude.{nat_lt}
-use Rattle.std.proofs.lemmas.Bool.{ltb-false}
+use Rattle.std.proofs.Common.{◌≡◌, refl, true, List, [], ◌∷◌, ℕ, length}
 use Rattle.aql_packet.specs.declared.ids.Address.{Address}
 use Rattle.aql_packet.specs.declared.ids.ClientId.{ClientId}
 use Rattle.core_model.specs.declared.event.Event.TheVariants.{HostWrite}

@@ -1,8 +1,5 @@
 -- The packet is in flight, and the entry tells it.
-use Rattle.std.proofs.Common.{◌≡◌, ◌+◌, ◌∙◌, refl, sym, subst, inl, true, false, Some, [], length}
-use Rattle.std.specs.Prelude.{nat_lt}
-use Rattle.std.proofs.lemmas.Bool.{ltb-false}
-use Rattle.aql_packet.specs.declared.packet.Packet.{Packet}
+use Rattle.std.proofs.Common.{◌≡◌, ◌∙◌, refl, sym, subst, true, Some, []}
 use Rattle.core_model.specs.declared.event.Event.TheVariants.{Take}
 use Rattle.core_model.specs.declared.outcome.Outcome.TheVariants as outcome
 use Rattle.core_model.specs.declared.outcome.Taken.TheVariants.{Launched}

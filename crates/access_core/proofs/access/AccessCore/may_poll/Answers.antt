@@ -1,9 +1,9 @@
 -- What the packet is due, by what is found.
-use Rattle.std.proofs.Common.{rules, ◌≡◌, ◌∙◌, ap, sym, refl, true, false, []}
+use Rattle.std.proofs.Common.{rules, ◌∙◌, ap, refl, []}
 use Rattle.core_model.specs.declared.event.Event.TheVariants.{Poll}
 use Rattle.core_model.specs.declared.outcome.Outcome.TheVariants as outcome
 use Rattle.core_model.specs.Memory.{signals}
-use Rattle.core_model.specs.Owed.{owed, owed_poll, answers, enters, refuses}
+use Rattle.core_model.specs.Owed.{owed, owed_poll, answers, enters}
 use Rattle.access_core.specs.inner.Polling.{look_owed, sight}
 use Rattle.access_core.proofs.Calls.{due-as}
 use Rattle.access_core.proofs.PollLemmas.{poll-owed}

@@ -1,7 +1,6 @@
 -- What the packet's next group is due.
-use Rattle.std.proofs.Common.{rules, ◌≡◌, ◌∙◌, sym, subst, true, false, Some}
+use Rattle.std.proofs.Common.{rules, ◌∙◌, sym, subst, true, false, Some}
 use Rattle.std.specs.Option.{IfSome}
-use Rattle.core_model.specs.declared.event.Event.TheVariants.{RunNext}
 use Rattle.core_model.specs.Owed.{owed, owed_group}
 use Rattle.access_core.specs.inner.InPlace.{IsGroupOf}
 use Rattle.access_core.proofs.RunLemmas.{due-done, due-group, due-refused, next-group}

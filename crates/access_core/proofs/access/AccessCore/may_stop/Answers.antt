@@ -4,7 +4,6 @@ use Rattle.policy.specs.Policy.{numbered}
 use Rattle.core_model.specs.declared.event.Event.TheVariants.{Stop}
 use Rattle.core_model.specs.declared.refusal.Refusal.TheVariants as refusal
 use Rattle.core_model.specs.Owed.{refuses}
-use Rattle.access_core.specs.inner.Cached.{is_full}
 use Rattle.access_core.proofs.Calls.{due-by}
 use Rattle.access_core.proofs.StopLemmas.{may-stop, stop-full, stop-known, stop-unknown}
 use Rattle.access_core.proofs.access.AccessCore.may_stop.Goals.{else-is_none-via-then-is_none+else-is_full, else-is_none-via-else-is_none}

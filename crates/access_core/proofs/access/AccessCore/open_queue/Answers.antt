@@ -1,7 +1,5 @@
 -- What is kept moves along with the opening, which is entered where there is room.
-use Rattle.std.proofs.Common.{◌≡◌, ◌+◌, ◌<◌, ◌∙◌, refl, sym, subst, ap, [], length, ℕ, arith}
-use Rattle.std.specs.Prelude.{nat_lt}
-use Rattle.std.proofs.lemmas.Bool.{ltb-false}
+use Rattle.std.proofs.Common.{◌<◌, ◌∙◌, refl, sym, subst, ap, [], length, ℕ, arith}
 use Rattle.std.proofs.lemmas.List.{map-append}
 use Rattle.std.proofs.lemmas.List.Elements.{All-nil, All-push}
 use Rattle.aql_packet.specs.declared.ids.AgentHandle.{AgentHandle}

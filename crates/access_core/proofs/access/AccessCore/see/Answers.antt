@@ -1,9 +1,6 @@
 -- What is kept moves along with what is seen, which is entered where there is room.
-use Rattle.std.proofs.Common.{◌≡◌, ◌+◌, ◌∙◌, refl, sym, ap, true, false, Some, None, [], length}
-use Rattle.std.specs.Prelude.{nat_lt}
-use Rattle.std.proofs.lemmas.Bool.{ltb-false}
+use Rattle.std.proofs.Common.{◌∙◌, refl, sym, ap, []}
 use Rattle.core_model.specs.declared.event.Event.TheVariants.{Poll}
-use Rattle.core_model.specs.declared.flight.InFlight.{InFlight}
 use Rattle.core_model.specs.declared.outcome.Outcome.TheVariants as outcome
 use Rattle.access_core.specs.inner.Cached.{start_of}
 use Rattle.access_core.specs.inner.Polling.{sight}

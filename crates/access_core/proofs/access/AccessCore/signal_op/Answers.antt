@@ -1,7 +1,6 @@
 -- What is kept moves along with the change of a signal, which is entered where there is room.
-use Rattle.std.proofs.Common.{◌≡◌, refl, true, false, [], ◌∷◌, ◌+◌, length, w64, to_z-of_z, SFits, rules}
-use Rattle.std.specs.Prelude.{ℤ, nat_lt}
-use Rattle.std.proofs.lemmas.Bool.{ltb-false}
+use Rattle.std.proofs.Common.{refl, [], ◌∷◌, w64, to_z-of_z, SFits, rules}
+use Rattle.std.specs.Prelude.{ℤ}
 use Rattle.aql_packet.specs.declared.ids.ClientId.{ClientId}
 use Rattle.aql_packet.specs.declared.ids.SignalHandle.{SignalHandle}
 use Rattle.signals.specs.declared.operation.SignalOp.{SignalOp}
