@@ -1,4 +1,4 @@
--- What a grant and a revocation are owed, by the grants that are kept.
+-- What a grant and a revocation are owed, by the grants that are cached.
 use Rattle.std.proofs.Common.{◌≡◌, refl, sym, ◌∙◌, ap, Bool, true, false, Option, Some, None, Ok, Err}
 use Rattle.std.specs.Prelude.{◌&&◌, [], Result, if◌then◌else◌, not}
 use Rattle.grants.specs.Rules as rules_kept
@@ -19,10 +19,13 @@ use Rattle.core_model.specs.declared.refusal.Refusal.TheVariants as refusal
 use Rattle.core_model.specs.declared.flight.InFlight.{InFlight}
 use Rattle.core_model.specs.Holds.{holder, is_owned, holds_one_of}
 use Rattle.core_model.specs.Flight.{flight}
+use Rattle.core_model.specs.History.{History}
 use Rattle.core_model.specs.Owed.{owed, enters, refuses, refuse_unless}
+use Rattle.core_model.specs.Legal.{due}
 use Rattle.access_core.specs.declared.access.AccessCore.TheInside.{Inside}
-use Rattle.access_core.specs.Kept.{IsKept, start_of}
-use Rattle.access_core.specs.Granting.{refusal_of}
+use Rattle.access_core.specs.inner.Cached.{IsCached, history_of, is_full, start_of}
+use Rattle.access_core.specs.inner.Granting.{refusal_of}
+use Rattle.access_core.proofs.Calls.{due-by}
 use Rattle.access_core.proofs.HeldMore.{AreHeld-legal}
 use Rattle.access_core.proofs.HeldRights.{is_holder-history}
 use Rattle.access_core.proofs.Least.{passes, least-none, least-first}
@@ -32,7 +35,7 @@ abbrev due_of : Bool → Bool → Bool → Result (Unit {0}) Why
 due_of client object rights =
     if not client then Err why.UnknownClient else if not object then Err why.UnknownObject else if not rights then Err why.NotAllowed else Ok tt
 
-module _ (a : Inside) (kept : IsKept a) (client : ClientId) (on : Object) (rights : Rights) where
+module _ (a : Inside) (kept : IsCached a) (client : ClientId) (on : Object) (rights : Rights) where
   rules_is : rules_in a.grants ≡ rules_of a.policy
   rules_is = kept.rules
 
@@ -51,7 +54,7 @@ module _ (a : Inside) (kept : IsKept a) (client : ClientId) (on : Object) (right
       by_tests true true false e = let is : r ≡ why.NotAllowed = cc in rw is refl
       by_tests true true true e = absurd cc
 
-  pub grant-owed : Ok tt ≡ grant_due a.grants client on rights → owed (start_of a) a.audit.items (Grant client on rights) ≡ enters outcome.Accepted []
+  grant-owed : Ok tt ≡ grant_due a.grants client on rights → owed (start_of a) a.audit.items (Grant client on rights) ≡ enters outcome.Accepted []
   unfolding owed
   grant-owed due = by_tests (declares_client a.policy client) (declares a.policy on) (allows a.policy client on rights) (due ∙ due-is)
     where
@@ -61,6 +64,10 @@ module _ (a : Inside) (kept : IsKept a) (client : ClientId) (on : Object) (right
       by_tests true false s e = absurd cc
       by_tests true true false e = absurd cc
       by_tests true true true e = refl
+
+  -- so it is due its entry, where there is room
+  pub grant-due : (old : History) → history_of a ≡ old → Ok tt ≡ grant_due a.grants client on rights → (full : Bool) → is_full old ≡ full → due old (Grant client on rights) ≡ (if full then refuses refusal.AuditFull else enters outcome.Accepted [])
+  grant-due old seen_as may full is = due-by a old seen_as (Grant client on rights) _ (grant-owed may) ∙ ap (λ b. if b then refuses refusal.AuditFull else enters outcome.Accepted []) is
 
   -- whether a packet in flight holds, by the history
   abbrev holding : InFlight → Bool
@@ -75,13 +82,16 @@ module _ (a : Inside) (kept : IsKept a) (client : ClientId) (on : Object) (right
   first-test (Some first) is = (sym (same_test first.0 first.1) ∙ is.0, λ queue id passing. is.1 queue id (same_test queue id ∙ passing))
 
   -- a revocation that grants let pass is owed its entry
-  pub revoke-owed : RevokeAnswers a.grants client on rights (Ok tt) → owed (start_of a) a.audit.items (Revoke client on rights) ≡ enters outcome.Accepted []
+  revoke-owed : RevokeAnswers a.grants client on rights (Ok tt) → owed (start_of a) a.audit.items (Revoke client on rights) ≡ enters outcome.Accepted []
   unfolding owed
   revoke-owed answers =
       let known : declares_client a.policy client ≡ true = sym (ap (λ (rules : Rules). knows_client rules client) rules_is) ∙ answers.0 in
       let there : declares a.policy on ≡ true = sym (ap (λ (rules : Rules). knows rules on) rules_is) ∙ answers.1 in
       let none : holder (start_of a) a.audit.items client on rights ≡ None = least-none holding (flight (start_of a) a.audit.items) (first-test None answers.2) in
       rw (known, there, none) refl
+
+  pub revoke-due : (old : History) → history_of a ≡ old → RevokeAnswers a.grants client on rights (Ok tt) → (full : Bool) → is_full old ≡ full → due old (Revoke client on rights) ≡ (if full then refuses refusal.AuditFull else enters outcome.Accepted [])
+  revoke-due old seen_as may full is = due-by a old seen_as (Revoke client on rights) _ (revoke-owed may) ∙ ap (λ b. if b then refuses refusal.AuditFull else enters outcome.Accepted []) is
 
   -- one that grants refuse is owed the refusal
   pub revoke-refused : (r : Why) → RevokeAnswers a.grants client on rights (Err r) → owed (start_of a) a.audit.items (Revoke client on rights) ≡ refuses (refusal_of r)

@@ -13,7 +13,7 @@ use Rattle.core_model.proofs.Holding.{held_from-kept, held_from-launch, held_fro
 use Rattle.core_model.specs.Holds.{is_launch}
 use Rattle.core_model.specs.Owed.{owed, enters}
 use Rattle.core_model.specs.Legal.{IsLegal}
-use Rattle.access_core.specs.Held.{IsHeld}
+use Rattle.access_core.specs.inner.Held.{IsHeld}
 use Rattle.core_model.proofs.Launches.{launched_by-is, was_launched, IsNext-from_owed, AreBelowNext-legal}
 
 -- ---- one entry more

@@ -20,7 +20,7 @@ use Rattle.core_model.specs.History.{Start}
 use Rattle.core_model.specs.Queues.{Opening, owner}
 use Rattle.core_model.specs.Flight.{is_packet}
 use Rattle.core_model.specs.Holds.{Held, held_at_launch, is_owned, holds_one_of}
-use Rattle.access_core.specs.Held.{as_rights, holds_by, packet_holds, IsHeld}
+use Rattle.access_core.specs.inner.Held.{as_rights, holds_by, packet_holds, IsHeld}
 
 -- ---- tests of lists
 

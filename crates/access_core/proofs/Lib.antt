@@ -1,11 +1,10 @@
-pub mod KeptMore
+pub mod CachedMore
 pub mod Calls
 pub mod QueueLemmas
-pub mod KeptFacts
 pub mod TakeLemmas
 pub mod PlacesMore
 pub mod QueueAt
-pub mod QueueMoves
+pub mod ChangedQueue
 pub mod PollLemmas
 pub mod StopLemmas
 pub mod LookupLemmas
@@ -16,7 +15,7 @@ pub mod RunLemmas
 pub mod HostMemory
 pub mod HeldMore
 pub mod HeldRights
-pub mod HeldMoves
+pub mod HeldAfter
 pub mod Granting
 pub mod Listing
 pub mod Least

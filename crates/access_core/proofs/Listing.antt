@@ -15,9 +15,9 @@ use Rattle.core_model.specs.declared.event.Query.TheVariants as query
 use Rattle.core_model.specs.History.{History}
 use Rattle.core_model.specs.Queries.{replied, listing, all_objects}
 use Rattle.access_core.specs.declared.access.AccessCore.TheInside.{Inside}
-use Rattle.access_core.specs.Kept.{IsKept, start_of, history_of}
+use Rattle.access_core.specs.inner.Cached.{IsCached, start_of, history_of}
 
-module _ (a : Inside) (kept : IsKept a) (client : ClientId) where
+module _ (a : Inside) (kept : IsCached a) (client : ClientId) where
   listing-kept : ledger.listing a.grants client ≡ listing (start_of a) a.audit.items client
   unfolding ledger.listing_by
   listing-kept =

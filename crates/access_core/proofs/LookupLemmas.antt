@@ -6,14 +6,14 @@ use Rattle.policy.proofs.NameLemmas.{numbered-map}
 use Rattle.core_model.specs.History.{History}
 use Rattle.access_core.specs.declared.access.AccessCore.TheInside.{Inside}
 use Rattle.access_core.specs.declared.queue.Queue.{Queue}
-use Rattle.access_core.specs.Kept.{IsKept, history_of}
-use Rattle.access_core.specs.CachedQueue.{kept_opening}
-use Rattle.access_core.specs.Lookups.{IsQueue}
+use Rattle.access_core.specs.inner.Cached.{IsCached, history_of}
+use Rattle.access_core.specs.inner.CachedQueue.{cached_opening}
+use Rattle.access_core.specs.inner.Lookups.{IsQueue}
 
 -- the queue with a number among those kept
-pub IsQueue-kept : (a : Inside) (history : History) (queue : QueueId) (kept : Option Queue) → IsKept a → history_of a ≡ history → kept ≡ numbered a.queues.items queue.0 → IsQueue history queue kept
+pub IsQueue-kept : (a : Inside) (history : History) (queue : QueueId) (kept : Option Queue) → IsCached a → history_of a ≡ history → kept ≡ numbered a.queues.items queue.0 → IsQueue history queue kept
 IsQueue-kept a history queue kept is seen_as found =
     subst (λ h. IsQueue h queue kept) seen_as (rw found (record {
-      opening = sym (numbered-map kept_opening a.queues.items queue.0) ∙ ap (λ all. numbered all queue.0) is.openings;
+      opening = sym (numbered-map cached_opening a.queues.items queue.0) ∙ ap (λ all. numbered all queue.0) is.openings;
       cached_is = is.queues queue;
     }))

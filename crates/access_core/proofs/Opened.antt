@@ -1,5 +1,5 @@
 -- What is kept of a core in which nothing has happened.
-use Rattle.std.proofs.Common.{◌≡◌, ℕ, ◌≤◌, ◌^◌, List, [], length, refl, sym, ◌∙◌, ap, subst, Bool, true, false, Some, None, arith}
+use Rattle.std.proofs.Common.{◌≡◌, ℕ, ◌≤◌, List, [], length, refl, sym, ◌∙◌, ap, subst, Bool, true, false, Some, None, arith}
 use Rattle.std.specs.Prelude.{map, ◌-◌, filter, slice_get, nat_lt, ◌==◌, All, if◌then◌else◌}
 use Rattle.std.proofs.lemmas.List.Elements.{All-nil}
 use Rattle.aql_packet.specs.declared.ids.QueueId.{QueueId}
@@ -11,6 +11,7 @@ use Rattle.policy.specs.declared.object.Object.{Object}
 use Rattle.policy.specs.declared.rights.Right.{Right}
 use Rattle.core_model.specs.declared.entry.Entry.{Entry}
 use Rattle.core_model.specs.declared.flight.InFlight.{InFlight}
+use Rattle.core_model.specs.declared.limits.TheConstants.{MOST_ENTRIES}
 use Rattle.core_model.specs.History.{Start, effects_of}
 use Rattle.core_model.specs.Legal.{IsLegal}
 use Rattle.core_model.specs.Grants.{in_force}
@@ -24,10 +25,10 @@ use Rattle.core_model.specs.Queues.{owner}
 use Rattle.grants.specs.Ledger as ledger
 use Rattle.grants.specs.Ledger.{IsNew}
 use Rattle.grants.specs.Rules.{rules_of}
-use Rattle.access_core.specs.Held.{packet_holds}
-use Rattle.access_core.specs.Kept.{IsKept, start_of}
-use Rattle.access_core.specs.CachedQueue.{IsSound, cached, kept_opening, place_of, queue_at}
-use Rattle.access_core.specs.LiesInRegions.{lies_in_regions}
+use Rattle.access_core.specs.inner.Held.{packet_holds}
+use Rattle.access_core.specs.inner.Cached.{IsCached, start_of}
+use Rattle.access_core.specs.inner.CachedQueue.{IsSound, cached, cached_opening, place_of, queue_at}
+use Rattle.access_core.specs.inner.LiesInRegions.{lies_in_regions}
 use Rattle.access_core.specs.Opening.{is_capacity, lengths_of_rows, values_of_rows}
 use Rattle.std.proofs.lemmas.Bool.Decides.{nat_tests}
 
@@ -97,8 +98,8 @@ module _ (a : Inside) (granted : IsNew a.grants) (ruled : ledger.rules_in a.gran
   values-opened : a.signals ≡ signals (start_of a) a.audit.items
   values-opened = values ∙ no_change (start_of a) ∙ sym (ap (signals (start_of a)) entries)
 
-  openings-opened : map kept_opening a.queues.items ≡ openings (start_of a) a.audit.items
-  openings-opened = ap (map kept_opening) queues ∙ no_opening (start_of a) ∙ sym (ap (openings (start_of a)) entries)
+  openings-opened : map cached_opening a.queues.items ≡ openings (start_of a) a.audit.items
+  openings-opened = ap (map cached_opening) queues ∙ no_opening (start_of a) ∙ sym (ap (openings (start_of a)) entries)
 
   no_queue : (queue : QueueId) → numbered a.queues.items queue.0 ≡ None
   no_queue queue = ap (λ (qs : List Queue). numbered qs queue.0) queues ∙ numbered-none queue.0
@@ -120,8 +121,8 @@ module _ (a : Inside) (granted : IsNew a.grants) (ruled : ledger.rules_in a.gran
   flying-opened : a.flying ≡ length (flight (start_of a) a.audit.items)
   flying-opened = flying ∙ sym (ap length flight-opened)
 
-  reachable-opened : All (λ (f : InFlight). lies_in_regions (region_lengths (start_of a)) f.packet ≡ true) (flight (start_of a) a.audit.items)
-  reachable-opened = subst (All (λ (f : InFlight). lies_in_regions (region_lengths (start_of a)) f.packet ≡ true)) (sym flight-opened) (All-nil _)
+  within-opened : All (λ (f : InFlight). lies_in_regions (region_lengths (start_of a)) f.packet ≡ true) (flight (start_of a) a.audit.items)
+  within-opened = subst (All (λ (f : InFlight). lies_in_regions (region_lengths (start_of a)) f.packet ≡ true)) (sym flight-opened) (All-nil _)
 
   none_queues : length a.queues.items ≡ 0
   none_queues = ap length queues
@@ -132,8 +133,8 @@ module _ (a : Inside) (granted : IsNew a.grants) (ruled : ledger.rules_in a.gran
   legal-opened : IsLegal (start_of a) a.audit.items
   legal-opened = subst (IsLegal (start_of a)) (sym entries) tt
 
-  pub IsKept-opened : a.capacity ≤ a.audit.room → a.capacity ≤ 2 ^ 20 → IsKept a
-  IsKept-opened places few = record {
+  pub IsCached-opened : a.capacity ≤ a.audit.room → a.capacity ≤ MOST_ENTRIES → IsCached a
+  IsCached-opened places few = record {
     granted = granted-opened;
     rules = ruled;
     held = held-opened;
@@ -145,7 +146,7 @@ module _ (a : Inside) (granted : IsNew a.grants) (ruled : ledger.rules_in a.gran
     sound = sound-opened;
     few_queues = omega (arith, none_queues);
     flying = flying-opened;
-    reachable = reachable-opened;
+    within = within-opened;
     room = omega (arith, flying, none_entries);
     places = omega (arith, none_entries, places);
     few = few;
@@ -157,5 +158,5 @@ pub by_room : (capacity room : ℕ) → room ≡ capacity → capacity ≤ room
 by_room capacity room is = omega (arith, is)
 
 -- a capacity is at most 2^20
-pub few_places : (capacity : ℕ) → is_capacity capacity ≡ true → capacity ≤ 2 ^ 20
+pub few_places : (capacity : ℕ) → is_capacity capacity ≡ true → capacity ≤ MOST_ENTRIES
 few_places capacity is = grind (arith, nat_tests)

@@ -20,7 +20,7 @@ use Rattle.core_model.specs.Legal.{entry_of}
 use Rattle.core_model.proofs.More.{flight-more, progress-more}
 use Rattle.packet_processor.specs.declared.places.Place.{Place}
 use Rattle.packet_processor.specs.Queueing.{as_launched, with_progress, without}
-use Rattle.access_core.specs.CachedQueue.{place_of}
+use Rattle.access_core.specs.inner.CachedQueue.{place_of}
 
 -- ---- lists of packets
 

@@ -24,7 +24,7 @@ use Rattle.core_model.specs.Owed.{error_at}
 use Rattle.core_model.proofs.More.{errors-more, is_stopped-more, next_id-more, with_error}
 use Rattle.packet_processor.specs.declared.places.Place.{Place}
 use Rattle.packet_processor.specs.Queueing.{as_launched, with_progress, without}
-use Rattle.access_core.specs.CachedQueue.{QueueView, queue_at}
+use Rattle.access_core.specs.inner.CachedQueue.{QueueView, queue_at}
 use Rattle.access_core.proofs.PlacesMore.{flight-unlaunched, places-advanced, places-launched, places-released, places-still}
 
 -- An entry that changes nothing of any queue.

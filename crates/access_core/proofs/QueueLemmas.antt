@@ -2,7 +2,12 @@
 use Rattle.std.proofs.Common.{◌≡◌, ℕ, zero, suc, ◌-◌, ◌<◌, ◌≤◌, length, length-append, arith, List, [], ◌∷◌, ◌++◌, refl, Bool, true, false, Option, Some, None}
 use Rattle.std.specs.Prelude.{slice_get, nat_lt, if◌then◌else◌}
 use Rattle.policy.specs.Policy.{numbered}
+use Rattle.core_model.specs.declared.limits.TheConstants.{QUEUES}
+use Rattle.core_model.specs.Queues.{openings}
+use Rattle.access_core.specs.declared.access.AccessCore.TheInside.{Inside}
 use Rattle.access_core.specs.declared.queue.Queue.{Queue}
+use Rattle.access_core.specs.inner.Cached.{IsCached, start_of}
+use Rattle.std.proofs.lemmas.List.{length-map}
 
 slice_get-push : {X : Type 0} (f : Option Queue → X) (queues : List Queue) (q : Queue) → f (Some q) ≡ f None → (k : ℕ) → f (slice_get (queues ++ q ∷ []) k) ≡ f (slice_get queues k)
 slice_get-push f [] q fresh zero = fresh
@@ -18,5 +23,9 @@ numbered-push f queues q fresh n = either (nat_lt 0 n)
     either true = slice_get-push f queues q fresh (n - 1)
     either false = refl
 
-pub few_after : (queues : List Queue) (q : Queue) → length queues < 64 → length (queues ++ q ∷ []) ≤ 64
+pub few_after : (queues : List Queue) (q : Queue) → length queues < QUEUES → length (queues ++ q ∷ []) ≤ QUEUES
 few_after queues q few = omega (arith, length-append queues (q ∷ []))
+
+-- as many queues are cached as were opened
+pub openings-count : (a : Inside) → IsCached a → length (openings (start_of a) a.audit.items) < QUEUES → length a.queues.items < QUEUES
+openings-count a kept few = rw (← kept.openings, length-map) at few

@@ -17,8 +17,8 @@ use Rattle.regions.proofs.Laws.{IsWithin-from_test, length-bytes_from, slice_get
 use Rattle.core_model.specs.History.{History}
 use Rattle.core_model.specs.Memory.{memory_at, memory_from, region_lengths}
 use Rattle.access_core.specs.declared.access.AccessCore.TheInside.{Inside}
-use Rattle.access_core.specs.Kept.{IsKept, history_of, start_of}
-use Rattle.access_core.specs.Lookups.{bytes_within}
+use Rattle.access_core.specs.inner.Cached.{IsCached, history_of, start_of}
+use Rattle.access_core.specs.inner.Lookups.{bytes_within}
 
 -- an address that has a byte lies in a region
 lies-from_byte : (regions : List (List ℕ)) (x byte : ℕ) → byte_at regions x ≡ Some byte → lies_in_region (lengths_of regions) x ≡ true
@@ -29,7 +29,7 @@ lies-from_byte regions x byte is = by_test (lies_in_region (lengths_of regions) 
     by_test false e = absurd (none-some byte (sym (byte_at-outside regions x e) ∙ is))
 
 -- the bytes of a range that lies whole in one region, as the memory holds them, are those of the history
-pub bytes_from-kept : (a : Inside) (address size : ℕ) → IsKept a → IsMemory a.memory → is_within (lengths_of a.memory) address size ≡ true → bytes_from a.memory address size ≡ memory_from (start_of a) a.audit.items address size
+pub bytes_from-kept : (a : Inside) (address size : ℕ) → IsCached a → IsMemory a.memory → is_within (lengths_of a.memory) address size ≡ true → bytes_from a.memory address size ≡ memory_from (start_of a) a.audit.items address size
 bytes_from-kept a address size kept memory test =
     let within = IsWithin-from_test a.memory address size test in
     let long = length-bytes_from a.memory address size within in
@@ -55,7 +55,7 @@ within-err true true why e = absurd (none-some why (sym e))
 within-err true false why e = refl
 within-err false fits why e = refl
 
-module _ (a : Inside) (kept : IsKept a) (memory : IsMemory a.memory) (address size : ℕ) where
+module _ (a : Inside) (kept : IsCached a) (memory : IsMemory a.memory) (address size : ℕ) where
   by_read : (read : Result (Bor (List ℕ)) RegionFault) → result_err read ≡ range_fault (lengths_of a.memory) address size → IfOk read (λ bytes. bytes.now ≡ bytes_from a.memory address size) →
       option_copied (result_ok read) ≡ (if is_within (lengths_of a.memory) address size then Some (memory_from (start_of a) a.audit.items address size) else None)
   by_read (Ok bytes) fault is =
@@ -66,7 +66,7 @@ module _ (a : Inside) (kept : IsKept a) (memory : IsMemory a.memory) (address si
       sym (cond-false (is_within (lengths_of a.memory) address size) _ _ (within-err (lies_in_region (lengths_of a.memory) address) _ why fault))
 
 -- what a read answers: the bytes of the history, where the range lies whole in one region
-pub bytes_within-read : (a : Inside) (history : History) (address : Address) (size : ℕ) (read : Result (Bor (List ℕ)) RegionFault) → IsKept a → IsMemory a.memory → history_of a ≡ history →
+pub bytes_within-read : (a : Inside) (history : History) (address : Address) (size : ℕ) (read : Result (Bor (List ℕ)) RegionFault) → IsCached a → IsMemory a.memory → history_of a ≡ history →
     result_err read ≡ range_fault (lengths_of a.memory) address.0 size → IfOk read (λ bytes. bytes.now ≡ bytes_from a.memory address.0 size) →
     option_copied (result_ok read) ≡ bytes_within history address size
 bytes_within-read a history address size read kept memory seen_as fault bytes =

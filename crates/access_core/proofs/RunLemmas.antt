@@ -1,6 +1,6 @@
 -- Groups that ran: what their writes leave, and how many there can be.
-use Rattle.std.proofs.Common.{◌≡◌, ℕ, ◌+◌, ◌^◌, List, [], ◌++◌, length, refl, sym, ◌∙◌, ap, subst, Bool, true, false, Option, Some, None}
-use Rattle.std.specs.Prelude.{ℤ, ◌==◌, ◌%◌, Result, Ok, Err, IfOk, IfErr, fold, replicate, if◌then◌else◌}
+use Rattle.std.proofs.Common.{◌≡◌, ℕ, ◌+◌, ◌^◌, List, [], ◌++◌, length, refl, sym, ◌∙◌, ap, Bool, true, false, Option, Some, None}
+use Rattle.std.specs.Prelude.{ℤ, ◌==◌, ◌%◌, fold, nat_lt, replicate, if◌then◌else◌}
 use Rattle.std.specs.Option.{IfSome}
 use Rattle.std.specs.Int.{w64, to_le_bytes}
 use Rattle.std.proofs.lemmas.List.Sums.{fold-append}
@@ -17,19 +17,24 @@ use Rattle.core_model.specs.declared.flight.InFlight.{InFlight}
 use Rattle.core_model.specs.declared.flight.Progress.{Progress}
 use Rattle.core_model.specs.History.{Start, History}
 use Rattle.core_model.specs.Memory.{memory_from, region_lengths, signals_after}
-use Rattle.core_model.specs.Flight.{flight_after_effect}
+use Rattle.core_model.specs.Flight.{flight, flight_after_effect}
 use Rattle.core_model.specs.Work.{write_of, agent_writes, function_writes, function_result, result_writes, number_in_memory}
 use Rattle.core_model.specs.declared.need.AgentFunction.{AgentFunction}
 use Rattle.core_model.specs.declared.need.AgentFunction.TheVariants.{Fill, Copy, Add64}
 use Rattle.core_model.specs.Needs.{function_of}
-use Rattle.core_model.specs.Owed.{owed, enters}
+use Rattle.core_model.specs.declared.refusal.Refusal.{Refusal}
+use Rattle.core_model.specs.declared.refusal.Refusal.TheVariants as refusal
+use Rattle.core_model.specs.Owed.{enters, owed, owed_group, refuses}
+use Rattle.core_model.specs.Legal.{due}
 use Rattle.packet_processor.specs.declared.places.Place.{Place}
 use Rattle.access_core.specs.declared.access.AccessCore.TheInside.{Inside}
 use Rattle.access_core.specs.declared.access.running.Group.{Group}
-use Rattle.access_core.specs.InPlace.{IsGroupOf, IsInPlace, IsNextGroup, Reaches, run_owed}
-use Rattle.access_core.specs.Kept.{IsKept, start_of, history_of}
-use Rattle.access_core.specs.LiesInRegions.{lies_in_regions}
+use Rattle.access_core.specs.inner.InPlace.{IsGroupOf, IsInPlace, IsNextGroup, run_owed}
+use Rattle.access_core.specs.inner.Cached.{start_of, history_of, is_full}
+use Rattle.access_core.specs.inner.LiesInRegions.{lies_in_regions}
+use Rattle.access_core.proofs.Calls.{due-as}
 use Rattle.access_core.proofs.QueueAt.{IsAdvance}
+use Rattle.access_core.proofs.WorkLemmas.{owed-in_place}
 
 -- ---- writes change neither signals nor what is in flight
 
@@ -80,29 +85,20 @@ run-advances queue id start entries dispatch = record {
   errors = refl;
 }
 
--- ---- a result passed on
-
-pub if-ok : {X E : Type 0} (P Q : X → Type 0) (r : Result X E) → ((x : X) → P x → Q x) → IfOk r P → IfOk r Q
-if-ok P Q (Ok x) step holds = step x holds
-if-ok P Q (Err e) step holds = holds
-
-pub if-err : {X E : Type 0} (P Q : E → Type 0) (r : Result X E) → ((e : E) → P e → Q e) → IfErr r P → IfErr r Q
-if-err P Q (Ok x) step holds = holds
-if-err P Q (Err e) step holds = step e holds
-
 -- the next group, of the packet in its place
-pub next-group : (history : History) (queue : QueueId) (id : PacketId) (place : Place) → IsInPlace history queue id place → Reaches history place.packet → (next : Option Group) → IfSome next (IsGroupOf place) → IfSome next (IsNextGroup history queue id)
-next-group history queue id place found reaches None h = h
-next-group history queue id place found reaches (Some group) h =
-    record { place = place; in_place = found; is_next = h; reaches = ap (lies_in_regions (region_lengths history.start)) (sym h.packet_is) ∙ reaches }
+pub next-group : (history : History) (queue : QueueId) (id : PacketId) (place : Place) → IsInPlace history queue id place → lies_in_regions (region_lengths history.start) place.packet ≡ true → (next : Option Group) → IfSome next (IsGroupOf place) → IfSome next (IsNextGroup history queue id)
+next-group history queue id place found within None h = h
+next-group history queue id place found within (Some group) h =
+    record { place = place; in_place = found; is_next = h; within = ap (lies_in_regions (region_lengths history.start)) (sym h.packet_is) ∙ within }
 
 -- ---- what is kept, and what is owed by it
 
-module _ (a : Inside) (kept : IsKept a) (old : History) (seen_as : history_of a ≡ old) where
-  pub run-inside : (event : Event) (next : Option Group) (group : Group) → owed old.start old.entries event ≡ run_owed old.start old.entries next → next ≡ Some group →
-      owed (start_of a) a.audit.items event ≡ enters (outcome.Worked (Ran 0 0)) (agent_writes (start_of a) a.audit.items group.dispatch)
-  run-inside event next group due is =
-      subst (λ h. owed h.start h.entries event ≡ run_owed h.start h.entries (Some group)) (sym seen_as) (due ∙ ap (run_owed old.start old.entries) is)
+module _ (a : Inside) (old : History) (seen_as : history_of a ≡ old) where
+  -- the group that is due, as the fields have it
+  pub run-due : (event : Event) (next : Option Group) (group : Group) → due old event ≡ run_owed old.start old.entries next → next ≡ Some group →
+      due old event ≡ enters (outcome.Worked (Ran 0 0)) (agent_writes (start_of a) a.audit.items group.dispatch)
+  run-due event next group is found =
+      is ∙ ap (run_owed old.start old.entries) found ∙ ap (λ h. enters (outcome.Worked (Ran 0 0)) (agent_writes h.start h.entries group.dispatch)) (sym seen_as)
 
   pub pieces-inside : (dispatch : AgentDispatch) (target place : ℕ) (bytes result : List ℕ) → write_of target bytes ≡ function_writes old.start old.entries (function_of dispatch) → write_of place result ≡ result_writes old.start old.entries dispatch →
       write_of target bytes ++ write_of place result ≡ agent_writes (start_of a) a.audit.items dispatch
@@ -110,3 +106,26 @@ module _ (a : Inside) (kept : IsKept a) (old : History) (seen_as : history_of a 
       ap (λ xs. xs ++ write_of place result) first
       ∙ ap (λ ys. function_writes old.start old.entries (function_of dispatch) ++ ys) second
       ∙ ap (λ h. agent_writes h.start h.entries dispatch) (sym seen_as)
+
+-- ---- what the next group is due
+
+pub due-refused : (h : History) (queue : QueueId) (id : PacketId) (place : Place) → IsInPlace h queue id place → (why : Refusal) → owed_group h.start h.entries place.packet place.progress ≡ refuses why → due h (RunNext queue id) ≡ refuses why
+unfolding owed
+due-refused h queue id place found why is = due-as h (RunNext queue id) (refuses why) (owed-in_place h queue id place found (owed_group h.start h.entries) ∙ is)
+
+module _ (h : History) (queue : QueueId) (id : PacketId) (place : Place) (found : IsInPlace h queue id place) (next : Option Group)
+    (group_is : (start : Start) (entries : List Entry) → owed_group start entries place.packet place.progress ≡ run_owed start entries next) where
+  owed-next : (known : Option Group) → next ≡ known → owed h.start h.entries (RunNext queue id) ≡ run_owed h.start h.entries known
+  unfolding owed
+  owed-next known is = owed-in_place h queue id place found (owed_group h.start h.entries) ∙ group_is h.start h.entries ∙ ap (run_owed h.start h.entries) is
+
+  pub due-done : next ≡ None → due h (RunNext queue id) ≡ run_owed h.start h.entries None
+  due-done is = due-as h (RunNext queue id) (run_owed h.start h.entries None) (owed-next None is)
+
+  pub due-group : (group : Group) → next ≡ Some group → (full : Bool) → is_full h ≡ full → due h (RunNext queue id) ≡ (if full then refuses refusal.AuditFull else run_owed h.start h.entries (Some group))
+  due-group group is full room =
+      let writes = agent_writes h.start h.entries group.dispatch in
+      due-as h (RunNext queue id) (run_owed h.start h.entries (Some group)) (owed-next (Some group) is)
+      ∙ ap (λ (fs : List InFlight). if nat_lt h.capacity (length h.entries + 1 + length fs) then refuses refusal.AuditFull else enters (outcome.Worked (Ran 0 0)) writes)
+      ((agent-writes h.start h.entries group.dispatch).flight (flight h.start h.entries))
+      ∙ ap (λ b. if b then refuses refusal.AuditFull else enters (outcome.Worked (Ran 0 0)) writes) room

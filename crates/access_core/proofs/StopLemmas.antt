@@ -1,7 +1,7 @@
 -- Stops of queues: what is owed by what is kept, and the room that is left.
-use Rattle.std.proofs.Common.{◌≡◌, ℕ, ◌+◌, ◌-◌, ◌≤◌, List, [], ◌∷◌, length, map, refl, sym, ◌∙◌, ap, subst, Bool, true, false, Option, Some, None, arith}
-use Rattle.std.specs.Prelude.{ℤ, ◌==◌, Err, IfNone, IfSome, find, fold, is_some, nat_lt, not, option_map, if◌then◌else◌}
-use Rattle.std.proofs.lemmas.Bool.{le-ltb, ltb-false}
+use Rattle.std.proofs.Common.{◌≡◌, ℕ, ◌-◌, ◌≤◌, List, [], ◌∷◌, length, map, refl, sym, ◌∙◌, ap, subst, Bool, true, false, Option, Some, None, arith}
+use Rattle.std.specs.Prelude.{ℤ, ◌==◌, IfNone, IfSome, find, fold, is_some, not, option_map, if◌then◌else◌}
+use Rattle.std.proofs.lemmas.Bool.{le-ltb}
 use Rattle.aql_packet.specs.declared.ids.QueueId.{QueueId}
 use Rattle.aql_packet.specs.declared.ids.PacketId.{PacketId}
 use Rattle.policy.specs.Policy.{numbered}
@@ -16,7 +16,7 @@ use Rattle.core_model.specs.declared.refusal.Refusal.TheVariants as refusal
 use Rattle.core_model.specs.Flight.{flight_of}
 use Rattle.core_model.specs.History.{History}
 use Rattle.core_model.specs.LaunchRules.{is_barrier}
-use Rattle.core_model.specs.Legal.{Meets, entry_of, lacks_room, with_entry}
+use Rattle.core_model.specs.Legal.{due, entry_of, lacks_room}
 use Rattle.core_model.specs.Memory.{byte_after, signals_after}
 use Rattle.core_model.specs.Owed.{owed, enters, refuses, refuse_if, release_of}
 use Rattle.core_model.specs.Queues.{is_stopped}
@@ -25,18 +25,17 @@ use Rattle.packet_processor.specs.declared.places.Place.{Place}
 use Rattle.packet_processor.specs.Queueing.{is_at, without}
 use Rattle.access_core.specs.declared.access.AccessCore.TheInside.{Inside}
 use Rattle.access_core.specs.declared.queue.Queue.{Queue}
-use Rattle.access_core.specs.CachedQueue.{IsSound, QueueView, kept_opening, place_of, queue_at}
-use Rattle.access_core.specs.Kept.{IsKept, history_of, start_of}
-use Rattle.access_core.specs.QueueChanges.{freed_by, with_queue, with_stop, without_one}
-use Rattle.access_core.specs.Stopping.{MayStop}
-use Rattle.access_core.proofs.Calls.{full, room-after}
-use Rattle.access_core.proofs.HeldMoves.{grants-released, grants-still}
-use Rattle.access_core.proofs.KeptMore.{GrantsMove, QueuesMove}
+use Rattle.access_core.specs.inner.CachedQueue.{IsSound, QueueView, cached_opening, place_of, queue_at}
+use Rattle.access_core.specs.inner.Cached.{IsCached, history_of, is_full, start_of}
+use Rattle.access_core.specs.inner.QueueChanges.{freed_by, with_queue, with_stop, without_one}
+use Rattle.access_core.proofs.Calls.{due-by}
+use Rattle.access_core.proofs.HeldAfter.{grants-released, grants-still}
+use Rattle.access_core.proofs.CachedMore.{GrantsAfter, QueuesAfter, none-launched}
 use Rattle.access_core.proofs.PlacesMore.{flight-unlaunched, places-still}
 use Rattle.access_core.proofs.QueueAt.{IsRelease, flight-released}
-use Rattle.access_core.proofs.QueueMoves.{freed-at, length-changed, openings-changed, queues-changed, sound-changed}
-use Rattle.access_core.proofs.TakeLemmas.{IsOpen, is-open, owner-kept, view-kept}
-use Rattle.access_core.proofs.WorkLemmas.{flying-released, freed-below, in-place, queues-released, release-room, sound-released}
+use Rattle.access_core.proofs.ChangedQueue.{freed-at}
+use Rattle.access_core.proofs.TakeLemmas.{IsOpen, is-open, owner-kept, queues-after, view-kept}
+use Rattle.access_core.proofs.WorkLemmas.{freed-below, in-place, queues-released, release-room, sound-released}
 
 -- the barrier packet among the places is the one in flight
 barrier-placed : (g : InFlight → Place) (fs : List InFlight) → ((f : InFlight) → (g f).id ≡ f.id) → ((f : InFlight) → (g f).packet ≡ f.packet)
@@ -85,7 +84,7 @@ pub values-released : (queue : QueueId) (barrier : Option PacketId) (values : Li
 values-released queue None values = refl
 values-released queue (Some id) values = refl
 
-module _ (a : Inside) (kept : IsKept a) (queue : QueueId) where
+module _ (a : Inside) (kept : IsCached a) (queue : QueueId) where
   -- no queue has the number
   pub stop-unknown : numbered a.queues.items queue.0 ≡ None → owed (start_of a) a.audit.items (Stop queue) ≡ refuses refusal.UnknownQueue
   unfolding owed
@@ -106,7 +105,7 @@ module _ (a : Inside) (kept : IsKept a) (queue : QueueId) where
       rw (owner-kept a queue kept, some, stops, barrier-is q some) refl
 
   open-at : (q : Queue) → numbered a.queues.items queue.0 ≡ Some q → IsOpen a queue
-  open-at q some = is-open a kept queue (kept_opening q) (owner-kept a queue kept ∙ ap (option_map kept_opening) some)
+  open-at q some = is-open a kept queue (cached_opening q) (owner-kept a queue kept ∙ ap (option_map cached_opening) some)
 
   -- a queue whose stop is entered is kept
   pub stop-open : (told : Outcome) (effects : List Effect) → owed (start_of a) a.audit.items (Stop queue) ≡ enters told effects → IsOpen a queue
@@ -125,25 +124,20 @@ module _ (a : Inside) (kept : IsKept a) (queue : QueueId) where
     freed-stopped (Some id) = freed-below a kept queue id at
 
     -- how the queues move along
-    pub queues-stopped : (barrier : Option PacketId) → QueuesMove a (with_queue a.queues.items queue (with_stop barrier)) (a.flying - freed_by barrier a.queues.items queue) (Stop queue) outcome.Accepted (release_of queue barrier)
+    pub queues-stopped : (barrier : Option PacketId) → QueuesAfter a (with_queue a.queues.items queue (with_stop barrier)) (a.flying - freed_by barrier a.queues.items queue) (Stop queue) outcome.Accepted (release_of queue barrier)
     queues-stopped None =
         let e = entry_of (Stop queue) outcome.Accepted [] in
-        let change = with_stop None in
         let same = ap length (flight-unlaunched (start_of a) a.audit.items e refl) in
-        record {
-          openings = openings-changed a.queues.items queue change at.q at.found refl;
-          queues = queues-changed a.queues.items queue change at.q at.found (stopped None) (start_of a) a.audit.items _ refl kept.queues (λ m.
-              (λ i. record {
-                next = next_id-more (start_of a) a.audit.items e m i;
-                stopped = is_stopped-more (start_of a) a.audit.items e m i;
-                errors = errors-more (start_of a) a.audit.items e m i;
-                places = places-still (start_of a) a.audit.items e refl (λ q id p. refl) m refl i;
-              })
-              ∙ pick (queue.0 == m.0) (queue_at (start_of a) a.audit.items m));
-          sound = sound-changed a.queues.items queue change at.q at.found (record { room = at.sound.room; free = at.sound.free; below = at.sound.below }) kept.sound;
-          few_queues = omega (arith, length-changed a.queues.items queue change at.q at.found, kept.few_queues);
-          flying = omega (arith, same, freed-none, kept.flying);
-        }
+        queues-after a kept queue at (with_stop None) (stopped None) _ _ _ _ refl refl (record { room = at.sound.room; free = at.sound.free; below = at.sound.below }) refl
+        (λ m.
+        (λ i. record {
+          next = next_id-more (start_of a) a.audit.items e m i;
+          stopped = is_stopped-more (start_of a) a.audit.items e m i;
+          errors = errors-more (start_of a) a.audit.items e m i;
+          places = places-still (start_of a) a.audit.items e refl (λ q id p. refl) m refl i;
+        })
+        ∙ pick (queue.0 == m.0) (queue_at (start_of a) a.audit.items m))
+        (omega (arith, same, freed-none, kept.flying)) (none-launched (Stop queue) outcome.Accepted refl (start_of a))
       where
         pick : (b : Bool) (v : QueueView) → record { next = v.next; stopped = (if b then true else v.stopped); errors = v.errors; places = v.places } ≡ (if b then stopped None v else v)
         pick true v = refl
@@ -159,42 +153,34 @@ module _ (a : Inside) (kept : IsKept a) (queue : QueueId) where
         pick m v false same = rw same refl
 
   -- how the grants do
-  pub grants-stopped : (barrier : Option PacketId) (new : Ledger) → IfSome barrier (λ id. Releases a.grants new queue id) → IfNone barrier (new ≡ a.grants) → GrantsMove a new (Stop queue) outcome.Accepted (release_of queue barrier)
+  pub grants-stopped : (barrier : Option PacketId) (new : Ledger) → IfSome barrier (λ id. Releases a.grants new queue id) → IfNone barrier (new ≡ a.grants) → GrantsAfter a new (Stop queue) outcome.Accepted (release_of queue barrier)
   grants-stopped None new released same =
-      subst (λ g. GrantsMove a g (Stop queue) outcome.Accepted []) (sym same)
+      subst (λ g. GrantsAfter a g (Stop queue) outcome.Accepted []) (sym same)
       (grants-still a kept (Stop queue) outcome.Accepted [] refl (λ client on right b. refl) (flight-unlaunched (start_of a) a.audit.items (entry_of (Stop queue) outcome.Accepted []) refl))
   grants-stopped (Some id) new released same =
       grants-released a kept (Stop queue) outcome.Accepted (effect.Release queue id ∷ []) refl (λ client on right b. refl) new queue id (flight-released (start_of a) a.audit.items queue id _ _ _ (is_release queue id)) released
 
-  -- a stop that is entered, whose entry has room
-  pub may-stop : (q : Queue) (barrier : Option PacketId) (none : Bool) (old : History) → history_of a ≡ old → numbered a.queues.items queue.0 ≡ Some q → q.stopped ≡ false → barrier ≡ option_map (λ (p : Place). p.id) (find (λ (p : Place). is_barrier p.packet) q.places)
-      → is_some barrier ≡ not none → (none ≡ true → nat_lt a.capacity (length a.audit.items + 1 + a.flying) ≡ false) → MayStop old queue barrier
-  may-stop q barrier none old seen_as some goes is which room = subst (λ h. MayStop h queue barrier) seen_as (record {
-    owing = stop-known q some ∙ (rw (goes, is) refl);
-    room =
-        let moves = queues-stopped (open-at q some) barrier in
-        room-after (Stop queue) a (history_of a) refl outcome.Accepted (release_of queue barrier) _ moves.flying ∙ left barrier none is which room;
-  })
+  -- a stop is due its entry where a barrier packet leaves flight for it, or the audit has room
+  pub may-stop : (q : Queue) (barrier : Option PacketId) (none : Bool) (old : History) → history_of a ≡ old → numbered a.queues.items queue.0 ≡ Some q → q.stopped ≡ false
+      → barrier ≡ option_map (λ (p : Place). p.id) (find (λ (p : Place). is_barrier p.packet) q.places)
+      → is_some barrier ≡ not none → (none ≡ true → is_full old ≡ false) → due old (Stop queue) ≡ enters outcome.Accepted (release_of queue barrier)
+  may-stop q barrier none old seen_as some goes is which =
+      subst (λ h. (none ≡ true → is_full h ≡ false) → due h (Stop queue) ≡ enters outcome.Accepted (release_of queue barrier)) seen_as
+      (λ room. due-by a (history_of a) refl (Stop queue) (enters outcome.Accepted (release_of queue barrier)) (stop-known q some ∙ (rw (goes, is) refl)) ∙ (rw (left barrier none is which room) refl))
     where
-      left : (o : Option PacketId) (b : Bool) → o ≡ option_map (λ (p : Place). p.id) (find (λ (p : Place). is_barrier p.packet) q.places) → is_some o ≡ not b → (b ≡ true → nat_lt a.capacity (length a.audit.items + 1 + a.flying) ≡ false) →
-          nat_lt a.capacity (length a.audit.items + 1 + (a.flying - freed_by o a.queues.items queue)) ≡ false
-      left None true is which room = let all : a.flying - freed_by None a.queues.items queue ≡ a.flying = omega (arith, freed-none (open-at q some)) in rw all (room refl)
+      left : (o : Option PacketId) (b : Bool) → o ≡ option_map (λ (p : Place). p.id) (find (λ (p : Place). is_barrier p.packet) q.places) → is_some o ≡ not b → (b ≡ true → is_full (history_of a) ≡ false) →
+          lacks_room (history_of a) (entry_of (Stop queue) outcome.Accepted (release_of queue o)) ≡ false
+      left None true is which room = room refl
       left None false is which room = absurd cc
       left (Some id) b is which room =
           let by_id = found-by_id (λ (p : Place). is_barrier p.packet) q.places id (sym is) in
           let found = in-place a kept queue id q some by_id.place by_id.is in
-          rw (flying-released a kept queue id (open-at q some)) (le-ltb _ _ (release-room a kept queue id found.flying found.found))
+          le-ltb _ _ (release-room a kept queue id found.flying found.found)
 
-  -- a stop without a barrier packet, whose entry has no room
-  pub stop-full : (q : Queue) (barrier : Option PacketId) (old : History) → history_of a ≡ old → numbered a.queues.items queue.0 ≡ Some q → q.stopped ≡ false → barrier ≡ option_map (λ (p : Place). p.id) (find (λ (p : Place). is_barrier p.packet) q.places)
-      → is_some barrier ≡ false → nat_lt a.capacity (length a.audit.items + 1 + a.flying) ≡ true → Meets (Stop queue) old old (Err refusal.AuditFull)
-  stop-full q None old seen_as some goes is none lacks =
-      full (Stop queue) a old seen_as outcome.Accepted [] a.flying (kept.flying ∙ ap length (sym (flight-unlaunched (start_of a) a.audit.items (entry_of (Stop queue) outcome.Accepted []) refl)))
-      (stop-known q some ∙ (rw (goes, ← is) refl)) lacks
-  stop-full q (Some id) old seen_as some goes is none lacks = absurd cc
-
-  -- the room in numbers
-  pub room-of_stop : (at : IsOpen a queue) (barrier : Option PacketId) → lacks_room a.capacity (start_of a) (with_entry a.audit.items (Stop queue) outcome.Accepted (release_of queue barrier)) ≡ false → length a.audit.items + 1 + (a.flying - freed_by barrier a.queues.items queue) ≤ a.capacity
-  room-of_stop at barrier room =
-      let moves = queues-stopped at barrier in
-      ltb-false _ _ (sym (room-after (Stop queue) a (history_of a) refl outcome.Accepted (release_of queue barrier) _ moves.flying) ∙ room)
+  -- a stop without a barrier packet is refused where the audit has none
+  pub stop-full : (q : Queue) (barrier : Option PacketId) (old : History) → history_of a ≡ old → numbered a.queues.items queue.0 ≡ Some q → q.stopped ≡ false
+      → barrier ≡ option_map (λ (p : Place). p.id) (find (λ (p : Place). is_barrier p.packet) q.places) → is_some barrier ≡ false → is_full old ≡ true → due old (Stop queue) ≡ refuses refusal.AuditFull
+  stop-full q None old seen_as some goes is none =
+      subst (λ h. is_full h ≡ true → due h (Stop queue) ≡ refuses refusal.AuditFull) seen_as
+      (λ lacks. due-by a (history_of a) refl (Stop queue) (enters outcome.Accepted []) (stop-known q some ∙ (rw (goes, ← is) refl)) ∙ (rw lacks refl))
+  stop-full q (Some id) old seen_as some goes is none = absurd cc

@@ -1,7 +1,6 @@
 -- What is owed to a packet that is handed over, by what is kept.
-use Rattle.std.proofs.Common.{◌≡◌, ℕ, ◌-◌, ◌<◌, ◌≤◌, ◌^◌, List, [], ◌∷◌, ◌++◌, length, refl, sym, ◌∙◌, ap, Bool, true, false, Option, Some, None, arith}
-use Rattle.std.specs.Prelude.{nat_lt, nat_le, All, not, ◌||◌, ◌&&◌, ◌==◌, map, slice_get, option_map, if◌then◌else◌}
-use Rattle.std.proofs.lemmas.Option.{slice_get-map}
+use Rattle.std.proofs.Common.{◌≡◌, ℕ, ◌<◌, ◌≤◌, ◌^◌, List, [], ◌∷◌, ◌++◌, length, refl, sym, ◌∙◌, ap, Bool, true, false, Option, Some, None, arith}
+use Rattle.std.specs.Prelude.{nat_lt, nat_le, All, not, ◌||◌, ◌&&◌, ◌==◌, map, option_map, if◌then◌else◌}
 use Rattle.aql_packet.specs.declared.ids.QueueId.{QueueId}
 use Rattle.aql_packet.specs.declared.ids.PacketId.{PacketId}
 use Rattle.aql_packet.specs.declared.packet.Packet.{Packet}
@@ -9,20 +8,26 @@ use Rattle.aql_packet.specs.Reading.{barrier_bit, decoded}
 use Rattle.queue_error.specs.declared.rule.Rule.{Rule}
 use Rattle.queue_error.specs.declared.rule.Rule.TheVariants as rule
 use Rattle.std.specs.List.{list_all, list_any}
-use Rattle.access_core.specs.LiesInRegions.{lies_in_regions}
+use Rattle.access_core.specs.inner.LiesInRegions.{lies_in_regions}
 use Rattle.packet_processor.proofs.FirstFailing.{first_failing-decoded}
 use Rattle.policy.specs.Policy.{numbered}
+use Rattle.policy.proofs.NameLemmas.{numbered-map}
 use Rattle.core_model.specs.declared.event.Event.TheVariants.{Take}
 use Rattle.core_model.specs.declared.flight.InFlight.{InFlight}
 use Rattle.core_model.specs.declared.outcome.Cause.TheVariants as cause
 use Rattle.core_model.specs.declared.refusal.Refusal.TheVariants as refusal
-use Rattle.core_model.specs.History.{Start}
+use Rattle.core_model.specs.History.{History, Start}
 use Rattle.core_model.specs.Memory.{region_lengths}
-use Rattle.core_model.specs.Queues.{Opening, owner, next_id, hands_over, errors, is_stopped}
+use Rattle.core_model.specs.Queues.{Opening, opening_of, owner, next_id, hands_over, errors, is_stopped}
+use Rattle.core_model.specs.declared.entry.Effect.{Effect}
 use Rattle.core_model.specs.declared.entry.Entry.{Entry}
+use Rattle.core_model.specs.declared.event.Event.{Event}
+use Rattle.core_model.specs.declared.limits.TheConstants.{SLOTS}
+use Rattle.core_model.specs.declared.outcome.Outcome.{Outcome}
+use Rattle.core_model.proofs.More.{with_some}
 use Rattle.queue_error.specs.declared.error.QueueError.{QueueError}
 use Rattle.std.proofs.lemmas.List.Sums.{count_by-le-length}
-use Rattle.std.proofs.lemmas.Bool.{leb-false, lt-ltb}
+use Rattle.std.proofs.lemmas.Bool.{and_parts, leb-false, lt-ltb}
 use Rattle.core_model.specs.declared.need.Need.{Need}
 use Rattle.core_model.specs.Needs.{memory_needs, needs}
 use Rattle.core_model.specs.Holds.{Held, as_held, held_at_launch}
@@ -32,59 +37,52 @@ use Rattle.packet_processor.specs.Judged.{later_failing}
 use Rattle.core_model.specs.Owed.{refuses, owed, refuse_if, refuse_unless, decided, facts_of}
 use Rattle.access_core.specs.declared.queue.Queue.{Queue}
 use Rattle.access_core.specs.declared.access.AccessCore.TheInside.{Inside}
-use Rattle.access_core.specs.Judged.{facts_lent}
-use Rattle.access_core.specs.Kept.{IsKept, start_of, history_of}
-use Rattle.access_core.specs.CachedQueue.{IsSound, QueueView, cached, kept_opening, place_of, queue_at}
+use Rattle.access_core.specs.inner.Judged.{facts_lent}
+use Rattle.access_core.specs.inner.Cached.{IsCached, start_of, history_of}
+use Rattle.access_core.specs.inner.CachedQueue.{IsSound, QueueView, cached, cached_opening, place_of, queue_at}
 use Rattle.access_core.proofs.PlacesMore.{map-map}
 use Rattle.std.proofs.Common.{◌+◌, length-append, subst}
 use Rattle.std.proofs.lemmas.List.Elements.{All-push, All-weaker}
 use Rattle.core_model.specs.declared.outcome.Outcome.TheVariants as outcome
 use Rattle.core_model.specs.declared.outcome.Taken.TheVariants.{Launched, Denied}
 use Rattle.core_model.specs.Flight.{flight, launched_by}
-use Rattle.core_model.specs.Legal.{entry_of, with_entry}
+use Rattle.core_model.specs.Legal.{entry_of, lacks_room, with_entry}
 use Rattle.core_model.specs.Owed.{error_at}
 use Rattle.packet_processor.specs.Queueing.{as_launched}
-use Rattle.access_core.specs.QueueChanges.{CanFail, with_denied, with_launched, with_queue}
-use Rattle.access_core.proofs.KeptMore.{QueuesMove}
+use Rattle.access_core.specs.inner.QueueChanges.{CanFail, with_denied, with_launched, with_queue}
+use Rattle.access_core.proofs.CachedMore.{QueuesAfter, none-launched}
 use Rattle.access_core.proofs.PlacesMore.{flight-launched, flight-unlaunched}
 use Rattle.access_core.proofs.QueueAt.{denied, launched, queue_at-denied, queue_at-launched}
-use Rattle.access_core.proofs.QueueMoves.{length-changed, openings-changed, queues-changed, sound-at, sound-changed}
+use Rattle.access_core.proofs.ChangedQueue.{length-changed, openings-changed, queues-changed, sound-at, sound-changed}
 use Rattle.packet_processor.specs.declared.places.Place.{Place}
 use Rattle.core_model.specs.Flight.{flight_of}
 use Rattle.std.proofs.lemmas.List.{length-map}
-use Rattle.access_core.specs.Deciding.{TakesNext, MayHold}
-
-numbered-map : (queues : List Queue) (n : ℕ) → numbered (map kept_opening queues) n ≡ option_map kept_opening (numbered queues n)
-numbered-map queues n = either (nat_lt 0 n)
-  where
-    either : (b : Bool) → (if b then slice_get (map kept_opening queues) (n - 1) else None) ≡ option_map kept_opening (if b then slice_get queues (n - 1) else None)
-    either true = slice_get-map kept_opening queues (n - 1)
-    either false = refl
+use Rattle.access_core.specs.inner.Deciding.{TakesNext, MayHold}
 
 -- the owner of a queue is the one that is kept
-pub owner-kept : (a : Inside) (queue : QueueId) → IsKept a → owner (start_of a) a.audit.items queue ≡ option_map kept_opening (numbered a.queues.items queue.0)
-owner-kept a queue kept = ap (λ (all : List Opening). numbered all queue.0) (sym kept.openings) ∙ numbered-map a.queues.items queue.0
+pub owner-kept : (a : Inside) (queue : QueueId) → IsCached a → owner (start_of a) a.audit.items queue ≡ option_map cached_opening (numbered a.queues.items queue.0)
+owner-kept a queue kept = ap (λ (all : List Opening). numbered all queue.0) (sym kept.openings) ∙ numbered-map cached_opening a.queues.items queue.0
 
 -- the facts by which the packets of a kept queue are judged
-pub facts-kept : (a : Inside) (q : Queue) → IsKept a → facts_of (start_of a) a.audit.items (kept_opening q) ≡ facts_lent a.policy a.grants a.memory q.client q.agent
+pub facts-kept : (a : Inside) (q : Queue) → IsCached a → facts_of (start_of a) a.audit.items (cached_opening q) ≡ facts_lent a.policy a.grants a.memory q.client q.agent
 facts-kept a q kept = λ i. record {
   agent = q.agent;
-  takes = (facts_of (start_of a) a.audit.items (kept_opening q)).takes;
+  takes = (facts_of (start_of a) a.audit.items (cached_opening q)).takes;
   in_force = λ on right. sym (kept.granted q.client on right) i;
   lengths = sym kept.lengths i;
 }
 
 -- what is kept of a queue is what the history says of it
-pub view-kept : (a : Inside) (queue : QueueId) (q : Queue) → IsKept a → numbered a.queues.items queue.0 ≡ Some q → cached (Some q) ≡ queue_at (start_of a) a.audit.items queue
+pub view-kept : (a : Inside) (queue : QueueId) (q : Queue) → IsCached a → numbered a.queues.items queue.0 ≡ Some q → cached (Some q) ≡ queue_at (start_of a) a.audit.items queue
 view-kept a queue q kept some = ap cached (sym some) ∙ kept.queues queue
 
 -- its packets in flight are those of the history
-pub packets-kept : (a : Inside) (queue : QueueId) (q : Queue) → IsKept a → numbered a.queues.items queue.0 ≡ Some q → map (λ (f : InFlight). f.packet) (flight_of (start_of a) a.audit.items queue) ≡ map (λ (p : Place). p.packet) q.places
+pub packets-kept : (a : Inside) (queue : QueueId) (q : Queue) → IsCached a → numbered a.queues.items queue.0 ≡ Some q → map (λ (f : InFlight). f.packet) (flight_of (start_of a) a.audit.items queue) ≡ map (λ (p : Place). p.packet) q.places
 packets-kept a queue q kept some =
     sym (map-map (λ (p : Place). p.packet) (place_of (start_of a) a.audit.items) (flight_of (start_of a) a.audit.items queue))
     ∙ ap (λ (v : QueueView). map (λ (p : Place). p.packet) v.places) (sym (view-kept a queue q kept some))
 
-module _ (a : Inside) (kept : IsKept a) (queue : QueueId) (id : PacketId) (bytes : List ℕ) where
+module _ (a : Inside) (kept : IsCached a) (queue : QueueId) (id : PacketId) (bytes : List ℕ) where
   -- no queue has the number
   pub take-unknown : numbered a.queues.items queue.0 ≡ None → owed (start_of a) a.audit.items (Take queue id bytes) ≡ refuses refusal.UnknownQueue
   unfolding owed
@@ -103,12 +101,6 @@ module _ (a : Inside) (kept : IsKept a) (queue : QueueId) (id : PacketId) (bytes
       let errs : errors (start_of a) a.audit.items queue ≡ q.errors.items = ap (λ (v : QueueView). v.errors) (sym view) in
       let stopped : is_stopped (start_of a) a.audit.items queue ≡ q.stopped = ap (λ (v : QueueView). v.stopped) (sym view) in
       rw (owner-kept a queue kept, some, errs, stopped, next, packets-kept a queue q kept some, facts-kept a q kept) refl
-
--- both parts of a conjunction hold
-both_true : (a b : Bool) → (a && b) ≡ true → (a ≡ true) × (b ≡ true)
-both_true true true e = (refl, refl)
-both_true true false e = cc
-both_true false b e = cc
 
 -- the rules that ask for rights
 pub record PassesRights (facts : Facts) (p : Packet) : Type 0 where
@@ -137,8 +129,8 @@ passed-rights facts p none =
 held-met : (facts : Facts) (all : List Need) (rest : List Held) → list_all (is_met facts) all ≡ true → list_all (λ h. facts.in_force h.0 h.1) rest ≡ true → list_all (λ h. facts.in_force h.0 h.1) (map as_held all ++ rest) ≡ true
 held-met facts [] rest met others = others
 held-met facts (need ∷ all) rest met others =
-    let both = both_true (is_met facts need) (list_all (is_met facts) all) met in
-    let forced = both_true (lies_whole facts.lengths need.subject) _ both.0 in
+    let both = and_parts (is_met facts need) (list_all (is_met facts) all) met in
+    let forced = and_parts (lies_whole facts.lengths need.subject) _ both.0 in
     rw (forced.1, held-met facts all rest both.1 others) refl
 
 -- so all that a packet will hold is in force
@@ -153,42 +145,47 @@ held-passed facts p client passes =
 lies-met : (facts : Facts) (all : List Need) → list_all (is_met facts) all ≡ true → list_all (λ need. lies_whole facts.lengths need.subject) all ≡ true
 lies-met facts [] met = refl
 lies-met facts (need ∷ all) met =
-    let both = both_true (is_met facts need) (list_all (is_met facts) all) met in
-    let lies = both_true (lies_whole facts.lengths need.subject) _ both.0 in
+    let both = and_parts (is_met facts need) (list_all (is_met facts) all) met in
+    let lies = and_parts (lies_whole facts.lengths need.subject) _ both.0 in
     rw (lies.0, lies-met facts all both.1) refl
 
--- a packet that is launched reaches only what lies whole in regions
-pub reachable-launched : (a : Inside) (q : Queue) (bytes : List ℕ) (p : Packet) → IsKept a → decoded bytes ≡ Some p → first_failing (facts_lent a.policy a.grants a.memory q.client q.agent) bytes ≡ None → lies_in_regions (region_lengths (start_of a)) p ≡ true
-reachable-launched a q bytes p kept found none =
+-- a packet that is launched has all its ranges within regions
+pub within-launched : (a : Inside) (q : Queue) (bytes : List ℕ) (p : Packet) → IsCached a → decoded bytes ≡ Some p → first_failing (facts_lent a.policy a.grants a.memory q.client q.agent) bytes ≡ None → lies_in_regions (region_lengths (start_of a)) p ≡ true
+within-launched a q bytes p kept found none =
     rw (← kept.lengths) (lies-met (facts_lent a.policy a.grants a.memory q.client q.agent) (memory_needs p)
     (passed-rights (facts_lent a.policy a.grants a.memory q.client q.agent) p (sym (first_failing-decoded _ bytes p found) ∙ none)).memory)
 
 -- a packet that is launched may hold what it needs
-pub may-hold : (a : Inside) (q : Queue) (bytes : List ℕ) (p : Packet) → IsKept a → decoded bytes ≡ Some p → first_failing (facts_lent a.policy a.grants a.memory q.client q.agent) bytes ≡ None → MayHold (history_of a) (kept_opening q) p
+pub may-hold : (a : Inside) (q : Queue) (bytes : List ℕ) (p : Packet) → IsCached a → decoded bytes ≡ Some p → first_failing (facts_lent a.policy a.grants a.memory q.client q.agent) bytes ≡ None → MayHold (history_of a) (cached_opening q) p
 may-hold a q bytes p kept found none =
-    (λ i. list_all (λ (h : Held). sym (kept.granted q.client h.0 h.1) i) (held_at_launch (kept_opening q) p))
+    (λ i. list_all (λ (h : Held). sym (kept.granted q.client h.0 h.1) i) (held_at_launch (cached_opening q) p))
     ∙ held-passed (facts_lent a.policy a.grants a.memory q.client q.agent) p q.client
     (passed-rights (facts_lent a.policy a.grants a.memory q.client q.agent) p (sym (first_failing-decoded _ bytes p found) ∙ none))
 
+-- a launch has room where there is some for an entry and one packet more in flight
+pub room-launched : (h : History) (queue : QueueId) (id : PacketId) (bytes : List ℕ) (p : Packet) → decoded bytes ≡ Some p
+    → lacks_room h (entry_of (Take queue id bytes) (outcome.Taken Launched) []) ≡ nat_lt h.capacity (length h.entries + 1 + (length (flight h.start h.entries) + 1))
+room-launched h queue id bytes p reads = rw (reads, length-append) refl
+
 -- a packet that may start finds a slot free
-may_start-few : (ps : List Packet) (barrier : Bool) → may_start ps barrier ≡ None → length ps < 8
+may_start-few : (ps : List Packet) (barrier : Bool) → may_start ps barrier ≡ None → length ps < SLOTS
 unfolding may_start
 may_start-few ps barrier none = by_tests (list_any is_barrier ps) (barrier && nat_lt 0 (length ps)) (nat_le 8 (length ps)) refl none
   where
-    by_tests : (first second third : Bool) → nat_le 8 (length ps) ≡ third → (if first then Some cause.Barrier else if second then Some cause.Active else if third then Some cause.Slots else None) ≡ None → length ps < 8
+    by_tests : (first second third : Bool) → nat_le 8 (length ps) ≡ third → (if first then Some cause.Barrier else if second then Some cause.Active else if third then Some cause.Slots else None) ≡ None → length ps < SLOTS
     by_tests true second third is none = absurd (cc)
     by_tests false true third is none = absurd (cc)
     by_tests false false true is none = absurd (cc)
     by_tests false false false is none = leb-false 8 (length ps) is
 
 -- a queue that is kept, and not down, and where a packet may start takes its next packet
-pub takes-next : (a : Inside) (kept : IsKept a) (queue : QueueId) (q : Queue) (barrier : Bool) → numbered a.queues.items queue.0 ≡ Some q → (nat_lt 0 (length q.errors.items) || q.stopped) ≡ false → may_start (map (λ (p : Place). p.packet) q.places) barrier ≡ None → TakesNext (history_of a) queue
+pub takes-next : (a : Inside) (kept : IsCached a) (queue : QueueId) (q : Queue) (barrier : Bool) → numbered a.queues.items queue.0 ≡ Some q → (nat_lt 0 (length q.errors.items) || q.stopped) ≡ false → may_start (map (λ (p : Place). p.packet) q.places) barrier ≡ None → TakesNext (history_of a) queue
 takes-next a kept queue q barrier some down starts =
     let view = view-kept a queue q kept some in
     let count = length-map (flight_of (start_of a) a.audit.items queue) (λ (f : InFlight). f.packet) in
     let few = may_start-few (map (λ (f : InFlight). f.packet) (flight_of (start_of a) a.audit.items queue)) barrier (ap (λ ps. may_start ps barrier) (packets-kept a queue q kept some) ∙ starts) in (
-      kept_opening q,
-      owner-kept a queue kept ∙ ap (option_map kept_opening) some,
+      cached_opening q,
+      owner-kept a queue kept ∙ ap (option_map cached_opening) some,
       ap (λ (v : QueueView). nat_lt 0 (length v.errors) || v.stopped) (sym view) ∙ down,
       omega (arith, count, few),
     )
@@ -216,11 +213,11 @@ pub record IsOpen (a : Inside) (queue : QueueId) : Type 0 where
   pub sound : IsSound q
   pub small : q.next < 2 ^ 63
 
-pub is-open : (a : Inside) (kept : IsKept a) (queue : QueueId) (opening : Opening) → owner (start_of a) a.audit.items queue ≡ Some opening → IsOpen a queue
+pub is-open : (a : Inside) (kept : IsCached a) (queue : QueueId) (opening : Opening) → owner (start_of a) a.audit.items queue ≡ Some opening → IsOpen a queue
 is-open a kept queue opening owned = either (numbered a.queues.items queue.0) refl
   where
     either : (o : Option Queue) → numbered a.queues.items queue.0 ≡ o → IsOpen a queue
-    either None is = absurd (none_opening opening (sym (ap (option_map kept_opening) is) ∙ sym (owner-kept a queue kept) ∙ owned))
+    either None is = absurd (none_opening opening (sym (ap (option_map cached_opening) is) ∙ sym (owner-kept a queue kept) ∙ owned))
     either (Some q) is =
         let view = view-kept a queue q kept is in
         let next : q.next ≡ next_id (start_of a) a.audit.items queue = ap (λ (v : QueueView). v.next) view in
@@ -231,18 +228,33 @@ is-open a kept queue opening owned = either (numbered a.queues.items queue.0) re
 pub record CanTake (a : Inside) (queue : QueueId) : Type 0 where
   pub opened : IsOpen a queue
   pub none : opened.q.errors.items ≡ []
-  pub few : length opened.q.places < 8
+  pub few : length opened.q.places < SLOTS
 
-pub can-take : (a : Inside) (kept : IsKept a) (queue : QueueId) → TakesNext (history_of a) queue → CanTake a queue
+pub can-take : (a : Inside) (kept : IsCached a) (queue : QueueId) → TakesNext (history_of a) queue → CanTake a queue
 can-take a kept queue takes =
     let at = is-open a kept queue takes.0 takes.1 in
     let count = length-map (flight_of (start_of a) a.audit.items queue) (place_of (start_of a) a.audit.items) in
     let places : length at.q.places ≡ length (map (place_of (start_of a) a.audit.items) (flight_of (start_of a) a.audit.items queue)) = ap (λ (v : QueueView). length v.places) at.view in
     record { opened = at; none = ap (λ (v : QueueView). v.errors) at.view ∙ no_errors _ _ takes.2; few = omega (arith, count, places, takes.3) }
 
--- ---- how the queues move along with a packet that is handed over
+-- how the queues follow an entry that changes one of them
+pub queues-after : (a : Inside) (kept : IsCached a) (queue : QueueId) (at : IsOpen a queue) (change : Queue → Queue) (view : QueueView → QueueView) (count : ℕ) (event : Event) (told : Outcome) (effects : List Effect)
+    → opening_of event ≡ None → cached_opening (change at.q) ≡ cached_opening at.q → IsSound (change at.q) → cached (Some (change at.q)) ≡ view (cached (Some at.q))
+    → ((m : QueueId) → queue_at (start_of a) (with_entry a.audit.items event told effects) m ≡ (if queue.0 == m.0 then view (queue_at (start_of a) a.audit.items m) else queue_at (start_of a) a.audit.items m))
+    → count ≡ length (flight (start_of a) (with_entry a.audit.items event told effects)) → ((f : InFlight) → launched_by event told ≡ Some f → lies_in_regions (region_lengths (start_of a)) f.packet ≡ true)
+    → QueuesAfter a (with_queue a.queues.items queue change) count event told effects
+queues-after a kept queue at change view count event told effects none same sound alike now flying within = record {
+  openings = openings-changed a.queues.items queue change at.q at.found same ∙ sym (ap (with_some (map cached_opening a.queues.items)) none);
+  queues = queues-changed a.queues.items queue change at.q at.found view (start_of a) a.audit.items (with_entry a.audit.items event told effects) alike kept.queues now;
+  sound = sound-changed a.queues.items queue change at.q at.found sound kept.sound;
+  few_queues = omega (arith, length-changed a.queues.items queue change at.q at.found, kept.few_queues);
+  flying = flying;
+  within = within;
+}
 
-module _ (a : Inside) (kept : IsKept a) (queue : QueueId) (id : PacketId) (bytes : List ℕ) (can : CanTake a queue) where
+-- ---- how the queues follow a packet that is handed over
+
+module _ (a : Inside) (kept : IsCached a) (queue : QueueId) (id : PacketId) (bytes : List ℕ) (can : CanTake a queue) where
   -- there is room for an error
   pub can-deny : CanFail a.queues.items queue
   can-deny =
@@ -264,17 +276,10 @@ module _ (a : Inside) (kept : IsKept a) (queue : QueueId) (id : PacketId) (bytes
   flight-denied rule = flight-unlaunched (start_of a) a.audit.items (entry_of (Take queue id bytes) (outcome.Taken (Denied (error_at queue id.0 rule))) []) refl
 
   -- it is denied
-  pub queues-denied : (rule : Rule) → QueuesMove a (with_queue a.queues.items queue (with_denied (error_at queue id.0 rule))) a.flying (Take queue id bytes) (outcome.Taken (Denied (error_at queue id.0 rule))) []
+  pub queues-denied : (rule : Rule) → QueuesAfter a (with_queue a.queues.items queue (with_denied (error_at queue id.0 rule))) a.flying (Take queue id bytes) (outcome.Taken (Denied (error_at queue id.0 rule))) []
   queues-denied rule =
-      let change = with_denied (error_at queue id.0 rule) in
-      let at = can.opened in
-      record {
-        openings = openings-changed a.queues.items queue change at.q at.found refl;
-        queues = queues-changed a.queues.items queue change at.q at.found (denied (error_at queue id.0 rule)) (start_of a) a.audit.items _ refl kept.queues (λ m. queue_at-denied (start_of a) a.audit.items queue id bytes rule m);
-        sound = sound-changed a.queues.items queue change at.q at.found (sound-denied (error_at queue id.0 rule)) kept.sound;
-        few_queues = omega (arith, length-changed a.queues.items queue change at.q at.found, kept.few_queues);
-        flying = kept.flying ∙ ap length (sym (flight-denied rule));
-      }
+      queues-after a kept queue can.opened (with_denied (error_at queue id.0 rule)) (denied (error_at queue id.0 rule)) a.flying _ _ _ refl refl (sound-denied (error_at queue id.0 rule)) refl
+      (λ m. queue_at-denied (start_of a) a.audit.items queue id bytes rule m) (kept.flying ∙ ap length (sym (flight-denied rule))) (none-launched (Take queue id bytes) (outcome.Taken (Denied (error_at queue id.0 rule))) refl (start_of a))
 
   -- it is launched
   module _ (p : Packet) (reads : decoded bytes ≡ Some p) (next : id.0 ≡ next_id (start_of a) a.audit.items queue) where
@@ -303,20 +308,13 @@ module _ (a : Inside) (kept : IsKept a) (queue : QueueId) (id : PacketId) (bytes
         let now = ap length (flight-launched (start_of a) a.audit.items queue id bytes p reads) in
         omega (arith, longer, now, kept.flying)
 
-    pub queues-launched : QueuesMove a (with_queue a.queues.items queue (with_launched id p)) (a.flying + 1) (Take queue id bytes) (outcome.Taken Launched) []
-    queues-launched =
-        let at = can.opened in
-        record {
-          openings = openings-changed a.queues.items queue (with_launched id p) at.q at.found refl;
-          queues = queues-changed a.queues.items queue (with_launched id p) at.q at.found (launched id p) (start_of a) a.audit.items _ refl kept.queues (λ m. queue_at-launched (start_of a) a.audit.items queue id bytes p reads below-id m);
-          sound = sound-changed a.queues.items queue (with_launched id p) at.q at.found sound-launched kept.sound;
-          few_queues = omega (arith, length-changed a.queues.items queue (with_launched id p) at.q at.found, kept.few_queues);
-          flying = flying-launched;
-        }
-
-    -- and the packet that is launched is this one
-    pub packet-launched : (P : Packet → Type 0) → P p → (f : InFlight) → launched_by (Take queue id bytes) (outcome.Taken Launched) ≡ Some f → P f.packet
-    packet-launched P holds f is =
-        let made : Some (record { queue = queue; id = id; packet = p }) ≡ Some f = ap (option_map (λ (x : Packet). record { queue = queue; id = id; packet = x })) (sym reads) ∙ is in
-        let same : record { queue = queue; id = id; packet = p } ≡ f = cc in
-        subst P (ap (λ (g : InFlight). g.packet) same) holds
+    pub queues-launched : lies_in_regions (region_lengths (start_of a)) p ≡ true → QueuesAfter a (with_queue a.queues.items queue (with_launched id p)) (a.flying + 1) (Take queue id bytes) (outcome.Taken Launched) []
+    queues-launched within =
+        queues-after a kept queue can.opened (with_launched id p) (launched id p) (a.flying + 1) _ _ _ refl refl sound-launched refl
+        (λ m. queue_at-launched (start_of a) a.audit.items queue id bytes p reads below-id m) flying-launched packet-within
+      where
+        packet-within : (f : InFlight) → launched_by (Take queue id bytes) (outcome.Taken Launched) ≡ Some f → lies_in_regions (region_lengths (start_of a)) f.packet ≡ true
+        packet-within f is =
+            let made : Some (record { queue = queue; id = id; packet = p }) ≡ Some f = ap (option_map (λ (x : Packet). record { queue = queue; id = id; packet = x })) (sym reads) ∙ is in
+            let same : record { queue = queue; id = id; packet = p } ≡ f = cc in
+            subst (λ (x : Packet). lies_in_regions (region_lengths (start_of a)) x ≡ true) (ap (λ (g : InFlight). g.packet) same) within

@@ -1,6 +1,6 @@
 -- Packets in flight and their completion: what an entry changes beside them, and how many are left.
 use Rattle.std.proofs.Common.{◌≡◌, ℕ, ◌+◌, ◌-◌, ◌<◌, ◌≤◌, List, [], ◌∷◌, ◌++◌, length, refl, sym, subst, ◌∙◌, ap, Bool, true, false, Option, Some, None, arith, pos}
-use Rattle.std.specs.Prelude.{ℤ, filter, find, fold, not, slice_set, ◌==◌, if◌then◌else◌, Ok, Err}
+use Rattle.std.specs.Prelude.{ℤ, filter, find, fold, nat_lt, not, slice_set, ◌==◌, if◌then◌else◌, Ok, Err}
 use Rattle.std.specs.Option.{ok_or}
 use Rattle.signals.specs.declared.operation.SignalOp.{SignalOp}
 use Rattle.signals.specs.Values.{after, applied, value_of}
@@ -9,23 +9,28 @@ use Rattle.aql_packet.specs.declared.ids.PacketId.{PacketId}
 use Rattle.aql_packet.specs.declared.ids.SignalHandle.{SignalHandle}
 use Rattle.core_model.specs.declared.entry.Effect.TheVariants as effect
 use Rattle.core_model.specs.declared.flight.InFlight.{InFlight}
-use Rattle.core_model.specs.Memory.{byte_after, signals_after}
+use Rattle.core_model.specs.Memory.{byte_after, signals, signals_after}
 use Rattle.core_model.specs.declared.refusal.Refusal.TheVariants as refusal
-use Rattle.std.proofs.lemmas.Bool.{and_parts, eqb-true}
+use Rattle.std.proofs.lemmas.Bool.{and_parts, eqb-true, le-ltb}
 use Rattle.std.specs.Prelude.{◌&&◌, option_map, All}
 use Rattle.policy.specs.Policy.{numbered}
 use Rattle.core_model.specs.Memory.{region_lengths}
-use Rattle.core_model.specs.Flight.{flight, flight_after_effect, in_flight, is_packet, progress}
+use Rattle.core_model.specs.Flight.{flight, flight_after, flight_after_effect, in_flight, is_packet, progress, with_launched}
 use Rattle.core_model.specs.declared.flight.Progress.{Progress}
-use Rattle.core_model.specs.Owed.{Owed, owed, enters, refuses, completed, for_packet}
-use Rattle.core_model.specs.Legal.{with_entry}
+use Rattle.core_model.specs.Owed.{Owed, owed, enters, error_at, refuses, completed, for_packet}
+use Rattle.core_model.specs.Legal.{due, entry_of, lacks_room}
 use Rattle.core_model.specs.Queues.{error_of, opening_of, owner, stops}
 use Rattle.core_model.specs.declared.event.Event.{Event}
+use Rattle.core_model.specs.declared.event.Event.TheVariants.{Finish, Poll}
+use Rattle.core_model.specs.declared.outcome.Polled.TheVariants.{Failed}
+use Rattle.core_model.specs.Needs.{completion}
+use Rattle.queue_error.specs.declared.rule.Rule.TheVariants.{B1}
+use Rattle.access_core.proofs.Calls.{due-as}
 use Rattle.core_model.specs.declared.entry.Effect.{Effect}
 use Rattle.core_model.specs.declared.outcome.Outcome.{Outcome}
 use Rattle.core_model.specs.declared.outcome.Outcome.TheVariants as outcome
 use Rattle.core_model.specs.History.{History}
-use Rattle.core_model.proofs.More.{with_error, with_some}
+use Rattle.core_model.proofs.More.{with_error}
 use Rattle.aql_packet.specs.declared.packet.Packet.{Packet}
 use Rattle.std.proofs.lemmas.List.{length-map}
 use Rattle.std.proofs.lemmas.List.Elements.{All-filter, All-head, All-tail}
@@ -34,19 +39,19 @@ use Rattle.packet_processor.specs.declared.places.Place.{Place}
 use Rattle.packet_processor.specs.Queueing.{is_at, with_progress, without}
 use Rattle.access_core.specs.declared.access.AccessCore.TheInside.{Inside}
 use Rattle.access_core.specs.declared.queue.Queue.{Queue}
-use Rattle.access_core.specs.CachedQueue.{IsSound, QueueView, cached, kept_opening, place_of}
-use Rattle.access_core.specs.InPlace.{IsInPlace, RefusedAt, completion_of, finish_owed}
-use Rattle.access_core.specs.LiesInRegions.{lies_in_regions}
-use Rattle.access_core.specs.Kept.{IsKept, start_of, history_of}
+use Rattle.access_core.specs.inner.CachedQueue.{IsSound, QueueView, cached, cached_opening, place_of}
+use Rattle.access_core.specs.inner.InPlace.{IsInPlace, RefusedAt, completion_of, finish_owed}
+use Rattle.access_core.specs.inner.LiesInRegions.{lies_in_regions}
+use Rattle.access_core.specs.inner.Cached.{IsCached, start_of, history_of}
 use Rattle.queue_error.specs.declared.error.QueueError.{QueueError}
 use Rattle.std.proofs.Common.{get_or, length-append}
 use Rattle.std.proofs.lemmas.List.Elements.{All-map}
-use Rattle.access_core.specs.QueueChanges.{CanFail, freed_by, with_advance, with_failure, with_queue, with_release}
-use Rattle.access_core.proofs.KeptMore.{QueuesMove}
+use Rattle.access_core.specs.inner.QueueChanges.{CanFail, freed_by, with_advance, with_failure, with_queue, with_release}
+use Rattle.access_core.proofs.CachedMore.{QueuesAfter, none-launched}
 use Rattle.access_core.proofs.PlacesMore.{of_queue, released-count, released-of}
 use Rattle.access_core.proofs.QueueAt.{IsAdvance, IsRelease, advanced, flight-advanced, flight-released, queue_at-advanced, queue_at-released}
-use Rattle.access_core.proofs.QueueMoves.{freed-at, length-changed, openings-changed, queues-changed, sound-changed}
-use Rattle.access_core.proofs.TakeLemmas.{IsOpen, owner-kept, view-kept}
+use Rattle.access_core.proofs.ChangedQueue.{freed-at}
+use Rattle.access_core.proofs.TakeLemmas.{IsOpen, owner-kept, queues-after, view-kept}
 
 -- ---- signals
 
@@ -139,19 +144,17 @@ found-passes test (x ∷ xs) f found = first (test x) refl found (found-passes t
 pub owed-in_place : (history : History) (queue : QueueId) (id : PacketId) (place : Place) → IsInPlace history queue id place → (rest : Packet → Progress → Owed) → for_packet history.start history.entries queue id rest ≡ rest place.packet place.progress
 owed-in_place history queue id place found rest = rw (found.owner_is, found.found, found.packet_is, found.progress_is) refl
 
-module _ (a : Inside) (kept : IsKept a) (old : History) (seen_as : history_of a ≡ old) where
-  -- a completion is owed by the values that are kept
-  pub finish-inside : (event : Event) (queue : QueueId) (id : PacketId) (p : Packet) →
-      owed old.start old.entries event ≡ finish_owed old queue id p → owed (start_of a) a.audit.items event ≡ enters outcome.Accepted (completion_of a.signals queue id p)
-  finish-inside event queue id p due =
-      rw kept.values
-      (subst (λ h. owed h.start h.entries event ≡ finish_owed h queue id p) (sym seen_as) due)
+-- a completion that is due, by the values that are cached
+pub finish-due : (a : Inside) → IsCached a → (old : History) → history_of a ≡ old → (event : Event) (queue : QueueId) (id : PacketId) (p : Packet) →
+    due old event ≡ finish_owed old queue id p → due old event ≡ enters outcome.Accepted (completion_of a.signals queue id p)
+finish-due a kept old seen_as event queue id p is =
+    is ∙ ap (λ values. enters outcome.Accepted (completion_of values queue id p)) (sym (kept.values ∙ ap (λ h. signals h.start h.entries) seen_as))
 
-  -- a place that is found is one by the fields
-  pub place-inside : (queue : QueueId) (id : PacketId) (place : Place) → IsInPlace old queue id place → IsInPlace (history_of a) queue id place
-  place-inside queue id place found = subst (λ h. IsInPlace h queue id place) (sym seen_as) found
+-- a place that is found is one by the fields
+pub place-inside : (a : Inside) (old : History) → history_of a ≡ old → (queue : QueueId) (id : PacketId) (place : Place) → IsInPlace old queue id place → IsInPlace (history_of a) queue id place
+place-inside a old seen_as queue id place found = subst (λ h. IsInPlace h queue id place) (sym seen_as) found
 
-module _ (a : Inside) (kept : IsKept a) (queue : QueueId) (id : PacketId) where
+module _ (a : Inside) (kept : IsCached a) (queue : QueueId) (id : PacketId) where
   abbrev flying : List InFlight
   flying = flight (start_of a) a.audit.items
 
@@ -192,17 +195,12 @@ module _ (a : Inside) (kept : IsKept a) (queue : QueueId) (id : PacketId) where
 
   -- how the queues move along with it
   pub queues-released : (event : Event) (told : Outcome) (effects : List Effect) → IsRelease queue id event told effects → opening_of event ≡ None → (at : IsOpen a queue) (change : Queue → Queue) (view : QueueView → QueueView)
-      → kept_opening (change at.q) ≡ kept_opening at.q → IsSound (change at.q) → cached (Some (change at.q)) ≡ view (cached (Some at.q))
+      → cached_opening (change at.q) ≡ cached_opening at.q → IsSound (change at.q) → cached (Some (change at.q)) ≡ view (cached (Some at.q))
       → ((m : QueueId) (v : QueueView) (b : Bool) → (queue.0 == m.0) ≡ b → record { next = v.next; stopped = (if stops m event then true else v.stopped); errors = with_error m v.errors (error_of told); places = (if b then without id v.places else v.places) } ≡ (if b then view v else v))
-      → QueuesMove a (with_queue a.queues.items queue change) (a.flying - freed_by (Some id) a.queues.items queue) event told effects
-  queues-released event told effects is none at change view same sound alike pick = record {
-    openings = openings-changed a.queues.items queue change at.q at.found same ∙ sym (ap (with_some (map kept_opening a.queues.items)) none);
-    queues = queues-changed a.queues.items queue change at.q at.found view (start_of a) a.audit.items (with_entry a.audit.items event told effects) alike kept.queues
-        (λ m. queue_at-released (start_of a) a.audit.items queue id event told effects is view m (pick m));
-    sound = sound-changed a.queues.items queue change at.q at.found sound kept.sound;
-    few_queues = omega (arith, length-changed a.queues.items queue change at.q at.found, kept.few_queues);
-    flying = flying-released at ∙ ap length (sym (flight-released (start_of a) a.audit.items queue id event told effects is));
-  }
+      → QueuesAfter a (with_queue a.queues.items queue change) (a.flying - freed_by (Some id) a.queues.items queue) event told effects
+  queues-released event told effects is none at change view same sound alike pick =
+      queues-after a kept queue at change view _ event told effects none same sound alike (λ m. queue_at-released (start_of a) a.audit.items queue id event told effects is view m (pick m))
+      (flying-released at ∙ ap length (sym (flight-released (start_of a) a.audit.items queue id event told effects is))) (none-launched _ _ is.launches (start_of a))
 
 -- a queue whose packet left flight is sound
 pub sound-released : (q : Queue) (id : PacketId) → IsSound q → IsSound (with_release id q)
@@ -230,9 +228,9 @@ all-found P test (x ∷ xs) f all found = first (test x) found (all-found P test
     first true same more = let here : x ≡ f = cc in subst P here (All-head P x xs all)
     first false same more = more same
 
-module _ (a : Inside) (kept : IsKept a) (queue : QueueId) (id : PacketId) (q : Queue) (some : numbered a.queues.items queue.0 ≡ Some q) where
-  owned : owner (start_of a) a.audit.items queue ≡ Some (kept_opening q)
-  owned = owner-kept a queue kept ∙ ap (option_map kept_opening) some
+module _ (a : Inside) (kept : IsCached a) (queue : QueueId) (id : PacketId) (q : Queue) (some : numbered a.queues.items queue.0 ≡ Some q) where
+  owned : owner (start_of a) a.audit.items queue ≡ Some (cached_opening q)
+  owned = owner-kept a queue kept ∙ ap (option_map cached_opening) some
 
   pub sought : find (is_at id) q.places ≡ option_map (place_of (start_of a) a.audit.items) (in_flight (start_of a) a.audit.items queue id)
   sought =
@@ -254,7 +252,7 @@ module _ (a : Inside) (kept : IsKept a) (queue : QueueId) (id : PacketId) (q : Q
           let queues : f.queue ≡ queue = ap (λ n. record { 0 = n }) (eqb-true _ _ both.0) in
           let ids : f.id ≡ id = ap (λ n. record { 0 = n }) (eqb-true _ _ both.1) in
           record {
-            opening = kept_opening q;
+            opening = cached_opening q;
             owner_is = owned;
             flying = f;
             found = found;
@@ -271,14 +269,14 @@ module _ (a : Inside) (kept : IsKept a) (queue : QueueId) (id : PacketId) (q : Q
       either (Some f) found e = absurd cc
 
 -- a packet in its place reaches only what lies whole in a region
-pub reaches-in_place : (a : Inside) (kept : IsKept a) (queue : QueueId) (id : PacketId) (place : Place) → IsInPlace (history_of a) queue id place → lies_in_regions (region_lengths (start_of a)) place.packet ≡ true
+pub reaches-in_place : (a : Inside) (kept : IsCached a) (queue : QueueId) (id : PacketId) (place : Place) → IsInPlace (history_of a) queue id place → lies_in_regions (region_lengths (start_of a)) place.packet ≡ true
 reaches-in_place a kept queue id place found =
     ap (lies_in_regions (region_lengths (start_of a))) (sym found.packet_is)
-    ∙ all-found (λ (f : InFlight). lies_in_regions (region_lengths (start_of a)) f.packet ≡ true) (is_packet queue id) (flight (start_of a) a.audit.items) found.flying kept.reachable found.found
+    ∙ all-found (λ (f : InFlight). lies_in_regions (region_lengths (start_of a)) f.packet ≡ true) (is_packet queue id) (flight (start_of a) a.audit.items) found.flying kept.within found.found
 
 -- ---- a packet fails
 
-module _ (a : Inside) (kept : IsKept a) (queue : QueueId) (id : PacketId) (at : IsOpen a queue) where
+module _ (a : Inside) (kept : IsCached a) (queue : QueueId) (id : PacketId) (at : IsOpen a queue) where
   fewer-places : (f : InFlight) → in_flight (start_of a) a.audit.items queue id ≡ Some f → length (without id at.q.places) + 1 ≤ length at.q.places
   fewer-places f found =
       let there : find (is_at id) at.q.places ≡ Some (place_of (start_of a) a.audit.items f) = sought a kept queue id at.q at.found ∙ ap (option_map (place_of (start_of a) a.audit.items)) found in
@@ -317,15 +315,33 @@ sound-advanced q id so_far sound =
     either p false below = below
 
 -- how the queues move along with it
-pub queues-advanced : (a : Inside) (kept : IsKept a) (queue : QueueId) (at : IsOpen a queue) (id : PacketId) (g : Progress → Progress) (event : Event) (told : Outcome) (effects : List Effect) → IsAdvance queue id g event told effects → opening_of event ≡ None
-    → (so_far : Progress) → so_far ≡ g (progress (start_of a) a.audit.items queue id) → QueuesMove a (with_queue a.queues.items queue (with_advance id so_far)) a.flying event told effects
+pub queues-advanced : (a : Inside) (kept : IsCached a) (queue : QueueId) (at : IsOpen a queue) (id : PacketId) (g : Progress → Progress) (event : Event) (told : Outcome) (effects : List Effect) → IsAdvance queue id g event told effects → opening_of event ≡ None
+    → (so_far : Progress) → so_far ≡ g (progress (start_of a) a.audit.items queue id) → QueuesAfter a (with_queue a.queues.items queue (with_advance id so_far)) a.flying event told effects
 queues-advanced a kept queue at id g event told effects is none so_far new =
-    let change = with_advance id so_far in
-    record {
-      openings = openings-changed a.queues.items queue change at.q at.found refl ∙ sym (ap (with_some (map kept_opening a.queues.items)) none);
-      queues = queues-changed a.queues.items queue change at.q at.found (advanced id so_far) (start_of a) a.audit.items (with_entry a.audit.items event told effects) refl kept.queues
-          (λ m. queue_at-advanced (start_of a) a.audit.items queue id g event told effects is so_far new m);
-      sound = sound-changed a.queues.items queue change at.q at.found (sound-advanced at.q id so_far at.sound) kept.sound;
-      few_queues = omega (arith, length-changed a.queues.items queue change at.q at.found, kept.few_queues);
-      flying = kept.flying ∙ ap length (sym (flight-advanced (start_of a) a.audit.items queue id g event told effects is));
-    }
+    queues-after a kept queue at (with_advance id so_far) (advanced id so_far) a.flying event told effects none refl (sound-advanced at.q id so_far at.sound) refl
+    (λ m. queue_at-advanced (start_of a) a.audit.items queue id g event told effects is so_far new m)
+    (kept.flying ∙ ap length (sym (flight-advanced (start_of a) a.audit.items queue id g event told effects is))) (none-launched _ _ is.launches (start_of a))
+
+-- ---- a packet leaves flight, for which its own entry always finds room
+
+pub finish-releases : (values : List ℤ) (queue : QueueId) (id : PacketId) (p : Packet) → IsRelease queue id (Finish queue id) outcome.Accepted (completion_of values queue id p)
+finish-releases values queue id p = record { launches = refl; progress = λ q i so_far. refl; releases = λ fs. flight-completed values (completion p) queue id fs; hands = λ m. refl }
+
+pub failure-releases : (queue : QueueId) (id : PacketId) → IsRelease queue id (Poll queue id) (outcome.Polled (Failed (error_at queue id.0 B1))) (effect.Release queue id ∷ [])
+failure-releases queue id = record { launches = refl; progress = λ q i so_far. refl; releases = λ fs. refl; hands = λ m. refl }
+
+pub release-due : (a : Inside) → IsCached a → (old : History) → history_of a ≡ old → (queue : QueueId) (id : PacketId) (place : Place) → IsInPlace old queue id place → (event : Event) (told : Outcome) (effects : List Effect)
+    → IsRelease queue id event told effects → owed old.start old.entries event ≡ enters told effects → due old event ≡ enters told effects
+release-due a kept old seen_as queue id place placed event told effects is owing = due-as old event _ owing ∙ (rw room refl)
+  where
+    flew : List InFlight
+    flew = flight (start_of a) a.audit.items
+
+    left : flight_after flew (entry_of event told effects) ≡ filter (λ f. not (is_packet queue id f)) flew
+    left = ap (λ (o : Option InFlight). fold flight_after_effect (with_launched flew o) effects) is.launches ∙ is.releases flew
+
+    room : lacks_room old (entry_of event told effects) ≡ false
+    room =
+        let found = place-inside a old seen_as queue id place placed in
+        subst (λ h. lacks_room h (entry_of event told effects) ≡ false) seen_as
+        (ap (λ (fs : List InFlight). nat_lt a.capacity (length a.audit.items + 1 + length fs)) left ∙ le-ltb _ _ (release-room a kept queue id found.flying found.found))

@@ -25,9 +25,9 @@ use Rattle.core_model.specs.declared.need.AgentFunction.TheVariants.{Fill, Copy,
 use Rattle.core_model.specs.declared.need.TheConstants.{FILL, COPY, ADD64}
 use Rattle.core_model.specs.Needs.{argument, bytes_at, function_of, function_needs, range_need, result_range}
 use Rattle.core_model.specs.LaunchRules.{lies_whole}
-use Rattle.access_core.specs.Kept.{IsKept, start_of, history_of}
-use Rattle.access_core.specs.LiesInRegions.{lies_in_regions}
-use Rattle.access_core.specs.InPlace.{is_placed, IsChanged}
+use Rattle.access_core.specs.inner.Cached.{IsCached, start_of, history_of}
+use Rattle.access_core.specs.inner.LiesInRegions.{lies_in_regions}
+use Rattle.access_core.specs.inner.InPlace.{is_placed, IsChanged}
 
 -- each address of a range that lies whole in a region lies in it
 lies-within : (regions : List (List ℕ)) (address size k : ℕ) → IsMemory regions → IsWithin regions address size → k < size → lies_in_region (lengths_of regions) (address + k) ≡ true
@@ -42,7 +42,7 @@ lies-within regions address size k memory within below =
     lt-ltb _ _ (omega (arith, e, same, offset, ends, below))
 
 -- what is read is what the history has there
-read-kept : (a : Inside) (kept : IsKept a) → IsMemory a.memory → (address size : ℕ) → is_within (region_lengths (start_of a)) address size ≡ true → bytes_from a.memory address size ≡ memory_from (start_of a) a.audit.items address size
+read-kept : (a : Inside) (kept : IsCached a) → IsMemory a.memory → (address size : ℕ) → is_within (region_lengths (start_of a)) address size ≡ true → bytes_from a.memory address size ≡ memory_from (start_of a) a.audit.items address size
 read-kept a kept memory address size test =
     let within : IsWithin a.memory address size = IsWithin-from_test a.memory address size (rw kept.lengths test) in
     let long : length (bytes_from a.memory address size) ≡ size = length-bytes_from a.memory address size within in
@@ -54,7 +54,7 @@ read-kept a kept memory address size test =
     (slice_get-bytes_from a.memory address size k memory within below ∙ kept.memory (address + k) lies)
     ∙ sym (get_or-map-range_with_len (memory_at (start_of a) a.audit.items) address size k (address + k) d below refl))
 
-pub read-inside : (a : Inside) (kept : IsKept a) (old : History) (seen_as : history_of a ≡ old) → IsMemory a.memory → (address size : ℕ) → is_within (region_lengths old.start) address size ≡ true → bytes_from a.memory address size ≡ memory_from old.start old.entries address size
+pub read-inside : (a : Inside) (kept : IsCached a) (old : History) (seen_as : history_of a ≡ old) → IsMemory a.memory → (address size : ℕ) → is_within (region_lengths old.start) address size ≡ true → bytes_from a.memory address size ≡ memory_from old.start old.entries address size
 read-inside a kept old seen_as memory address size =
     subst (λ h. is_within (region_lengths h.start) address size ≡ true → bytes_from a.memory address size ≡ memory_from h.start h.entries address size) seen_as (read-kept a kept memory address size)
 

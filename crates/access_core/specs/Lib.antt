@@ -1,13 +1,2 @@
-pub mod Judged
-pub mod CachedQueue
-pub mod QueueChanges
-pub mod LiesInRegions
-pub mod Deciding
-pub mod Kept
 pub mod Opening
-pub mod Lookups
-pub mod InPlace
-pub mod Polling
-pub mod Stopping
-pub mod Held
-pub mod Granting
+pub mod inner

@@ -1,7 +1,9 @@
 //! The core: what is in force, in memory and in flight, and the audit that says how it came about.
 
-ghost use Rattle.std.specs.Prelude.{◌≡◌, ◌+◌, ◌^◌, ◌<◌, nat_lt};
-ghost use Rattle.core_model.specs.Legal.{with_entry};
+ghost use Rattle.std.specs.Prelude.{◌≡◌, ◌+◌, ◌<◌, length, nat_lt};
+ghost use Rattle.core_model.specs.Flight.{flight};
+ghost use Rattle.core_model.specs.Legal.{entry_of};
+ghost use Rattle.access_core.specs.inner.Cached.{IsEntered, is_full};
 
 mod granting;
 mod host;
@@ -80,27 +82,34 @@ impl Model for AccessCore {
 
     ghost Value = { History };
 
-    ghost use Rattle.access_core.specs.Kept.{history_of, IsKept};
+    ghost use Rattle.access_core.specs.inner.Cached.{history_of, IsCached};
 
     ghost view = { history_of };
 
-    ghost invariant = { IsKept };
+    ghost invariant = { IsCached };
 }
 
-// Whether an audit lacks room for one more entry, with so many packets in flight after it.
-fn lacks_room(capacity: usize, entries: usize, flying: usize) -> bool
-    requires few { entries < 2 ^ 32 }
-    requires small { flying < 2 ^ 32 }
-    ensures { result ≡ nat_lt capacity (entries + 1 + flying) }
-{
-    capacity < entries + 1 + flying
+impl AccessCore {
+    // Whether the audit has no room for an entry after which as many packets are in flight.
+    fn is_full(&self) -> bool
+        ensures { result ≡ is_full self.now }
+    {
+        self.capacity < self.audit.len() + 1 + self.flying
+    }
+
+    // Whether it has none for an entry after which one packet more is in flight.
+    fn is_full_for_launch(&self) -> bool
+        ensures { result ≡ nat_lt self.now.capacity
+            (length self.now.entries + 1 + (length (flight self.now.start self.now.entries) + 1)) }
+    {
+        self.capacity < self.audit.len() + 1 + (self.flying + 1)
+    }
 }
 
 // Puts an entry behind the others.
 fn enter(audit: &mut Reserved<Entry>, event: Event, outcome: Outcome, effects: Effects)
     requires { 0 < audit.old.room }
-    ensures entries { audit.new.items ≡ with_entry audit.old.items event outcome effects }
-    ensures place { audit.new.room + 1 ≡ audit.old.room }
+    ensures { IsEntered audit.old audit.new (entry_of event outcome effects) }
 {
     audit.push(Entry {
         event,

@@ -49,7 +49,7 @@ use Rattle.core_model.specs.LaunchRules.{Facts, first_failing, holds_rule, launc
 use Rattle.core_model.specs.Work.{number_in_memory, write_of, function_writes, function_result, agent_writes}
 use Rattle.core_model.specs.Owed.{owed, answers, enters, error_at, facts_of, is_host_size, owed_group}
 use Rattle.core_model.specs.Legal.{IsLegal}
-use Rattle.core_model.specs.Queries.{Replied, answer_if, answer_some, replied, has_some, listing, all_objects}
+use Rattle.core_model.specs.Queries.{Replying, answer_if, answer_some, replied, has_some, listing, all_objects}
 use Rattle.core_model.specs.Headline.{InFlightSince, IsDenied, IsListed, MayReach, MayReachRange, ranges_read, reads_of}
 use Rattle.core_model.proofs.Entered.{take-decided, run-entered}
 use Rattle.core_model.proofs.Holding.{flying-since}
@@ -154,11 +154,11 @@ module _ (start : Start) (one other : List Entry) where
 
 -- ---- what clients are told
 
-if-told : (test : Bool) (why : Refusal) (rest : Replied) (told : Answer) → answer_if test why rest ≡ Ok told → (test ≡ true) × (rest ≡ Ok told)
+if-told : (test : Bool) (why : Refusal) (rest : Replying) (told : Answer) → answer_if test why rest ≡ Ok told → (test ≡ true) × (rest ≡ Ok told)
 if-told true why rest told same = (refl, same)
 if-told false why rest told same = absurd cc
 
-some-told : {X : Type 0} (o : Option X) (why : Refusal) (rest : X → Replied) (told : Answer) → answer_some o why rest ≡ Ok told → (x : X) × (o ≡ Some x) × (rest x ≡ Ok told)
+some-told : {X : Type 0} (o : Option X) (why : Refusal) (rest : X → Replying) (told : Answer) → answer_some o why rest ≡ Ok told → (x : X) × (o ≡ Some x) × (rest x ≡ Ok told)
 some-told None why rest told same = absurd cc
 some-told (Some x) why rest told same = (x, refl, same)
 

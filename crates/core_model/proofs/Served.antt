@@ -10,7 +10,8 @@ use Rattle.core_model.specs.declared.refusal.Refusal.{Refusal}
 use Rattle.core_model.specs.declared.refusal.Refusal.TheVariants as refusal
 use Rattle.core_model.specs.History.{History}
 use Rattle.core_model.specs.Owed.{Owed, owed, refuses, answers, enters}
-use Rattle.core_model.specs.Legal.{IsLegal, IsServed, MeetsOrLacks, Replying, AreReplies, as_reply, reply_of, due, entry_of, history_after, lacks_room, with_entry, within_room}
+use Rattle.core_model.specs.Legal.{IsLegal, IsServed, MeetsOrLacks, AreReplies, as_reply, reply_of, due, entry_of, history_after, lacks_room, with_entry, within_room}
+use Rattle.core_model.specs.Queries.{Replying}
 use Rattle.core_model.specs.Headline.{GoesOn}
 use Rattle.core_model.proofs.Legality.{IsLegal-more}
 
@@ -31,7 +32,7 @@ module _ (old : History) (legal : Legal old) (event : Event) where
   entered : (owing : Owed) → owed old.start old.entries event ≡ owing → GoesOn old (history_after old event (within_room old event owing))
   entered (refuses why) is = stays old old legal refl
   entered (answers outcome) is = stays old old legal refl
-  entered (enters outcome effects) is = by_room (lacks_room old.capacity old.start (with_entry old.entries event outcome effects))
+  entered (enters outcome effects) is = by_room (lacks_room old (entry_of event outcome effects))
     where
       by_room : (b : Bool) → GoesOn old (history_after old event (if b then refuses refusal.AuditFull else enters outcome effects))
       by_room true = stays old old legal refl

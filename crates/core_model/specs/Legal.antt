@@ -1,32 +1,28 @@
 -- Which histories are legal, and what a list of requests is owed in turn.
-use Rattle.std.specs.Prelude.{ℕ, ◌+◌, ◌≡◌, ◌≤◌, ◌⊎◌, Bool, true, false, List, [], ◌∷◌, ◌++◌, length, nat_lt, Result, Ok, Err, if◌then◌else◌}
+use Rattle.std.specs.Prelude.{ℕ, ◌+◌, ◌≡◌, ◌⊎◌, Bool, true, false, List, [], ◌∷◌, ◌++◌, length, nat_lt, Result, Ok, Err, if◌then◌else◌}
 use Rattle.core_model.specs.declared.event.Event.{Event}
-use Rattle.core_model.specs.declared.event.Event.TheVariants.{Revoke, Stop, Take, Finish, ChangeSignal}
+use Rattle.core_model.specs.declared.event.Event.TheVariants.{OpenQueue, Take, RunNext, HostWrite}
 use Rattle.core_model.specs.declared.event.Query.{Query}
-use Rattle.core_model.specs.declared.event.Query.TheVariants as query
 use Rattle.core_model.specs.declared.event.Request.{Request}
 use Rattle.core_model.specs.declared.event.Request.TheVariants as request
 use Rattle.core_model.specs.declared.entry.Entry.{Entry}
 use Rattle.core_model.specs.declared.entry.Effect.{Effect}
 use Rattle.core_model.specs.declared.outcome.Outcome.{Outcome}
 use Rattle.core_model.specs.declared.outcome.Outcome.TheVariants as outcomes
+use Rattle.core_model.specs.declared.outcome.Taken.TheVariants.{Launched}
 use Rattle.core_model.specs.declared.answer.Answer.{Answer}
 use Rattle.core_model.specs.declared.answer.Answer.TheVariants as answer
 use Rattle.core_model.specs.declared.refusal.Refusal.{Refusal}
 use Rattle.core_model.specs.declared.refusal.Refusal.TheVariants as refusal
 use Rattle.policy.specs.Policy.{Declared}
 use Rattle.core_model.specs.History.{Start, History}
-use Rattle.core_model.specs.Flight.{flight}
+use Rattle.core_model.specs.Flight.{flight, flight_after}
 use Rattle.core_model.specs.Owed.{Owed, refuses, answers, enters, owed}
-use Rattle.core_model.specs.Queries.{replied}
+use Rattle.core_model.specs.Queries.{Replying, replied}
 
 -- the history of a core that was just opened: no entry yet (own)
 abbrev pub opened : Declared → ℕ → History
 opened policy capacity = record { start = record { policy = policy }; capacity = capacity; entries = [] }
-
--- whether an audit has room for an entry of each packet in flight (own)
-abbrev pub HasRoom : History → Type 0
-HasRoom history = length history.entries + length (flight history.start history.entries) ≤ history.capacity
 
 -- the entries follow each other lawfully after those before: each is what its event was owed at that point (own)
 abbrev pub IsLegalAfter : Start → List Entry → List Entry → Type 0
@@ -46,16 +42,17 @@ entry_of event outcome effects = record { event = event; outcome = outcome; effe
 abbrev pub with_entry : List Entry → Event → Outcome → List Effect → List Entry
 with_entry entries event outcome effects = entries ++ entry_of event outcome effects ∷ []
 
--- whether an audit with this many places has no room for its entries: fewer are free than packets are in flight (own)
-abbrev pub lacks_room : ℕ → Start → List Entry → Bool
-lacks_room capacity start entries = nat_lt capacity (length entries + length (flight start entries))
+-- whether an audit has no room for one entry more: after it fewer places would be free than packets are in flight (own)
+abbrev pub lacks_room : History → Entry → Bool
+lacks_room history entry =
+    nat_lt history.capacity (length history.entries + 1 + length (flight_after (flight history.start history.entries) entry))
 
 -- what is due where an event is owed this: an entry that the audit has no room for is refused, after every other refusal (own)
 abbrev pub within_room : History → Event → Owed → Owed
 within_room history event (refuses why) = refuses why
 within_room history event (answers outcome) = answers outcome
 within_room history event (enters outcome effects) =
-    if lacks_room history.capacity history.start (with_entry history.entries event outcome effects) then refuses refusal.AuditFull
+    if lacks_room history (entry_of event outcome effects) then refuses refusal.AuditFull
     else enters outcome effects
 
 -- what is due to an event: what it is owed, or that the audit has no room for its entry
@@ -92,15 +89,14 @@ pub record Meets (event : Event) (old new : History) (reply : Result Outcome Ref
   pub reply_is : reply ≡ reply_of (due old event)
   pub history_is : new ≡ history_after old event (due old event)
 
--- whether an event that is owed this may want memory: a revocation, a stop, a completion and a change of a signal never do,
--- nor does a packet that waits (own)
+-- whether an event that is due this may want memory: an opening, a launch, a group and a client's write, and only where they
+-- are entered; a refusal, an answer without an entry, and every other call never do (own)
 abbrev pub may_lack : Event → Owed → Bool
-may_lack (Revoke _ _ _) owing = false
-may_lack (Stop _) owing = false
-may_lack (Finish _ _) owing = false
-may_lack (ChangeSignal _ _ _) owing = false
-may_lack (Take _ _ _) (answers _) = false
-may_lack _ owing = true
+may_lack (OpenQueue _ _ _) (enters _ _) = true
+may_lack (Take _ _ _) (enters (outcomes.Taken Launched) _) = true
+may_lack (RunNext _ _) (enters _ _) = true
+may_lack (HostWrite _ _ _) (enters _ _) = true
+may_lack _ _ = false
 
 -- memory was wanted and not to be had, and all is as before (own)
 pub record Lacks (event : Event) (old new : History) (reply : Result Outcome Refusal) : Type 0 where
@@ -112,15 +108,12 @@ pub record Lacks (event : Event) (old new : History) (reply : Result Outcome Ref
 abbrev pub MeetsOrLacks : Event → History → History → Result Outcome Refusal → Type 0
 MeetsOrLacks event old new reply = Meets event old new reply ⊎ Lacks event old new reply
 
--- whether a query may want memory: to look at a signal never does (own)
-abbrev pub query_may_lack : Query → Bool
-query_may_lack (query.LoadSignal _ _) = false
-query_may_lack (query.TestSignal _ _ _ _) = false
-query_may_lack _ = true
-
--- the reply to a request
-abbrev pub Replying : Type 0
-Replying = Result Answer Refusal
+-- whether a query that is replied this may want memory: one that is answered by a list, never one that is refused (own)
+abbrev pub query_may_lack : Replying → Bool
+query_may_lack (Err _) = false
+query_may_lack (Ok (answer.Value _)) = false
+query_may_lack (Ok (answer.Test _)) = false
+query_may_lack (Ok _) = true
 
 -- an event's reply as a reply to a request
 abbrev pub as_reply : Result Outcome Refusal → Replying
@@ -136,12 +129,13 @@ abbrev pub Replies : Query → History → Replying → Type 0
 Replies asked history reply = reply ≡ replied history.start history.entries asked
 
 abbrev pub RepliesOrLacks : Query → History → Replying → Type 0
-RepliesOrLacks asked history reply = Replies asked history reply ⊎ ((query_may_lack asked ≡ true) × (reply ≡ Err refusal.OutOfMemory))
+RepliesOrLacks asked history reply =
+    Replies asked history reply ⊎ ((query_may_lack (replied history.start history.entries asked) ≡ true) × (reply ≡ Err refusal.OutOfMemory))
 
 -- whether a request may want memory
 abbrev pub request_may_lack : History → Request → Bool
 request_may_lack history (request.Event event) = may_lack event (due history event)
-request_may_lack history (request.Query asked) = query_may_lack asked
+request_may_lack history (request.Query asked) = query_may_lack (replied history.start history.entries asked)
 
 -- the history that is due after a request: queries change nothing
 abbrev pub after : History → Request → History

@@ -24,15 +24,15 @@ use Rattle.core_model.specs.Queues.{owner, errors}
 use Rattle.core_model.specs.Owed.{is_host_size}
 
 -- the reply to a query: an answer, or why it is refused
-abbrev pub Replied : Type 0
-Replied = Result Answer Refusal
+abbrev pub Replying : Type 0
+Replying = Result Answer Refusal
 
 -- the rest where the test holds, else a refusal
-abbrev pub answer_if : Bool → Refusal → Replied → Replied
+abbrev pub answer_if : Bool → Refusal → Replying → Replying
 answer_if test why rest = if test then rest else Err why
 
 -- a refusal where there is nothing, else the rest for what there is
-abbrev pub answer_some : {X : Type 0} → Option X → Refusal → (X → Replied) → Replied
+abbrev pub answer_some : {X : Type 0} → Option X → Refusal → (X → Replying) → Replying
 answer_some None why rest = Err why
 answer_some (Some x) why rest = rest x
 
@@ -54,7 +54,7 @@ listing start entries client =
     map (λ on. (on, rights_in_force start entries client on)) (filter (has_some start entries client) (all_objects start.policy))
 
 -- what a query is answered after these entries: its refusals in order, then its answer
-unfoldable pub replied : Start → List Entry → Query → Replied
+unfoldable pub replied : Start → List Entry → Query → Replying
 replied start entries (query.HostRead client address size) =
     answer_if (declares_client start.policy client) refusal.UnknownClient
     (answer_if (is_host_size size) refusal.BadSize

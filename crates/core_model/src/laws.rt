@@ -47,8 +47,8 @@ ghost use Rattle.core_model.specs.Queues.{Opening, error_of, next_id};
 ghost use Rattle.core_model.specs.Flight.{LawOfFlight, flight, in_flight, progress};
 ghost use Rattle.core_model.specs.Work.{agent_writes};
 ghost use Rattle.core_model.specs.Owed.{is_host_size, old_if_asked, owed, owed_group, refuses};
-ghost use Rattle.core_model.specs.Legal.{AreReplies, IsLegal, IsServed, MeetsOrLacks, Replying, entry_of};
-ghost use Rattle.core_model.specs.Queries.{replied};
+ghost use Rattle.core_model.specs.Legal.{AreReplies, IsLegal, IsServed, MeetsOrLacks, entry_of};
+ghost use Rattle.core_model.specs.Queries.{Replying, replied};
 ghost use Rattle.core_model.specs.Headline.{ChangeIsGranted, GoesOn, HoldsInForce, InFlightSince, IsCompleted, IsDenied, IsEntryBehind, IsListed, IsOpened, IsPolled, Launch, MayBeLaunched, MayReach, MayReachRange, ReleaseIsDue, WriteIsGranted, packet_named, reads_of};
 
 /// A launched packet is the next of a queue that is open and need not wait, is laid out by its bytes, and

@@ -14,7 +14,8 @@ use Rattle.core_model.specs.declared.outcome.Outcome.TheVariants as outcome
 use Rattle.core_model.specs.declared.refusal.Refusal.{Refusal}
 use Rattle.core_model.specs.declared.refusal.Refusal.TheVariants as refusal
 use Rattle.core_model.specs.History.{History}
-use Rattle.core_model.specs.Legal.{MeetsOrLacks, IsServed, Replying, wrapped}
+use Rattle.core_model.specs.Legal.{MeetsOrLacks, IsServed, wrapped}
+use Rattle.core_model.specs.Queries.{Replying}
 use Rattle.script.specs.declared.command.Command.{Command}
 use Rattle.script.specs.declared.command.Command.TheVariants as command
 use Rattle.script.specs.declared.command.Told.{Told}

@@ -1,23 +1,23 @@
 //! Grants and revocations.
 
 ghost use Rattle.std.specs.Prelude.{◌≡◌};
-ghost use Rattle.core_model.specs.Legal.{Meets, MeetsOrLacks, accepted};
-ghost use Rattle.access_core.specs.Granting.{refusal_of};
+ghost use Rattle.core_model.specs.Legal.{Meets, accepted};
+ghost use Rattle.access_core.specs.inner.Granting.{refusal_of};
 
-use crate::access::{AccessCore, enter, lacks_room};
+use crate::access::{AccessCore, enter};
 use aql_packet::ClientId;
 use core_model::{Effects, Event, Outcome, Refusal};
 use policy::{Object, Rights};
 
 impl AccessCore {
-    /// Gives a client rights on an object.
+    /// Gives a client rights on an object. It takes no memory.
     pub fn grant(&mut self, client: ClientId, object: Object, rights: Rights) -> Result<(), Refusal>
-        ensures { MeetsOrLacks (Event.Grant client object rights) self.old self.new (accepted result) }
+        ensures { Meets (Event.Grant client object rights) self.old self.new (accepted result) }
     {
         if let Err(why) = self.grants.may_grant(client, object, rights) {
             return Err(refusal_of(why));
         }
-        if lacks_room(self.capacity, self.audit.len(), self.flying) {
+        if self.is_full() {
             return Err(Refusal::AuditFull);
         }
         self.grants.put_in_force(client, object, rights);
@@ -43,7 +43,7 @@ impl AccessCore {
         if let Err(why) = self.grants.may_revoke(client, object, rights) {
             return Err(refusal_of(why));
         }
-        if lacks_room(self.capacity, self.audit.len(), self.flying) {
+        if self.is_full() {
             return Err(Refusal::AuditFull);
         }
         self.grants.take_out_of_force(client, object, rights);

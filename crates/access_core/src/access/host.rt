@@ -4,12 +4,11 @@ ghost use Rattle.std.specs.Prelude.{◌≡◌, ◌-◌, ◌∷◌, [], OnOk, IfO
 ghost use Rattle.regions.specs.Memory.{is_within};
 ghost use Rattle.signals.specs.Values.{applied, value_of};
 ghost use Rattle.core_model.specs.Owed.{enters, old_if_asked, refuses};
-ghost use Rattle.core_model.specs.Legal.{Meets, MeetsOrLacks, accepted, wrapped};
+ghost use Rattle.core_model.specs.Legal.{Meets, MeetsOrLacks, accepted, due, wrapped};
 ghost use Rattle.core_model.specs.Memory.{region_lengths, signals};
-ghost use Rattle.access_core.specs.InPlace.{IsOwed};
 
 use crate::access::lookups::region_at;
-use crate::access::{AccessCore, enter, lacks_room};
+use crate::access::{AccessCore, enter};
 use aql_packet::{Address, ClientId, SignalHandle};
 use core_model::{Effect, Effects, Event, MOST_HOST_BYTES, Outcome, Refusal};
 use policy::{Object, Right};
@@ -29,9 +28,6 @@ impl AccessCore {
         ensures { Meets (Event.ChangeSignal client signal operation) self.old self.new (wrapped Outcome.Changed result) }
     {
         let old = self.may_change(client, signal, operation)?;
-        if lacks_room(self.capacity, self.audit.len(), self.flying) {
-            return Err(Refusal::AuditFull);
-        }
         let new = change(&mut self.signals, signal, operation, old);
         let event = Event::ChangeSignal {
             client,
@@ -56,9 +52,6 @@ impl AccessCore {
         ensures { MeetsOrLacks (Event.HostWrite client address bytes) self.old self.new (accepted result) }
     {
         self.may_write(client, address, &bytes)?;
-        if lacks_room(self.capacity, self.audit.len(), self.flying) {
-            return Err(Refusal::AuditFull);
-        }
         let written = bytes.copy(alloc)?;
         self.memory.lay(address, bytes.as_slice());
         let event = Event::HostWrite {
@@ -74,7 +67,7 @@ impl AccessCore {
         Ok(())
     }
 
-    // Whether a client may write these bytes from an address on.
+    // Whether a client may write these bytes from an address on, and the audit has room for that.
     #[tactic(auto, unfolding(core_model::specs::Owed::owed))]
     fn may_write(
         &self,
@@ -83,9 +76,9 @@ impl AccessCore {
         bytes: &Sequence<u8>,
     ) -> Result<(), Refusal>
         ensures within { OnOk result (is_within (region_lengths self.now.start) address.0 (length bytes.now) ≡ true) }
-        ensures may { OnOk result (IsOwed self.now (Event.HostWrite client address bytes.now)
-            (enters Outcome.Accepted (Effect.Write address bytes.now ∷ []))) }
-        ensures why { IfErr result (λ why. IsOwed self.now (Event.HostWrite client address bytes.now) (refuses why)) }
+        ensures may { OnOk result (due self.now (Event.HostWrite client address bytes.now)
+            ≡ enters Outcome.Accepted (Effect.Write address bytes.now ∷ [])) }
+        ensures why { IfErr result (λ why. due self.now (Event.HostWrite client address bytes.now) ≡ refuses why) }
     {
         if !self.policy().declares_client(client) {
             return Err(Refusal::UnknownClient);
@@ -99,6 +92,9 @@ impl AccessCore {
         {
             return Err(Refusal::Denied(Right::Write));
         }
+        if self.is_full() {
+            return Err(Refusal::AuditFull);
+        }
         Ok(())
     }
 
@@ -109,7 +105,7 @@ impl AccessCore {
         self.memory.contains(address, size as u64)
     }
 
-    // Whether a client may change a signal, and the signal's value.
+    // The value of a signal that a client may change, where the audit has room for that.
     #[tactic(auto, unfolding(core_model::specs::Owed::owed))]
     fn may_change(
         &self,
@@ -118,10 +114,10 @@ impl AccessCore {
         operation: SignalOp,
     ) -> Result<i64, Refusal>
         ensures value { IfOk result (λ old. value_of (signals self.now.start self.now.entries) signal.0 ≡ Some old) }
-        ensures may { IfOk result (λ old. IsOwed self.now (Event.ChangeSignal client signal operation)
-            (enters (Outcome.Changed (old_if_asked operation old))
-            (Effect.Signal signal old (applied operation old) ∷ []))) }
-        ensures why { IfErr result (λ why. IsOwed self.now (Event.ChangeSignal client signal operation) (refuses why)) }
+        ensures may { IfOk result (λ old. due self.now (Event.ChangeSignal client signal operation)
+            ≡ enters (Outcome.Changed (old_if_asked operation old))
+            (Effect.Signal signal old (applied operation old) ∷ [])) }
+        ensures why { IfErr result (λ why. due self.now (Event.ChangeSignal client signal operation) ≡ refuses why) }
     {
         if !self.policy().declares_client(client) {
             return Err(Refusal::UnknownClient);
@@ -129,10 +125,13 @@ impl AccessCore {
         if !self.is_in_force(client, Object::Signal(signal), Right::Change) {
             return Err(Refusal::Denied(Right::Change));
         }
-        match self.signal_value(signal) {
-            Some(old) => Ok(old),
-            None => Err(Refusal::Denied(Right::Change)),
+        let Some(old) = self.signal_value(signal) else {
+            return Err(Refusal::Denied(Right::Change));
+        };
+        if self.is_full() {
+            return Err(Refusal::AuditFull);
         }
+        Ok(old)
     }
 }
 

@@ -7,7 +7,7 @@ ghost use Rattle.regions.specs.Memory.{region_of};
 ghost use Rattle.signals.specs.Values.{value_of};
 ghost use Rattle.core_model.specs.Grants.{in_force};
 ghost use Rattle.core_model.specs.Memory.{signals};
-ghost use Rattle.access_core.specs.Lookups.{IsQueue, bytes_within};
+ghost use Rattle.access_core.specs.inner.Lookups.{IsQueue, bytes_within};
 
 use crate::access::AccessCore;
 use crate::queue::Queue;

@@ -8,14 +8,14 @@ ghost use Rattle.core_model.specs.LaunchRules.{is_barrier};
 ghost use Rattle.core_model.specs.Needs.{dependencies};
 ghost use Rattle.core_model.specs.Work.{is_negative, is_zero, signal_value};
 ghost use Rattle.core_model.specs.Owed.{owed_poll, refuses};
-ghost use Rattle.core_model.specs.Legal.{Meets, wrapped};
-ghost use Rattle.access_core.specs.QueueChanges.{CanFail, freed_by, with_failure, with_queue};
-ghost use Rattle.access_core.specs.Polling.{look_owed, sees_owed, sight};
-ghost use Rattle.access_core.specs.InPlace.{IsInPlace, IsOwed};
+ghost use Rattle.core_model.specs.Legal.{Meets, due, wrapped};
+ghost use Rattle.access_core.specs.inner.QueueChanges.{CanFail, freed_by, with_failure, with_queue};
+ghost use Rattle.access_core.specs.inner.Polling.{look_owed, sight};
+ghost use Rattle.access_core.specs.inner.InPlace.{IsInPlace};
 
 use crate::access::running::advance;
 use crate::access::working::free_place;
-use crate::access::{AccessCore, enter, lacks_room};
+use crate::access::{AccessCore, enter};
 use crate::queue::Queue;
 use aql_packet::{Packet, PacketId, QueueId, SignalHandle};
 use core_model::{Effect, Effects, Event, Outcome, Polled, Progress, Refusal, Seen};
@@ -49,27 +49,37 @@ impl AccessCore {
         match look {
             Look::Still(told) => Ok(told),
             Look::Fails => Ok(self.fail(queue, packet, place)),
-            Look::Sees { new, ready } => self.see(queue, packet, place, new, ready),
+            Look::Sees { new, ready } => Ok(self.see(queue, packet, place, new, ready)),
         }
     }
 
     // The place of the packet in flight with this queue and id, and what a poll of it finds.
     fn may_poll(&self, queue: QueueId, packet: PacketId) -> Result<(Place, Look), Refusal>
         ensures may { IfOk result (λ found.
-            IsOwed self.now (Event.Poll queue packet) (look_owed queue packet found.1)) }
+            due self.now (Event.Poll queue packet) ≡ look_owed queue packet found.1) }
         ensures found { IfOk result (λ found. IsInPlace self.now queue packet found.0) }
-        ensures why { IfErr result (λ why. IsOwed self.now (Event.Poll queue packet) (refuses why)) }
+        ensures why { IfErr result (λ why. due self.now (Event.Poll queue packet) ≡ refuses why) }
     {
         let place = self.place_of(queue, packet)?;
-        match look_at(&self.signals, &place, queue, packet) {
-            Ok(look) => Ok((place, look)),
-            Err(why) => Err(why),
+        let look = match look_at(&self.signals, &place, queue, packet) {
+            Err(why) => return Err(why),
+            Ok(look) => look,
+        };
+        match look {
+            Look::Still(told) => Ok((place, Look::Still(told))),
+            Look::Fails => Ok((place, Look::Fails)),
+            Look::Sees { new, ready } => {
+                if self.is_full() {
+                    return Err(Refusal::AuditFull);
+                }
+                Ok((place, Look::Sees { new, ready }))
+            }
         }
     }
 
     // Fails a packet in flight: its queue has an error more, and it leaves flight.
     fn fail(&mut self, queue: QueueId, packet: PacketId, place: Place) -> Polled
-        requires may { IsOwed self.old (Event.Poll queue packet) (look_owed queue packet Look.Fails) }
+        requires may { due self.old (Event.Poll queue packet) ≡ look_owed queue packet Look.Fails }
         requires found { IsInPlace self.old queue packet place }
         ensures { Meets (Event.Poll queue packet) self.old self.new (Ok (Outcome.Polled result)) }
     {
@@ -96,14 +106,11 @@ impl AccessCore {
         place: Place,
         new: Seen,
         ready: bool,
-    ) -> Result<Polled, Refusal>
-        requires may { IsOwed self.old (Event.Poll queue packet) (sees_owed new ready) }
+    ) -> Polled
+        requires may { due self.old (Event.Poll queue packet) ≡ look_owed queue packet (Look.Sees new ready) }
         requires found { IsInPlace self.old queue packet place }
-        ensures { Meets (Event.Poll queue packet) self.old self.new (wrapped Outcome.Polled result) }
+        ensures { Meets (Event.Poll queue packet) self.old self.new (Ok (Outcome.Polled result)) }
     {
-        if lacks_room(self.capacity, self.audit.len(), self.flying) {
-            return Err(Refusal::AuditFull);
-        }
         let progress = Progress {
             satisfied: seen_with(&place.progress.satisfied, &new),
             ..place.progress
@@ -117,7 +124,7 @@ impl AccessCore {
             Outcome::Polled(told),
             Effects::none(),
         );
-        Ok(told)
+        told
     }
 }
 

@@ -1,11 +1,12 @@
 //! Queues are opened, and their packets handed over.
 
 ghost use Rattle.std.specs.Prelude.{◌≡◌, ◌<◌, [], OnOk, IfErr, IfOk, length};
+ghost use Rattle.core_model.specs.declared.limits.TheConstants.{QUEUES};
 ghost use Rattle.core_model.specs.Queues.{openings};
-ghost use Rattle.core_model.specs.Owed.{owed, enters, refuses, is_ring_size};
-ghost use Rattle.core_model.specs.Legal.{MeetsOrLacks, wrapped};
+ghost use Rattle.core_model.specs.Owed.{enters, refuses, is_ring_size};
+ghost use Rattle.core_model.specs.Legal.{MeetsOrLacks, due, wrapped};
 
-use crate::access::{AccessCore, enter, lacks_room};
+use crate::access::{AccessCore, enter};
 use crate::queue::Queue;
 use aql_packet::{AgentHandle, ClientId, QueueId};
 use core_model::{Effects, Event, Outcome, QUEUES, Refusal, SLOTS};
@@ -36,9 +37,6 @@ impl AccessCore {
         ensures { MeetsOrLacks (Event.OpenQueue client agent size) self.old self.new (wrapped Outcome.Opened result) }
     {
         let queue = self.may_open(client, agent, size)?;
-        if lacks_room(self.capacity, self.audit.len(), self.flying) {
-            return Err(Refusal::AuditFull);
-        }
         let errors = Reserved::with_room(alloc, SLOTS)?;
         self.queues.push(Queue {
             client,
@@ -62,12 +60,13 @@ impl AccessCore {
         Ok(queue)
     }
 
-    // The number that a queue of so many slots will have, if the client may open it.
+    // The number that a queue of so many slots will have, if the client may open it and the audit has
+    // room for that.
     #[tactic(auto, unfolding(core_model::specs::Owed::owed))]
     fn may_open(&self, client: ClientId, agent: AgentHandle, size: u64) -> Result<QueueId, Refusal>
-        ensures may { IfOk result (λ queue. owed self.now.start self.now.entries (Event.OpenQueue client agent size) ≡ enters (Outcome.Opened queue) []) }
-        ensures few { OnOk result (length (openings self.now.start self.now.entries) < 64) }
-        ensures why { IfErr result (λ why. owed self.now.start self.now.entries (Event.OpenQueue client agent size) ≡ refuses why) }
+        ensures may { IfOk result (λ queue. due self.now (Event.OpenQueue client agent size) ≡ enters (Outcome.Opened queue) []) }
+        ensures few { OnOk result (length (openings self.now.start self.now.entries) < QUEUES) }
+        ensures why { IfErr result (λ why. due self.now (Event.OpenQueue client agent size) ≡ refuses why) }
     {
         if !self.policy.declares_client(client) {
             return Err(Refusal::UnknownClient);
@@ -80,6 +79,9 @@ impl AccessCore {
         }
         if self.queues.len() >= QUEUES {
             return Err(Refusal::TooMany);
+        }
+        if self.is_full() {
+            return Err(Refusal::AuditFull);
         }
         Ok(QueueId(self.queues.len() as u64 + 1))
     }

@@ -11,11 +11,12 @@ ghost use Rattle.core_model.specs.Memory.{memory_from, region_lengths};
 ghost use Rattle.core_model.specs.Needs.{function_of};
 ghost use Rattle.core_model.specs.Work.{function_result, function_writes, number_in_memory, result_writes, write_of};
 ghost use Rattle.core_model.specs.Owed.{owed_group, refuses};
-ghost use Rattle.core_model.specs.Legal.{MeetsOrLacks, wrapped};
-ghost use Rattle.access_core.specs.QueueChanges.{IsThere, with_advance, with_queue};
-ghost use Rattle.access_core.specs.InPlace.{IsChanged, IsGroupOf, IsNextGroup, IsOwed, IsPlaced, is_placed, Reaches, run_owed};
+ghost use Rattle.core_model.specs.Legal.{MeetsOrLacks, due, wrapped};
+ghost use Rattle.access_core.specs.inner.QueueChanges.{IsThere, with_advance, with_queue};
+ghost use Rattle.access_core.specs.inner.LiesInRegions.{lies_in_regions};
+ghost use Rattle.access_core.specs.inner.InPlace.{IsChanged, IsGroupOf, IsNextGroup, IsPlaced, is_placed, run_owed};
 
-use crate::access::{AccessCore, enter, lacks_room};
+use crate::access::{AccessCore, enter};
 use crate::queue::Queue;
 use aql_packet::{Address, AgentDispatch, Packet, PacketId, QueueId};
 use core_model::{
@@ -54,9 +55,6 @@ impl AccessCore {
         let Some(group) = self.may_run(queue, packet)? else {
             return Ok(Worked::Done);
         };
-        if lacks_room(self.capacity, self.audit.len(), self.flying) {
-            return Err(Refusal::AuditFull);
-        }
         let target = self.function_piece(alloc, &group.dispatch)?;
         let result = self.result_piece(alloc, &group.dispatch)?;
         let effects = lay_both(&mut self.memory, target, result);
@@ -67,20 +65,32 @@ impl AccessCore {
         Ok(worked)
     }
 
-    // The group that is to be run, or none where all groups ran.
+    // The group that is to be run, where the audit has room for it, or none where all groups ran.
     fn may_run(&self, queue: QueueId, packet: PacketId) -> Result<Option<Group>, Refusal>
         ensures may { IfOk result (λ next.
-            IsOwed self.now (Event.RunNext queue packet) (run_owed self.now.start self.now.entries next)) }
-        ensures why { IfErr result (λ why. IsOwed self.now (Event.RunNext queue packet) (refuses why)) }
+            due self.now (Event.RunNext queue packet) ≡ run_owed self.now.start self.now.entries next) }
+        ensures why { IfErr result (λ why. due self.now (Event.RunNext queue packet) ≡ refuses why) }
         ensures group { IfOk result (λ next. IfSome next (IsNextGroup self.now queue packet)) }
     {
         let place = self.place_of(queue, packet)?;
-        next_group(&place)
+        let next = match next_group(&place) {
+            Err(why) => return Err(why),
+            Ok(next) => next,
+        };
+        match next {
+            None => Ok(None),
+            Some(group) => {
+                if self.is_full() {
+                    return Err(Refusal::AuditFull);
+                }
+                Ok(Some(group))
+            }
+        }
     }
 
     // What an agent's function writes, and where.
     fn function_piece(&self, alloc: Global, dispatch: &AgentDispatch) -> Result<Piece, AllocError>
-        requires { Reaches self.now (kind.Agent dispatch.now) }
+        requires { lies_in_regions (region_lengths self.now.start) (kind.Agent dispatch.now) ≡ true }
         ensures written { IfOk result (λ piece. write_of piece.address.0 piece.bytes
             ≡ function_writes self.now.start self.now.entries (function_of dispatch.now)) }
         ensures placed { IfOk result (λ piece. IsPlaced self.now piece.address.0 (length piece.bytes)) }
@@ -107,7 +117,7 @@ impl AccessCore {
 
     // What an agent's function leaves at its return address.
     fn result_piece(&self, alloc: Global, dispatch: &AgentDispatch) -> Result<Piece, AllocError>
-        requires { Reaches self.now (kind.Agent dispatch.now) }
+        requires { lies_in_regions (region_lengths self.now.start) (kind.Agent dispatch.now) ≡ true }
         ensures written { IfOk result (λ piece.
             write_of piece.address.0 piece.bytes ≡ result_writes self.now.start self.now.entries dispatch.now) }
         ensures placed { IfOk result (λ piece. IsPlaced self.now piece.address.0 (length piece.bytes)) }
@@ -127,7 +137,7 @@ impl AccessCore {
 
     // The result of an agent's function: the old number of an addition, else 0.
     fn result_number(&self, dispatch: &AgentDispatch) -> u64
-        requires { Reaches self.now (kind.Agent dispatch.now) }
+        requires { lies_in_regions (region_lengths self.now.start) (kind.Agent dispatch.now) ≡ true }
         ensures { result ≡ function_result self.now.start self.now.entries (function_of dispatch.now) }
     {
         match function_of(dispatch) {

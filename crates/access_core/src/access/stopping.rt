@@ -1,15 +1,14 @@
 //! Queues are stopped.
 
-ghost use Rattle.std.specs.Prelude.{◌≡◌, IfErr, IfNone, IfOk, IfSome, Err};
+ghost use Rattle.std.specs.Prelude.{◌≡◌, IfErr, IfNone, IfOk, IfSome};
 ghost use Rattle.grants.specs.Ledger.{Releases};
-ghost use Rattle.core_model.specs.Owed.{release_of};
-ghost use Rattle.core_model.specs.Legal.{Meets, accepted};
-ghost use Rattle.access_core.specs.QueueChanges.{IsThere, freed_by, with_queue, with_stop};
-ghost use Rattle.access_core.specs.Stopping.{MayStop};
+ghost use Rattle.core_model.specs.Owed.{enters, refuses, release_of};
+ghost use Rattle.core_model.specs.Legal.{Meets, accepted, due};
+ghost use Rattle.access_core.specs.inner.QueueChanges.{IsThere, freed_by, with_queue, with_stop};
 
 use crate::access::lookups::queue_of;
 use crate::access::working::free_place;
-use crate::access::{AccessCore, enter, lacks_room};
+use crate::access::{AccessCore, enter};
 use crate::queue::Queue;
 use aql_packet::{PacketId, QueueId};
 use core_model::{Effect, Effects, Event, Outcome, Refusal};
@@ -29,10 +28,11 @@ impl AccessCore {
         Ok(())
     }
 
-    // The barrier packet in flight of a queue that may be stopped, if there is one.
+    // The barrier packet in flight of a queue that may be stopped, if there is one: then the audit has
+    // room for the stop, else it is looked for.
     fn may_stop(&self, queue: QueueId) -> Result<Option<PacketId>, Refusal>
-        ensures may { IfOk result (λ barrier. MayStop self.now queue barrier) }
-        ensures why { IfErr result (λ why. Meets (Event.Stop queue) self.now self.now (Err why)) }
+        ensures may { IfOk result (λ barrier. due self.now (Event.Stop queue) ≡ enters Outcome.Accepted (release_of queue barrier)) }
+        ensures why { IfErr result (λ why. due self.now (Event.Stop queue) ≡ refuses why) }
     {
         let kept = match queue_of(self.queues.as_slice(), queue) {
             None => return Err(Refusal::UnknownQueue),
@@ -42,7 +42,7 @@ impl AccessCore {
             return Err(Refusal::QueueDown);
         }
         let barrier = kept.places.barrier();
-        if barrier.is_none() && lacks_room(self.capacity, self.audit.len(), self.flying) {
+        if barrier.is_none() && self.is_full() {
             return Err(Refusal::AuditFull);
         }
         Ok(barrier)

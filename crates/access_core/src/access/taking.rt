@@ -1,16 +1,16 @@
 //! Packets are handed over: they wait, are launched, or denied.
 
-ghost use Rattle.std.specs.Prelude.{◌≡◌, IfErr, IfOk};
+ghost use Rattle.std.specs.Prelude.{◌≡◌, IfErr, IfOk, Ok};
 ghost use Rattle.aql_packet.specs.Reading.{barrier_bit};
-ghost use Rattle.core_model.specs.Owed.{owed, refuses};
+ghost use Rattle.core_model.specs.Owed.{refuses};
 ghost use Rattle.packet_processor.specs.Judged.{Judges};
-ghost use Rattle.access_core.specs.Judged.{facts_lent};
-ghost use Rattle.access_core.specs.Deciding.{Decides};
-ghost use Rattle.access_core.specs.QueueChanges.{CanFail, CanLaunch, with_denied, with_launched, with_queue};
-ghost use Rattle.core_model.specs.Legal.{MeetsOrLacks, wrapped};
+ghost use Rattle.access_core.specs.inner.Judged.{facts_lent};
+ghost use Rattle.access_core.specs.inner.Deciding.{Decides};
+ghost use Rattle.access_core.specs.inner.QueueChanges.{CanFail, CanLaunch, with_denied, with_launched, with_queue};
+ghost use Rattle.core_model.specs.Legal.{Meets, MeetsOrLacks, due, wrapped};
 
 use crate::access::lookups::queue_of;
-use crate::access::{AccessCore, enter, lacks_room};
+use crate::access::{AccessCore, enter};
 use crate::queue::Queue;
 use aql_packet::{AgentHandle, ClientId, Packet, PacketId, QueueId, RawHeader, header_of};
 use core_model::{Cause, Effects, Event, Outcome, Refusal, Taken};
@@ -93,7 +93,7 @@ impl AccessCore {
         bytes: &[u8; 64],
     ) -> Result<Decision, Refusal>
         ensures may { IfOk result (λ decision. Decides self.now queue packet bytes.now decision) }
-        ensures why { IfErr result (λ why. owed self.now.start self.now.entries (Event.Take queue packet bytes.now) ≡ refuses why) }
+        ensures why { IfErr result (λ why. due self.now (Event.Take queue packet bytes.now) ≡ refuses why) }
     {
         let kept = match queue_of(self.queues.as_slice(), queue) {
             None => return Err(Refusal::UnknownQueue),
@@ -114,12 +114,22 @@ impl AccessCore {
             MayLaunch::Waiting(cause) => Ok(Decision::Wait(cause)),
             MayLaunch::Go => {
                 match judged(&self.policy, &self.grants, &self.memory, kept, bytes) {
-                    Verdict::Launch(packet) => Ok(Decision::Launch(Launching {
-                        client: kept.client,
-                        agent: kept.agent,
-                        packet,
-                    })),
-                    Verdict::Deny(rule) => Ok(Decision::Deny(rule)),
+                    Verdict::Launch(packet) => {
+                        if self.is_full_for_launch() {
+                            return Err(Refusal::AuditFull);
+                        }
+                        Ok(Decision::Launch(Launching {
+                            client: kept.client,
+                            agent: kept.agent,
+                            packet,
+                        }))
+                    }
+                    Verdict::Deny(rule) => {
+                        if self.is_full() {
+                            return Err(Refusal::AuditFull);
+                        }
+                        Ok(Decision::Deny(rule))
+                    }
                 }
             }
         }
@@ -138,7 +148,7 @@ impl AccessCore {
     {
         match self.may_take(queue, packet, bytes)? {
             Decision::Wait(cause) => Ok(Taken::Waiting(cause)),
-            Decision::Deny(rule) => self.deny(queue, packet, bytes, rule),
+            Decision::Deny(rule) => Ok(self.deny(queue, packet, bytes, rule)),
             Decision::Launch(launching) => self.launch(alloc, queue, packet, bytes, launching),
         }
     }
@@ -150,13 +160,10 @@ impl AccessCore {
         packet: PacketId,
         bytes: &[u8; 64],
         rule: Rule,
-    ) -> Result<Taken, Refusal>
+    ) -> Taken
         requires { Decides self.old queue packet bytes.now (Decision.Deny rule) }
-        ensures { MeetsOrLacks (Event.Take queue packet bytes.now) self.old self.new (wrapped Outcome.Taken result) }
+        ensures { Meets (Event.Take queue packet bytes.now) self.old self.new (Ok (Outcome.Taken result)) }
     {
-        if lacks_room(self.capacity, self.audit.len(), self.flying) {
-            return Err(Refusal::AuditFull);
-        }
         let error = QueueError {
             queue,
             packet,
@@ -176,7 +183,7 @@ impl AccessCore {
             Outcome::Taken(became),
             Effects::none(),
         );
-        Ok(became)
+        became
     }
 
     // Launches the next packet of a queue: it holds its rights from then on.
@@ -191,9 +198,6 @@ impl AccessCore {
         requires { Decides self.old queue packet bytes.now (Decision.Launch launching) }
         ensures { MeetsOrLacks (Event.Take queue packet bytes.now) self.old self.new (wrapped Outcome.Taken result) }
     {
-        if lacks_room(self.capacity, self.audit.len(), self.flying + 1) {
-            return Err(Refusal::AuditFull);
-        }
         let rights = held(alloc, launching.agent, &launching.packet)?;
         self.grants.reserve(rights.len())?;
         let client = launching.client;

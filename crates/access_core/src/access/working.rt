@@ -1,14 +1,15 @@
 //! Packets in flight are found, completed and released.
 
-ghost use Rattle.std.specs.Prelude.{◌≡◌, ◌++◌, ◌∷◌, [], ◌-◌, Some, IfErr, IfOk, fold, is_some, length};
+ghost use Rattle.std.specs.Prelude.{◌≡◌, ◌++◌, ◌∷◌, [], ◌-◌, Some, IfErr, IfOk, fold, is_some, length, true};
 ghost use Rattle.core_model.specs.declared.entry.Effect.TheVariants as effect;
-ghost use Rattle.core_model.specs.Memory.{signals_after};
+ghost use Rattle.core_model.specs.Memory.{region_lengths, signals_after};
 ghost use Rattle.core_model.specs.Queues.{owner};
 ghost use Rattle.core_model.specs.Needs.{completion};
 ghost use Rattle.core_model.specs.Owed.{completed, refuses, is_finished};
-ghost use Rattle.core_model.specs.Legal.{Meets, accepted};
-ghost use Rattle.access_core.specs.QueueChanges.{IsThere, freed, freed_by, with_queue, with_release, without_one};
-ghost use Rattle.access_core.specs.InPlace.{completion_of, finish_owed, IsInPlace, IsOwed, Reaches, RefusedAt};
+ghost use Rattle.core_model.specs.Legal.{Meets, accepted, due};
+ghost use Rattle.access_core.specs.inner.QueueChanges.{IsThere, freed, freed_by, with_queue, with_release, without_one};
+ghost use Rattle.access_core.specs.inner.LiesInRegions.{lies_in_regions};
+ghost use Rattle.access_core.specs.inner.InPlace.{completion_of, finish_owed, IsInPlace, RefusedAt};
 
 use crate::access::lookups::queue_of;
 use crate::access::{AccessCore, enter};
@@ -36,14 +37,16 @@ impl AccessCore {
 
     // The place of the packet in flight with this queue and id, if its work is done.
     fn may_finish(&self, queue: QueueId, packet: PacketId) -> Result<Place, Refusal>
-        ensures may { IfOk result (λ place. IsOwed self.now (Event.Finish queue packet) (finish_owed self.now queue packet place.packet)) }
+        ensures may { IfOk result (λ place. due self.now (Event.Finish queue packet) ≡ finish_owed self.now queue packet place.packet) }
         ensures found { IfOk result (λ place. IsInPlace self.now queue packet place) }
-        ensures why { IfErr result (λ why. IsOwed self.now (Event.Finish queue packet) (refuses why)) }
+        ensures why { IfErr result (λ why. due self.now (Event.Finish queue packet) ≡ refuses why) }
     {
         let place = self.place_of(queue, packet)?;
         if !is_finished(&place) {
             return Err(Refusal::NotFinished);
         }
+        // The audit has room: the packet leaves flight for the entry.
+        let _ = &self.audit;
         Ok(place)
     }
 
@@ -51,7 +54,7 @@ impl AccessCore {
     pub(crate) fn place_of(&self, queue: QueueId, packet: PacketId) -> Result<Place, Refusal>
         ensures found { IfOk result (λ place. IsInPlace self.now queue packet place) }
         ensures why { IfErr result (λ why. RefusedAt self.now queue packet why) }
-        ensures reachable { IfOk result (λ place. Reaches self.now place.packet) }
+        ensures within { IfOk result (λ place. lies_in_regions (region_lengths self.now.start) place.packet ≡ true) }
     {
         let Some(kept) = queue_of(self.queues.as_slice(), queue) else {
             return Err(Refusal::UnknownQueue);

@@ -1,8 +1,9 @@
 -- The audit's entries are answered as they are.
-use Rattle.std.proofs.Common.{◌∙◌, List, ap, inl, Ok, subst, sym}
+use Rattle.std.proofs.Common.{◌∙◌, List, ap, inl, inr, refl, Ok, Err, subst, sym}
 use Rattle.core_model.specs.declared.answer.Answer.TheVariants as answer
 use Rattle.core_model.specs.declared.entry.Entry.{Entry}
 use Rattle.core_model.specs.declared.event.Query.{Query}
+use Rattle.core_model.specs.declared.refusal.Refusal.TheVariants as refusal
 use Rattle.core_model.specs.Legal.{RepliesOrLacks}
 use Rattle.core_model.specs.Queries.{replied}
 use Rattle.access_core.proofs.access.AccessCore.answer.Goals as goal
@@ -12,3 +13,8 @@ unfolding replied
 returns-in-Ok c =
     subst (λ (asked : Query). RepliesOrLacks asked c.args.self.now (Ok (answer.Audit c.in-Ok.entries))) (sym c.in-Audit.is)
     (inl (ap (λ (es : List Entry). Ok (answer.Audit es)) (c.in-Ok.ensures ∙ c.audit.ensures.entries)))
+
+pub returns-in-Err : goal.returns-in-Err
+unfolding replied
+returns-in-Err c =
+    subst (λ (asked : Query). RepliesOrLacks asked c.args.self.now (Err refusal.OutOfMemory)) (sym c.in-Audit.is) (inr (refl, refl))

@@ -1,30 +1,14 @@
 -- The queue has its first error, and the entry tells it.
-use Rattle.std.proofs.Common.{◌≡◌, ◌+◌, ◌∙◌, refl, sym, ap, subst, inl, true, false, Some, None, [], length}
-use Rattle.std.specs.Prelude.{nat_lt}
-use Rattle.std.proofs.lemmas.Bool.{ltb-false}
+use Rattle.std.proofs.Common.{refl, sym, subst, []}
 use Rattle.core_model.specs.declared.event.Event.TheVariants.{Take}
-use Rattle.core_model.specs.declared.flight.InFlight.{InFlight}
 use Rattle.core_model.specs.declared.outcome.Outcome.TheVariants as outcome
 use Rattle.core_model.specs.declared.outcome.Taken.TheVariants.{Denied}
 use Rattle.core_model.specs.Owed.{error_at}
-use Rattle.access_core.specs.Deciding.{TakesNext}
-use Rattle.access_core.proofs.HeldMoves.{grants-still}
-use Rattle.access_core.proofs.KeptMore.{IsKept-more, memory-still}
+use Rattle.access_core.specs.inner.Deciding.{TakesNext}
+use Rattle.access_core.proofs.HeldAfter.{grants-still}
+use Rattle.access_core.proofs.CachedMore.{IsCached-more, memory-still}
 use Rattle.access_core.proofs.TakeLemmas.{can-deny, can-take, flight-denied, queues-denied}
-use Rattle.access_core.proofs.Calls.{full, entered, owed-inside}
 use Rattle.access_core.proofs.access.AccessCore.deny.Goals as goal
-
-not_launched : (f : InFlight) → None ≡ Some f → ⊥
-not_launched f e = cc
-
-pub returns-then-lacks_room : goal.returns-then-lacks_room
-returns-then-lacks_room c =
-    let a = c.self.inside in
-    let lacks : nat_lt a.capacity (length a.audit.items + 1 + a.flying) ≡ true = cc in
-    let can = can-take a c.self.invariant c.args.queue (subst (λ h. TakesNext h c.args.queue) (sym c.self.view_is) c.requires.1) in
-    inl (full _ a _ c.self.view_is (outcome.Taken (Denied (error_at c.args.queue c.args.packet.0 c.args.rule))) [] a.flying
-    (c.self.invariant.flying ∙ ap length (sym (flight-denied a c.self.invariant c.args.queue c.args.packet c.args.bytes.now can c.args.rule)))
-    (owed-inside _ a _ c.self.view_is _ c.requires.0) lacks)
 
 pub fail_next-requires : goal.fail_next-requires
 fail_next-requires c =
@@ -34,28 +18,14 @@ fail_next-requires c =
 pub invariant_of-self : goal.invariant_of-self
 invariant_of-self c =
     let a = c.self.inside in
-    let room : nat_lt a.capacity (length a.audit.items + 1 + a.flying) ≡ false = cc in
     let can = can-take a c.self.invariant c.args.queue (subst (λ h. TakesNext h c.args.queue) (sym c.self.view_is) c.requires.1) in
-    IsKept-more a _ (Take c.args.queue c.args.packet c.args.bytes.now) (outcome.Taken (Denied (error_at c.args.queue c.args.packet.0 c.args.rule))) [] c.self.invariant
+    IsCached-more a _ (Take c.args.queue c.args.packet c.args.bytes.now) (outcome.Taken (Denied (error_at c.args.queue c.args.packet.0 c.args.rule))) [] c.self.invariant
     (record {
-      policy = refl;
-      capacity = refl;
-      entries = rw c.none.ensures at c.enter.ensures.entries;
-      place = c.enter.ensures.place;
-      room = ltb-false _ _ room;
+      same = (refl, refl);
+      audit = rw c.none.ensures at c.enter.ensures;
       grants = grants-still a c.self.invariant _ _ _ refl (λ client on right b. refl) (flight-denied a c.self.invariant c.args.queue c.args.packet c.args.bytes.now can c.args.rule);
       memory = memory-still a.memory _ (λ x byte. refl);
       values = refl;
       queues = rw c.fail_next.ensures (queues-denied a c.self.invariant c.args.queue c.args.packet c.args.bytes.now can c.args.rule);
-      launches = λ f e. absurd (not_launched f e);
     })
-    (owed-inside _ a _ c.self.view_is _ c.requires.0)
-
-pub returns : goal.returns
-returns c =
-    let a = c.self.inside in
-    let room : nat_lt a.capacity (length a.audit.items + 1 + a.flying) ≡ false = cc in
-    let can = can-take a c.self.invariant c.args.queue (subst (λ h. TakesNext h c.args.queue) (sym c.self.view_is) c.requires.1) in
-    inl (entered _ a _ c.self.view_is _ (outcome.Taken (Denied (error_at c.args.queue c.args.packet.0 c.args.rule))) [] a.flying
-    (c.self.invariant.flying ∙ ap length (sym (flight-denied a c.self.invariant c.args.queue c.args.packet c.args.bytes.now can c.args.rule)))
-    (rw c.none.ensures at c.enter.ensures.entries) (owed-inside _ a _ c.self.view_is _ c.requires.0) room)
+    _ c.self.view_is c.requires.0

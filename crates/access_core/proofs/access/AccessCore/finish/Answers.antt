@@ -1,91 +1,59 @@
 -- What is kept moves along with the completion, which always finds room: a packet leaves flight for its entry.
-use Rattle.std.proofs.Common.{◌≡◌, refl, sym, ap, true, false, Bool, List, None, Some, length, arith}
-use Rattle.std.specs.Prelude.{ℤ, if◌then◌else◌}
-use Rattle.core_model.specs.declared.flight.InFlight.{InFlight}
-use Rattle.std.proofs.lemmas.Bool.{le-ltb}
-use Rattle.aql_packet.specs.declared.ids.QueueId.{QueueId}
+use Rattle.std.proofs.Common.{◌≡◌, refl, true, false, Bool}
+use Rattle.std.specs.Prelude.{if◌then◌else◌}
 use Rattle.aql_packet.specs.declared.ids.PacketId.{PacketId}
-use Rattle.aql_packet.specs.declared.packet.Packet.{Packet}
 use Rattle.core_model.specs.declared.event.Event.TheVariants.{Finish}
 use Rattle.core_model.specs.declared.outcome.Outcome.TheVariants as outcome
 use Rattle.core_model.specs.Needs.{completion}
 use Rattle.packet_processor.specs.Queueing.{without}
-use Rattle.access_core.specs.CachedQueue.{QueueView}
-use Rattle.access_core.specs.InPlace.{completion_of}
-use Rattle.access_core.specs.Kept.{start_of}
-use Rattle.access_core.specs.QueueChanges.{with_release}
-use Rattle.access_core.proofs.HeldMoves.{grants-released}
-use Rattle.access_core.proofs.KeptMore.{IsKept-more, memory-still}
-use Rattle.access_core.proofs.Calls.{entered}
-use Rattle.access_core.proofs.QueueAt.{IsRelease, flight-released}
+use Rattle.access_core.specs.inner.CachedQueue.{QueueView}
+use Rattle.access_core.specs.inner.InPlace.{completion_of}
+use Rattle.access_core.specs.inner.Cached.{start_of}
+use Rattle.access_core.specs.inner.QueueChanges.{with_release}
+use Rattle.access_core.proofs.HeldAfter.{grants-released}
+use Rattle.access_core.proofs.CachedMore.{IsCached-more, has_place, memory-still}
+use Rattle.access_core.proofs.QueueAt.{flight-released}
 use Rattle.access_core.proofs.TakeLemmas.{is-open}
-use Rattle.access_core.proofs.WorkLemmas.{flight-completed, flying-released, freed-below, memory-completed, finish-inside, place-inside, queues-released, release-room, sound-released}
+use Rattle.access_core.proofs.WorkLemmas.{finish-releases, freed-below, memory-completed, finish-due, place-inside, queues-released, sound-released}
 use Rattle.access_core.proofs.access.AccessCore.finish.Goals as goal
-
-is_release : (values : List ℤ) (queue : QueueId) (id : PacketId) (p : Packet) → IsRelease queue id (Finish queue id) outcome.Accepted (completion_of values queue id p)
-is_release values queue id p = record { launches = refl; progress = λ q i so_far. refl; releases = λ fs. flight-completed values (completion p) queue id fs; hands = λ m. refl }
 
 pick : (id : PacketId) (b : Bool) (v : QueueView) → record { next = v.next; stopped = v.stopped; errors = v.errors; places = (if b then without id v.places else v.places) } ≡ (if b then record v { places = without id v.places } else v)
 pick id true v = refl
 pick id false v = refl
 
-not_launched : (f : InFlight) → None ≡ Some f → ⊥
-not_launched f e = cc
-
 pub release-requires : goal.release-requires
 release-requires c =
     let a = c.self.inside in
-    let found = place-inside a c.self.invariant _ c.self.view_is c.args.queue c.args.packet c.in_ok-place.place c.in_ok-place.ensures.found in
+    let found = place-inside a _ c.self.view_is c.args.queue c.args.packet c.in_ok-place.place c.in_ok-place.ensures.found in
     let at = is-open a c.self.invariant c.args.queue found.opening found.owner_is in
     (at.q, at.found)
 
 pub overflow_sub-self : goal.overflow_sub-self
 overflow_sub-self c =
     let a = c.self.inside in
-    let found = place-inside a c.self.invariant _ c.self.view_is c.args.queue c.args.packet c.in_ok-place.place c.in_ok-place.ensures.found in
+    let found = place-inside a _ c.self.view_is c.args.queue c.args.packet c.in_ok-place.place c.in_ok-place.ensures.found in
     let below = freed-below a c.self.invariant c.args.queue c.args.packet (is-open a c.self.invariant c.args.queue found.opening found.owner_is) in
     rw c.release.ensures.freed below
 
 pub enter-requires : goal.enter-requires
 enter-requires c =
-    let a = c.self.inside in
-    let found = place-inside a c.self.invariant _ c.self.view_is c.args.queue c.args.packet c.in_ok-place.place c.in_ok-place.ensures.found in
-    let room = release-room a c.self.invariant c.args.queue c.args.packet found.flying found.found in
-    omega (arith, room, c.self.invariant.places)
+    has_place c.self.inside c.self.invariant _ c.self.view_is _ _ _ (finish-due c.self.inside c.self.invariant _ c.self.view_is _ c.args.queue c.args.packet c.in_ok-place.place.packet c.in_ok-place.ensures.may)
 
 pub invariant_of-self : goal.invariant_of-self
 invariant_of-self c =
     let a = c.self.inside in
     let p = c.in_ok-place.place.packet in
-    let is = is_release a.signals c.args.queue c.args.packet p in
-    let found = place-inside a c.self.invariant _ c.self.view_is c.args.queue c.args.packet c.in_ok-place.place c.in_ok-place.ensures.found in
+    let is = finish-releases a.signals c.args.queue c.args.packet p in
+    let found = place-inside a _ c.self.view_is c.args.queue c.args.packet c.in_ok-place.place c.in_ok-place.ensures.found in
     let at = is-open a c.self.invariant c.args.queue found.opening found.owner_is in
-    let room = release-room a c.self.invariant c.args.queue c.args.packet found.flying found.found in
-    let left = flying-released a c.self.invariant c.args.queue c.args.packet at in
-    IsKept-more a _ (Finish c.args.queue c.args.packet) outcome.Accepted (completion_of a.signals c.args.queue c.args.packet p) c.self.invariant
+    IsCached-more a _ (Finish c.args.queue c.args.packet) outcome.Accepted (completion_of a.signals c.args.queue c.args.packet p) c.self.invariant
     (record {
-      policy = refl;
-      capacity = refl;
-      entries = rw c.complete-effects.ensures.effects at c.enter.ensures.entries;
-      place = c.enter.ensures.place;
-      room = rw (c.release.ensures.freed, left) room;
+      same = (refl, refl);
+      audit = rw c.complete-effects.ensures.effects at c.enter.ensures;
       grants = grants-released a c.self.invariant _ _ _ refl (λ client on right b. refl) _ c.args.queue c.args.packet (flight-released (start_of a) a.audit.items c.args.queue c.args.packet _ _ _ is) c.release-2.ensures;
       memory = memory-still a.memory _ (λ x byte. memory-completed a.signals (completion p) c.args.queue c.args.packet x byte);
       values = rw c.complete-effects.ensures.effects at c.complete-effects.ensures.values;
       queues = rw (c.release.ensures.queues, c.release.ensures.freed) (queues-released a c.self.invariant c.args.queue c.args.packet _ _ _ is refl at (with_release c.args.packet) (λ v. record v { places = without c.args.packet v.places })
           refl (sound-released at.q c.args.packet at.sound) refl (λ m v b same. pick c.args.packet b v));
-      launches = λ f e. absurd (not_launched f e);
     })
-    (finish-inside a c.self.invariant _ c.self.view_is _ c.args.queue c.args.packet p c.in_ok-place.ensures.may)
-
-pub returns : goal.returns
-returns c =
-    let a = c.self.inside in
-    let p = c.in_ok-place.place.packet in
-    let is = is_release a.signals c.args.queue c.args.packet p in
-    let found = place-inside a c.self.invariant _ c.self.view_is c.args.queue c.args.packet c.in_ok-place.place c.in_ok-place.ensures.found in
-    let room = release-room a c.self.invariant c.args.queue c.args.packet found.flying found.found in
-    entered _ a _ c.self.view_is _ outcome.Accepted (completion_of a.signals c.args.queue c.args.packet p) _ (ap length (sym (flight-released (start_of a) a.audit.items c.args.queue c.args.packet _ _ _ is)))
-    (rw c.complete-effects.ensures.effects at c.enter.ensures.entries)
-    (finish-inside a c.self.invariant _ c.self.view_is _ c.args.queue c.args.packet p c.in_ok-place.ensures.may)
-    (le-ltb _ _ room)
+    _ c.self.view_is (finish-due a c.self.invariant _ c.self.view_is _ c.args.queue c.args.packet p c.in_ok-place.ensures.may)

@@ -1,18 +1,16 @@
--- What is kept moves along with the grant, which is entered where there is room.
-use Rattle.std.proofs.Common.{◌≡◌, ◌+◌, refl, sym, ◌∙◌, inl, true, false, [], length}
-use Rattle.std.specs.Prelude.{nat_lt}
-use Rattle.std.proofs.lemmas.Bool.{ltb-false}
+-- What is cached follows the grant, which is entered where there is room.
+use Rattle.std.proofs.Common.{refl, sym, ◌∙◌, true, false, []}
 use Rattle.aql_packet.specs.declared.ids.ClientId.{ClientId}
 use Rattle.policy.specs.declared.object.Object.{Object}
 use Rattle.policy.specs.declared.rights.Rights.{Rights}
 use Rattle.core_model.specs.declared.event.Event.TheVariants.{Grant}
 use Rattle.core_model.specs.declared.outcome.Outcome.TheVariants as outcome
-use Rattle.access_core.specs.Kept.{start_of}
-use Rattle.access_core.proofs.KeptMore.{IsKept-more, flying-still, launches-none, memory-still, queues-still}
+use Rattle.access_core.specs.inner.Cached.{start_of}
+use Rattle.access_core.proofs.CachedMore.{IsCached-more, has_place, memory-still, queues-still}
 use Rattle.access_core.proofs.QueueAt.{IsQuiet, flight-quiet}
-use Rattle.access_core.proofs.Calls.{full, entered, refused}
-use Rattle.access_core.proofs.Granting.{grant-owed, grant-refused}
-use Rattle.access_core.proofs.HeldMoves.{held-still}
+use Rattle.access_core.proofs.Calls.{due-by, met-refusal, met-entry}
+use Rattle.access_core.proofs.Granting.{grant-due, grant-refused}
+use Rattle.access_core.proofs.HeldAfter.{held-still}
 use Rattle.access_core.proofs.access.AccessCore.grant.Goals as goal
 
 quiet : (client : ClientId) (on : Object) (rights : Rights) → IsQuiet (Grant client on rights) outcome.Accepted []
@@ -20,29 +18,25 @@ quiet client on rights = record { launches = refl; progress = λ queue id p. ref
 
 pub returns-in-Err : goal.returns-in-Err
 returns-in-Err c =
-    let owing = grant-refused c.self.inside c.self.invariant c.args.client c.args.object c.args.rights c.in-Err.why (sym c.in-Err.is ∙ c.may_grant.ensures) in
-    inl (rw c.refusal_of.ensures (refused _ c.self.inside _ c.self.view_is _ owing))
+    rw c.refusal_of.ensures (met-refusal (Grant c.args.client c.args.object c.args.rights) _ _ (due-by c.self.inside _ c.self.view_is _ _ (grant-refused c.self.inside c.self.invariant c.args.client c.args.object c.args.rights c.in-Err.why (sym c.in-Err.is ∙ c.may_grant.ensures))))
 
-pub returns-then-lacks_room : goal.returns-then-lacks_room
-returns-then-lacks_room c =
-    let a = c.self.inside in
-    let lacks : nat_lt a.capacity (length a.audit.items + 1 + a.flying) ≡ true = cc in
-    inl (full _ a _ c.self.view_is outcome.Accepted [] a.flying (flying-still a c.self.invariant _ _ _ (quiet c.args.client c.args.object c.args.rights))
-    (grant-owed a c.self.invariant c.args.client c.args.object c.args.rights (sym c.in_default.is ∙ c.may_grant.ensures)) lacks)
+pub returns-then-is_full : goal.returns-then-is_full
+returns-then-is_full c =
+    met-refusal _ _ _ (grant-due c.self.inside c.self.invariant c.args.client c.args.object c.args.rights _ c.self.view_is (sym c.in_default.is ∙ c.may_grant.ensures) true (sym c.is_full.ensures ∙ c.if-is_full.true))
+
+pub enter-requires : goal.enter-requires
+enter-requires c =
+    has_place c.self.inside c.self.invariant _ c.self.view_is _ _ _ (grant-due c.self.inside c.self.invariant c.args.client c.args.object c.args.rights _ c.self.view_is (sym c.in_default.is ∙ c.may_grant.ensures) false (sym c.is_full.ensures ∙ c.if-is_full.false))
 
 pub invariant_of-self : goal.invariant_of-self
 invariant_of-self c =
     let a = c.self.inside in
     let calm = quiet c.args.client c.args.object c.args.rights in
-    let room : nat_lt a.capacity (length a.audit.items + 1 + a.flying) ≡ false = cc in
     let gives = c.put_in_force.ensures in
-    IsKept-more a _ (Grant c.args.client c.args.object c.args.rights) outcome.Accepted [] c.self.invariant
+    IsCached-more a _ (Grant c.args.client c.args.object c.args.rights) outcome.Accepted [] c.self.invariant
     (record {
-      policy = refl;
-      capacity = refl;
-      entries = rw c.none.ensures at c.enter.ensures.entries;
-      place = c.enter.ensures.place;
-      room = ltb-false _ _ room;
+      same = (refl, refl);
+      audit = rw c.none.ensures at c.enter.ensures;
       grants = record {
         granted = gives.given;
         rules = gives.same_rules;
@@ -51,13 +45,10 @@ invariant_of-self c =
       memory = memory-still a.memory [] (λ x byte. refl);
       values = refl;
       queues = queues-still a c.self.invariant _ _ _ calm refl;
-      launches = launches-none a c.self.invariant _ _ _ calm;
     })
-    (grant-owed a c.self.invariant c.args.client c.args.object c.args.rights (sym c.in_default.is ∙ c.may_grant.ensures))
+    _ c.self.view_is (grant-due a c.self.invariant c.args.client c.args.object c.args.rights _ c.self.view_is (sym c.in_default.is ∙ c.may_grant.ensures) false (sym c.is_full.ensures ∙ c.if-is_full.false))
 
 pub returns : goal.returns
 returns c =
-    let a = c.self.inside in
-    let room : nat_lt a.capacity (length a.audit.items + 1 + a.flying) ≡ false = cc in
-    inl (entered _ a _ c.self.view_is _ outcome.Accepted [] a.flying (flying-still a c.self.invariant _ _ _ (quiet c.args.client c.args.object c.args.rights)) (rw c.none.ensures at c.enter.ensures.entries)
-    (grant-owed a c.self.invariant c.args.client c.args.object c.args.rights (sym c.in_default.is ∙ c.may_grant.ensures)) room)
+    met-entry c.self.inside _ c.self.view_is (Grant c.args.client c.args.object c.args.rights) outcome.Accepted [] _
+    (grant-due c.self.inside c.self.invariant c.args.client c.args.object c.args.rights _ c.self.view_is (sym c.in_default.is ∙ c.may_grant.ensures) false (sym c.is_full.ensures ∙ c.if-is_full.false)) (rw c.none.ensures at c.enter.ensures.items)

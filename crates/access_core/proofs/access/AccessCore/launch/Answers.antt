@@ -1,33 +1,19 @@
 -- The packet is in flight, and the entry tells it.
-use Rattle.std.proofs.Common.{◌≡◌, ◌+◌, ◌∙◌, refl, sym, subst, inl, true, false, Some, [], length}
-use Rattle.std.specs.Prelude.{nat_lt}
-use Rattle.std.proofs.lemmas.Bool.{ltb-false}
-use Rattle.aql_packet.specs.declared.packet.Packet.{Packet}
+use Rattle.std.proofs.Common.{◌≡◌, ◌∙◌, refl, sym, subst, true, Some, []}
 use Rattle.core_model.specs.declared.event.Event.TheVariants.{Take}
 use Rattle.core_model.specs.declared.outcome.Outcome.TheVariants as outcome
 use Rattle.core_model.specs.declared.outcome.Taken.TheVariants.{Launched}
 use Rattle.core_model.specs.Memory.{region_lengths}
 use Rattle.core_model.specs.Queues.{owner}
-use Rattle.access_core.specs.Deciding.{MayHold, TakesNext, opening_of}
-use Rattle.access_core.specs.Kept.{start_of}
-use Rattle.access_core.specs.LiesInRegions.{lies_in_regions}
-use Rattle.access_core.proofs.HeldMoves.{grants-launched, launch-in_force}
-use Rattle.access_core.proofs.KeptMore.{IsKept-more, memory-still}
+use Rattle.access_core.specs.inner.Deciding.{MayHold, TakesNext, opening_of}
+use Rattle.access_core.specs.inner.Cached.{start_of}
+use Rattle.access_core.specs.inner.LiesInRegions.{lies_in_regions}
+use Rattle.access_core.proofs.HeldAfter.{grants-launched, launch-in_force}
+use Rattle.access_core.proofs.CachedMore.{IsCached-more, memory-still, owed-inside}
 use Rattle.core_model.proofs.Launches.{IsNext-from_owed}
 use Rattle.access_core.proofs.PlacesMore.{flight-launched}
-use Rattle.access_core.proofs.TakeLemmas.{can-take, flying-launched, packet-launched, queues-launched}
-use Rattle.access_core.proofs.Calls.{full, entered, owed-inside}
+use Rattle.access_core.proofs.TakeLemmas.{can-take, queues-launched}
 use Rattle.access_core.proofs.access.AccessCore.launch.Goals as goal
-
-pub returns-then-lacks_room : goal.returns-then-lacks_room
-returns-then-lacks_room c =
-    let a = c.self.inside in
-    let lacks : nat_lt a.capacity (length a.audit.items + 1 + (a.flying + 1)) ≡ true = cc in
-    let can = can-take a c.self.invariant c.args.queue (subst (λ h. TakesNext h c.args.queue) (sym c.self.view_is) c.requires.3) in
-    let owing = owed-inside _ a _ c.self.view_is _ c.requires.0 in
-    let next = IsNext-from_owed (start_of a) a.audit.items c.args.queue c.args.packet c.args.bytes.now _ _ owing in
-    inl (full _ a _ c.self.view_is (outcome.Taken Launched) [] (a.flying + 1)
-    (flying-launched a c.self.invariant c.args.queue c.args.packet c.args.bytes.now can c.args.launching.packet c.requires.1 next.id_is) owing lacks)
 
 pub hold_reserved-requires-clause-in_force : goal.hold_reserved-requires-clause-in_force
 hold_reserved-requires-clause-in_force c =
@@ -45,36 +31,20 @@ pub invariant_of-self-2 : goal.invariant_of-self-2
 invariant_of-self-2 c =
     let a = c.self.inside in
     let p = c.args.launching.packet in
-    let room : nat_lt a.capacity (length a.audit.items + 1 + (a.flying + 1)) ≡ false = cc in
     let can = can-take a c.self.invariant c.args.queue (subst (λ h. TakesNext h c.args.queue) (sym c.self.view_is) c.requires.3) in
-    let owing = owed-inside _ a _ c.self.view_is _ c.requires.0 in
+    let owing = owed-inside a c.self.invariant _ c.self.view_is _ _ _ c.requires.0 in
     let next = IsNext-from_owed (start_of a) a.audit.items c.args.queue c.args.packet c.args.bytes.now _ _ owing in
     let owned : owner (start_of a) a.audit.items c.args.queue ≡ Some (opening_of c.args.launching) = subst (λ h. owner h.start h.entries c.args.queue ≡ Some (opening_of c.args.launching)) (sym c.self.view_is) c.requires.4 in
-    let reaches : lies_in_regions (region_lengths (start_of a)) p ≡ true = subst (λ h. lies_in_regions (region_lengths h.start) p ≡ true) (sym c.self.view_is) c.requires.2 in
-    IsKept-more a _ (Take c.args.queue c.args.packet c.args.bytes.now) (outcome.Taken Launched) [] c.self.invariant
+    let within : lies_in_regions (region_lengths (start_of a)) p ≡ true = subst (λ h. lies_in_regions (region_lengths h.start) p ≡ true) (sym c.self.view_is) c.requires.2 in
+    IsCached-more a _ (Take c.args.queue c.args.packet c.args.bytes.now) (outcome.Taken Launched) [] c.self.invariant
     (record {
-      policy = refl;
-      capacity = refl;
-      entries = rw c.none.ensures at c.enter.ensures.entries;
-      place = c.enter.ensures.place;
-      room = ltb-false _ _ room;
+      same = (refl, refl);
+      audit = rw c.none.ensures at c.enter.ensures;
       grants = grants-launched a c.self.invariant _ _ _ refl (λ client on right b. refl) _ _ (opening_of c.args.launching) c.args.queue c.args.packet p _
           (flight-launched (start_of a) a.audit.items c.args.queue c.args.packet c.args.bytes.now p c.requires.1)
           c.in_ok-reserve.ensures.same (c.as_slice.ensures ∙ c.in_ok-rights.ensures c.args.launching.client) owned c.hold_reserved.ensures.holds;
       memory = memory-still a.memory _ (λ x byte. refl);
       values = refl;
-      queues = rw c.place_next.ensures (queues-launched a c.self.invariant c.args.queue c.args.packet c.args.bytes.now can p c.requires.1 next.id_is);
-      launches = packet-launched a c.self.invariant c.args.queue c.args.packet c.args.bytes.now can p c.requires.1 next.id_is (λ (x : Packet). lies_in_regions (region_lengths (start_of a)) x ≡ true) reaches;
+      queues = rw c.place_next.ensures (queues-launched a c.self.invariant c.args.queue c.args.packet c.args.bytes.now can p c.requires.1 next.id_is within);
     })
-    owing
-
-pub returns : goal.returns
-returns c =
-    let a = c.self.inside in
-    let room : nat_lt a.capacity (length a.audit.items + 1 + (a.flying + 1)) ≡ false = cc in
-    let can = can-take a c.self.invariant c.args.queue (subst (λ h. TakesNext h c.args.queue) (sym c.self.view_is) c.requires.3) in
-    let owing = owed-inside _ a _ c.self.view_is _ c.requires.0 in
-    let next = IsNext-from_owed (start_of a) a.audit.items c.args.queue c.args.packet c.args.bytes.now _ _ owing in
-    inl (entered _ a _ c.self.view_is _ (outcome.Taken Launched) [] (a.flying + 1)
-    (flying-launched a c.self.invariant c.args.queue c.args.packet c.args.bytes.now can c.args.launching.packet c.requires.1 next.id_is)
-    (rw c.none.ensures at c.enter.ensures.entries) owing room)
+    _ c.self.view_is c.requires.0

@@ -1,8 +1,9 @@
--- What the packet's next group is owed.
-use Rattle.std.proofs.Common.{rules, ◌∙◌}
+-- What the packet's next group is due.
+use Rattle.std.proofs.Common.{rules, ◌∙◌, sym, subst, true, false, Some}
+use Rattle.std.specs.Option.{IfSome}
 use Rattle.core_model.specs.Owed.{owed, owed_group}
-use Rattle.access_core.proofs.RunLemmas.{if-ok, if-err, next-group}
-use Rattle.access_core.proofs.WorkLemmas.{owed-in_place}
+use Rattle.access_core.specs.inner.InPlace.{IsGroupOf}
+use Rattle.access_core.proofs.RunLemmas.{due-done, due-group, due-refused, next-group}
 use Rattle.access_core.proofs.access.AccessCore.may_run.Goals as goal
 
 pub returns-in_err-place-clause-why : goal.returns-in_err-place-clause-why
@@ -11,18 +12,22 @@ returns-in_err-place-clause-why c =
     let why = c.in_err-place.ensures.why (owed_group c.args.self.now.start c.args.self.now.entries) in
     search rules
 
-pub returns-clause-may : goal.returns-clause-may
-unfolding owed
-returns-clause-may c =
-    let owing = owed-in_place c.args.self.now c.args.queue c.args.packet c.in_ok-place.place c.in_ok-place.ensures.found (owed_group c.args.self.now.start c.args.self.now.entries) in
-    if-ok _ _ c.next_group.result (λ next group. owing ∙ group c.args.self.now.start c.args.self.now.entries) c.next_group.ensures.owed
+pub returns-in-Err-clause-why : goal.returns-in-Err-clause-why
+returns-in-Err-clause-why c =
+    due-refused c.args.self.now c.args.queue c.args.packet c.in_ok-place.place c.in_ok-place.ensures.found _ (c.in-Err.ensures.why c.args.self.now.start c.args.self.now.entries)
 
-pub returns-clause-why : goal.returns-clause-why
-unfolding owed
-returns-clause-why c =
-    let owing = owed-in_place c.args.self.now c.args.queue c.args.packet c.in_ok-place.place c.in_ok-place.ensures.found (owed_group c.args.self.now.start c.args.self.now.entries) in
-    if-err _ _ c.next_group.result (λ why group. owing ∙ group c.args.self.now.start c.args.self.now.entries) c.next_group.ensures.why
+pub returns-in-None-clause-may : goal.returns-in-None-clause-may
+returns-in-None-clause-may c =
+    due-done c.args.self.now c.args.queue c.args.packet c.in_ok-place.place c.in_ok-place.ensures.found _ c.in-Ok.ensures.owed c.in-None.is
 
-pub returns-clause-group : goal.returns-clause-group
-returns-clause-group c =
-    if-ok _ _ c.next_group.result (λ next group. next-group c.args.self.now c.args.queue c.args.packet c.in_ok-place.place c.in_ok-place.ensures.found c.in_ok-place.ensures.reachable next group) c.next_group.ensures.group
+pub returns-then-is_full-clause-why : goal.returns-then-is_full-clause-why
+returns-then-is_full-clause-why c =
+    due-group c.args.self.now c.args.queue c.args.packet c.in_ok-place.place c.in_ok-place.ensures.found _ c.in-Ok.ensures.owed c.in-Some.group c.in-Some.is true (sym c.is_full.ensures ∙ c.if-is_full.true)
+
+pub returns-else-is_full-clause-may : goal.returns-else-is_full-clause-may
+returns-else-is_full-clause-may c =
+    due-group c.args.self.now c.args.queue c.args.packet c.in_ok-place.place c.in_ok-place.ensures.found _ c.in-Ok.ensures.owed c.in-Some.group c.in-Some.is false (sym c.is_full.ensures ∙ c.if-is_full.false)
+
+pub returns-else-is_full-clause-group : goal.returns-else-is_full-clause-group
+returns-else-is_full-clause-group c =
+    next-group c.args.self.now c.args.queue c.args.packet c.in_ok-place.place c.in_ok-place.ensures.found c.in_ok-place.ensures.within (Some c.in-Some.group) (subst (λ o. IfSome o (IsGroupOf c.in_ok-place.place)) c.in-Some.is c.in-Ok.ensures.group)

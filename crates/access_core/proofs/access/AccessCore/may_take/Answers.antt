@@ -1,38 +1,46 @@
--- What is decided is what is owed, by what is kept.
-use Rattle.std.proofs.Common.{◌≡◌, refl, ◌∙◌, true, false, Some, None, length, rules}
+-- What is decided is what is due, by what is cached.
+use Rattle.std.proofs.Common.{◌≡◌, refl, ◌∙◌, true, false, Some, None, [], length, rules}
 use Rattle.std.specs.Prelude.{nat_lt, ◌||◌, ◌==◌, map}
 use Rattle.aql_packet.specs.Reading.{barrier_bit}
 use Rattle.policy.specs.Policy.{numbered}
 use Rattle.packet_processor.specs.declared.places.Place.{Place}
+use Rattle.core_model.specs.declared.event.Event.TheVariants.{Take}
+use Rattle.core_model.specs.declared.outcome.Outcome.TheVariants as outcome
+use Rattle.core_model.specs.declared.outcome.Taken.TheVariants.{Launched, Denied, Waiting}
+use Rattle.core_model.specs.declared.refusal.Refusal.TheVariants as refusal
 use Rattle.core_model.specs.LaunchRules.{may_start}
+use Rattle.core_model.specs.Owed.{answers, enters, refuses, error_at}
 use Rattle.packet_processor.proofs.QueueingLemmas.{launching-waits, launching-goes}
 use Rattle.std.proofs.Common.{ap}
 use Rattle.std.specs.Prelude.{option_map}
-use Rattle.access_core.specs.CachedQueue.{kept_opening}
+use Rattle.access_core.specs.inner.CachedQueue.{cached_opening}
 use Rattle.std.proofs.Common.{subst}
 use Rattle.core_model.specs.History.{History}
-use Rattle.access_core.specs.Deciding.{Decides}
-use Rattle.access_core.specs.declared.access.taking.Decision.TheVariants.{Launch}
-use Rattle.access_core.proofs.TakeLemmas.{owner-kept, may-hold, take-unknown, take-known, reachable-launched, takes-next}
+use Rattle.access_core.specs.inner.Deciding.{TakesNext, MayHold}
+use Rattle.access_core.specs.inner.LiesInRegions.{lies_in_regions}
+use Rattle.core_model.specs.Memory.{region_lengths}
+use Rattle.core_model.specs.Queues.{owner}
+use Rattle.access_core.proofs.Calls.{due-by}
+use Rattle.access_core.proofs.TakeLemmas.{owner-kept, room-launched, may-hold, take-unknown, take-known, within-launched, takes-next}
 use Rattle.access_core.proofs.access.AccessCore.may_take.Goals as goal
 
 pub returns-in-None-clause-why : goal.returns-in-None-clause-why
 returns-in-None-clause-why c =
     let none : numbered c.self.inside.queues.items c.args.queue.0 ≡ None = cc c.in-None.ensures in
-    rw (← c.self.view_is) (take-unknown c.self.inside c.self.invariant _ _ _ none)
+    due-by c.self.inside _ c.self.view_is _ _ (take-unknown c.self.inside c.self.invariant _ _ _ none)
 
 pub returns-then-is_down-clause-why : goal.returns-then-is_down-clause-why
 returns-then-is_down-clause-why c =
     let some : numbered c.self.inside.queues.items c.args.queue.0 ≡ Some c.in-Some.kept.now = cc c.in-Some.ensures in
     let down : (nat_lt 0 (length c.in-Some.kept.now.errors.items) || c.in-Some.kept.now.stopped) ≡ true = cc in
-    rw (← c.self.view_is) (take-known c.self.inside c.self.invariant _ _ _ _ some ∙ (rw down refl))
+    due-by c.self.inside _ c.self.view_is (Take c.args.queue c.args.packet c.args.bytes.now) (refuses refusal.QueueDown) (take-known c.self.inside c.self.invariant _ _ _ _ some ∙ (rw down refl))
 
 pub returns-then-packet-kept-clause-why : goal.returns-then-packet-kept-clause-why
 returns-then-packet-kept-clause-why c =
     let some : numbered c.self.inside.queues.items c.args.queue.0 ≡ Some c.in-Some.kept.now = cc c.in-Some.ensures in
     let down : (nat_lt 0 (length c.in-Some.kept.now.errors.items) || c.in-Some.kept.now.stopped) ≡ false = cc in
     let other : (c.args.packet.0 == c.in-Some.kept.now.next) ≡ false = search rules in
-    rw (← c.self.view_is) (take-known c.self.inside c.self.invariant _ _ _ _ some ∙ (rw (down, other) refl))
+    due-by c.self.inside _ c.self.view_is (Take c.args.queue c.args.packet c.args.bytes.now) (refuses (refusal.OutOfStep c.in-Some.kept.now.next)) (take-known c.self.inside c.self.invariant _ _ _ _ some ∙ (rw (down, other) refl))
 
 pub returns-in-Waiting-clause-may : goal.returns-in-Waiting-clause-may
 returns-in-Waiting-clause-may c =
@@ -41,32 +49,50 @@ returns-in-Waiting-clause-may c =
     let next : (c.args.packet.0 == c.in-Some.kept.now.next) ≡ true = search rules in
     let told : may_start (map (λ (p : Place). p.packet) c.as_slice-2.result.now) c.header.result.barrier ≡ Some c.in-Waiting.cause = launching-waits _ c.in-Waiting.cause c.in-Waiting.ensures in
     let waits : may_start (map (λ (p : Place). p.packet) c.in-Some.kept.now.places) (barrier_bit c.args.bytes.now) ≡ Some c.in-Waiting.cause = cc (told, c.as_slice-2.ensures, c.header.ensures) in
-    rw (← c.self.view_is) (take-known c.self.inside c.self.invariant _ _ _ _ some ∙ (rw (down, next, waits) refl))
+    due-by c.self.inside _ c.self.view_is (Take c.args.queue c.args.packet c.args.bytes.now) (answers (outcome.Taken (Waiting c.in-Waiting.cause))) (take-known c.self.inside c.self.invariant _ _ _ _ some ∙ (rw (down, next, waits) refl))
 
-pub returns-in-Launch-clause-may : goal.returns-in-Launch-clause-may
-returns-in-Launch-clause-may c =
+pub returns-then-is_full_for_launch-clause-why : goal.returns-then-is_full_for_launch-clause-why
+returns-then-is_full_for_launch-clause-why c =
     let some : numbered c.self.inside.queues.items c.args.queue.0 ≡ Some c.in-Some.kept.now = cc c.in-Some.ensures in
     let down : (nat_lt 0 (length c.in-Some.kept.now.errors.items) || c.in-Some.kept.now.stopped) ≡ false = cc in
     let next : (c.args.packet.0 == c.in-Some.kept.now.next) ≡ true = search rules in
     let told : may_start (map (λ (p : Place). p.packet) c.as_slice-2.result.now) c.header.result.barrier ≡ None = launching-goes _ c.in-Go.ensures in
     let waits : may_start (map (λ (p : Place). p.packet) c.in-Some.kept.now.places) (barrier_bit c.args.bytes.now) ≡ None = cc (told, c.as_slice-2.ensures, c.header.ensures) in
-    subst (λ (h : History). Decides h c.args.queue c.args.packet c.args.bytes.now (Launch (record { client = c.in-Some.kept.now.client; agent = c.in-Some.kept.now.agent; packet = c.in-Launch.packet }))) c.self.view_is (
-      take-known c.self.inside c.self.invariant _ _ _ _ some ∙ (rw (down, next, waits, c.in-Launch.ensures.1) refl),
+    due-by c.self.inside _ c.self.view_is (Take c.args.queue c.args.packet c.args.bytes.now) (enters (outcome.Taken Launched) []) (take-known c.self.inside c.self.invariant _ _ _ _ some ∙ (rw (down, next, waits, c.in-Launch.ensures.1) refl)) ∙ (rw (room-launched _ c.args.queue c.args.packet _ _ c.in-Launch.ensures.0, ← c.is_full_for_launch.ensures, c.if-is_full_for_launch.true) refl)
+
+pub returns-then-is_full-clause-why : goal.returns-then-is_full-clause-why
+returns-then-is_full-clause-why c =
+    let some : numbered c.self.inside.queues.items c.args.queue.0 ≡ Some c.in-Some.kept.now = cc c.in-Some.ensures in
+    let down : (nat_lt 0 (length c.in-Some.kept.now.errors.items) || c.in-Some.kept.now.stopped) ≡ false = cc in
+    let next : (c.args.packet.0 == c.in-Some.kept.now.next) ≡ true = search rules in
+    let told : may_start (map (λ (p : Place). p.packet) c.as_slice-2.result.now) c.header.result.barrier ≡ None = launching-goes _ c.in-Go.ensures in
+    let waits : may_start (map (λ (p : Place). p.packet) c.in-Some.kept.now.places) (barrier_bit c.args.bytes.now) ≡ None = cc (told, c.as_slice-2.ensures, c.header.ensures) in
+    due-by c.self.inside _ c.self.view_is (Take c.args.queue c.args.packet c.args.bytes.now) (enters (outcome.Taken (Denied (error_at c.args.queue c.args.packet.0 c.in-Deny.rule))) []) (take-known c.self.inside c.self.invariant _ _ _ _ some ∙ (rw (down, next, waits, c.in-Deny.ensures) refl)) ∙ (rw (← c.is_full.ensures, c.if-is_full.true) refl)
+
+pub returns-else-is_full_for_launch-clause-may : goal.returns-else-is_full_for_launch-clause-may
+returns-else-is_full_for_launch-clause-may c =
+    let some : numbered c.self.inside.queues.items c.args.queue.0 ≡ Some c.in-Some.kept.now = cc c.in-Some.ensures in
+    let down : (nat_lt 0 (length c.in-Some.kept.now.errors.items) || c.in-Some.kept.now.stopped) ≡ false = cc in
+    let next : (c.args.packet.0 == c.in-Some.kept.now.next) ≡ true = search rules in
+    let told : may_start (map (λ (p : Place). p.packet) c.as_slice-2.result.now) c.header.result.barrier ≡ None = launching-goes _ c.in-Go.ensures in
+    let waits : may_start (map (λ (p : Place). p.packet) c.in-Some.kept.now.places) (barrier_bit c.args.bytes.now) ≡ None = cc (told, c.as_slice-2.ensures, c.header.ensures) in
+    (
+      due-by c.self.inside _ c.self.view_is (Take c.args.queue c.args.packet c.args.bytes.now) (enters (outcome.Taken Launched) []) (take-known c.self.inside c.self.invariant _ _ _ _ some ∙ (rw (down, next, waits, c.in-Launch.ensures.1) refl)) ∙ (rw (room-launched _ c.args.queue c.args.packet _ _ c.in-Launch.ensures.0, ← c.is_full_for_launch.ensures, c.if-is_full_for_launch.false) refl),
       c.in-Launch.ensures.0,
-      reachable-launched c.self.inside c.in-Some.kept.now c.args.bytes.now c.in-Launch.packet c.self.invariant c.in-Launch.ensures.0 c.in-Launch.ensures.1,
-      takes-next c.self.inside c.self.invariant _ _ _ some down waits,
-      owner-kept c.self.inside c.args.queue c.self.invariant ∙ ap (option_map kept_opening) some,
-      may-hold c.self.inside c.in-Some.kept.now c.args.bytes.now c.in-Launch.packet c.self.invariant c.in-Launch.ensures.0 c.in-Launch.ensures.1,
+      subst (λ (h : History). lies_in_regions (region_lengths h.start) c.in-Launch.packet ≡ true) c.self.view_is (within-launched c.self.inside c.in-Some.kept.now c.args.bytes.now c.in-Launch.packet c.self.invariant c.in-Launch.ensures.0 c.in-Launch.ensures.1),
+      subst (λ (h : History). TakesNext h c.args.queue) c.self.view_is (takes-next c.self.inside c.self.invariant _ _ _ some down waits),
+      subst (λ (h : History). owner h.start h.entries c.args.queue ≡ Some (cached_opening c.in-Some.kept.now)) c.self.view_is (owner-kept c.self.inside c.args.queue c.self.invariant ∙ ap (option_map cached_opening) some),
+      subst (λ (h : History). MayHold h (cached_opening c.in-Some.kept.now) c.in-Launch.packet) c.self.view_is (may-hold c.self.inside c.in-Some.kept.now c.args.bytes.now c.in-Launch.packet c.self.invariant c.in-Launch.ensures.0 c.in-Launch.ensures.1),
     )
 
-pub returns-in-Deny-clause-may : goal.returns-in-Deny-clause-may
-returns-in-Deny-clause-may c =
+pub returns-else-is_full-clause-may : goal.returns-else-is_full-clause-may
+returns-else-is_full-clause-may c =
     let some : numbered c.self.inside.queues.items c.args.queue.0 ≡ Some c.in-Some.kept.now = cc c.in-Some.ensures in
     let down : (nat_lt 0 (length c.in-Some.kept.now.errors.items) || c.in-Some.kept.now.stopped) ≡ false = cc in
     let next : (c.args.packet.0 == c.in-Some.kept.now.next) ≡ true = search rules in
     let told : may_start (map (λ (p : Place). p.packet) c.as_slice-2.result.now) c.header.result.barrier ≡ None = launching-goes _ c.in-Go.ensures in
     let waits : may_start (map (λ (p : Place). p.packet) c.in-Some.kept.now.places) (barrier_bit c.args.bytes.now) ≡ None = cc (told, c.as_slice-2.ensures, c.header.ensures) in
-    rw (← c.self.view_is) (
-      take-known c.self.inside c.self.invariant _ _ _ _ some ∙ (rw (down, next, waits, c.in-Deny.ensures) refl),
-      takes-next c.self.inside c.self.invariant _ _ _ some down waits,
+    (
+      due-by c.self.inside _ c.self.view_is (Take c.args.queue c.args.packet c.args.bytes.now) (enters (outcome.Taken (Denied (error_at c.args.queue c.args.packet.0 c.in-Deny.rule))) []) (take-known c.self.inside c.self.invariant _ _ _ _ some ∙ (rw (down, next, waits, c.in-Deny.ensures) refl)) ∙ (rw (← c.is_full.ensures, c.if-is_full.false) refl),
+      subst (λ (h : History). TakesNext h c.args.queue) c.self.view_is (takes-next c.self.inside c.self.invariant _ _ _ some down waits),
     )

@@ -2,7 +2,8 @@
 use Rattle.std.proofs.Common.{subst, sym}
 use Rattle.core_model.specs.declared.event.Request.{Request}
 use Rattle.core_model.specs.declared.event.Request.TheVariants as request
-use Rattle.core_model.specs.Legal.{IsServed, Replying}
+use Rattle.core_model.specs.Legal.{IsServed}
+use Rattle.core_model.specs.Queries.{Replying}
 use Rattle.access_core.proofs.Serving.{served-event, served-query}
 use Rattle.access_core.proofs.access.AccessCore.obey.Goals as goal
 

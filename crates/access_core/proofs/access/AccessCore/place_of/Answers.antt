@@ -5,8 +5,8 @@ use Rattle.policy.specs.Policy.{numbered}
 use Rattle.packet_processor.specs.Queueing.{is_at}
 use Rattle.core_model.specs.Memory.{region_lengths}
 use Rattle.core_model.specs.declared.refusal.Refusal.TheVariants as refusal
-use Rattle.access_core.specs.InPlace.{IsInPlace, RefusedAt}
-use Rattle.access_core.specs.LiesInRegions.{lies_in_regions}
+use Rattle.access_core.specs.inner.InPlace.{IsInPlace, RefusedAt}
+use Rattle.access_core.specs.inner.LiesInRegions.{lies_in_regions}
 use Rattle.access_core.proofs.WorkLemmas.{in-place, none-in-place, reaches-in_place}
 use Rattle.access_core.proofs.access.AccessCore.place_of.Goals as goal
 
@@ -18,8 +18,8 @@ returns-in-Some-get-clause-found c =
     subst (λ h. IsInPlace h c.args.queue c.args.packet c.in-Some-get.place.now) c.self.view_is
     (in-place a c.self.invariant c.args.queue c.args.packet c.in-Some.kept.now some c.in-Some-get.place.now found)
 
-pub returns-in-Some-get-clause-reachable : goal.returns-in-Some-get-clause-reachable
-returns-in-Some-get-clause-reachable c =
+pub returns-in-Some-get-clause-within : goal.returns-in-Some-get-clause-within
+returns-in-Some-get-clause-within c =
     let a = c.self.inside in
     let some : numbered a.queues.items c.args.queue.0 ≡ Some c.in-Some.kept.now = cc c.in-Some.ensures in
     let found : find (is_at c.args.packet) c.in-Some.kept.now.places ≡ Some c.in-Some-get.place.now = cc c.in-Some-get.ensures in

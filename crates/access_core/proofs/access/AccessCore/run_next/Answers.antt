@@ -1,70 +1,52 @@
 -- What is kept moves along with the group that ran, which is entered where there is room.
-use Rattle.std.proofs.Common.{◌≡◌, ◌+◌, ◌∙◌, refl, sym, ap, subst, inl, true, false, Some, None, List, length}
-use Rattle.std.specs.Prelude.{nat_lt, IfSome}
-use Rattle.std.proofs.lemmas.Bool.{ltb-false}
+use Rattle.std.proofs.Common.{◌∙◌, refl, sym, ap, subst, List}
+use Rattle.std.specs.Prelude.{IfSome}
 use Rattle.core_model.specs.declared.entry.Effect.{Effect}
 use Rattle.core_model.specs.declared.event.Event.TheVariants.{RunNext}
-use Rattle.core_model.specs.declared.flight.InFlight.{InFlight}
 use Rattle.core_model.specs.declared.outcome.Outcome.TheVariants as outcome
 use Rattle.core_model.specs.declared.outcome.Worked.TheVariants.{Ran}
 use Rattle.core_model.specs.Work.{agent_writes}
-use Rattle.access_core.specs.Kept.{start_of}
-use Rattle.access_core.specs.InPlace.{IsChanged, IsNextGroup}
-use Rattle.access_core.proofs.HeldMoves.{grants-still}
-use Rattle.access_core.proofs.KeptMore.{IsKept-more}
-use Rattle.access_core.proofs.Calls.{full, entered}
+use Rattle.access_core.specs.inner.Cached.{start_of}
+use Rattle.access_core.specs.inner.InPlace.{IsChanged, IsNextGroup}
+use Rattle.access_core.proofs.HeldAfter.{grants-still}
+use Rattle.access_core.proofs.CachedMore.{IsCached-more}
 use Rattle.access_core.proofs.QueueAt.{flight-advanced}
-use Rattle.access_core.proofs.RunLemmas.{agent-writes, one_group, run-advances, run-inside, pieces-inside}
+use Rattle.access_core.proofs.RunLemmas.{agent-writes, one_group, run-advances, run-due, pieces-inside}
 use Rattle.access_core.proofs.TakeLemmas.{is-open}
 use Rattle.access_core.proofs.WorkLemmas.{place-inside, queues-advanced}
 use Rattle.access_core.proofs.access.AccessCore.run_next.Goals as goal
 
-not_launched : (f : InFlight) → None ≡ Some f → ⊥
-not_launched f e = cc
-
-pub returns-then-lacks_room : goal.returns-then-lacks_room
-returns-then-lacks_room c =
-    let a = c.self.inside in
-    let lacks : nat_lt a.capacity (length a.audit.items + 1 + a.flying) ≡ true = cc in
-    inl (full _ a _ c.self.view_is (outcome.Worked (Ran 0 0)) (agent_writes (start_of a) a.audit.items c.in-Some.group.dispatch) a.flying
-    (c.self.invariant.flying ∙ ap length (sym (flight-advanced (start_of a) a.audit.items c.args.queue c.args.packet _ _ _ _ (run-advances c.args.queue c.args.packet (start_of a) a.audit.items c.in-Some.group.dispatch))))
-    (run-inside a c.self.invariant _ c.self.view_is _ _ c.in-Some.group c.in_ok-group.ensures.may c.in-Some.is) lacks)
-
 pub function_piece-requires : goal.function_piece-requires
 function_piece-requires c =
     let next : IsNextGroup c.args.self.now c.args.queue c.args.packet c.in-Some.group = subst (λ o. IfSome o (IsNextGroup c.args.self.now c.args.queue c.args.packet)) c.in-Some.is c.in_ok-group.ensures.group in
-    next.reaches
+    next.within
 
 pub result_piece-requires : goal.result_piece-requires
 result_piece-requires c =
     let next : IsNextGroup c.args.self.now c.args.queue c.args.packet c.in-Some.group = subst (λ o. IfSome o (IsNextGroup c.args.self.now c.args.queue c.args.packet)) c.in-Some.is c.in_ok-group.ensures.group in
-    next.reaches
+    next.within
 
 pub advance-requires : goal.advance-requires
 advance-requires c =
     let a = c.self.inside in
     let next : IsNextGroup c.args.self.now c.args.queue c.args.packet c.in-Some.group = subst (λ o. IfSome o (IsNextGroup c.args.self.now c.args.queue c.args.packet)) c.in-Some.is c.in_ok-group.ensures.group in
-    let found = place-inside a c.self.invariant _ c.self.view_is c.args.queue c.args.packet next.place next.in_place in
+    let found = place-inside a _ c.self.view_is c.args.queue c.args.packet next.place next.in_place in
     let at = is-open a c.self.invariant c.args.queue found.opening found.owner_is in
     (at.q, at.found)
 
 pub invariant_of-self : goal.invariant_of-self
 invariant_of-self c =
     let a = c.self.inside in
-    let room : nat_lt a.capacity (length a.audit.items + 1 + a.flying) ≡ false = cc in
     let next : IsNextGroup c.args.self.now c.args.queue c.args.packet c.in-Some.group = subst (λ o. IfSome o (IsNextGroup c.args.self.now c.args.queue c.args.packet)) c.in-Some.is c.in_ok-group.ensures.group in
-    let found = place-inside a c.self.invariant _ c.self.view_is c.args.queue c.args.packet next.place next.in_place in
+    let found = place-inside a _ c.self.view_is c.args.queue c.args.packet next.place next.in_place in
     let at = is-open a c.self.invariant c.args.queue found.opening found.owner_is in
     let dispatch = c.in-Some.group.dispatch in
     let is = run-advances c.args.queue c.args.packet (start_of a) a.audit.items dispatch in
-    let pieces = pieces-inside a c.self.invariant _ c.self.view_is dispatch _ _ _ _ c.in_ok-target.ensures.written c.in_ok-result.ensures.written in
-    IsKept-more a _ (RunNext c.args.queue c.args.packet) (outcome.Worked (Ran 0 0)) (agent_writes (start_of a) a.audit.items dispatch) c.self.invariant
+    let pieces = pieces-inside a _ c.self.view_is dispatch _ _ _ _ c.in_ok-target.ensures.written c.in_ok-result.ensures.written in
+    IsCached-more a _ (RunNext c.args.queue c.args.packet) (outcome.Worked (Ran 0 0)) (agent_writes (start_of a) a.audit.items dispatch) c.self.invariant
     (record {
-      policy = refl;
-      capacity = refl;
-      entries = rw (c.lay_both-effects.ensures.effects ∙ pieces) at c.enter.ensures.entries;
-      place = c.enter.ensures.place;
-      room = ltb-false _ _ room;
+      same = (refl, refl);
+      audit = rw (c.lay_both-effects.ensures.effects ∙ pieces) at c.enter.ensures;
       grants = grants-still a c.self.invariant _ _ _ refl (λ client on right b. refl) (flight-advanced (start_of a) a.audit.items c.args.queue c.args.packet _ _ _ _ is);
       memory = record {
         lengths = c.lay_both-effects.ensures.lengths;
@@ -72,18 +54,5 @@ invariant_of-self c =
       };
       values = sym ((agent-writes (start_of a) a.audit.items dispatch).signals a.signals);
       queues = rw c.advance.ensures (queues-advanced a c.self.invariant c.args.queue at c.args.packet one_group _ _ _ is refl _ (next.is_next.after_is ∙ ap one_group (sym found.progress_is)));
-      launches = λ f e. absurd (not_launched f e);
     })
-    (run-inside a c.self.invariant _ c.self.view_is _ _ c.in-Some.group c.in_ok-group.ensures.may c.in-Some.is)
-
-pub returns : goal.returns
-returns c =
-    let a = c.self.inside in
-    let room : nat_lt a.capacity (length a.audit.items + 1 + a.flying) ≡ false = cc in
-    let dispatch = c.in-Some.group.dispatch in
-    let pieces = pieces-inside a c.self.invariant _ c.self.view_is dispatch _ _ _ _ c.in_ok-target.ensures.written c.in_ok-result.ensures.written in
-    inl (entered _ a _ c.self.view_is _ (outcome.Worked (Ran 0 0)) (agent_writes (start_of a) a.audit.items dispatch) a.flying
-    (c.self.invariant.flying ∙ ap length (sym (flight-advanced (start_of a) a.audit.items c.args.queue c.args.packet _ _ _ _ (run-advances c.args.queue c.args.packet (start_of a) a.audit.items dispatch))))
-    (rw (c.lay_both-effects.ensures.effects ∙ pieces) at c.enter.ensures.entries)
-    (run-inside a c.self.invariant _ c.self.view_is _ _ c.in-Some.group c.in_ok-group.ensures.may c.in-Some.is)
-    room)
+    _ c.self.view_is (run-due a _ c.self.view_is _ _ c.in-Some.group c.in_ok-group.ensures.may c.in-Some.is)

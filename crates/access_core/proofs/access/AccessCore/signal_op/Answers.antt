@@ -1,7 +1,6 @@
 -- What is kept moves along with the change of a signal, which is entered where there is room.
-use Rattle.std.proofs.Common.{◌≡◌, refl, true, false, [], ◌∷◌, ◌+◌, length, w64, to_z-of_z, SFits, rules}
-use Rattle.std.specs.Prelude.{ℤ, nat_lt}
-use Rattle.std.proofs.lemmas.Bool.{ltb-false}
+use Rattle.std.proofs.Common.{refl, [], ◌∷◌, w64, to_z-of_z, SFits, rules}
+use Rattle.std.specs.Prelude.{ℤ}
 use Rattle.aql_packet.specs.declared.ids.ClientId.{ClientId}
 use Rattle.aql_packet.specs.declared.ids.SignalHandle.{SignalHandle}
 use Rattle.signals.specs.declared.operation.SignalOp.{SignalOp}
@@ -10,58 +9,33 @@ use Rattle.core_model.specs.declared.event.Event.TheVariants.{ChangeSignal}
 use Rattle.core_model.specs.declared.entry.Effect.TheVariants as effect
 use Rattle.core_model.specs.declared.outcome.Outcome.TheVariants as outcome
 use Rattle.core_model.specs.Owed.{old_if_asked}
-use Rattle.access_core.specs.Kept.{start_of}
-use Rattle.access_core.proofs.HeldMoves.{grants-still}
-use Rattle.access_core.proofs.KeptMore.{IsKept-more, flying-still, launches-none, memory-still, queues-still}
+use Rattle.access_core.specs.inner.Cached.{start_of}
+use Rattle.access_core.proofs.HeldAfter.{grants-still}
+use Rattle.access_core.proofs.CachedMore.{IsCached-more, memory-still, queues-still}
 use Rattle.access_core.proofs.QueueAt.{IsQuiet, flight-quiet}
-use Rattle.access_core.proofs.Calls.{full, entered, owed-inside}
 use Rattle.access_core.proofs.access.AccessCore.signal_op.Goals as goal
 
 quiet : (client : ClientId) (signal : SignalHandle) (operation : SignalOp) (old : ℤ) → IsQuiet (ChangeSignal client signal operation) (outcome.Changed (old_if_asked operation old)) (effect.Signal signal old (applied operation old) ∷ [])
 quiet client signal operation old = record { launches = refl; progress = λ queue id p. refl; releases = λ fs. refl; hands = λ m. refl; stops = λ m. refl; errors = refl }
 
-pub returns-then-lacks_room : goal.returns-then-lacks_room
-returns-then-lacks_room c =
-    let a = c.self.inside in
-    let lacks : nat_lt a.capacity (length a.audit.items + 1 + a.flying) ≡ true = cc in
-    full _ a _ c.self.view_is _ _ a.flying (flying-still a c.self.invariant _ _ _ (quiet c.args.client c.args.signal c.args.operation c.in_ok-old.old)) (owed-inside _ c.self.inside _ c.self.view_is _ c.in_ok-old.ensures.may) lacks
-
 pub invariant_of-self : goal.invariant_of-self
 invariant_of-self c =
-    let room : nat_lt c.self.inside.capacity (length c.self.inside.audit.items + 1 + c.self.inside.flying) ≡ false = cc in
     let fits : SFits w64 c.in_ok-old.old = search rules in
     let fits-told : SFits w64 c.old_if_asked-answer.result = search rules in
     let fits-new : SFits w64 c.change-new.result = search rules in
     let values = simp to_z-of_z at c.change-new.ensures.values in
-    let entries = simp (to_z-of_z, c.one-effects.ensures) at c.enter.ensures.entries in
+    let entries = simp (to_z-of_z, c.one-effects.ensures) at c.enter.ensures.items in
     let told = simp to_z-of_z at c.old_if_asked-answer.ensures in
     let new = simp to_z-of_z at c.change-new.ensures.new in
     let calm = quiet c.args.client c.args.signal c.args.operation c.in_ok-old.old in
-    IsKept-more c.self.inside _ (ChangeSignal c.args.client c.args.signal c.args.operation) (outcome.Changed (old_if_asked c.args.operation c.in_ok-old.old))
+    IsCached-more c.self.inside _ (ChangeSignal c.args.client c.args.signal c.args.operation) (outcome.Changed (old_if_asked c.args.operation c.in_ok-old.old))
     (effect.Signal c.args.signal c.in_ok-old.old (applied c.args.operation c.in_ok-old.old) ∷ []) c.self.invariant
     (record {
-      policy = refl;
-      capacity = refl;
-      entries = rw (told, new) at entries;
-      place = c.enter.ensures.place;
-      room = ltb-false _ _ room;
+      same = (refl, refl);
+      audit = record { items = rw (told, new) at entries; room = c.enter.ensures.room };
       grants = grants-still c.self.inside c.self.invariant _ _ _ refl (λ client on right b. refl) (flight-quiet (start_of c.self.inside) c.self.inside.audit.items _ _ _ calm);
       memory = memory-still c.self.inside.memory _ (λ x byte. refl);
       values = values;
       queues = queues-still c.self.inside c.self.invariant _ _ _ calm refl;
-      launches = launches-none c.self.inside c.self.invariant _ _ _ calm;
     })
-    (owed-inside _ c.self.inside _ c.self.view_is _ c.in_ok-old.ensures.may)
-
-pub returns : goal.returns
-returns c =
-    let room : nat_lt c.self.inside.capacity (length c.self.inside.audit.items + 1 + c.self.inside.flying) ≡ false = cc in
-    let fits : SFits w64 c.in_ok-old.old = search rules in
-    let fits-told : SFits w64 c.old_if_asked-answer.result = search rules in
-    let fits-new : SFits w64 c.change-new.result = search rules in
-    let entries = simp (to_z-of_z, c.one-effects.ensures) at c.enter.ensures.entries in
-    let told = simp to_z-of_z at c.old_if_asked-answer.ensures in
-    let new = simp to_z-of_z at c.change-new.ensures.new in
-    simp to_z-of_z
-    (rw told
-    (entered _ c.self.inside _ c.self.view_is _ _ _ c.self.inside.flying (flying-still c.self.inside c.self.invariant _ _ _ (quiet c.args.client c.args.signal c.args.operation c.in_ok-old.old)) (rw (told, new) at entries) (owed-inside _ c.self.inside _ c.self.view_is _ c.in_ok-old.ensures.may) room))
+    _ c.self.view_is c.in_ok-old.ensures.may

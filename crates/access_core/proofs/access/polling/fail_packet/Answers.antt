@@ -1,8 +1,8 @@
 -- One queue has an error more, and a packet of it leaves flight.
 use Rattle.std.proofs.Common.{◌≡◌, ◌-◌, ap, ◌∙◌, sym, Some, arith}
 use Rattle.access_core.specs.declared.queue.Queue.{Queue}
-use Rattle.access_core.specs.QueueChanges.{freed, with_failure}
-use Rattle.access_core.proofs.QueueMoves.{freed-at, changed-by, item-at}
+use Rattle.access_core.specs.inner.QueueChanges.{freed, with_failure}
+use Rattle.access_core.proofs.ChangedQueue.{freed-at, changed-by, item-at}
 use Rattle.access_core.proofs.access.polling.fail_packet.Goals as goal
 
 pub returns-clause-queues : goal.returns-clause-queues

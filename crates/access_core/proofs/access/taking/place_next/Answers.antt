@@ -1,7 +1,7 @@
 -- One queue's next id rises, and its packet is in a place.
 use Rattle.std.proofs.Common.{◌+◌}
-use Rattle.access_core.specs.QueueChanges.{with_launched}
-use Rattle.access_core.proofs.QueueMoves.{changed-by, item-at}
+use Rattle.access_core.specs.inner.QueueChanges.{with_launched}
+use Rattle.access_core.proofs.ChangedQueue.{changed-by, item-at}
 use Rattle.access_core.proofs.access.taking.place_next.Goals as goal
 
 pub returns : goal.returns

@@ -8,7 +8,6 @@ use Rattle.regions.specs.Memory.{byte_at, is_within}
 use Rattle.core_model.specs.declared.entry.Effect.{Effect}
 use Rattle.core_model.specs.declared.entry.Effect.TheVariants as effect
 use Rattle.core_model.specs.declared.entry.Entry.{Entry}
-use Rattle.core_model.specs.declared.event.Event.{Event}
 use Rattle.core_model.specs.declared.flight.InFlight.{InFlight}
 use Rattle.core_model.specs.declared.flight.Progress.{Progress}
 use Rattle.core_model.specs.declared.outcome.Outcome.TheVariants as outcome
@@ -20,14 +19,10 @@ use Rattle.core_model.specs.Queues.{Opening, owner}
 use Rattle.core_model.specs.Flight.{in_flight, progress}
 use Rattle.core_model.specs.Memory.{byte_after, region_lengths, signals}
 use Rattle.core_model.specs.Work.{agent_writes}
-use Rattle.core_model.specs.Owed.{Owed, refuses, answers, enters, owed, completed, for_packet}
+use Rattle.core_model.specs.Owed.{Owed, refuses, answers, enters, completed, for_packet}
 use Rattle.packet_processor.specs.declared.places.Place.{Place}
 use Rattle.access_core.specs.declared.access.running.Group.{Group}
-use Rattle.access_core.specs.LiesInRegions.{lies_in_regions}
-
--- after this history an event is owed this
-abbrev pub IsOwed : History → Event → Owed → Type 0
-IsOwed history event owing = owed history.start history.entries event ≡ owing
+use Rattle.access_core.specs.inner.LiesInRegions.{lies_in_regions}
 
 -- a packet of an open queue is in flight, and this is its place
 pub record IsInPlace (history : History) (queue : QueueId) (id : PacketId) (place : Place) : Type 0 where
@@ -60,16 +55,12 @@ pub record IsGroupOf (place : Place) (group : Group) : Type 0 where
   pub packet_is : place.packet ≡ packet.Agent group.dispatch
   pub after_is : group.after ≡ record { groups_run = place.progress.groups_run + 1; satisfied = place.progress.satisfied }
 
--- a packet in flight has this group next, and its dispatch reaches only what lies whole in regions
+-- a packet in flight has this group next, and its dispatch has all its ranges within regions
 pub record IsNextGroup (history : History) (queue : QueueId) (id : PacketId) (group : Group) : Type 0 where
   pub place : Place
   pub in_place : IsInPlace history queue id place
   pub is_next : IsGroupOf place group
-  pub reaches : lies_in_regions (region_lengths history.start) (packet.Agent group.dispatch) ≡ true
-
--- a packet reaches only what lies whole in regions
-abbrev pub Reaches : History → Packet → Type 0
-Reaches history p = lies_in_regions (region_lengths history.start) p ≡ true
+  pub within : lies_in_regions (region_lengths history.start) (packet.Agent group.dispatch) ≡ true
 
 -- whether bytes have their place in memory: there are none, or they lie whole in one region
 abbrev pub is_placed : List ℕ → ℕ → ℕ → Bool

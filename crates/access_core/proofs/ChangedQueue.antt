@@ -9,10 +9,10 @@ use Rattle.policy.specs.Policy.{numbered}
 use Rattle.core_model.specs.declared.entry.Entry.{Entry}
 use Rattle.core_model.specs.History.{Start}
 use Rattle.access_core.specs.declared.queue.Queue.{Queue}
-use Rattle.access_core.specs.CachedQueue.{IsSound, QueueView, cached, kept_opening, queue_at}
+use Rattle.access_core.specs.inner.CachedQueue.{IsSound, QueueView, cached, cached_opening, queue_at}
 use Rattle.aql_packet.specs.declared.ids.PacketId.{PacketId}
 use Rattle.std.proofs.lemmas.Option.{get_or_from_slice_get}
-use Rattle.access_core.specs.QueueChanges.{freed, freed_by, with_queue}
+use Rattle.access_core.specs.inner.QueueChanges.{freed, freed_by, with_queue}
 
 get-changed : (qs : List Queue) (i : ℕ) (q v : Queue) → slice_get qs i ≡ Some q → slice_get (slice_set qs i v) i ≡ Some v
 get-changed [] i q v at = cc
@@ -90,8 +90,8 @@ module _ (qs : List Queue) (n : QueueId) (change : Queue → Queue) (q : Queue) 
   place : (0 < n.0) × (slice_get qs (n.0 - 1) ≡ Some q)
   place = numbered-place qs n.0 q found
 
-  pub openings-changed : kept_opening (change q) ≡ kept_opening q → map kept_opening (with_queue qs n change) ≡ map kept_opening qs
-  openings-changed same = rw with_queue-is (map-set kept_opening qs (n.0 - 1) q (change q) place.1 same)
+  pub openings-changed : cached_opening (change q) ≡ cached_opening q → map cached_opening (with_queue qs n change) ≡ map cached_opening qs
+  openings-changed same = rw with_queue-is (map-set cached_opening qs (n.0 - 1) q (change q) place.1 same)
 
   pub length-changed : length (with_queue qs n change) ≡ length qs
   length-changed = rw with_queue-is (length-set qs (n.0 - 1) (change q))

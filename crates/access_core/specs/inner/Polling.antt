@@ -17,12 +17,8 @@ abbrev pub sight : Bool → Seen → Polled
 sight true new = Ready new
 sight false new = Pending new
 
--- what a poll is owed that sees positions as 0 for the first time
-abbrev pub sees_owed : Seen → Bool → Owed
-sees_owed new ready = enters (outcome.Polled (sight ready new)) []
-
 -- what a poll is owed by what it finds
 abbrev pub look_owed : QueueId → PacketId → Look → Owed
 look_owed queue id (Still told) = answers (outcome.Polled told)
 look_owed queue id Fails = enters (outcome.Polled (Failed (error_at queue id.0 B1))) (effect.Release queue id ∷ [])
-look_owed queue id (Sees new ready) = sees_owed new ready
+look_owed queue id (Sees new ready) = enters (outcome.Polled (sight ready new)) []

@@ -12,8 +12,8 @@ use Rattle.packet_processor.specs.declared.places.Place.{Place}
 use Rattle.access_core.specs.declared.queue.Queue.{Queue}
 
 -- the opening of a queue that is kept
-abbrev pub kept_opening : Queue → Opening
-kept_opening q = record { client = q.client; agent = q.agent }
+abbrev pub cached_opening : Queue → Opening
+cached_opening q = record { client = q.client; agent = q.agent }
 
 -- A queue beside its opening: the id of its next packet, whether it was stopped, its errors, and its packets in flight.
 pub record QueueView : Type 0 where

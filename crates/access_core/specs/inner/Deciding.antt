@@ -10,9 +10,10 @@ use Rattle.core_model.specs.History.{History}
 use Rattle.core_model.specs.Memory.{region_lengths}
 use Rattle.core_model.specs.Queues.{Opening, owner, is_down}
 use Rattle.core_model.specs.Flight.{flight_of}
-use Rattle.core_model.specs.Owed.{owed, answers, enters, error_at}
+use Rattle.core_model.specs.Owed.{answers, enters, error_at}
+use Rattle.core_model.specs.Legal.{due}
 use Rattle.core_model.specs.declared.limits.TheConstants.{SLOTS}
-use Rattle.access_core.specs.LiesInRegions.{lies_in_regions}
+use Rattle.access_core.specs.inner.LiesInRegions.{lies_in_regions}
 use Rattle.std.specs.List.{list_all}
 use Rattle.aql_packet.specs.declared.packet.Packet.{Packet}
 use Rattle.core_model.specs.Grants.{in_force}
@@ -36,14 +37,14 @@ opening_of launching = record { client = launching.client; agent = launching.age
 abbrev pub MayHold : History → Opening → Packet → Type 0
 MayHold history opening p = list_all (λ h. in_force history.start history.entries opening.client h.0 h.1) (held_at_launch opening p) ≡ true
 
--- what is owed to the packet is what was decided; a packet that is launched is the one that the bytes lay out, reaches only
--- what lies whole in a region, and may hold what it needs
+-- what is due to the packet is what was decided; a packet that is launched is the one that the bytes lay out, has all its ranges
+-- within regions, and may hold what it needs
 abbrev pub Decides : History → QueueId → PacketId → List ℕ → Decision → Type 0
-Decides history queue id bytes (Wait cause) = owed history.start history.entries (Take queue id bytes) ≡ answers (outcome.Taken (Waiting cause))
+Decides history queue id bytes (Wait cause) = due history (Take queue id bytes) ≡ answers (outcome.Taken (Waiting cause))
 Decides history queue id bytes (Deny rule) =
-    (owed history.start history.entries (Take queue id bytes) ≡ enters (outcome.Taken (Denied (error_at queue id.0 rule))) [])
+    (due history (Take queue id bytes) ≡ enters (outcome.Taken (Denied (error_at queue id.0 rule))) [])
     × TakesNext history queue
 Decides history queue id bytes (Launch launching) =
-    (owed history.start history.entries (Take queue id bytes) ≡ enters (outcome.Taken Launched) [])
+    (due history (Take queue id bytes) ≡ enters (outcome.Taken Launched) [])
     × (decoded bytes ≡ Some launching.packet) × (lies_in_regions (region_lengths history.start) launching.packet ≡ true) × TakesNext history queue
     × (owner history.start history.entries queue ≡ Some (opening_of launching)) × MayHold history (opening_of launching) launching.packet

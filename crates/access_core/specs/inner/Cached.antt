@@ -1,5 +1,5 @@
--- What the core keeps beside its audit, and that it is what the audit says.
-use Rattle.std.specs.Prelude.{◌≡◌, ℕ, ◌+◌, ◌^◌, ◌≤◌, true, map, length, Some, All}
+-- What the core caches beside its audit, and that it is what the audit says.
+use Rattle.std.specs.Prelude.{◌≡◌, ℕ, ◌+◌, ◌≤◌, Bool, true, nat_lt, [], ◌∷◌, ◌++◌, map, length, Some, All}
 use Rattle.aql_packet.specs.declared.ids.ClientId.{ClientId}
 use Rattle.aql_packet.specs.declared.ids.QueueId.{QueueId}
 use Rattle.aql_packet.specs.declared.ids.PacketId.{PacketId}
@@ -7,6 +7,9 @@ use Rattle.policy.specs.declared.object.Object.{Object}
 use Rattle.policy.specs.declared.rights.Right.{Right}
 use Rattle.policy.specs.Policy.{numbered}
 use Rattle.regions.specs.Memory.{byte_at, lengths_of, lies_in_region}
+use Rattle.sequences.specs.Room.{Roomy}
+use Rattle.core_model.specs.declared.entry.Entry.{Entry}
+use Rattle.core_model.specs.declared.limits.TheConstants.{MOST_ENTRIES, QUEUES}
 use Rattle.core_model.specs.History.{Start, History}
 use Rattle.core_model.specs.Grants.{in_force}
 use Rattle.core_model.specs.Memory.{memory_at, signals, region_lengths}
@@ -16,9 +19,9 @@ use Rattle.core_model.specs.Legal.{IsLegal}
 use Rattle.access_core.specs.declared.access.AccessCore.TheInside.{Inside}
 use Rattle.grants.specs.Ledger as ledger
 use Rattle.grants.specs.Rules.{rules_of}
-use Rattle.access_core.specs.Held.{packet_holds}
-pub use Rattle.access_core.specs.CachedQueue.{IsSound, cached, kept_opening, queue_at}
-use Rattle.access_core.specs.LiesInRegions.{lies_in_regions}
+use Rattle.access_core.specs.inner.Held.{packet_holds}
+pub use Rattle.access_core.specs.inner.CachedQueue.{IsSound, cached, cached_opening, queue_at}
+use Rattle.access_core.specs.inner.LiesInRegions.{lies_in_regions}
 
 -- what the history begins from
 abbrev pub start_of : Inside → Start
@@ -28,8 +31,17 @@ start_of a = record { policy = a.policy }
 abbrev pub history_of : Inside → History
 history_of a = record { start = start_of a; capacity = a.capacity; entries = a.audit.items }
 
+-- whether an audit has no room for an entry after which as many packets are in flight
+abbrev pub is_full : History → Bool
+is_full h = nat_lt h.capacity (length h.entries + 1 + length (flight h.start h.entries))
+
+-- an audit with one entry more behind the others, and a place less that is free
+pub record IsEntered (old new : Roomy Entry) (entry : Entry) : Type 0 where
+  pub items : new.items ≡ old.items ++ entry ∷ []
+  pub room : new.room + 1 ≡ old.room
+
 -- The fields are what the history says, question by question.
-pub record IsKept (a : Inside) : Type 0 where
+pub record IsCached (a : Inside) : Type 0 where
   -- the rights in force
   pub granted : (client : ClientId) (on : Object) (right : Right) → ledger.in_force a.grants client on right ≡ in_force (start_of a) a.audit.items client on right
   -- what the policy declares and allows
@@ -43,16 +55,16 @@ pub record IsKept (a : Inside) : Type 0 where
   -- the signals' values
   pub values : a.signals ≡ signals (start_of a) a.audit.items
   -- the queues
-  pub openings : map kept_opening a.queues.items ≡ openings (start_of a) a.audit.items
+  pub openings : map cached_opening a.queues.items ≡ openings (start_of a) a.audit.items
   pub queues : (queue : QueueId) → cached (numbered a.queues.items queue.0) ≡ queue_at (start_of a) a.audit.items queue
   pub sound : All IsSound a.queues.items
-  pub few_queues : length a.queues.items ≤ 64
-  -- how many packets are in flight, none of which reaches past a region
+  pub few_queues : length a.queues.items ≤ QUEUES
+  -- how many packets are in flight, each with all its ranges within regions
   pub flying : a.flying ≡ length (flight (start_of a) a.audit.items)
-  pub reachable : All (λ f. lies_in_regions (region_lengths (start_of a)) f.packet ≡ true) (flight (start_of a) a.audit.items)
+  pub within : All (λ f. lies_in_regions (region_lengths (start_of a)) f.packet ≡ true) (flight (start_of a) a.audit.items)
   -- room for an entry of each packet in flight, and memory for all entries
   pub room : length a.audit.items + a.flying ≤ a.capacity
   pub places : a.capacity ≤ length a.audit.items + a.audit.room
-  pub few : a.capacity ≤ 2 ^ 20
+  pub few : a.capacity ≤ MOST_ENTRIES
   -- the audit is a legal history
   pub legal : IsLegal (start_of a) a.audit.items

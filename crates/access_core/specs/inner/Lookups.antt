@@ -8,7 +8,7 @@ use Rattle.core_model.specs.History.{History}
 use Rattle.core_model.specs.Memory.{memory_from, region_lengths}
 use Rattle.core_model.specs.Queues.{owner}
 use Rattle.access_core.specs.declared.queue.Queue.{Queue}
-use Rattle.access_core.specs.CachedQueue.{cached, kept_opening, queue_at}
+use Rattle.access_core.specs.inner.CachedQueue.{cached, cached_opening, queue_at}
 
 -- the bytes of a range that lies whole in one region; of any other, none
 abbrev pub bytes_within : History → Address → ℕ → Option (List ℕ)
@@ -17,5 +17,5 @@ bytes_within history address size =
 
 -- this is what is kept of a queue of the history: who opened it, and what became of it since
 pub record IsQueue (history : History) (queue : QueueId) (kept : Option Queue) : Type 0 where
-  pub opening : option_map kept_opening kept ≡ owner history.start history.entries queue
+  pub opening : option_map cached_opening kept ≡ owner history.start history.entries queue
   pub cached_is : cached kept ≡ queue_at history.start history.entries queue

@@ -29,13 +29,13 @@ use Rattle.core_model.specs.declared.flight.InFlight.{InFlight}
 use Rattle.core_model.specs.Queues.{Opening, openings, owner, opening_of}
 use Rattle.core_model.specs.Flight.{flight, is_packet}
 use Rattle.core_model.specs.Grants.{in_force_after}
-use Rattle.access_core.proofs.KeptMore.{GrantsMove}
+use Rattle.access_core.proofs.CachedMore.{GrantsAfter}
 use Rattle.core_model.specs.Holds.{Held, held_at_launch}
 use Rattle.core_model.specs.Legal.{entry_of, with_entry}
 use Rattle.core_model.proofs.More.{openings-more, with_some}
 use Rattle.access_core.specs.declared.access.AccessCore.TheInside.{Inside}
-use Rattle.access_core.specs.Kept.{IsKept, start_of}
-use Rattle.access_core.specs.Held.{IsHeld, holds_by, packet_holds}
+use Rattle.access_core.specs.inner.Cached.{IsCached, start_of}
+use Rattle.access_core.specs.inner.Held.{IsHeld, holds_by, packet_holds}
 use Rattle.aql_packet.specs.declared.ids.AgentHandle.{AgentHandle}
 use Rattle.core_model.specs.declared.event.Event.TheVariants.{OpenQueue}
 use Rattle.access_core.proofs.HeldMore.{AreHeld-legal}
@@ -49,7 +49,7 @@ pub owners-still : (a : Inside) (event : Event) (outcome : Outcome) (effects : L
 owners-still a event outcome effects none = openings-more (start_of a) a.audit.items (entry_of event outcome effects) ∙ ap (with_some (openings (start_of a) a.audit.items)) none
 
 -- the same packets in flight hold the same after it
-pub held-still : (a : Inside) → IsKept a → (event : Event) (outcome : Outcome) (effects : List Effect) → opening_of event ≡ None → flight (start_of a) (with_entry a.audit.items event outcome effects) ≡ flight (start_of a) a.audit.items
+pub held-still : (a : Inside) → IsCached a → (event : Event) (outcome : Outcome) (effects : List Effect) → opening_of event ≡ None → flight (start_of a) (with_entry a.audit.items event outcome effects) ≡ flight (start_of a) a.audit.items
     → (queue : QueueId) (id : PacketId) (client : ClientId) (on : Object) (right : Right)
     → ledger.holds a.grants queue id client on right ≡ packet_holds (owner (start_of a) (with_entry a.audit.items event outcome effects)) (flight (start_of a) (with_entry a.audit.items event outcome effects)) queue id client on right
 held-still a kept event outcome effects none same queue id client on right =
@@ -57,8 +57,8 @@ held-still a kept event outcome effects none same queue id client on right =
     ∙ (λ i. packet_holds (λ (q : QueueId). numbered (sym (owners-still a event outcome effects none) i) q.0) (sym same i) queue id client on right)
 
 -- so a call that doesn't touch the grants leaves them as the history says
-pub grants-still : (a : Inside) → IsKept a → (event : Event) (outcome : Outcome) (effects : List Effect) → opening_of event ≡ None → ((client : ClientId) (on : Object) (right : Right) (b : Bool) → in_force_after client on right b event ≡ b)
-    → flight (start_of a) (with_entry a.audit.items event outcome effects) ≡ flight (start_of a) a.audit.items → GrantsMove a a.grants event outcome effects
+pub grants-still : (a : Inside) → IsCached a → (event : Event) (outcome : Outcome) (effects : List Effect) → opening_of event ≡ None → ((client : ClientId) (on : Object) (right : Right) (b : Bool) → in_force_after client on right b event ≡ b)
+    → flight (start_of a) (with_entry a.audit.items event outcome effects) ≡ flight (start_of a) a.audit.items → GrantsAfter a a.grants event outcome effects
 grants-still a kept event outcome effects none same flying = record {
   granted = λ client on right. sym (same client on right _);
   rules = refl;
@@ -143,8 +143,8 @@ held-launched owners fs opening q i p is queue id client on right =
 -- ---- the grants of a call
 
 -- a packet that leaves flight holds nothing after it
-pub grants-released : (a : Inside) → IsKept a → (event : Event) (outcome : Outcome) (effects : List Effect) → opening_of event ≡ None → ((client : ClientId) (on : Object) (right : Right) (b : Bool) → in_force_after client on right b event ≡ b)
-    → (new : Ledger) (q : QueueId) (i : PacketId) → flight (start_of a) (with_entry a.audit.items event outcome effects) ≡ filter (λ f. not (is_packet q i f)) (flight (start_of a) a.audit.items) → Releases a.grants new q i → GrantsMove a new event outcome effects
+pub grants-released : (a : Inside) → IsCached a → (event : Event) (outcome : Outcome) (effects : List Effect) → opening_of event ≡ None → ((client : ClientId) (on : Object) (right : Right) (b : Bool) → in_force_after client on right b event ≡ b)
+    → (new : Ledger) (q : QueueId) (i : PacketId) → flight (start_of a) (with_entry a.audit.items event outcome effects) ≡ filter (λ f. not (is_packet q i f)) (flight (start_of a) a.audit.items) → Releases a.grants new q i → GrantsAfter a new event outcome effects
 grants-released a kept event outcome effects none same new q i flying releases = record {
   granted = λ client on right. releases.same_rights client on right ∙ sym (same client on right _);
   rules = releases.same_rules;
@@ -166,10 +166,10 @@ held-opened start es e queue id client on right (f ∷ fs) all =
     ∙ ap (λ rest. (is_packet queue id f && holds_by (owner start (es ++ e ∷ []) f.queue) client on right f.packet) || rest) (held-opened start es e queue id client on right fs (All-tail (IsHeld start es) f fs all))
 
 -- a packet that is launched holds what it needs
-pub grants-launched : (a : Inside) → IsKept a → (event : Event) (outcome : Outcome) (effects : List Effect) → opening_of event ≡ None → ((client : ClientId) (on : Object) (right : Right) (b : Bool) → in_force_after client on right b event ≡ b)
+pub grants-launched : (a : Inside) → IsCached a → (event : Event) (outcome : Outcome) (effects : List Effect) → opening_of event ≡ None → ((client : ClientId) (on : Object) (right : Right) (b : Bool) → in_force_after client on right b event ≡ b)
     → (old new : Ledger) (opening : Opening) (q : QueueId) (i : PacketId) (p : Packet) (rights : List (Object × Rights))
     → flight (start_of a) (with_entry a.audit.items event outcome effects) ≡ flight (start_of a) a.audit.items ++ record { queue = q; id = i; packet = p } ∷ []
-    → old ≡ record a.grants { room = old.room } → rights ≡ map as_rights (held_at_launch opening p) → owner (start_of a) a.audit.items q ≡ Some opening → Holds old new opening.client q i rights → GrantsMove a new event outcome effects
+    → old ≡ record a.grants { room = old.room } → rights ≡ map as_rights (held_at_launch opening p) → owner (start_of a) a.audit.items q ≡ Some opening → Holds old new opening.client q i rights → GrantsAfter a new event outcome effects
 grants-launched a kept event outcome effects none still old new opening q i p rights flying same are is holds = record {
   granted = λ client on right. holds.same_rights client on right ∙ ap (λ (g : Ledger). ledger.in_force g client on right) same ∙ sym (still client on right _);
   rules = holds.same_rules ∙ ap ledger.rules_in same;
@@ -202,7 +202,7 @@ all-in_force grants client (h ∷ hs) =
     ∙ ap (λ rest. ledger.in_force grants client h.0 h.1 && rest) (all-in_force grants client hs)
 
 -- what a packet that is launched needs is in force
-pub launch-in_force : (a : Inside) → IsKept a → (old : Ledger) (opening : Opening) (p : Packet) (rights : List (Object × Rights)) → old ≡ record a.grants { room = old.room } → rights ≡ map as_rights (held_at_launch opening p)
+pub launch-in_force : (a : Inside) → IsCached a → (old : Ledger) (opening : Opening) (p : Packet) (rights : List (Object × Rights)) → old ≡ record a.grants { room = old.room } → rights ≡ map as_rights (held_at_launch opening p)
     → list_all (λ h. in_force (start_of a) a.audit.items opening.client h.0 h.1) (held_at_launch opening p) ≡ true → are_in_force old opening.client rights ≡ true
 launch-in_force a kept old opening p rights same are forced =
     ap (λ (g : Ledger). are_in_force g opening.client rights) same
@@ -212,7 +212,7 @@ launch-in_force a kept old opening p rights same are forced =
     ∙ forced
 
 -- a queue that is opened leaves the grants as the history says
-pub grants-opened : (a : Inside) → IsKept a → (client : ClientId) (agent : AgentHandle) (size : ℕ) (told : Outcome) → flight (start_of a) (with_entry a.audit.items (OpenQueue client agent size) told []) ≡ flight (start_of a) a.audit.items → GrantsMove a a.grants (OpenQueue client agent size) told []
+pub grants-opened : (a : Inside) → IsCached a → (client : ClientId) (agent : AgentHandle) (size : ℕ) (told : Outcome) → flight (start_of a) (with_entry a.audit.items (OpenQueue client agent size) told []) ≡ flight (start_of a) a.audit.items → GrantsAfter a a.grants (OpenQueue client agent size) told []
 grants-opened a kept opener agent size told flying = record {
   granted = λ client on right. refl;
   rules = refl;

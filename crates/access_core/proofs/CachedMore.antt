@@ -1,0 +1,142 @@
+-- What is cached stays what the history says when an entry is put behind it and the fields follow.
+use Rattle.std.proofs.Common.{◌≡◌, ℕ, ◌+◌, ◌<◌, ◌≤◌, List, [], ◌∷◌, length, sym, ◌∙◌, ap, subst, refl, true, false, Some, None, arith, length-append}
+use Rattle.std.specs.Prelude.{map, fold, All}
+use Rattle.std.proofs.lemmas.Bool.{ltb-false}
+use Rattle.aql_packet.specs.declared.ids.ClientId.{ClientId}
+use Rattle.aql_packet.specs.declared.ids.QueueId.{QueueId}
+use Rattle.aql_packet.specs.declared.ids.PacketId.{PacketId}
+use Rattle.policy.specs.declared.object.Object.{Object}
+use Rattle.policy.specs.declared.rights.Right.{Right}
+use Rattle.policy.specs.Policy.{numbered}
+use Rattle.regions.specs.Memory.{byte_at, lengths_of, lies_in_region}
+use Rattle.core_model.specs.declared.entry.Effect.{Effect}
+use Rattle.core_model.specs.declared.event.Event.{Event}
+use Rattle.core_model.specs.declared.flight.InFlight.{InFlight}
+use Rattle.core_model.specs.declared.outcome.Outcome.{Outcome}
+use Rattle.core_model.specs.Grants.{in_force, in_force_after}
+use Rattle.core_model.specs.Memory.{memory_at, byte_after, signals_after, region_lengths}
+use Rattle.core_model.specs.Queues.{owner, opening_of}
+use Rattle.core_model.specs.Flight.{flight, launched_by}
+use Rattle.core_model.specs.declared.limits.TheConstants.{QUEUES}
+use Rattle.core_model.specs.History.{Start, History}
+use Rattle.core_model.specs.Owed.{Owed, enters, owed}
+use Rattle.core_model.specs.Legal.{due, entry_of, lacks_room, with_entry}
+use Rattle.core_model.proofs.Meeting.{entered-owed}
+use Rattle.core_model.proofs.Flying.{all-after}
+use Rattle.core_model.proofs.More.{in_force-more, memory_at-more, signals-more, openings-more, with_some, flight-more}
+use Rattle.core_model.proofs.Legality.{IsLegal-more}
+use Rattle.grants.specs.Ledger as ledger
+use Rattle.grants.specs.Ledger.{Ledger}
+use Rattle.access_core.specs.declared.access.AccessCore.TheInside.{Inside}
+use Rattle.access_core.specs.declared.queue.Queue.{Queue}
+use Rattle.access_core.specs.inner.Held.{packet_holds}
+use Rattle.access_core.specs.inner.Cached.{IsCached, IsEntered, history_of, start_of}
+use Rattle.access_core.specs.inner.CachedQueue.{IsSound, cached, cached_opening, queue_at}
+use Rattle.access_core.specs.inner.LiesInRegions.{lies_in_regions}
+use Rattle.access_core.proofs.QueueAt.{IsQuiet, flight-quiet, queue_at-quiet}
+
+-- How the grants follow an entry.
+pub record GrantsAfter (a : Inside) (new : Ledger) (event : Event) (outcome : Outcome) (effects : List Effect) : Type 0 where
+  pub granted : (client : ClientId) (on : Object) (right : Right) → ledger.in_force new client on right ≡ in_force_after client on right (ledger.in_force a.grants client on right) event
+  pub rules : ledger.rules_in new ≡ ledger.rules_in a.grants
+  pub held : (queue : QueueId) (id : PacketId) (client : ClientId) (on : Object) (right : Right)
+      → ledger.holds new queue id client on right ≡ packet_holds (owner (start_of a) (with_entry a.audit.items event outcome effects)) (flight (start_of a) (with_entry a.audit.items event outcome effects)) queue id client on right
+
+-- How the memory does.
+pub record MemoryAfter (old new : List (List ℕ)) (effects : List Effect) : Type 0 where
+  pub lengths : lengths_of new ≡ lengths_of old
+  pub memory : (x byte : ℕ) → byte_at old x ≡ Some byte → byte_at new x ≡ Some (fold (byte_after x) byte effects)
+
+-- How the queues do.
+pub record QueuesAfter (a : Inside) (new : List Queue) (count : ℕ) (event : Event) (outcome : Outcome) (effects : List Effect) : Type 0 where
+  pub openings : map cached_opening new ≡ with_some (map cached_opening a.queues.items) (opening_of event)
+  pub queues : (queue : QueueId) → cached (numbered new queue.0) ≡ queue_at (start_of a) (with_entry a.audit.items event outcome effects) queue
+  pub sound : All IsSound new
+  pub few_queues : length new ≤ QUEUES
+  pub flying : count ≡ length (flight (start_of a) (with_entry a.audit.items event outcome effects))
+  pub within : (f : InFlight) → launched_by event outcome ≡ Some f → lies_in_regions (region_lengths (start_of a)) f.packet ≡ true
+
+-- The audit has one entry more, and the other fields follow.
+pub record FieldsAfter (a b : Inside) (event : Event) (outcome : Outcome) (effects : List Effect) : Type 0 where
+  pub same : (b.policy ≡ a.policy) × (b.capacity ≡ a.capacity)
+  pub audit : IsEntered a.audit b.audit (entry_of event outcome effects)
+  pub grants : GrantsAfter a b.grants event outcome effects
+  pub memory : MemoryAfter a.memory b.memory effects
+  pub values : b.signals ≡ fold signals_after a.signals effects
+  pub queues : QueuesAfter a b.queues.items b.flying event outcome effects
+
+-- what is due to an event after a history is due by the fields that show it
+due-inside : (a : Inside) (old : History) (event : Event) (owing : Owed) → history_of a ≡ old → due old event ≡ owing → due (history_of a) event ≡ owing
+due-inside a old event owing seen_as is = subst (λ h. due h event ≡ owing) (sym seen_as) is
+
+module _ (a : Inside) (was : IsCached a) (old : History) (seen_as : history_of a ≡ old) (event : Event) (outcome : Outcome) (effects : List Effect) (is_due : due old event ≡ enters outcome effects) where
+  entry : (owed (start_of a) a.audit.items event ≡ enters outcome effects) × (lacks_room (history_of a) (entry_of event outcome effects) ≡ false)
+  entry = entered-owed (history_of a) event outcome effects (due-inside a old event _ seen_as is_due)
+
+  -- an event that is due an entry is owed it by the fields
+  pub owed-inside : owed (start_of a) a.audit.items event ≡ enters outcome effects
+  owed-inside = entry.0
+
+  -- there is room for the entry, with the packets that are in flight after it
+  pub room-inside : length a.audit.items + 1 + length (flight (start_of a) (with_entry a.audit.items event outcome effects)) ≤ a.capacity
+  room-inside = rw flight-more (ltb-false _ _ entry.1)
+
+  -- and a place in the audit
+  pub has_place : 0 < a.audit.room
+  has_place = omega (arith, room-inside, was.places)
+
+module _ (a b : Inside) (event : Event) (outcome : Outcome) (effects : List Effect) (was : IsCached a) (after : FieldsAfter a b event outcome effects) where
+  longer : length b.audit.items ≡ length a.audit.items + 1
+  longer = ap length after.audit.items ∙ length-append a.audit.items (entry_of event outcome effects ∷ [])
+
+  granted-after : (client : ClientId) (on : Object) (right : Right) → ledger.in_force b.grants client on right ≡ in_force (start_of b) b.audit.items client on right
+  granted-after client on right =
+      rw (after.same.0, after.audit.items, in_force-more)
+      (subst (λ before. ledger.in_force b.grants client on right ≡ in_force_after client on right before event) (was.granted client on right) (after.grants.granted client on right))
+
+  memory-after : (x : ℕ) → lies_in_region (region_lengths (start_of b)) x ≡ true → byte_at b.memory x ≡ Some (memory_at (start_of b) b.audit.items x)
+  memory-after x lies =
+      let inside : lies_in_region (region_lengths (start_of a)) x ≡ true = rw (← after.same.0) lies in
+      rw (after.same.0, after.audit.items, memory_at-more) (after.memory.memory x (memory_at (start_of a) a.audit.items x) (was.memory x inside))
+
+  pub IsCached-more : (old : History) → history_of a ≡ old → due old event ≡ enters outcome effects → IsCached b
+  IsCached-more old seen_as is_due =
+      let room = room-inside a was old seen_as event outcome effects is_due in
+      record {
+        granted = granted-after;
+        rules = rw after.same.0 (after.grants.rules ∙ was.rules);
+        held = λ queue id client on right. rw (after.same.0, after.audit.items) (after.grants.held queue id client on right);
+        lengths = rw after.same.0 (after.memory.lengths ∙ was.lengths);
+        memory = memory-after;
+        values = rw (after.same.0, after.audit.items, signals-more, ← was.values) after.values;
+        openings = rw (after.same.0, after.audit.items, openings-more, ← was.openings) after.queues.openings;
+        queues = λ queue. rw (after.same.0, after.audit.items) (after.queues.queues queue);
+        sound = after.queues.sound;
+        few_queues = after.queues.few_queues;
+        flying = rw (after.same.0, after.audit.items) after.queues.flying;
+        within = rw (after.same.0, after.audit.items, flight-more) (all-after (λ f. lies_in_regions (region_lengths (start_of a)) f.packet ≡ true) (entry_of event outcome effects) (flight (start_of a) a.audit.items) after.queues.within was.within);
+        room = omega (arith, longer, room, after.queues.flying, after.same.1);
+        places = omega (arith, longer, after.audit.room, after.same.1, was.places);
+        few = omega (arith, after.same.1, was.few);
+        legal = rw (after.same.0, after.audit.items) (IsLegal-more (start_of a) a.audit.items event outcome effects was.legal (owed-inside a was old seen_as event outcome effects is_due));
+      }
+
+-- ---- what an entry leaves as it is
+
+-- an entry that launches nothing launches nothing past a region
+pub none-launched : (event : Event) (outcome : Outcome) → launched_by event outcome ≡ None → (start : Start) (f : InFlight) → launched_by event outcome ≡ Some f → lies_in_regions (region_lengths start) f.packet ≡ true
+none-launched event outcome none start f is = absurd (cc (none, is))
+
+pub memory-still : (memory : List (List ℕ)) (effects : List Effect) → ((x byte : ℕ) → fold (byte_after x) byte effects ≡ byte) → MemoryAfter memory memory effects
+memory-still memory effects none = record { lengths = refl; memory = λ x byte before. before ∙ ap Some (sym (none x byte)) }
+
+module _ (a : Inside) (was : IsCached a) (event : Event) (outcome : Outcome) (effects : List Effect) (quiet : IsQuiet event outcome effects) where
+  pub queues-still : opening_of event ≡ None → QueuesAfter a a.queues.items a.flying event outcome effects
+  queues-still none = record {
+    openings = sym (ap (with_some (map cached_opening a.queues.items)) none);
+    queues = λ m. was.queues m ∙ sym (queue_at-quiet (start_of a) a.audit.items event outcome effects quiet m);
+    sound = was.sound;
+    few_queues = was.few_queues;
+    flying = was.flying ∙ ap length (sym (flight-quiet (start_of a) a.audit.items event outcome effects quiet));
+    within = none-launched _ _ quiet.launches (start_of a);
+  }

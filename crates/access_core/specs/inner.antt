@@ -1,0 +1,12 @@
+-- What private clauses speak of: what is cached beside the history, how it changes, and what is decided by it.
+pub mod Judged
+pub mod CachedQueue
+pub mod QueueChanges
+pub mod LiesInRegions
+pub mod Deciding
+pub mod Cached
+pub mod Lookups
+pub mod InPlace
+pub mod Polling
+pub mod Held
+pub mod Granting
