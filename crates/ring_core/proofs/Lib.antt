@@ -5,3 +5,4 @@ pub mod Places
 pub mod Sizes
 pub mod Kept
 pub mod States
+pub mod Publication
