@@ -6,3 +6,4 @@ pub mod Sizes
 pub mod Kept
 pub mod States
 pub mod Own
+pub mod Publication
