@@ -24,10 +24,9 @@ fn push_layout(whole: &mut String, program: &Program) -> Result<(), AllocError> 
 
 // A kernel's steps, a line each, with the line that each stands on in the text.
 fn push_steps(alloc: Global, whole: &mut String, program: &Program) -> Result<(), AllocError> {
-    for lined in program.steps() {
-        let line = lined.line;
+    for (step, line) in program.steps().iter().zip(program.lines()) {
         write!(whole, "{line} ")?;
-        push_step(alloc, whole, &lined.step)?;
+        push_step(alloc, whole, step)?;
         whole.push_str("\n")?;
     }
     Ok(())

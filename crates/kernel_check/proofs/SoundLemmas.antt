@@ -1,10 +1,11 @@
 -- A kernel in which nothing fails is sound: its steps stay within its steps and its argument block.
-use Rattle.std.proofs.Common.{◌≡◌, ℕ, ◌+◌, ◌/◌, ◌≤◌, Bool, true, false, ◌||◌, cond, List, [], ◌∷◌, ◌++◌, length, Option, Some, None, is_none, unwrap_or, arith, refl, ap, subst, lit≤}
+use Rattle.std.proofs.Common.{◌≡◌, ℕ, ◌+◌, ◌/◌, ◌≤◌, Bool, true, false, ◌||◌, cond, List, [], ◌∷◌, ◌++◌, length, Option, Some, None, is_none, unwrap_or, map, arith, refl, ap, sym, ◌∙◌, subst, lit≤}
 use Rattle.std.specs.List.{All}
 use Rattle.std.specs.Str.{bytes_eq}
 use Rattle.std.proofs.lemmas.Bool.Decides.{nat_tests}
-use Rattle.std.proofs.lemmas.List.Elements.{All-nil, All-cons, All-append}
-use Rattle.hsail_reader.specs.Types.{type_bits}
+use Rattle.std.proofs.lemmas.List.Elements.{All-nil, All-cons, All-append, All-map}
+use Rattle.std.proofs.lemmas.List.{length-map}
+use Rattle.hsail_reader.specs.Types.{type_bits, type_class}
 use Rattle.hsail_reader.specs.declared.module.Address.{Address}
 use Rattle.hsail_reader.specs.declared.module.Address.TheVariants as address
 use Rattle.hsail_reader.specs.declared.module.Argument.{Argument}
@@ -15,7 +16,6 @@ use Rattle.hsail_reader.specs.declared.module.Access.{Access}
 use Rattle.hsail_reader.specs.declared.module.Operand.{Operand}
 use Rattle.hsail_reader.specs.declared.module.Operand.TheVariants as operand
 use Rattle.hsail_reader.specs.declared.module.Operation.{Operation}
-use Rattle.hsail_reader.specs.declared.module.TypedSource.{TypedSource}
 use Rattle.hsail_reader.specs.declared.rows.Form.{Form}
 use Rattle.hsail_reader.specs.declared.rows.Form.TheVariants as form
 use Rattle.hsail_reader.specs.declared.types.Register.{Register}
@@ -30,12 +30,28 @@ use Rattle.kernel_check.specs.Faults.{first_fault, fault_or, least_cause}
 use Rattle.kernel_check.specs.Layout.{kind_bytes, is_wide, boundary_of, next_multiple, end_behind, placed_from, end_from, wide_at, wide_from}
 use Rattle.kernel_check.specs.Names.{Known, find}
 use Rattle.kernel_check.specs.Programs.{StaysWithin, IsSound}
-use Rattle.kernel_check.specs.Steps.{step_of, form_step, known_offset, offset_of, load_from, load_at, store_at, next_at, target_in, read_in}
+use Rattle.kernel_check.specs.Steps.{step_of, form_step, known_offset, offset_of, load_from, load_at, store_at, next_at, target_in, read_in, as_unary, as_binary, as_ternary, number_type, number_bytes, unary_in, unary_by, binary32, binary64, binary_in, ternary_in, slot_of, is_signed, pair32_of, pair64_of, shift64_of}
 use Rattle.kernel_check.specs.declared.fault.Cause.{Cause}
 use Rattle.kernel_check.specs.declared.fault.Cause.TheVariants as cause
 use Rattle.kernel_check.specs.declared.fault.CheckFault.{CheckFault}
 use Rattle.kernel_check.specs.declared.layout.Placed.{Placed}
 use Rattle.kernel_check.specs.declared.step.LinedStep.{LinedStep}
+use Rattle.kernel_check.specs.declared.step.Pair32.{Pair32}
+use Rattle.kernel_check.specs.declared.step.Pair64.{Pair64}
+use Rattle.kernel_check.specs.declared.step.Shift64.{Shift64}
+use Rattle.kernel_check.specs.declared.step.Step.{Step}
+use Rattle.kernel_check.specs.declared.translate.Binary.{Binary}
+use Rattle.kernel_check.specs.declared.translate.Ternary.{Ternary}
+use Rattle.kernel_check.specs.declared.translate.Unary.{Unary}
+use Rattle.hsail_reader.specs.declared.types.BinaryOperation.{BinaryOperation}
+use Rattle.hsail_reader.specs.declared.types.BinaryOperation.TheVariants.{Compare}
+use Rattle.hsail_reader.specs.declared.types.RegisterClass.{RegisterClass}
+use Rattle.hsail_reader.specs.declared.types.RegisterClass.TheVariants as class
+use Rattle.hsail_reader.specs.declared.types.Source.{Source}
+use Rattle.hsail_reader.specs.declared.types.TernaryOperation.{TernaryOperation}
+use Rattle.hsail_reader.specs.declared.types.TernaryOperation.TheVariants.{MultiplyAdd, ConditionalMove}
+use Rattle.hsail_reader.specs.declared.types.UnaryOperation.{UnaryOperation}
+use Rattle.hsail_reader.specs.declared.types.UnaryOperation.TheVariants.{Move, Not, Convert}
 
 -- a first test that finds nothing
 no_first : {X : Type 0} (b : Bool) (x : X) (rest : Option X) → cond b (Some x) rest ≡ None → (b ≡ false) × (rest ≡ None)
@@ -89,6 +105,22 @@ kind_bytes_positive type.S8 = lit≤ tt
 kind_bytes_positive type.S16 = lit≤ tt
 kind_bytes_positive type.S32 = lit≤ tt
 kind_bytes_positive type.S64 = lit≤ tt
+
+-- a number takes as many bytes as its type
+number_bytes_are : (kind : DataType) → number_bytes (number_type kind) ≡ kind_bytes kind
+number_bytes_are type.B1 = refl
+number_bytes_are type.B8 = refl
+number_bytes_are type.B16 = refl
+number_bytes_are type.B32 = refl
+number_bytes_are type.B64 = refl
+number_bytes_are type.U8 = refl
+number_bytes_are type.U16 = refl
+number_bytes_are type.U32 = refl
+number_bytes_are type.U64 = refl
+number_bytes_are type.S8 = refl
+number_bytes_are type.S16 = refl
+number_bytes_are type.S32 = refl
+number_bytes_are type.S64 = refl
 
 pub boundary_positive : (kind : DataType) (a : Option Alignment) → 1 ≤ boundary_of kind a
 boundary_positive kind None = kind_bytes_positive kind
@@ -179,7 +211,10 @@ module _ (arguments : List ℕ → Option Placed) (labels : List ℕ → Option 
 
   load_within : (d : Register) (a : Access) (s : Segment) → is_of_other_width arguments a.kind s a.address ≡ false
       → names_unknown arguments a.address ≡ false → is_bad s a.address ≡ false → StaysWithin count bytes (load_from arguments s d a)
-  load_within d a segment.Kernarg same known good = offset_within a.kind a.address same known good
+  load_within d a segment.Kernarg same known good =
+      let fits : offset_of arguments a.address + kind_bytes a.kind ≤ bytes = offset_within a.kind a.address same known good in
+      let same_bytes : number_bytes (number_type a.kind) ≡ kind_bytes a.kind = number_bytes_are a.kind in
+      omega arith
   load_within d a segment.Global same known good = tt
 
   load_at_within : (d : Register) (o : Operand) → has_wrong_type arguments o ≡ false → misses_argument arguments o ≡ false
@@ -191,7 +226,7 @@ module _ (arguments : List ℕ → Option Placed) (labels : List ℕ → Option 
   load_at_within d (operand.Label x) same known good = tt
   load_at_within d (operand.Dimension n) same known good = tt
 
-  store_at_within : (s : TypedSource) (o : Operand) → StaysWithin count bytes (store_at s o)
+  store_at_within : (s : Source) (o : Operand) → StaysWithin count bytes (store_at s o)
   store_at_within s (operand.Address a) = tt
   store_at_within s operand.Absent = tt
   store_at_within s (operand.Target t) = tt
@@ -207,8 +242,51 @@ module _ (arguments : List ℕ → Option Placed) (labels : List ℕ → Option 
   next_at_within (operand.Address a) = omega arith
   next_at_within (operand.Dimension n) = omega arith
 
+  -- steps that set a register lead nowhere
+  unary_within : (k : RegisterClass) (op : UnaryOperation) (kind : DataType) (target : ℕ) (s : Source)
+      → StaysWithin count bytes (unary_in k op kind target s)
+  unary_within class.Control Not kind target s = tt
+  unary_within class.Control Move kind target s = tt
+  unary_within class.Control (Convert to) kind target s = tt
+  unary_within class.Single Not kind target s = tt
+  unary_within class.Single Move kind target s = tt
+  unary_within class.Single (Convert to) kind target s = tt
+  unary_within class.Double Not kind target s = tt
+  unary_within class.Double Move kind target s = tt
+  unary_within class.Double (Convert to) kind target s = tt
+
+  unary_by_within : (op : UnaryOperation) (u : Unary) → StaysWithin count bytes (unary_by op u)
+  unary_by_within (Convert to) u = tt
+  unary_by_within Move u = unary_within (type_class u.kind) Move u.kind (slot_of u.target) u.source
+  unary_by_within Not u = unary_within (type_class u.kind) Not u.kind (slot_of u.target) u.source
+
+  single_within : (op : BinaryOperation) (signed : Bool) (target : ℕ) (p : Pair32) → StaysWithin count bytes (binary32 op signed target p)
+  single_within (Compare c) signed target p = tt
+  single_within _ signed target p = tt
+
+  double_within : (op : BinaryOperation) (signed : Bool) (target : ℕ) (p : Pair64) (s : Shift64)
+      → StaysWithin count bytes (binary64 op signed target p s)
+  double_within (Compare c) signed target p s = tt
+  double_within _ signed target p s = tt
+
+  binary_within : (k : RegisterClass) (b : Binary) → StaysWithin count bytes (binary_in k b)
+  binary_within class.Control b = tt
+  binary_within class.Single b = single_within b.operation (is_signed b.kind) (slot_of b.target) (pair32_of b)
+  binary_within class.Double b = double_within b.operation (is_signed b.kind) (slot_of b.target) (pair64_of b) (shift64_of b)
+
+  ternary_within : (k : RegisterClass) (op : TernaryOperation) (t : Ternary) → StaysWithin count bytes (ternary_in k op t)
+  ternary_within class.Control MultiplyAdd t = tt
+  ternary_within class.Control ConditionalMove t = tt
+  ternary_within class.Single MultiplyAdd t = tt
+  ternary_within class.Single ConditionalMove t = tt
+  ternary_within class.Double MultiplyAdd t = tt
+  ternary_within class.Double ConditionalMove t = tt
+
   form_within : (number : ℕ) (f : Form) (op : Operation) → ((c : Cause) → instruction_fails arguments labels number op c ≡ false)
       → StaysWithin count bytes (form_step arguments labels f op)
+  form_within number (form.Unary u) op fine = unary_by_within u (as_unary u op)
+  form_within number (form.Binary b) op fine = binary_within (type_class op.kind) (as_binary b op)
+  form_within number (form.Ternary t) op fine = ternary_within (type_class op.kind) t (as_ternary t op)
   form_within number form.Load op fine = load_at_within (target_in op.operands.first) op.operands.second
       (four _ _ _ _ (fine cause.WrongType)).1 (four _ _ _ _ (fine cause.UnknownArgument)).1 (four _ _ _ _ (fine cause.BadAddress)).1
   form_within number form.Store op fine = store_at_within (read_in op.operands.first) op.operands.second
@@ -235,12 +313,17 @@ module _ (arguments : List ℕ → Option Placed) (labels : List ℕ → Option 
 -- a kernel in which nothing fails, within the limits
 pub sound : (k : Kernel) → first_fault (item_checks (arguments_of k) (labels_of k) [] 0 k.items) ≡ None
     → end_from 0 k.arguments ≤ 4096 → length (steps_from (arguments_of k) (labels_of k) k.items) ≤ 4096 → IsSound (program_of k)
-sound k none bytes count = record {
-  steps_stay =
-      steps_within (arguments_of k) (labels_of k) (length (steps_from (arguments_of k) (labels_of k) k.items)) (end_from 0 k.arguments)
-      (λ x v e. omega (arith, label_within (arguments_of k) (labels_of k) 0 k.items x v e))
-      (argument_within 0 k.arguments) [] 0 k.items none;
-  wide_stay = wide_within 0 k.arguments;
-  few_bytes = bytes;
-  few_steps = count;
-}
+sound k none bytes count =
+    let lined : List LinedStep = steps_from (arguments_of k) (labels_of k) k.items in
+    let stepped : length (map (λ (s : LinedStep). s.step) lined) ≡ length lined = length-map lined (λ s. s.step) in
+    record {
+      steps_stay =
+          All-map (StaysWithin (length (map (λ (s : LinedStep). s.step) lined)) (end_from 0 k.arguments)) (λ (s : LinedStep). s.step) lined
+          (steps_within (arguments_of k) (labels_of k) (length (map (λ (s : LinedStep). s.step) lined)) (end_from 0 k.arguments)
+          (λ x v e. omega (arith, stepped, label_within (arguments_of k) (labels_of k) 0 k.items x v e))
+          (argument_within 0 k.arguments) [] 0 k.items none);
+      lined = length-map lined (λ s. s.line) ∙ sym stepped;
+      wide_stay = wide_within 0 k.arguments;
+      few_bytes = bytes;
+      few_steps = omega (arith, stepped, count);
+    }

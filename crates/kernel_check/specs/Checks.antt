@@ -5,7 +5,7 @@ use Rattle.kernel_check.specs.Causes.{instruction_fails, label_fails, argument_f
 use Rattle.kernel_check.specs.Faults.{Checkpoint, checkpoint, first_fault, unless}
 use Rattle.kernel_check.specs.Layout.{placed_at, end_behind, placed_from, end_from, wide_from}
 use Rattle.kernel_check.specs.Names.{Known, find}
-use Rattle.kernel_check.specs.Programs.{Program}
+use Rattle.kernel_check.specs.Programs.{Program, program}
 use Rattle.kernel_check.specs.Steps.{step_of}
 use Rattle.kernel_check.specs.declared.fault.CheckFault.{CheckFault}
 use Rattle.kernel_check.specs.declared.layout.Placed.{Placed}
@@ -89,12 +89,7 @@ module_checks before (k ∷ kernels) =
 
 -- what a kernel without a fault comes to
 abbrev pub program_of : Kernel → Program
-program_of k = record {
-  name = k.name;
-  argument_bytes = end_from 0 k.arguments;
-  wide = wide_from 0 k.arguments;
-  steps = steps_from (arguments_of k) (labels_of k) k.items;
-}
+program_of k = program k.name (end_from 0 k.arguments) (wide_from 0 k.arguments) (steps_from (arguments_of k) (labels_of k) k.items)
 
 -- The kernels of a module, if no item fails; else the fault of the earliest item that fails, by its least
 -- cause.

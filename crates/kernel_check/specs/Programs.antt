@@ -1,35 +1,44 @@
 -- What a checked kernel is.
-use Rattle.std.specs.Prelude.{ℕ, ◌+◌, ◌≤◌, List, length}
+use Rattle.std.specs.Prelude.{◌≡◌, ℕ, ◌+◌, ◌≤◌, List, length, map}
 use Rattle.std.specs.List.{All}
-use Rattle.kernel_check.specs.Layout.{kind_bytes}
+use Rattle.kernel_check.specs.Steps.{number_bytes}
 use Rattle.kernel_check.specs.declared.step.LinedStep.{LinedStep}
 use Rattle.kernel_check.specs.declared.step.Step.{Step}
 use Rattle.kernel_check.specs.declared.step.Step.TheVariants as step
 
--- a kernel's name, the bytes of its argument block, the offsets of its arguments of 64 bits, and its steps
+-- a kernel's name, the bytes of its argument block, the offsets of its arguments of 64 bits, its steps, and
+-- the lines that they stand on
 pub record Program : Type 0 where
   pub name : List ℕ
   pub argument_bytes : ℕ
   pub wide : List ℕ
-  pub steps : List LinedStep
+  pub steps : List Step
+  pub lines : List ℕ
 
 -- a step leads to none behind the closing brace, and reads no byte behind the argument block
 abbrev pub StaysWithin : ℕ → ℕ → Step → Type 0
-StaysWithin count bytes (step.Argument a) = a.offset + kind_bytes a.kind ≤ bytes
+StaysWithin count bytes (step.Argument a) = a.offset + number_bytes a.kind ≤ bytes
 StaysWithin count bytes (step.Branch next) = next ≤ count
 StaysWithin count bytes (step.ConditionalBranch b) = b.next ≤ count
 StaysWithin count bytes _ = Unit {0}
 
 -- every label and argument named in the steps exists and fits, and the limits are kept
 pub record IsSound (p : Program) : Type 0 where
-  pub steps_stay : All (λ s. StaysWithin (length p.steps) p.argument_bytes s.step) p.steps
+  pub steps_stay : All (StaysWithin (length p.steps) p.argument_bytes) p.steps
+  pub lined : length p.lines ≡ length p.steps
   pub wide_stay : All (λ offset. offset + 8 ≤ p.argument_bytes) p.wide
   pub few_bytes : p.argument_bytes ≤ 4096
   pub few_steps : length p.steps ≤ 4096
 
+-- a kernel by its steps with their lines
 abbrev pub program : List ℕ → ℕ → List ℕ → List LinedStep → Program
-program name argument_bytes wide steps =
-    record { name = name; argument_bytes = argument_bytes; wide = wide; steps = steps }
+program name argument_bytes wide lined = record {
+  name = name;
+  argument_bytes = argument_bytes;
+  wide = wide;
+  steps = map (λ s. s.step) lined;
+  lines = map (λ s. s.line) lined;
+}
 
 -- the bytes of a kernel's group variables; the profile has no such variables
 abbrev pub group_bytes_of : Program → ℕ

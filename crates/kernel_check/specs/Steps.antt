@@ -1,63 +1,150 @@
 -- The step that an instruction comes to. Where nothing is wrong with the instruction, each register's
--- number is below 64 and each name stands for something, so the zeros below never come in.
-use Rattle.std.specs.Prelude.{ℕ, List, false, ◌==◌, nat_lt, if◌then◌else◌, Option, Some, None, unwrap_or}
+-- number is below 64, each constant fits its place and each name stands for something, so the zeros below
+-- never come in; and no text spells an operation with a type that it has no row for, so neither do the moves
+-- that stand for those.
+use Rattle.std.specs.Prelude.{ℕ, ◌%◌, ◌^◌, List, Bool, true, false, ◌==◌, nat_lt, if◌then◌else◌, Option, Some, None, unwrap_or}
 use Rattle.kernel_check.specs.Constants.{constant_bits}
 use Rattle.kernel_check.specs.declared.layout.Placed.{Placed}
+use Rattle.kernel_check.specs.declared.step.AnyRegister.{AnyRegister}
+use Rattle.kernel_check.specs.declared.step.AnyRegister.TheVariants as register
+use Rattle.kernel_check.specs.declared.step.AnySource.{AnySource}
+use Rattle.kernel_check.specs.declared.step.AnySource.TheVariants as any
+use Rattle.kernel_check.specs.declared.step.ControlOperation.{ControlOperation}
+use Rattle.kernel_check.specs.declared.step.ControlOperation.TheVariants as control
 use Rattle.kernel_check.specs.declared.step.Dimension.{Dimension}
 use Rattle.kernel_check.specs.declared.step.Dimension.TheVariants.{X, Y, Z}
-use Rattle.kernel_check.specs.declared.step.Operand as steps
-use Rattle.kernel_check.specs.declared.step.Operand.TheVariants as step_operand
+use Rattle.kernel_check.specs.declared.step.DoubleOperation.{DoubleOperation}
+use Rattle.kernel_check.specs.declared.step.DoubleOperation.TheVariants as double
+use Rattle.kernel_check.specs.declared.step.NumberType.{NumberType}
+use Rattle.kernel_check.specs.declared.step.NumberType.TheVariants as number
+use Rattle.kernel_check.specs.declared.step.Pair1.{Pair1}
+use Rattle.kernel_check.specs.declared.step.Pair32.{Pair32}
+use Rattle.kernel_check.specs.declared.step.Pair64.{Pair64}
 use Rattle.kernel_check.specs.declared.step.Pointer.{Pointer}
-use Rattle.kernel_check.specs.declared.step.Pointer.TheVariants as pointer
+use Rattle.kernel_check.specs.declared.step.Shift64.{Shift64}
+use Rattle.kernel_check.specs.declared.step.SingleOperation.{SingleOperation}
+use Rattle.kernel_check.specs.declared.step.SingleOperation.TheVariants as single
+use Rattle.kernel_check.specs.declared.step.Source1.{Source1}
+use Rattle.kernel_check.specs.declared.step.Source1.TheVariants as source1
+use Rattle.kernel_check.specs.declared.step.Source32.{Source32}
+use Rattle.kernel_check.specs.declared.step.Source32.TheVariants as source32
+use Rattle.kernel_check.specs.declared.step.Source64.{Source64}
+use Rattle.kernel_check.specs.declared.step.Source64.TheVariants as source64
 use Rattle.kernel_check.specs.declared.step.Step.{Step}
 use Rattle.kernel_check.specs.declared.step.Step.TheVariants as step
-use Rattle.kernel_check.specs.declared.translate.Binary.{Binary}
-use Rattle.kernel_check.specs.declared.translate.Ternary.{Ternary}
-use Rattle.kernel_check.specs.declared.translate.Unary.{Unary}
-use Rattle.hsail_reader.specs.declared.module.Access.{Access}
+use Rattle.hsail_reader.specs.Types.{type_class}
 use Rattle.hsail_reader.specs.declared.module.Address.{Address}
 use Rattle.hsail_reader.specs.declared.module.Address.TheVariants as address
+use Rattle.kernel_check.specs.declared.translate.Binary.{Binary}
+use Rattle.hsail_reader.specs.declared.module.Access.{Access}
 use Rattle.hsail_reader.specs.declared.module.Operand.{Operand}
 use Rattle.hsail_reader.specs.declared.module.Operand.TheVariants as operand
 use Rattle.hsail_reader.specs.declared.module.Operation.{Operation}
-use Rattle.hsail_reader.specs.declared.module.Place.{Place}
-use Rattle.hsail_reader.specs.declared.module.Place.TheVariants as place
-use Rattle.hsail_reader.specs.declared.module.TypedSource.{TypedSource}
 use Rattle.hsail_reader.specs.declared.rows.Form.{Form}
 use Rattle.hsail_reader.specs.declared.rows.Form.TheVariants as form
+use Rattle.hsail_reader.specs.declared.module.Place.{Place}
+use Rattle.hsail_reader.specs.declared.module.Place.TheVariants as place
+use Rattle.kernel_check.specs.declared.translate.Ternary.{Ternary}
+use Rattle.kernel_check.specs.declared.translate.Unary.{Unary}
 use Rattle.hsail_reader.specs.declared.types.BinaryOperation.{BinaryOperation}
+use Rattle.hsail_reader.specs.declared.types.BinaryOperation.TheVariants.{Add, Subtract, Multiply, Divide, Remainder, Minimum, Maximum, And, Or, Xor, ShiftLeft, ShiftRight, Compare}
+use Rattle.hsail_reader.specs.declared.types.Comparison.{Comparison}
 use Rattle.hsail_reader.specs.declared.types.DataType.{DataType}
-use Rattle.hsail_reader.specs.declared.types.DataType.TheVariants.{B1, U64}
+use Rattle.hsail_reader.specs.declared.types.DataType.TheVariants.{B1, B8, B16, B32, B64, U8, U16, U32, U64, S8, S16, S32, S64}
 use Rattle.hsail_reader.specs.declared.types.Register.{Register}
-use Rattle.hsail_reader.specs.declared.types.RegisterClass.TheVariants.{Control}
+use Rattle.hsail_reader.specs.declared.types.RegisterClass.{RegisterClass}
+use Rattle.hsail_reader.specs.declared.types.RegisterClass.TheVariants as class
 use Rattle.hsail_reader.specs.declared.types.Segment.{Segment}
 use Rattle.hsail_reader.specs.declared.types.Segment.TheVariants as segment
 use Rattle.hsail_reader.specs.declared.types.Source.{Source}
 use Rattle.hsail_reader.specs.declared.types.Source.TheVariants as source
 use Rattle.hsail_reader.specs.declared.types.TernaryOperation.{TernaryOperation}
+use Rattle.hsail_reader.specs.declared.types.TernaryOperation.TheVariants.{MultiplyAdd, ConditionalMove}
 use Rattle.hsail_reader.specs.declared.types.UnaryOperation.{UnaryOperation}
+use Rattle.hsail_reader.specs.declared.types.UnaryOperation.TheVariants.{Move, Not, Convert}
+
+-- ---- types
+
+-- the type of a number in memory; a b type is that of its width without a sign (own)
+abbrev pub number_type : DataType → NumberType
+number_type B1 = number.B1
+number_type B8 = number.U8
+number_type B16 = number.U16
+number_type B32 = number.U32
+number_type B64 = number.U64
+number_type U8 = number.U8
+number_type U16 = number.U16
+number_type U32 = number.U32
+number_type U64 = number.U64
+number_type S8 = number.S8
+number_type S16 = number.S16
+number_type S32 = number.S32
+number_type S64 = number.S64
+
+-- the bytes that a number takes in memory (PRM, Base Data Types)
+abbrev pub number_bytes : NumberType → ℕ
+number_bytes number.B1 = 1
+number_bytes number.U8 = 1
+number_bytes number.U16 = 2
+number_bytes number.U32 = 4
+number_bytes number.U64 = 8
+number_bytes number.S8 = 1
+number_bytes number.S16 = 2
+number_bytes number.S32 = 4
+number_bytes number.S64 = 8
+
+abbrev pub is_signed : DataType → Bool
+is_signed S8 = true
+is_signed S16 = true
+is_signed S32 = true
+is_signed S64 = true
+is_signed _ = false
+
+-- ---- operands
 
 -- a register by its number
 abbrev pub slot_of : Register → ℕ
 slot_of r = if nat_lt r.number 64 then r.number else 0
 
--- a source at the type of its place
-abbrev pub operand_of : DataType → Source → steps.Operand
-operand_of kind (source.Register r) = step_operand.Register (slot_of r)
-operand_of kind (source.Constant c) = step_operand.Constant (constant_bits kind c)
+abbrev pub register_in : RegisterClass → Register → AnyRegister
+register_in class.Control r = register.Control (slot_of r)
+register_in class.Single r = register.Single (slot_of r)
+register_in class.Double r = register.Double (slot_of r)
 
-abbrev pub typed_operand : TypedSource → steps.Operand
-typed_operand t = operand_of t.kind t.source
+-- the register of a value of a type
+abbrev pub register_of : DataType → Register → AnyRegister
+register_of kind r = register_in (type_class kind) r
+
+-- sources: registers, and constants at the type of their place
+abbrev pub source1_of : Source → Source1
+source1_of (source.Register r) = source1.Register (slot_of r)
+source1_of (source.Constant c) = source1.Constant (constant_bits B1 c == 1)
+
+abbrev pub source32_of : DataType → Source → Source32
+source32_of kind (source.Register r) = source32.Register (slot_of r)
+source32_of kind (source.Constant c) = source32.Constant (constant_bits kind c % 2 ^ 32)
+
+abbrev pub source64_of : Source → Source64
+source64_of (source.Register r) = source64.Register (slot_of r)
+source64_of (source.Constant c) = source64.Constant (constant_bits U64 c)
+
+abbrev pub source_in : RegisterClass → DataType → Source → AnySource
+source_in class.Control kind s = any.Control (source1_of s)
+source_in class.Single kind s = any.Single (source32_of kind s)
+source_in class.Double kind s = any.Double (source64_of s)
+
+abbrev pub source_of : DataType → Source → AnySource
+source_of kind s = source_in (type_class kind) kind s
 
 -- a place of global memory; what is taken away is added modulo 2^64
 abbrev pub pointer_of : Place → Pointer
-pointer_of (place.Absolute n) = pointer.Absolute n
+pointer_of (place.Absolute n) = record { base = None; offset = n }
 pointer_of (place.Relative r) =
-    pointer.Relative (record { register = slot_of r.register; offset = constant_bits U64 r.offset })
+    record { base = Some (slot_of r.register); offset = constant_bits U64 r.offset }
 
 abbrev pub pointer_in : Address → Pointer
 pointer_in (address.Place p) = pointer_of p
-pointer_in _ = pointer.Absolute 0
+pointer_in _ = record { base = None; offset = 0 }
 
 -- where a known argument lies
 abbrev pub known_offset : Option Placed → ℕ
@@ -68,45 +155,24 @@ abbrev pub offset_of : (List ℕ → Option Placed) → Address → ℕ
 offset_of arguments (address.Variable x) = known_offset (arguments x)
 offset_of arguments _ = 0
 
-abbrev pub load_from : (List ℕ → Option Placed) → Segment → Register → Access → Step
-load_from arguments segment.Kernarg d a =
-    step.Argument (record { kind = a.kind; target = slot_of d; offset = offset_of arguments a.address })
-load_from arguments segment.Global d a =
-    step.Load (record { kind = a.kind; target = slot_of d; pointer = pointer_in a.address })
-
-abbrev pub load_at : (List ℕ → Option Placed) → Register → Operand → Step
-load_at arguments d (operand.Address a) = load_from arguments a.segment d a
-load_at arguments d _ = step.Return
-
-abbrev pub store_at : TypedSource → Operand → Step
-store_at s (operand.Address a) =
-    step.Store (record { kind = a.kind; source = typed_operand s; pointer = pointer_in a.address })
-store_at s _ = step.Return
-
 -- the dimensions by number
 abbrev pub dimension_of : ℕ → Dimension
 dimension_of n = if n == 0 then X else if n == 1 then Y else Z
-
-abbrev pub dimension_in : Operand → Dimension
-dimension_in (operand.Dimension n) = dimension_of n
-dimension_in _ = X
 
 -- the number of the step behind a label
 abbrev pub next_of : (List ℕ → Option ℕ) → List ℕ → ℕ
 next_of labels x = unwrap_or (labels x) 0
 
-abbrev pub next_at : (List ℕ → Option ℕ) → Operand → ℕ
-next_at labels (operand.Label x) = next_of labels x
-next_at labels _ = 0
+-- ---- operations by how many sources they have
 
 -- the register that an operand is, and the source
 abbrev pub target_in : Operand → Register
 target_in (operand.Target t) = t.register
-target_in _ = record { class = Control; number = 0 }
+target_in _ = record { class = class.Control; number = 0 }
 
-abbrev pub read_in : Operand → TypedSource
-read_in (operand.Source s) = s
-read_in _ = record { kind = B1; source = source.Constant (record { negative = false; magnitude = 0 }) }
+abbrev pub read_in : Operand → Source
+read_in (operand.Source s) = s.source
+read_in _ = source.Constant (record { negative = false; magnitude = 0 })
 
 abbrev pub as_unary : UnaryOperation → Operation → Unary
 as_unary f op = record {
@@ -116,14 +182,6 @@ as_unary f op = record {
   source = read_in op.operands.second;
 }
 
-abbrev pub unary_of : Unary → Step
-unary_of u = step.Unary (record {
-  operation = u.operation;
-  kind = u.kind;
-  target = slot_of u.target;
-  source = typed_operand u.source;
-})
-
 abbrev pub as_binary : BinaryOperation → Operation → Binary
 as_binary f op = record {
   operation = f;
@@ -132,15 +190,6 @@ as_binary f op = record {
   left = read_in op.operands.second;
   right = read_in op.operands.third;
 }
-
-abbrev pub binary_of : Binary → Step
-binary_of b = step.Binary (record {
-  operation = b.operation;
-  kind = b.kind;
-  target = slot_of b.target;
-  left = typed_operand b.left;
-  right = typed_operand b.right;
-})
 
 abbrev pub as_ternary : TernaryOperation → Operation → Ternary
 as_ternary f op = record {
@@ -152,15 +201,182 @@ as_ternary f op = record {
   third = read_in op.operands.fourth;
 }
 
-abbrev pub ternary_of : Ternary → Step
-ternary_of t = step.Ternary (record {
-  operation = t.operation;
-  kind = t.kind;
-  target = slot_of t.target;
-  first = typed_operand t.first;
-  second = typed_operand t.second;
-  third = typed_operand t.third;
+-- ---- steps that set a register
+
+abbrev pub sets1 : ℕ → ControlOperation → Step
+sets1 target op = step.Control (record { target = target; operation = op })
+
+abbrev pub sets32 : ℕ → SingleOperation → Step
+sets32 target op = step.Single (record { target = target; operation = op })
+
+abbrev pub sets64 : ℕ → DoubleOperation → Step
+sets64 target op = step.Double (record { target = target; operation = op })
+
+-- mov and not by the class of their type
+abbrev pub unary_in : RegisterClass → UnaryOperation → DataType → ℕ → Source → Step
+unary_in class.Control Not kind target s = sets1 target (control.Not (source1_of s))
+unary_in class.Control _ kind target s = sets1 target (control.Move (source1_of s))
+unary_in class.Single Not kind target s = sets32 target (single.Not (source32_of kind s))
+unary_in class.Single _ kind target s = sets32 target (single.Move (source32_of kind s))
+unary_in class.Double Not kind target s = sets64 target (double.Not (source64_of s))
+unary_in class.Double _ kind target s = sets64 target (double.Move (source64_of s))
+
+abbrev pub unary_by : UnaryOperation → Unary → Step
+unary_by (Convert to) u = step.Convert (record {
+  from = number_type u.kind;
+  to = number_type to;
+  target = register_of to u.target;
+  source = source_of u.kind u.source;
 })
+unary_by op u = unary_in (type_class u.kind) op u.kind (slot_of u.target) u.source
+
+abbrev pub unary_of : Unary → Step
+unary_of u = unary_by u.operation u
+
+-- the operations of one bit
+abbrev pub control_operation : BinaryOperation → Pair1 → ControlOperation
+control_operation And p = control.And p
+control_operation Or p = control.Or p
+control_operation Xor p = control.Xor p
+control_operation (Compare c) p = control.Compare (record { comparison = c; left = p.left; right = p.right })
+control_operation _ p = control.Move p.left
+
+-- the operations of 32 bits, for types with a sign and without
+abbrev pub single_operation : BinaryOperation → Bool → Pair32 → SingleOperation
+single_operation Add signed p = single.Add p
+single_operation Subtract signed p = single.Subtract p
+single_operation Multiply signed p = single.Multiply p
+single_operation Divide false p = single.DivideUnsigned p
+single_operation Divide true p = single.DivideSigned p
+single_operation Remainder false p = single.RemainderUnsigned p
+single_operation Remainder true p = single.RemainderSigned p
+single_operation Minimum false p = single.LeastUnsigned p
+single_operation Minimum true p = single.LeastSigned p
+single_operation Maximum false p = single.GreatestUnsigned p
+single_operation Maximum true p = single.GreatestSigned p
+single_operation And signed p = single.And p
+single_operation Or signed p = single.Or p
+single_operation Xor signed p = single.Xor p
+single_operation ShiftLeft signed p = single.ShiftLeft p
+single_operation ShiftRight false p = single.ShiftRightUnsigned p
+single_operation ShiftRight true p = single.ShiftRightSigned p
+single_operation (Compare c) signed p = single.Move p.left
+
+-- the operations of 64 bits, for types with a sign and without
+abbrev pub double_operation : BinaryOperation → Bool → Pair64 → Shift64 → DoubleOperation
+double_operation Add signed p s = double.Add p
+double_operation Subtract signed p s = double.Subtract p
+double_operation Multiply signed p s = double.Multiply p
+double_operation Divide false p s = double.DivideUnsigned p
+double_operation Divide true p s = double.DivideSigned p
+double_operation Remainder false p s = double.RemainderUnsigned p
+double_operation Remainder true p s = double.RemainderSigned p
+double_operation Minimum false p s = double.LeastUnsigned p
+double_operation Minimum true p s = double.LeastSigned p
+double_operation Maximum false p s = double.GreatestUnsigned p
+double_operation Maximum true p s = double.GreatestSigned p
+double_operation And signed p s = double.And p
+double_operation Or signed p s = double.Or p
+double_operation Xor signed p s = double.Xor p
+double_operation ShiftLeft signed p s = double.ShiftLeft s
+double_operation ShiftRight false p s = double.ShiftRightUnsigned s
+double_operation ShiftRight true p s = double.ShiftRightSigned s
+double_operation (Compare c) signed p s = double.Move p.left
+
+-- cmp of 32 bits
+abbrev pub compare32 : Comparison → Bool → Pair32 → ControlOperation
+compare32 c false p = control.CompareUnsigned32 (record { comparison = c; left = p.left; right = p.right })
+compare32 c true p = control.CompareSigned32 (record { comparison = c; left = p.left; right = p.right })
+
+-- cmp of 64 bits
+abbrev pub compare64 : Comparison → Bool → Pair64 → ControlOperation
+compare64 c false p = control.CompareUnsigned64 (record { comparison = c; left = p.left; right = p.right })
+compare64 c true p = control.CompareSigned64 (record { comparison = c; left = p.left; right = p.right })
+
+abbrev pub binary1 : Binary → Step
+binary1 b = sets1 (slot_of b.target)
+    (control_operation b.operation (record { left = source1_of b.left; right = source1_of b.right }))
+
+abbrev pub binary32 : BinaryOperation → Bool → ℕ → Pair32 → Step
+binary32 (Compare c) signed target p = sets1 target (compare32 c signed p)
+binary32 op signed target p = sets32 target (single_operation op signed p)
+
+abbrev pub binary64 : BinaryOperation → Bool → ℕ → Pair64 → Shift64 → Step
+binary64 (Compare c) signed target p s = sets1 target (compare64 c signed p)
+binary64 op signed target p s = sets64 target (double_operation op signed p s)
+
+abbrev pub pair32_of : Binary → Pair32
+pair32_of b = record { left = source32_of b.kind b.left; right = source32_of b.kind b.right }
+
+abbrev pub pair64_of : Binary → Pair64
+pair64_of b = record { left = source64_of b.left; right = source64_of b.right }
+
+-- the count of a shift has 32 bits
+abbrev pub shift64_of : Binary → Shift64
+shift64_of b = record { value = source64_of b.left; count = source32_of U32 b.right }
+
+abbrev pub binary_in : RegisterClass → Binary → Step
+binary_in class.Control b = binary1 b
+binary_in class.Single b = binary32 b.operation (is_signed b.kind) (slot_of b.target) (pair32_of b)
+binary_in class.Double b =
+    binary64 b.operation (is_signed b.kind) (slot_of b.target) (pair64_of b) (shift64_of b)
+
+abbrev pub binary_of : Binary → Step
+binary_of b = binary_in (type_class b.kind) b
+
+-- mad and cmov, whose condition is one bit, by the class of their type
+abbrev pub ternary_in : RegisterClass → TernaryOperation → Ternary → Step
+ternary_in class.Control MultiplyAdd t = sets1 (slot_of t.target) (control.Move (source1_of t.first))
+ternary_in class.Control ConditionalMove t = sets1 (slot_of t.target)
+    (control.Choose (record { condition = source1_of t.first; one = source1_of t.second; zero = source1_of t.third }))
+ternary_in class.Single MultiplyAdd t = sets32 (slot_of t.target)
+    (single.MultiplyAdd (record { first = source32_of t.kind t.first; second = source32_of t.kind t.second; third = source32_of t.kind t.third }))
+ternary_in class.Single ConditionalMove t = sets32 (slot_of t.target)
+    (single.Choose (record { condition = source1_of t.first; one = source32_of t.kind t.second; zero = source32_of t.kind t.third }))
+ternary_in class.Double MultiplyAdd t = sets64 (slot_of t.target)
+    (double.MultiplyAdd (record { first = source64_of t.first; second = source64_of t.second; third = source64_of t.third }))
+ternary_in class.Double ConditionalMove t = sets64 (slot_of t.target)
+    (double.Choose (record { condition = source1_of t.first; one = source64_of t.second; zero = source64_of t.third }))
+
+abbrev pub ternary_of : Ternary → Step
+ternary_of t = ternary_in (type_class t.kind) t.operation t
+
+-- ---- the other steps
+
+abbrev pub load_from : (List ℕ → Option Placed) → Segment → Register → Access → Step
+load_from arguments segment.Kernarg d a = step.Argument (record {
+  kind = number_type a.kind;
+  target = register_of a.kind d;
+  offset = offset_of arguments a.address;
+})
+load_from arguments segment.Global d a = step.Load (record {
+  kind = number_type a.kind;
+  target = register_of a.kind d;
+  pointer = pointer_in a.address;
+})
+
+abbrev pub load_at : (List ℕ → Option Placed) → Register → Operand → Step
+load_at arguments d (operand.Address a) = load_from arguments a.segment d a
+load_at arguments d _ = step.Return
+
+abbrev pub store_of : Source → Access → Step
+store_of s a = step.Store (record {
+  kind = number_type a.kind;
+  source = source_of a.kind s;
+  pointer = pointer_in a.address;
+})
+
+abbrev pub store_at : Source → Operand → Step
+store_at s (operand.Address a) = store_of s a
+store_at s _ = step.Return
+
+abbrev pub next_at : (List ℕ → Option ℕ) → Operand → ℕ
+next_at labels (operand.Label x) = next_of labels x
+next_at labels _ = 0
+
+abbrev pub dimension_in : Operand → Dimension
+dimension_in (operand.Dimension n) = dimension_of n
+dimension_in _ = X
 
 -- the step of an operation by what it does
 abbrev pub form_step : (List ℕ → Option Placed) → (List ℕ → Option ℕ) → Form → Operation → Step
@@ -171,12 +387,11 @@ form_step arguments labels form.Load op = load_at arguments (target_in op.operan
 form_step arguments labels form.Store op = store_at (read_in op.operands.first) op.operands.second
 form_step arguments labels form.Branch op = step.Branch (next_at labels op.operands.first)
 form_step arguments labels form.ConditionalBranch op = step.ConditionalBranch
-    (record { condition = typed_operand (read_in op.operands.first); next = next_at labels op.operands.second })
+    (record { condition = source1_of (read_in op.operands.first); next = next_at labels op.operands.second })
 form_step arguments labels form.Return op = step.Return
 form_step arguments labels (form.Identify q) op = step.Identify (record {
   query = q;
-  kind = op.kind;
-  target = slot_of (target_in op.operands.first);
+  target = register_of op.kind (target_in op.operands.first);
   dimension = dimension_in op.operands.second;
 })
 

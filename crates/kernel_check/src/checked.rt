@@ -8,7 +8,7 @@ use std::marker::Model;
 
 /// The kernels of a module in which nothing fails, in the order of the text. A contract sees the list
 /// of them. There are at most 64.
-#[derive(Drop, Debug)]
+#[derive(Drop)]
 pub struct Checked {
     kernels: Vec<Program>,
 }

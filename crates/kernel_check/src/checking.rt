@@ -26,7 +26,9 @@ fn checked_body(alloc: Global, kernel: &Kernel) -> Result<Program, CheckError>
     let labels = labels(alloc, items)?;
     let steps = checked_steps(alloc, &block.names, &labels, items)?;
     let name = kernel.name.copy(alloc)?;
-    Ok(Program::new(name, block.end, block.wide, steps))
+    let lined = steps.as_slice();
+    let program = Program::new(alloc, name, block.end, block.wide, lined)?;
+    Ok(program)
 }
 
 /// Puts what a kernel comes to behind the others.

@@ -25,6 +25,9 @@ pub use fault::{Cause, CheckError, CheckFault};
 pub use laws::{faults_are_earliest, steps_are_faithful, wide_arguments_ascend};
 pub use program::Program;
 pub use step::{
-    ArgumentStep, BinaryStep, BranchStep, Dimension, IdentifyStep, LinedStep, LoadStep, Operand,
-    Pointer, Relative, Slot, Step, StoreStep, TernaryStep, UnaryStep,
+    AnyRegister, AnySource, ArgumentStep, BranchStep, Choice1, Choice32, Choice64, Compare1,
+    Compare32, Compare64, ControlOperation, ControlStep, ConvertStep, Dimension, DoubleOperation,
+    DoubleStep, IdentifyStep, LinedStep, LoadStep, NumberType, Pair1, Pair32, Pair64, Pointer,
+    Shift64, SingleOperation, SingleStep, Slot, Source1, Source32, Source64, Step, StoreStep,
+    Triple32, Triple64,
 };

@@ -1,22 +1,24 @@
 //! A checked kernel.
 
-ghost use Rattle.std.specs.Prelude.{◌≡◌, ◌<◌, ◌≤◌, ◌+◌, length, Bool};
+ghost use Rattle.std.specs.Prelude.{◌≡◌, ◌<◌, ◌≤◌, ◌+◌, length, map, Bool, IfOk};
 ghost use Rattle.std.specs.List.{All};
 ghost use Rattle.std.specs.Str.{bytes_eq};
 
-use crate::step::LinedStep;
+use crate::step::{LinedStep, Step};
 use sequences::Sequence;
+use std::alloc::{AllocError, Global};
 use std::marker::Model;
 
 /// A kernel in which nothing fails. A contract sees its name, the bytes of its argument block, the
 /// offsets of its arguments of 64 bits, and its steps; every label and argument named in these exists
 /// and fits.
-#[derive(Drop, Debug)]
+#[derive(Drop)]
 pub struct Program {
     name: Sequence<u8>,
     argument_bytes: u32,
     wide: Sequence<u32>,
-    steps: Sequence<LinedStep>,
+    steps: Sequence<Step>,
+    lines: Sequence<u32>,
 }
 
 impl Model for Program {
@@ -24,9 +26,31 @@ impl Model for Program {
 
     ghost Value = { programs.Program };
 
-    ghost view = { λ p. record { name = p.name; argument_bytes = p.argument_bytes; wide = p.wide; steps = p.steps } };
+    ghost view = { λ p. record { name = p.name; argument_bytes = p.argument_bytes; wide = p.wide; steps = p.steps; lines = p.lines } };
 
-    ghost invariant = { λ p. programs.IsSound (record { name = p.name; argument_bytes = p.argument_bytes; wide = p.wide; steps = p.steps }) };
+    ghost invariant = { λ p. programs.IsSound (record { name = p.name; argument_bytes = p.argument_bytes; wide = p.wide; steps = p.steps; lines = p.lines }) };
+}
+
+/// Steps without their lines.
+fn steps_of(alloc: Global, lined: &[LinedStep]) -> Result<Vec<Step>, AllocError>
+    ensures { IfOk result (λ steps. steps.items ≡ map (λ one. one.step) lined.now) }
+{
+    let mut steps = Vec::new(alloc);
+    'steps: for one in lined {
+        steps.push(one.step)?;
+    }
+    Ok(steps)
+}
+
+/// The lines of steps.
+fn lines_of(alloc: Global, lined: &[LinedStep]) -> Result<Vec<u32>, AllocError>
+    ensures { IfOk result (λ lines. lines.items ≡ map (λ one. one.line) lined.now) }
+{
+    let mut lines = Vec::new(alloc);
+    'lines: for one in lined {
+        lines.push(one.line)?;
+    }
+    Ok(lines)
 }
 
 impl Program {
@@ -34,20 +58,24 @@ impl Program {
 
     /// The kernel of these parts.
     pub(crate) fn new(
+        alloc: Global,
         name: Sequence<u8>,
         argument_bytes: u32,
         wide: Vec<u32>,
-        steps: Vec<LinedStep>,
-    ) -> Program
-        requires { IsSound (program name argument_bytes wide.items steps.items) }
-        ensures { result ≡ program name argument_bytes wide.items steps.items }
+        lined: &[LinedStep],
+    ) -> Result<Program, AllocError>
+        requires { IsSound (program name argument_bytes wide.items lined.now) }
+        ensures { IfOk result (λ p. p ≡ program name argument_bytes wide.items lined.now) }
     {
-        Program {
+        let steps = steps_of(alloc, lined)?;
+        let lines = lines_of(alloc, lined)?;
+        Ok(Program {
             name,
             argument_bytes,
             wide: Sequence::from_vec(wide),
             steps: Sequence::from_vec(steps),
-        }
+            lines: Sequence::from_vec(lines),
+        })
     }
 
     /// The kernel's name, with its `&`.
@@ -88,11 +116,19 @@ impl Program {
     }
 
     /// The steps, in the order of the text. An item whose next step is none of them has ended.
-    pub fn steps(&self) -> &[LinedStep]
+    pub fn steps(&self) -> &[Step]
         ensures value { result.now ≡ self.now.steps }
         ensures count { length result.now ≤ 4096 }
-        ensures within { All (λ s. StaysWithin (length self.now.steps) self.now.argument_bytes s.step) result.now }
+        ensures within { All (StaysWithin (length self.now.steps) self.now.argument_bytes) result.now }
     {
         self.steps.as_slice()
+    }
+
+    /// The line that each step stands on in the text, that of its instruction's first token.
+    pub fn lines(&self) -> &[u32]
+        ensures value { result.now ≡ self.now.lines }
+        ensures count { length result.now ≡ length self.now.steps }
+    {
+        self.lines.as_slice()
     }
 }

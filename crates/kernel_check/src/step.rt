@@ -1,8 +1,9 @@
-//! What a checked kernel does: steps that name nothing any more.
+//! What a checked kernel does: steps that name nothing any more. Each operation has the width and the sign
+//! that it computes with, each constant stands at its width, and a label is the number of a step.
 
 ghost use Rattle.std.specs.Prelude.{◌≡◌, ◌<◌};
 
-use hsail_reader::{BinaryOperation, DataType, Query, TernaryOperation, UnaryOperation};
+use hsail_reader::{Comparison, Query};
 use std::marker::Model;
 
 /// The number of a register within its class: 0 to 63 (PRM, Registers). A contract sees the number.
@@ -42,91 +43,330 @@ impl Slot {
     }
 }
 
-/// What an operation reads. The class of the register is that of the type at its place.
-#[derive(Clone, Copy, Debug, PartialEq, Eq)]
-pub enum Operand {
+/// A register of any class (PRM, Registers).
+#[derive(Clone, Copy)]
+pub enum AnyRegister {
+    /// `$c`, of 1 bit
+    Control(Slot),
+    /// `$s`, of 32 bits
+    Single(Slot),
+    /// `$d`, of 64 bits
+    Double(Slot),
+}
+
+/// What an operation reads: 1 bit, of a `$c` register or a constant.
+#[derive(Clone, Copy)]
+pub enum Source1 {
     Register(Slot),
-    /// The bits of a constant, as many as the type at its place has.
+    Constant(bool),
+}
+
+/// What an operation reads: 32 bits, of an `$s` register or a constant. A place of 8 or 16 bits reads the
+/// low ones.
+#[derive(Clone, Copy)]
+pub enum Source32 {
+    Register(Slot),
+    Constant(u32),
+}
+
+/// What an operation reads: 64 bits, of a `$d` register or a constant.
+#[derive(Clone, Copy)]
+pub enum Source64 {
+    Register(Slot),
     Constant(u64),
 }
 
-/// A place in global memory.
-#[derive(Clone, Copy, Debug, PartialEq, Eq)]
-pub enum Pointer {
-    /// `[n]`
-    Absolute(u64),
-    /// `[$d]`, `[$d+n]` or `[$d-n]`
-    Relative(Relative),
+/// What an operation of several types reads.
+#[derive(Clone, Copy)]
+pub enum AnySource {
+    Control(Source1),
+    Single(Source32),
+    Double(Source64),
 }
 
-/// A `$d` register and what is added to it, wrapping at 2^64.
+/// The two sources of an operation of 1 bit.
+#[derive(Clone, Copy)]
+pub struct Pair1 {
+    pub left: Source1,
+    pub right: Source1,
+}
+
+/// The two sources of an operation of 32 bits.
+#[derive(Clone, Copy)]
+pub struct Pair32 {
+    pub left: Source32,
+    pub right: Source32,
+}
+
+/// The two sources of an operation of 64 bits.
+#[derive(Clone, Copy)]
+pub struct Pair64 {
+    pub left: Source64,
+    pub right: Source64,
+}
+
+/// The three sources of `mad` of 32 bits: the product of the first two, and the third.
+#[derive(Clone, Copy)]
+pub struct Triple32 {
+    pub first: Source32,
+    pub second: Source32,
+    pub third: Source32,
+}
+
+/// The three sources of `mad` of 64 bits: the product of the first two, and the third.
+#[derive(Clone, Copy)]
+pub struct Triple64 {
+    pub first: Source64,
+    pub second: Source64,
+    pub third: Source64,
+}
+
+/// The sources of `cmov` of 1 bit: one where the condition is 1, the other where it is 0.
+#[derive(Clone, Copy)]
+pub struct Choice1 {
+    pub condition: Source1,
+    pub one: Source1,
+    pub zero: Source1,
+}
+
+/// The sources of `cmov` of 32 bits: one where the condition is 1, the other where it is 0.
+#[derive(Clone, Copy)]
+pub struct Choice32 {
+    pub condition: Source1,
+    pub one: Source32,
+    pub zero: Source32,
+}
+
+/// The sources of `cmov` of 64 bits: one where the condition is 1, the other where it is 0.
+#[derive(Clone, Copy)]
+pub struct Choice64 {
+    pub condition: Source1,
+    pub one: Source64,
+    pub zero: Source64,
+}
+
+/// The sources of a shift of 64 bits, whose count has 32.
+#[derive(Clone, Copy)]
+pub struct Shift64 {
+    pub value: Source64,
+    pub count: Source32,
+}
+
+/// What `cmp` of 1 bit asks, and of what.
+#[derive(Clone, Copy)]
+pub struct Compare1 {
+    pub comparison: Comparison,
+    pub left: Source1,
+    pub right: Source1,
+}
+
+/// What `cmp` of 32 bits asks, and of what.
+#[derive(Clone, Copy)]
+pub struct Compare32 {
+    pub comparison: Comparison,
+    pub left: Source32,
+    pub right: Source32,
+}
+
+/// What `cmp` of 64 bits asks, and of what.
+#[derive(Clone, Copy)]
+pub struct Compare64 {
+    pub comparison: Comparison,
+    pub left: Source64,
+    pub right: Source64,
+}
+
+/// What puts one bit into a `$c` register.
+#[derive(Clone, Copy)]
+pub enum ControlOperation {
+    /// `mov_b1`
+    Move(Source1),
+    /// `not_b1`
+    Not(Source1),
+    /// `and_b1`
+    And(Pair1),
+    /// `or_b1`
+    Or(Pair1),
+    /// `xor_b1`
+    Xor(Pair1),
+    /// `cmov_b1`
+    Choose(Choice1),
+    /// `cmp_OP_b1_b1`
+    Compare(Compare1),
+    /// `cmp_OP_b1_u32`, and `b32`
+    CompareUnsigned32(Compare32),
+    /// `cmp_OP_b1_s32`
+    CompareSigned32(Compare32),
+    /// `cmp_OP_b1_u64`, and `b64`
+    CompareUnsigned64(Compare64),
+    /// `cmp_OP_b1_s64`
+    CompareSigned64(Compare64),
+}
+
+/// What puts 32 bits into an `$s` register.
+#[derive(Clone, Copy)]
+pub enum SingleOperation {
+    /// `mov_T`
+    Move(Source32),
+    /// `not_b32`
+    Not(Source32),
+    /// `add_T`
+    Add(Pair32),
+    /// `sub_T`
+    Subtract(Pair32),
+    /// `mul_T`
+    Multiply(Pair32),
+    /// `mad_T`
+    MultiplyAdd(Triple32),
+    /// `div_u32`
+    DivideUnsigned(Pair32),
+    /// `div_s32`
+    DivideSigned(Pair32),
+    /// `rem_u32`
+    RemainderUnsigned(Pair32),
+    /// `rem_s32`
+    RemainderSigned(Pair32),
+    /// `min_u32`
+    LeastUnsigned(Pair32),
+    /// `min_s32`
+    LeastSigned(Pair32),
+    /// `max_u32`
+    GreatestUnsigned(Pair32),
+    /// `max_s32`
+    GreatestSigned(Pair32),
+    /// `and_b32`
+    And(Pair32),
+    /// `or_b32`
+    Or(Pair32),
+    /// `xor_b32`
+    Xor(Pair32),
+    /// `shl_T`
+    ShiftLeft(Pair32),
+    /// `shr_u32`
+    ShiftRightUnsigned(Pair32),
+    /// `shr_s32`
+    ShiftRightSigned(Pair32),
+    /// `cmov_b32`
+    Choose(Choice32),
+}
+
+/// What puts 64 bits into a `$d` register.
+#[derive(Clone, Copy)]
+pub enum DoubleOperation {
+    /// `mov_T`
+    Move(Source64),
+    /// `not_b64`
+    Not(Source64),
+    /// `add_T`
+    Add(Pair64),
+    /// `sub_T`
+    Subtract(Pair64),
+    /// `mul_T`
+    Multiply(Pair64),
+    /// `mad_T`
+    MultiplyAdd(Triple64),
+    /// `div_u64`
+    DivideUnsigned(Pair64),
+    /// `div_s64`
+    DivideSigned(Pair64),
+    /// `rem_u64`
+    RemainderUnsigned(Pair64),
+    /// `rem_s64`
+    RemainderSigned(Pair64),
+    /// `min_u64`
+    LeastUnsigned(Pair64),
+    /// `min_s64`
+    LeastSigned(Pair64),
+    /// `max_u64`
+    GreatestUnsigned(Pair64),
+    /// `max_s64`
+    GreatestSigned(Pair64),
+    /// `and_b64`
+    And(Pair64),
+    /// `or_b64`
+    Or(Pair64),
+    /// `xor_b64`
+    Xor(Pair64),
+    /// `shl_T`
+    ShiftLeft(Shift64),
+    /// `shr_u64`
+    ShiftRightUnsigned(Shift64),
+    /// `shr_s64`
+    ShiftRightSigned(Shift64),
+    /// `cmov_b64`
+    Choose(Choice64),
+}
+
+/// The types that `cvt` and `ld` read and write, and `st` writes (PRM, Base Data Types). A `b` type is
+/// accessed as the `u` type of its width.
 #[derive(Clone, Copy, Debug, PartialEq, Eq)]
-pub struct Relative {
-    pub register: Slot,
+pub enum NumberType {
+    /// One bit.
+    B1,
+    /// Eight bits, unsigned.
+    U8,
+    /// Sixteen bits, unsigned.
+    U16,
+    /// Thirty-two bits, unsigned.
+    U32,
+    /// Sixty-four bits, unsigned.
+    U64,
+    /// Eight bits in two's complement.
+    S8,
+    /// Sixteen bits in two's complement.
+    S16,
+    /// Thirty-two bits in two's complement.
+    S32,
+    /// Sixty-four bits in two's complement.
+    S64,
+}
+
+/// `cvt_U_T`: from T, the type of the source, to U, the type of the target.
+#[derive(Clone, Copy)]
+pub struct ConvertStep {
+    pub from: NumberType,
+    pub to: NumberType,
+    pub target: AnyRegister,
+    pub source: AnySource,
+}
+
+/// A place in memory: what a register has, or nothing, and what is added to it, wrapping.
+#[derive(Clone, Copy, Debug, PartialEq, Eq)]
+pub struct Pointer {
+    /// The `$d` register of an address of global memory.
+    pub base: Option<Slot>,
     pub offset: u64,
 }
 
-/// `mov_T`, `not_T`, `cvt_U_T`: `target, source`. The source is of type T; the target of type U for
-/// `cvt`, else T.
-#[derive(Clone, Copy, Debug, PartialEq, Eq)]
-pub struct UnaryStep {
-    pub operation: UnaryOperation,
-    pub kind: DataType,
-    pub target: Slot,
-    pub source: Operand,
-}
-
-/// `add_T` to `shr_T` and `cmp_OP_b1_T`: `target, left, right`. A shift's right is of 32 bits; the
-/// target of `cmp` is a `$c`.
-#[derive(Clone, Copy, Debug, PartialEq, Eq)]
-pub struct BinaryStep {
-    pub operation: BinaryOperation,
-    pub kind: DataType,
-    pub target: Slot,
-    pub left: Operand,
-    pub right: Operand,
-}
-
-/// `mad_T` and `cmov_T`: `target, first, second, third`. The first of `cmov` is of type b1.
-#[derive(Clone, Copy, Debug, PartialEq, Eq)]
-pub struct TernaryStep {
-    pub operation: TernaryOperation,
-    pub kind: DataType,
-    pub target: Slot,
-    pub first: Operand,
-    pub second: Operand,
-    pub third: Operand,
-}
-
 /// `ld_kernarg_T target, [%p]`, with the bytes that stand before the argument in its block.
-#[derive(Clone, Copy, Debug, PartialEq, Eq)]
+#[derive(Clone, Copy)]
 pub struct ArgumentStep {
-    pub kind: DataType,
-    pub target: Slot,
+    pub kind: NumberType,
+    pub target: AnyRegister,
     pub offset: u32,
 }
 
 /// `ld_global_T target, [address]`
-#[derive(Clone, Copy, Debug, PartialEq, Eq)]
+#[derive(Clone, Copy)]
 pub struct LoadStep {
-    pub kind: DataType,
-    pub target: Slot,
+    pub kind: NumberType,
+    pub target: AnyRegister,
     pub pointer: Pointer,
 }
 
 /// `st_global_T source, [address]`
-#[derive(Clone, Copy, Debug, PartialEq, Eq)]
+#[derive(Clone, Copy)]
 pub struct StoreStep {
-    pub kind: DataType,
-    pub source: Operand,
+    pub kind: NumberType,
+    pub source: AnySource,
     pub pointer: Pointer,
 }
 
 /// `cbr_b1 condition, @label`, with the number of the step behind the label, from 0. Where the label
 /// stands before the closing brace, that is the number of steps.
-#[derive(Clone, Copy, Debug, PartialEq, Eq)]
+#[derive(Clone, Copy)]
 pub struct BranchStep {
-    pub condition: Operand,
+    pub condition: Source1,
     pub next: usize,
 }
 
@@ -139,20 +379,41 @@ pub enum Dimension {
 }
 
 /// `workitemid_u32` and its kin: `target, dimension`.
-#[derive(Clone, Copy, Debug, PartialEq, Eq)]
+#[derive(Clone, Copy)]
 pub struct IdentifyStep {
     pub query: Query,
-    pub kind: DataType,
-    pub target: Slot,
+    pub target: AnyRegister,
     pub dimension: Dimension,
 }
 
+/// An operation and the `$c` register that it sets.
+#[derive(Clone, Copy)]
+pub struct ControlStep {
+    pub target: Slot,
+    pub operation: ControlOperation,
+}
+
+/// An operation and the `$s` register that it sets.
+#[derive(Clone, Copy)]
+pub struct SingleStep {
+    pub target: Slot,
+    pub operation: SingleOperation,
+}
+
+/// An operation and the `$d` register that it sets.
+#[derive(Clone, Copy)]
+pub struct DoubleStep {
+    pub target: Slot,
+    pub operation: DoubleOperation,
+}
+
 /// What one instruction does (PRM, HSAIL Instructions).
-#[derive(Clone, Copy, Debug, PartialEq, Eq)]
+#[derive(Clone, Copy)]
 pub enum Step {
-    Unary(UnaryStep),
-    Binary(BinaryStep),
-    Ternary(TernaryStep),
+    Control(ControlStep),
+    Single(SingleStep),
+    Double(DoubleStep),
+    Convert(ConvertStep),
     Argument(ArgumentStep),
     Load(LoadStep),
     Store(StoreStep),
@@ -165,7 +426,7 @@ pub enum Step {
 }
 
 /// A step, with the line of its instruction's first token.
-#[derive(Clone, Copy, Debug, PartialEq, Eq)]
+#[derive(Clone, Copy)]
 pub struct LinedStep {
     pub line: u32,
     pub step: Step,

@@ -6,6 +6,8 @@ use Rattle.kernel_check.specs.Checks.{argument_checks, item_checks, labels_from,
 use Rattle.kernel_check.specs.Faults.{first_fault, unless, FailsAs}
 use Rattle.kernel_check.specs.Layout.{Laid, laid_out, block_laid}
 use Rattle.kernel_check.specs.Names.{find}
+use Rattle.kernel_check.specs.Programs.{IsSound, program}
+use Rattle.kernel_check.specs.declared.step.LinedStep.{LinedStep}
 use Rattle.kernel_check.proofs.DoneLemmas.{went_well, arguments_failed, items_failed, sound_parts, done}
 use Rattle.kernel_check.proofs.checking.checked_body.Goals as goal
 
@@ -40,13 +42,14 @@ new-requires c =
     let k = c.args.kernel.now in
     let arguments = find c.in_ok-block.block.names in
     let labels = find c.in_ok-labels.labels in
-    sound_parts k (block_laid c.in_ok-block.block) labels c.in_ok-steps.steps.items c.in_ok-name.name
+    subst (λ (xs : List LinedStep). IsSound (program c.in_ok-name.name c.in_ok-block.block.end c.in_ok-block.block.wide.items xs)) (sym c.as_slice-lined.ensures.value)
+    (sound_parts k (block_laid c.in_ok-block.block) labels c.in_ok-steps.steps.items c.in_ok-name.name
     (subst (λ (args : List Argument). unless (first_fault (argument_checks [] 0 args)) (laid_out args) ≡ Ok (block_laid c.in_ok-block.block))
     c.as_slice-arguments.ensures c.in_ok-block.ensures.value)
     (subst (λ (items : List Item). labels ≡ find (labels_from 0 items)) c.as_slice-items.ensures c.in_ok-labels.ensures)
     (subst (λ (items : List Item). unless (first_fault (item_checks arguments labels [] 0 items)) (steps_from arguments labels items)
     ≡ Ok c.in_ok-steps.steps.items) c.as_slice-items.ensures c.in_ok-steps.ensures.value)
-    c.in_ok-name.ensures c.in_ok-block.ensures.bound c.in_ok-steps.ensures.room
+    c.in_ok-name.ensures c.in_ok-block.ensures.bound c.in_ok-steps.ensures.room)
 
 pub returns : goal.returns
 returns c =
@@ -59,4 +62,6 @@ returns c =
     (subst (λ (items : List Item). labels ≡ find (labels_from 0 items)) c.as_slice-items.ensures c.in_ok-labels.ensures)
     (subst (λ (items : List Item). unless (first_fault (item_checks arguments labels [] 0 items)) (steps_from arguments labels items)
     ≡ Ok c.in_ok-steps.steps.items) c.as_slice-items.ensures c.in_ok-steps.ensures.value)
-    c.in_ok-name.ensures ∙ ap Ok (sym c.new.ensures)
+    c.in_ok-name.ensures
+    ∙ ap (λ (xs : List LinedStep). Ok (program c.in_ok-name.name c.in_ok-block.block.end c.in_ok-block.block.wide.items xs)) (sym c.as_slice-lined.ensures.value)
+    ∙ ap Ok (sym c.in_ok-program.ensures)
