@@ -1,90 +1,133 @@
 -- A run over blocks: what holds between reads, and what it comes to.
-use Rattle.std.proofs.Common.{◌≡◌, ℕ, ◌+◌, List, [], ◌∷◌, ◌++◌, length, take, Option, Some, None, Result, Ok, Err, refl, sym, ap, ◌∙◌, subst, append_assoc, append-nil, length-append, arith}
-use Rattle.std.specs.Prelude.{⊤, MatchResult}
+use Rattle.std.proofs.Common.{◌≡◌, ℕ, ◌+◌, List, [], ◌∷◌, ◌++◌, length, take, Option, Some, None, Result, Ok, Err, inl, refl, sym, ap, ◌∙◌, subst, append_assoc, append-nil, length-append, arith}
+use Rattle.std.specs.Prelude.{⊤, MatchResult, IfErr}
 use Rattle.std.specs.Io.KnownBytes.{Appends, Consumes, Keeps, IsAtEnd}
+use Rattle.script.specs.declared.answers.Answers.{Answers}
 use Rattle.script.specs.declared.fault.ScriptFault.{ScriptFault}
 use Rattle.script.specs.declared.fault.ScriptFault.TheVariants.{OutOfMemory, BadLine, Read, Write}
 use Rattle.script.specs.declared.session.Session.{Session}
 use Rattle.script.specs.Words.{kept}
-use Rattle.script.specs.Runs.{Law, Runs, lines_from, lines_of}
+use Rattle.script.specs.Answers.{AppendsBeginning, IsCaused, ReadsBlock}
+use Rattle.script.specs.Runs.{Law, Runs, ServedAtMostOne, lines_from, lines_of}
 use Rattle.script.specs.Sessions.{Took, Failed, Ended, Why, begun, pending, with_further, at_end}
-use Rattle.script.specs.Scripts.{Outcome, Replies, ReadsBlock}
+use Rattle.script.specs.Scripts.{Outcome, Replies, RunsScript, Tells}
+use Rattle.script.proofs.Appending.{appends_more, appends_none}
 use Rattle.script.proofs.Running.{runs_append, lines_end}
 
--- between reads: the lines that ended are done, and their replies were handed over
-pub record Going {S : Type 0} (law : Law S) (old new : S) (held holds left : Option (List ℕ)) (session : Session) (script : List ℕ) : Type 0 where
+-- between reads: the lines that ended in what was read are done, and their replies were handed over
+pub record Going {S : Type 0} (law : Law S) (old new : S) (held holds had left : Option (List ℕ)) (session : Session) : Type 0 where
   pub done : List (List ℕ)
   pub text : List ℕ
-  pub rest : List ℕ
+  pub read : List ℕ
   pub runs : Runs law old done text new
   pub handed : Appends held holds text
-  pub left_is : left ≡ Some rest
-  pub lines : lines_of script ≡ done ++ lines_from (begun session) rest
+  pub taken : Consumes had left read
+  pub lines : (more : List ℕ) → lines_of (read ++ more) ≡ done ++ lines_from (begun session) more
   pub number : session.number ≡ length done + 1
 
-pub appends_none : (held : Option (List ℕ)) → Appends held held []
-appends_none None = tt
-appends_none (Some bytes) = sym (append-nil bytes)
+-- what is left to read, where that is told; nothing else
+pub rest_of : Option (List ℕ) → List ℕ
+rest_of None = []
+rest_of (Some bytes) = bytes
 
-pub appends_more : (a b c : Option (List ℕ)) (text more : List ℕ) → Appends a b text → Appends b c more → Appends a c (text ++ more)
-appends_more None b c text more p q = tt
-appends_more (Some x) None c text more p q = absurd p
-appends_more (Some x) (Some y) None text more p q = absurd q
-appends_more (Some x) (Some y) (Some z) text more p q = q ∙ ap (λ front. front ++ more) p ∙ append_assoc x text more
+tells_rest : (left : Option (List ℕ)) → Tells left (rest_of left)
+unfolding rest_of
+tells_rest None = tt
+tells_rest (Some bytes) = refl
 
-pub keeps_left : (old new : Option (List ℕ)) (rest : List ℕ) → old ≡ Some rest → Keeps old new → new ≡ Some rest
-keeps_left None new rest e k = cc
-keeps_left (Some xs) None rest e k = absurd k
-keeps_left (Some xs) (Some ys) rest e k = let same : xs ≡ rest = cc in ap Some (k ∙ same)
+tells_script : (had left : Option (List ℕ)) (read : List ℕ) → Consumes had left read → Tells had (read ++ rest_of left)
+unfolding rest_of
+tells_script None left read k = tt
+tells_script (Some xs) None read k = absurd k
+tells_script (Some xs) (Some ys) read k = k
 
--- what was left begins with what a read took
-pub consumed_left : (old new : Option (List ℕ)) (rest bytes : List ℕ) → old ≡ Some rest → Consumes old new bytes → (further : List ℕ) × (new ≡ Some further) × (rest ≡ bytes ++ further)
-consumed_left None new rest bytes e k = cc
-consumed_left (Some xs) None rest bytes e k = absurd k
-consumed_left (Some xs) (Some ys) rest bytes e k = let same : xs ≡ rest = cc in (ys, refl, sym same ∙ k)
+none_left : (left : Option (List ℕ)) → IsAtEnd left → rest_of left ≡ []
+unfolding rest_of
+none_left None k = refl
+none_left (Some xs) k = k
 
-pub end_left : (new : Option (List ℕ)) (further : List ℕ) → new ≡ Some further → IsAtEnd new → further ≡ []
-end_left None further e k = cc
-end_left (Some xs) further e k = let same : xs ≡ further = cc in sym same ∙ k
+consumes_none : (left : Option (List ℕ)) → Consumes left left []
+consumes_none None = tt
+consumes_none (Some xs) = refl
 
-pub going_none : {S : Type 0} (law : Law S) (broker : S) (held left : Option (List ℕ)) (session : Session) (script : List ℕ) →
-    left ≡ Some script → begun session ≡ [] → session.number ≡ 1 → Going law broker broker held held left session script
-going_none law broker held left session script e line number = record {
+consumes_kept : (a b c : Option (List ℕ)) (read : List ℕ) → Consumes a b read → Keeps b c → Consumes a c read
+consumes_kept None b c read p q = tt
+consumes_kept (Some x) None c read p q = absurd p
+consumes_kept (Some x) (Some y) None read p q = absurd q
+consumes_kept (Some x) (Some y) (Some z) read p q = p ∙ ap (λ rest. read ++ rest) (sym q)
+
+consumes_more : (a b c : Option (List ℕ)) (read bytes : List ℕ) → Consumes a b read → Consumes b c bytes → Consumes a c (read ++ bytes)
+consumes_more None b c read bytes p q = tt
+consumes_more (Some x) None c read bytes p q = absurd p
+consumes_more (Some x) (Some y) None read bytes p q = absurd q
+consumes_more (Some x) (Some y) (Some z) read bytes p q = p ∙ ap (λ rest. read ++ rest) q ∙ sym (append_assoc read bytes z)
+
+begins_more : (a b c : Option (List ℕ)) (text more : List ℕ) → Appends a b text → AppendsBeginning b c more → AppendsBeginning a c (text ++ more)
+begins_more a b c text more p q = record {
+  gained = text ++ q.gained;
+  missed = q.missed;
+  parts = ap (λ all. text ++ all) q.parts ∙ sym (append_assoc text q.gained q.missed);
+  grows = appends_more a b c text q.gained p q.grows;
+}
+
+pub going_none : {S : Type 0} (law : Law S) (broker : S) (held left : Option (List ℕ)) (session : Session) →
+    begun session ≡ [] → session.number ≡ 1 → Going law broker broker held held left left session
+going_none law broker held left session line number = record {
   done = [];
   text = [];
-  rest = script;
+  read = [];
   runs = (refl, refl);
   handed = appends_none held;
-  left_is = e;
-  lines = ap (λ line. lines_from line script) (sym line);
+  taken = consumes_none left;
+  lines = λ more. ap (λ line. lines_from line more) (sym line);
   number = number;
 }
 
-pub going_kept : {S : Type 0} (law : Law S) (old new : S) (held holds left kept_left : Option (List ℕ)) (session : Session) (script : List ℕ) →
-    Going law old new held holds left session script → Keeps left kept_left → Going law old new held holds kept_left session script
-going_kept law old new held holds left kept_left session script so k =
-    subst (λ now. Going law old new held holds now session script) (so.left_is ∙ sym (keeps_left left kept_left so.rest so.left_is k)) so
+pub going_kept : {S : Type 0} (law : Law S) (old new : S) (held holds had left kept_left : Option (List ℕ)) (session : Session) →
+    Going law old new held holds had left session → Keeps left kept_left → Going law old new held holds had kept_left session
+going_kept law old new held holds had left kept_left session so k = record {
+  done = so.done;
+  text = so.text;
+  read = so.read;
+  runs = so.runs;
+  handed = so.handed;
+  taken = consumes_kept had left kept_left so.read so.taken k;
+  lines = so.lines;
+  number = so.number;
+}
 
-pub going_block : {S : Type 0} (law : Law S) (old mid new : S) (held holds handed left further : Option (List ℕ)) (before between after : Session) (script bytes : List ℕ) →
-    Going law old mid held holds left before script → Consumes left further bytes → pending before ≡ [] → Took law mid new before between bytes →
+-- the lines of what was read, some bytes more, and what follows them
+lines_behind : {S : Type 0} (law : Law S) (old mid : S) (held holds had left : Option (List ℕ)) (before : Session) (bytes more : List ℕ) →
+    (so : Going law old mid held holds had left before) → lines_of ((so.read ++ bytes) ++ more) ≡ so.done ++ lines_from (begun before) (bytes ++ more)
+lines_behind law old mid held holds had left before bytes more so = ap lines_of (append_assoc so.read bytes more) ∙ so.lines (bytes ++ more)
+
+pub going_block : {S : Type 0} (law : Law S) (old mid new : S) (held holds handed had left further : Option (List ℕ)) (before between after : Session) (bytes : List ℕ) →
+    Going law old mid held holds had left before → Consumes left further bytes → pending before ≡ [] → Took law mid new before between bytes →
     Appends holds handed (pending between) → begun after ≡ begun between → after.number ≡ between.number →
-    Going law old new held handed further after script
-going_block law old mid new held holds handed left further before between after script bytes so k empty took given line number =
-    let next = consumed_left left further so.rest bytes so.left_is k in
+    Going law old new held handed had further after
+going_block law old mid new held holds handed had left further before between after bytes so k empty took given line number =
     let out : pending between ≡ took.text = took.out ∙ ap (λ front. front ++ took.text) empty in
     record {
       done = so.done ++ took.done;
       text = so.text ++ took.text;
-      rest = next.0;
+      read = so.read ++ bytes;
       runs = runs_append law old mid new so.done took.done so.text took.text so.runs took.runs;
       handed = appends_more held holds handed so.text took.text so.handed (subst (λ text. Appends holds handed text) out given);
-      left_is = next.1;
-      lines = so.lines ∙ ap (λ rest. so.done ++ lines_from (begun before) rest) next.2 ∙ ap (λ lines. so.done ++ lines) (took.lines next.0)
-          ∙ sym (append_assoc so.done took.done (lines_from (begun between) next.0)) ∙ ap (λ line. (so.done ++ took.done) ++ lines_from line next.0) (sym line);
+      taken = consumes_more had left further so.read bytes so.taken k;
+      lines = λ more. lines_behind law old mid held holds had left before bytes more so ∙ ap (λ lines. so.done ++ lines) (took.lines more)
+          ∙ sym (append_assoc so.done took.done (lines_from (begun between) more)) ∙ ap (λ line. (so.done ++ took.done) ++ lines_from line more) (sym line);
       number = omega (arith, number, took.number, so.number, length-append so.done took.done);
     }
 
-pub outcome_why : {S : Type 0} (law : Law S) (old mid new : S) (held holds left : Option (List ℕ)) (script : List ℕ) (number : ℕ) (before done lines : List (List ℕ)) (fault : ScriptFault) →
+-- why lines could not all be served leaves some of them, and the broker with one more served at most
+served_before : {S : Type 0} (law : Law S) (mid new : S) (number : ℕ) (done lines : List (List ℕ)) (fault : ScriptFault) → Why law mid new number done lines fault →
+    (further : List (List ℕ)) × (lines ≡ done ++ further) × ServedAtMostOne law mid new
+served_before law mid new number done lines (BadLine bad) why = (why.2.0 ∷ why.2.1, why.2.2, inl why.1)
+served_before law mid new number done lines OutOfMemory why = (why.1.0, why.1.1, why.0)
+served_before law mid new number done lines Read why = absurd why
+served_before law mid new number done lines Write why = absurd why
+
+outcome_why : {S : Type 0} (law : Law S) (old mid new : S) (held holds left : Option (List ℕ)) (script : List ℕ) (number : ℕ) (before done lines : List (List ℕ)) (fault : ScriptFault) →
     lines_of script ≡ before ++ lines → number ≡ length before + 1 → Replies law old mid held holds (before ++ done) → Why law mid new number done lines fault →
     Outcome law old new held holds left script (Err fault)
 outcome_why law old mid new held holds left script number before done lines (BadLine bad) e n so why = (
@@ -99,65 +142,130 @@ outcome_why law old mid new held holds left script number before done lines (Bad
 outcome_why law old mid new held holds left script number before done lines OutOfMemory e n so why =
     (before ++ done, why.1.0, mid, e ∙ ap (λ lines. before ++ lines) why.1.1 ∙ sym (append_assoc before done why.1.0), so, why.0)
 outcome_why law old mid new held holds left script number before done lines Read e n so why = absurd why
-outcome_why law old mid new held holds left script number before done lines Write e n so why = tt
+outcome_why law old mid new held holds left script number before done lines Write e n so why = absurd why
 
--- lines that could not all be served, and the replies of those done handed over
-pub outcome_failed : {S : Type 0} (law : Law S) (old mid new : S) (held holds handed left further : Option (List ℕ)) (before after : Session) (script : List ℕ)
-    (lines : List ℕ → List (List ℕ)) (rest : List ℕ) (fault : ScriptFault) →
-    (so : Going law old mid held holds left before script) → lines_from (begun before) so.rest ≡ lines rest → pending before ≡ [] →
-    Failed law mid new before after lines fault → Appends holds handed (pending after) → Outcome law old new held handed further script (Err fault)
-outcome_failed law old mid new held holds handed left further before after script lines rest fault so e empty failed given =
-    let out : pending after ≡ failed.text = failed.out ∙ ap (λ front. front ++ failed.text) empty in
-    outcome_why law old failed.mid new held handed further script before.number so.done failed.done (lines rest) fault
-    (so.lines ∙ ap (λ lines. so.done ++ lines) e) so.number (
-      so.text ++ failed.text,
-      runs_append law old mid failed.mid so.done failed.done so.text failed.text so.runs failed.runs,
-      appends_more held holds handed so.text failed.text so.handed (subst (λ text. Appends holds handed text) out given),
-    )
-    (failed.why rest)
+-- ---- a block, or the end, was read: `bytes` came, and `lines` are those to be served
+
+module _ {S : Type 0} (law : Law S) (old mid new : S) (held holds handed had left further : Option (List ℕ)) (before after : Session) (bytes : List ℕ) (lines : List ℕ → List (List ℕ))
+    (so : Going law old mid held holds had left before) (k : Consumes left further bytes) (empty : pending before ≡ [])
+    (e : lines_from (begun before) (bytes ++ rest_of further) ≡ lines (rest_of further)) where
+  script : List ℕ
+  script = (so.read ++ bytes) ++ rest_of further
+
+  tells : Tells had ((so.read ++ bytes) ++ rest_of further)
+  tells = tells_script had further (so.read ++ bytes) (consumes_more had left further so.read bytes so.taken k)
+
+  all : lines_of ((so.read ++ bytes) ++ rest_of further) ≡ so.done ++ lines (rest_of further)
+  all = lines_behind law old mid held holds had left before bytes (rest_of further) so ∙ ap (λ lines. so.done ++ lines) e
+
+  -- lines could not all be served, and the replies of those done were handed over
+  pub outcome_failed : (fault : ScriptFault) → Failed law mid new before after lines fault → Appends holds handed (pending after) → RunsScript law old new held handed had further (Err fault)
+  outcome_failed fault failed given =
+      let out : pending after ≡ failed.text = failed.out ∙ ap (λ front. front ++ failed.text) empty in (
+        (so.read ++ bytes) ++ rest_of further,
+        tells,
+        outcome_why law old failed.mid new held handed further ((so.read ++ bytes) ++ rest_of further) before.number so.done failed.done (lines (rest_of further)) fault all so.number (
+          so.text ++ failed.text,
+          runs_append law old mid failed.mid so.done failed.done so.text failed.text so.runs failed.runs,
+          appends_more held holds handed so.text failed.text so.handed (subst (λ text. Appends holds handed text) out given),
+        )
+            (failed.why (rest_of further)),
+      )
+
+  -- some of the lines were served, and the writer failed
+  written : (done : List (List ℕ)) (text : List ℕ) (last : S) → Runs law mid done text last → pending after ≡ pending before ++ text →
+      (others : List (List ℕ)) × (lines (rest_of further) ≡ done ++ others) × ServedAtMostOne law last new → AppendsBeginning holds handed (pending after) → RunsScript law old new held handed had further (Err Write)
+  written done text last runs waits others given =
+      let out : pending after ≡ text = waits ∙ ap (λ front. front ++ text) empty in (
+        (so.read ++ bytes) ++ rest_of further,
+        tells,
+        (
+          so.done ++ done,
+          others.0,
+          last,
+          all ∙ ap (λ lines. so.done ++ lines) others.1 ∙ sym (append_assoc so.done done others.0),
+          (
+            so.text ++ text,
+            runs_append law old mid last so.done done so.text text so.runs runs,
+            begins_more held holds handed so.text text so.handed (subst (λ text. AppendsBeginning holds handed text) out given),
+          ),
+          others.2,
+        ),
+      )
+
+  written_failed : (fault : ScriptFault) → Failed law mid new before after lines fault → AppendsBeginning holds handed (pending after) → RunsScript law old new held handed had further (Err Write)
+  written_failed fault failed given =
+      written failed.done failed.text failed.mid failed.runs failed.out
+      (served_before law failed.mid new before.number failed.done (lines (rest_of further)) fault (failed.why (rest_of further))) given
 
 -- a block that could not all be taken
-pub outcome_block : {S : Type 0} (law : Law S) (old mid new : S) (held holds handed left further : Option (List ℕ)) (before after : Session) (script bytes : List ℕ) (fault : ScriptFault) →
-    Going law old mid held holds left before script → Consumes left further bytes → pending before ≡ [] →
-    Failed law mid new before after (with_further before bytes) fault → Appends holds handed (pending after) → Outcome law old new held handed further script (Err fault)
-outcome_block law old mid new held holds handed left further before after script bytes fault so k empty failed given =
-    let next = consumed_left left further so.rest bytes so.left_is k in
-    outcome_failed law old mid new held holds handed left further before after script (with_further before bytes) next.0 fault so
-    (ap (lines_from (begun before)) next.2) empty failed given
+pub outcome_block : {S : Type 0} (law : Law S) (old mid new : S) (held holds handed had left further : Option (List ℕ)) (before after : Session) (bytes : List ℕ) (fault : ScriptFault) →
+    Going law old mid held holds had left before → Consumes left further bytes → pending before ≡ [] →
+    Failed law mid new before after (with_further before bytes) fault → Appends holds handed (pending after) → RunsScript law old new held handed had further (Err fault)
+outcome_block law old mid new held holds handed had left further before after bytes fault so k empty failed given =
+    outcome_failed law old mid new held holds handed had left further before after bytes (with_further before bytes) so k empty refl fault failed given
 
--- at the end nothing is left
-pub nothing_left : {S : Type 0} (law : Law S) (old new : S) (held holds left further : Option (List ℕ)) (session : Session) (script : List ℕ) →
-    (so : Going law old new held holds left session script) → Consumes left further [] → IsAtEnd further → so.rest ≡ []
-nothing_left law old new held holds left further session script so k done =
-    let next = consumed_left left further so.rest [] so.left_is k in next.2 ∙ end_left further next.0 next.1 done
+-- the replies to a block's lines could not all be written
+pub written_block : {S : Type 0} (law : Law S) (old mid new : S) (held holds handed had left further : Option (List ℕ)) (before after : Session) (bytes : List ℕ) (taken : Result ⊤ ScriptFault) →
+    Going law old mid held holds had left before → Consumes left further bytes → pending before ≡ [] →
+    MatchResult taken (λ _. Took law mid new before after bytes) (Failed law mid new before after (with_further before bytes)) →
+    AppendsBeginning holds handed (pending after) → RunsScript law old new held handed had further (Err Write)
+written_block law old mid new held holds handed had left further before after bytes (Ok done) so k empty took given =
+    written law old mid new held holds handed had left further before after bytes (with_further before bytes) so k empty refl took.done took.text new took.runs took.out
+    (lines_from (begun after) (rest_of further), took.lines (rest_of further), inl refl) given
+written_block law old mid new held holds handed had left further before after bytes (Err fault) so k empty failed given =
+    written_failed law old mid new held holds handed had left further before after bytes (with_further before bytes) so k empty refl fault failed given
 
-pub outcome_end : {S : Type 0} (law : Law S) (old mid new : S) (held holds handed left further : Option (List ℕ)) (before after : Session) (script : List ℕ) (done : ⊤) →
-    Going law old mid held holds left before script → Consumes left further [] → IsAtEnd further → pending before ≡ [] →
-    Ended law mid new before after → Appends holds handed (pending after) → Outcome law old new held handed further script (Ok done)
-outcome_end law old mid new held holds handed left further before after script done so k at empty ended given =
-    let none = nothing_left law old mid held holds left further before script so k at in
+-- ---- the end
+
+at_end_lines : (before : Session) (further : Option (List ℕ)) → IsAtEnd further → lines_from (begun before) ([] ++ rest_of further) ≡ at_end before (rest_of further)
+at_end_lines before further at = ap (λ rest. lines_from (begun before) rest) (none_left further at) ∙ lines_end (begun before)
+
+pub outcome_end : {S : Type 0} (law : Law S) (old mid new : S) (held holds handed had left further : Option (List ℕ)) (before after : Session) (done : ⊤) →
+    Going law old mid held holds had left before → Consumes left further [] → IsAtEnd further → pending before ≡ [] →
+    Ended law mid new before after → Appends holds handed (pending after) → RunsScript law old new held handed had further (Ok done)
+outcome_end law old mid new held holds handed had left further before after done so k at empty ended given =
     let out : pending after ≡ ended.text = ended.out ∙ ap (λ front. front ++ ended.text) empty in
-    let all : lines_of script ≡ so.done ++ kept (begun before) [] =
-    so.lines ∙ ap (λ rest. so.done ++ lines_from (begun before) rest) none ∙ ap (λ lines. so.done ++ lines) (lines_end (begun before)) in (
-      so.text ++ ended.text,
-      subst (λ lines. Runs law old lines (so.text ++ ended.text) new) (sym all)
-          (runs_append law old mid new so.done (kept (begun before) []) so.text ended.text so.runs ended.runs),
-      appends_more held holds handed so.text ended.text so.handed (subst (λ text. Appends holds handed text) out given),
+    let all : lines_of ((so.read ++ []) ++ rest_of further) ≡ so.done ++ kept (begun before) [] =
+    lines_behind law old mid held holds had left before [] (rest_of further) so ∙ ap (λ lines. so.done ++ lines) (at_end_lines before further at) in (
+      (so.read ++ []) ++ rest_of further,
+      tells_script had further (so.read ++ []) (consumes_more had left further so.read [] so.taken k),
+      (
+        at,
+        (
+          so.text ++ ended.text,
+          subst (λ lines. Runs law old lines (so.text ++ ended.text) new) (sym all)
+              (runs_append law old mid new so.done (kept (begun before) []) so.text ended.text so.runs ended.runs),
+          appends_more held holds handed so.text ended.text so.handed (subst (λ text. Appends holds handed text) out given),
+        ),
+      ),
     )
 
-pub outcome_last : {S : Type 0} (law : Law S) (old mid new : S) (held holds handed left further : Option (List ℕ)) (before after : Session) (script : List ℕ) (fault : ScriptFault) →
-    Going law old mid held holds left before script → Consumes left further [] → IsAtEnd further → pending before ≡ [] →
-    Failed law mid new before after (at_end before) fault → Appends holds handed (pending after) → Outcome law old new held handed further script (Err fault)
-outcome_last law old mid new held holds handed left further before after script fault so k at empty failed given =
-    let none = nothing_left law old mid held holds left further before script so k at in
-    outcome_failed law old mid new held holds handed left further before after script (at_end before) [] fault so
-    (ap (lines_from (begun before)) none ∙ lines_end (begun before)) empty failed given
+pub outcome_last : {S : Type 0} (law : Law S) (old mid new : S) (held holds handed had left further : Option (List ℕ)) (before after : Session) (fault : ScriptFault) →
+    Going law old mid held holds had left before → Consumes left further [] → IsAtEnd further → pending before ≡ [] →
+    Failed law mid new before after (at_end before) fault → Appends holds handed (pending after) → RunsScript law old new held handed had further (Err fault)
+outcome_last law old mid new held holds handed had left further before after fault so k at empty failed given =
+    outcome_failed law old mid new held holds handed had left further before after [] (at_end before) so k empty (at_end_lines before further at) fault failed given
+
+-- the replies to the last line could not all be written
+pub written_end : {S : Type 0} (law : Law S) (old mid new : S) (held holds handed had left further : Option (List ℕ)) (before after : Session) (ended : Result ⊤ ScriptFault) →
+    Going law old mid held holds had left before → Consumes left further [] → IsAtEnd further → pending before ≡ [] →
+    MatchResult ended (λ _. Ended law mid new before after) (Failed law mid new before after (at_end before)) →
+    AppendsBeginning holds handed (pending after) → RunsScript law old new held handed had further (Err Write)
+written_end law old mid new held holds handed had left further before after (Ok done) so k at empty ended given =
+    written law old mid new held holds handed had left further before after [] (at_end before) so k empty (at_end_lines before further at) (kept (begun before) []) ended.text new ended.runs ended.out
+    ([], sym (append-nil (kept (begun before) [])), inl refl) given
+written_end law old mid new held holds handed had left further before after (Err fault) so k at empty failed given =
+    written_failed law old mid new held holds handed had left further before after [] (at_end before) so k empty (at_end_lines before further at) fault failed given
 
 -- the reader failed
-pub outcome_read : {S : Type 0} (law : Law S) (old new : S) (held holds left : Option (List ℕ)) (session : Session) (script : List ℕ) →
-    Going law old new held holds left session script → Outcome law old new held holds left script (Err Read)
-outcome_read law old new held holds left session script so =
-    (so.done, begun session, so.rest, so.left_is, so.lines, (so.text, so.runs, so.handed))
+pub outcome_read : {S : Type 0} (law : Law S) (old new : S) (held holds had left : Option (List ℕ)) (session : Session) →
+    Going law old new held holds had left session → RunsScript law old new held holds had left (Err Read)
+outcome_read law old new held holds had left session so = (
+  so.read ++ rest_of left,
+  tells_script had left so.read so.taken,
+  (so.done, begun session, rest_of left, tells_rest left, so.lines (rest_of left), (so.text, so.runs, so.handed)),
+)
 
 -- what a read of some bytes consumed
 pub block_of : (old new : Option (List ℕ)) (count : ℕ) (block taken : List ℕ) → ReadsBlock old new (Ok (Some count)) block → taken ≡ take count block → Consumes old new taken
@@ -170,8 +278,21 @@ at_end_of old new count block e read =
     (subst (λ bytes. Consumes old new bytes) none read.1, read.2 e)
 
 -- an outcome by cases
-pub outcome_of : {S : Type 0} (law : Law S) (old new : S) (held holds left : Option (List ℕ)) (script : List ℕ) (result : Result ⊤ ScriptFault) →
-    MatchResult result (λ done. Outcome law old new held holds left script (Ok done)) (λ fault. Outcome law old new held holds left script (Err fault)) →
-    Outcome law old new held holds left script result
-outcome_of law old new held holds left script (Ok done) case = case
-outcome_of law old new held holds left script (Err fault) case = case
+pub outcome_of : {S : Type 0} (law : Law S) (old new : S) (held holds had left : Option (List ℕ)) (result : Result ⊤ ScriptFault) →
+    MatchResult result (λ done. RunsScript law old new held holds had left (Ok done)) (λ fault. RunsScript law old new held holds had left (Err fault)) →
+    RunsScript law old new held holds had left result
+outcome_of law old new held holds had left (Ok done) case = case
+outcome_of law old new held holds had left (Err fault) case = case
+
+-- what a session fails with is no fault of the reader or the writer
+pub caused_fault : {S : Type 0} (law : Law S) (old new : S) (before after : Session) (lines : List ℕ → List (List ℕ)) (answers : Answers) (fault : ScriptFault) →
+    Failed law old new before after lines fault → IsCaused answers fault
+caused_fault law old new before after lines answers OutOfMemory failed = tt
+caused_fault law old new before after lines answers (BadLine number) failed = tt
+caused_fault law old new before after lines answers Read failed = absurd (failed.why [])
+caused_fault law old new before after lines answers Write failed = absurd (failed.why [])
+
+pub caused_result : {S : Type 0} (law : Law S) (old new : S) (before after : Session) (lines : List ℕ → List (List ℕ)) (answers : Answers) (Done : ⊤ → Type 0) (result : Result ⊤ ScriptFault) →
+    MatchResult result Done (Failed law old new before after lines) → IfErr result (IsCaused answers)
+caused_result law old new before after lines answers Done (Ok done) case = tt
+caused_result law old new before after lines answers Done (Err fault) case = caused_fault law old new before after lines answers fault case

@@ -4,4 +4,6 @@ pub mod Audit
 pub mod Splitting
 pub mod Reading
 pub mod Running
+pub mod Appending
+pub mod Writing
 pub mod Blocks

@@ -6,4 +6,5 @@ pub mod Lines
 pub mod Runs
 pub mod Faults
 pub mod Sessions
+pub mod Answers
 pub mod Scripts

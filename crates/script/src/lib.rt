@@ -3,6 +3,7 @@
 // The check tries its tactics on what is left of each proof.
 #![tactic(auto)]
 
+mod answers;
 mod command;
 mod engine;
 mod entries;
@@ -16,8 +17,9 @@ mod texts;
 mod verbs;
 mod words;
 
+pub use answers::Answers;
 pub use command::{Broker, Command, Told};
 pub use fault::ScriptFault;
 pub use lines::{Line, read_line};
 pub use replies::write_told;
-pub use run::run_script;
+pub use run::{run_noting, run_script};

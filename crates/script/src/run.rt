@@ -1,11 +1,13 @@
 //! The run of a script, from a reader to a writer.
 
-ghost use Rattle.std.specs.Prelude.{◌≡◌, [], ℕ, List, ◌<◌, ◌≤◌, ◌-◌, Some, IfErr, IfOk, OnOk, MatchResult, MatchOption, length, take, string_bytes};
-ghost use Rattle.std.specs.Io.KnownBytes.{Appends, Consumes, Keeps, IsAtEnd};
+ghost use Rattle.std.specs.Prelude.{◌≡◌, [], IfErr, OnErr, OnOk, string_bytes};
+ghost use Rattle.std.specs.Io.KnownBytes.{Appends};
+ghost use Rattle.script.specs.Answers.{none_yet, AppendsBeginning, IsCaused, write_failing};
 ghost use Rattle.script.specs.Runs.{law_of};
-ghost use Rattle.script.specs.Scripts.{Outcome, ReadsBlock};
-ghost use Rattle.script.specs.declared.fault.ScriptFault.TheVariants.{Read, Write};
+ghost use Rattle.script.specs.Scripts.{RunsScript};
+ghost use Rattle.script.specs.declared.fault.ScriptFault.TheVariants.{Write};
 
+use crate::answers::{Answers, flush_once, read_once, write_through};
 use crate::command::Broker;
 use crate::fault::ScriptFault;
 use crate::session::{Session, take_bytes, take_end};
@@ -18,57 +20,40 @@ const MOST_READS: u64 = 1 << 40;
 // The most bytes of a read (own).
 const BLOCK: usize = 4096;
 
-// Reads once: the count of bytes, or none where the read was interrupted and is to be made again.
-fn read_block<R: io::Read>(reader: &mut R, block: &mut [u8]) -> Result<Option<usize>, ScriptFault>
-    requires { 0 < length block.old }
-    ensures block { ReadsBlock (R.remaining reader.old) (R.remaining reader.new) result block.new }
-    ensures fault { IfErr result (λ fault. fault ≡ Read) }
-{
-    match reader.read(block) {
-        Ok(count) => Ok(Some(count)),
-        Err(error) if error.kind() == io::ErrorKind::Interrupted => Ok(None),
-        Err(_) => Err(ScriptFault::Read),
-    }
-}
-
 // Hands replies over to the writer, and keeps none.
-fn hand_over<W: io::Write>(writer: &mut W, out: &mut String) -> Result<(), ScriptFault>
+fn hand_over<W: io::Write>(
+    writer: &mut W,
+    out: &mut String,
+    answers: &mut Answers,
+) -> Result<(), ScriptFault>
     ensures handed { OnOk result (Appends (W.contents writer.old) (W.contents writer.new) (string_bytes out.old)) }
+    ensures begun { OnErr result (AppendsBeginning (W.contents writer.old) (W.contents writer.new) (string_bytes out.old)) }
     ensures empty { string_bytes out.new ≡ [] }
     ensures fault { IfErr result (λ fault. fault ≡ Write) }
+    ensures written { OnOk result (answers.new ≡ answers.old) }
+    ensures failed { OnErr result (answers.new ≡ write_failing answers.old) }
 {
-    let written = writer.write_all(out.as_bytes());
+    let written = write_through(writer, out.as_bytes(), answers);
     out.clear();
     match written {
-        Ok(()) => flush(writer),
-        Err(_) => Err(ScriptFault::Write),
+        Ok(()) => flush_once(writer, answers),
+        Err(fault) => Err(fault),
     }
 }
 
-// Has the writer pass on what it holds.
-fn flush<W: io::Write>(writer: &mut W) -> Result<(), ScriptFault>
-    ensures kept { OnOk result (Keeps (W.contents writer.old) (W.contents writer.new)) }
-    ensures fault { IfErr result (λ fault. fault ≡ Write) }
-{
-    match writer.flush() {
-        Ok(()) => Ok(()),
-        Err(_) => Err(ScriptFault::Write),
-    }
-}
-
-/// Runs a script: reads its lines, has each served in turn, and writes the replies. Where the
-/// reader and the writer tell their bytes, the writer gains just the replies that the broker's law
-/// owes to the lines. After a fault the replies of the lines before it were handed to the writer,
-/// except where the writer failed. A run makes at most 2^40 reads.
-pub fn run_script<R: io::Read, W: io::Write, B: Broker>(
+/// Runs a script as `run_script` does, and notes what the reader and the writer answered. It tells `Read` only
+/// where the reader failed or 2^40 reads were made, and `Write` only where the writer failed.
+pub fn run_noting<R: io::Read, W: io::Write, B: Broker>(
     alloc: Global,
     reader: &mut R,
     writer: &mut W,
     broker: &mut B,
+    answers: &mut Answers,
 ) -> Result<(), ScriptFault>
-    ensures { (script : List ℕ) → R.remaining reader.old ≡ Some script →
-        Outcome (law_of B.serves B.names) broker.old broker.new (W.contents writer.old) (W.contents writer.new)
-        (R.remaining reader.new) script result }
+    requires { answers.old ≡ none_yet }
+    ensures outcome { RunsScript (law_of B.serves B.names) broker.old broker.new (W.contents writer.old) (W.contents writer.new)
+        (R.remaining reader.old) (R.remaining reader.new) result }
+    ensures caused { IfErr result (IsCaused answers.new) }
 {
     let mut session = Session {
         line: Vec::new(alloc),
@@ -77,17 +62,35 @@ pub fn run_script<R: io::Read, W: io::Write, B: Broker>(
     };
     let mut block = [0; BLOCK];
     for _ in 0..MOST_READS {
-        let Some(count) = read_block(reader, &mut block)? else {
+        let Some(count) = read_once(reader, &mut block, answers)? else {
             continue;
         };
         if count == 0 {
             let ended = take_end(alloc, broker, &mut session);
-            hand_over(writer, &mut session.out)?;
+            hand_over(writer, &mut session.out, answers)?;
             return ended;
         }
         let taken = take_bytes(alloc, broker, &mut session, &block[..count]);
-        hand_over(writer, &mut session.out)?;
+        hand_over(writer, &mut session.out, answers)?;
         taken?;
     }
     Err(ScriptFault::Read)
+}
+
+/// Runs a script: reads its lines, has each served in turn, and writes the replies. Whatever the reader and the
+/// writer are, the broker is one that serving some lines in turn leads to, and the writer gained just the replies
+/// that the broker's law owes to them; where the reader tells its bytes, those are the lines of its bytes. After
+/// `Write` the writer gained a beginning of the replies; after another fault, all replies of the lines before it.
+/// A run makes at most 2^40 reads.
+pub fn run_script<R: io::Read, W: io::Write, B: Broker>(
+    alloc: Global,
+    reader: &mut R,
+    writer: &mut W,
+    broker: &mut B,
+) -> Result<(), ScriptFault>
+    ensures { RunsScript (law_of B.serves B.names) broker.old broker.new (W.contents writer.old) (W.contents writer.new)
+        (R.remaining reader.old) (R.remaining reader.new) result }
+{
+    let mut answers = Answers::none();
+    run_noting(alloc, reader, writer, broker, &mut answers)
 }

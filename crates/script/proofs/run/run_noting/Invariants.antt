@@ -1,14 +1,15 @@
 -- The lines that ended in what was read are done, and no reply waits.
-use Rattle.std.proofs.Common.{◌≡◌, ◌+◌, ◌*◌, ◌≤◌, ℕ, List, [], Some}
+use Rattle.std.proofs.Common.{◌≡◌, ◌+◌, ◌*◌, ◌≤◌, ◌^◌, []}
 use Rattle.script.specs.Runs.{law_of}
 use Rattle.script.specs.Sessions.{pending}
 use Rattle.script.proofs.Blocks.{Going}
-use Rattle.script.proofs.run.run_script.Given as goal
+use Rattle.script.proofs.run.run_noting.Given as goal
 
 abbrev pub invariant-loop : goal.invariant-loop
 invariant-loop g l =
-    ((script : List ℕ) → g.R.Read.remaining l.initial.reader ≡ Some script →
     Going (law_of g.B.Broker.serves g.B.Broker.names) l.initial.broker l.broker (g.W.Write.contents l.initial.writer) (g.W.Write.contents l.writer)
-    (g.R.Read.remaining l.reader) l.session script)
+    (g.R.Read.remaining l.initial.reader) (g.R.Read.remaining l.reader) l.session
     × (pending l.session ≡ [])
     × (l.session.number ≤ 4096 * l.counter + 1)
+    × (l.answers.reads ≡ l.counter)
+    × (l.counter ≤ 2 ^ 40)

@@ -1,0 +1,10 @@
+-- So many bytes are taken, and the writer holds them.
+use Rattle.std.proofs.Common.{◌≡◌, ◌≤◌, length, take}
+use Rattle.std.specs.Io.KnownBytes.{Appends}
+use Rattle.script.proofs.answers.write_through.Given as goal
+
+abbrev pub invariant-loop : goal.invariant-loop
+invariant-loop g l =
+    (l.taken ≤ length l.bytes)
+    × Appends (g.W.Write.contents l.initial.writer) (g.W.Write.contents l.writer) (take l.taken l.bytes)
+    × (l.answers ≡ l.initial.answers)

@@ -1,0 +1,47 @@
+-- What the reader and the writer of a run answered, and what that left of their bytes (own).
+use Rattle.std.specs.Prelude.{ℕ, ◌≡◌, ◌+◌, ◌≤◌, ◌^◌, ◌⊎◌, true, false, List, [], ◌++◌, length, take, Option, Some, None, Result, Ok, Err, ⊤}
+use Rattle.std.specs.Io.KnownBytes.{Appends, Consumes, Keeps, IsAtEnd}
+use Rattle.script.specs.declared.answers.Answers.{Answers}
+use Rattle.script.specs.declared.fault.ScriptFault.{ScriptFault}
+use Rattle.script.specs.declared.fault.ScriptFault.TheVariants.{OutOfMemory, BadLine, Read, Write}
+
+-- neither was asked yet
+abbrev pub none_yet : Answers
+none_yet = record { reads = 0; read_failed = false; write_failed = false }
+
+-- one read more
+abbrev pub read_more : Answers → Answers
+read_more answers = record { reads = answers.reads + 1; read_failed = answers.read_failed; write_failed = answers.write_failed }
+
+-- the reader failed
+abbrev pub read_failing : Answers → Answers
+read_failing answers = record { reads = answers.reads; read_failed = true; write_failed = answers.write_failed }
+
+-- the writer failed
+abbrev pub write_failing : Answers → Answers
+write_failing answers = record { reads = answers.reads; read_failed = answers.read_failed; write_failed = true }
+
+-- a fault has its cause: Read that the reader failed or that 2^40 reads were made, Write that the writer failed
+abbrev pub IsCaused : Answers → ScriptFault → Type 0
+IsCaused answers Read = (answers.read_failed ≡ true) ⊎ (answers.reads ≡ 2 ^ 40)
+IsCaused answers Write = answers.write_failed ≡ true
+IsCaused answers OutOfMemory = ⊤
+IsCaused answers (BadLine number) = ⊤
+
+-- a read gave bytes, of which there are none only at the end; or it gave nothing
+abbrev pub ReadsBlock : Option (List ℕ) → Option (List ℕ) → Result (Option ℕ) ScriptFault → List ℕ → Type 0
+ReadsBlock old new (Ok (Some count)) block = (count ≤ length block) × Consumes old new (take count block) × (count ≡ 0 → IsAtEnd new)
+ReadsBlock old new (Ok None) block = Keeps old new
+ReadsBlock old new (Err fault) block = Keeps old new
+
+-- a write took so many bytes, or none
+abbrev pub Takes : Option (List ℕ) → Option (List ℕ) → Option ℕ → List ℕ → Type 0
+Takes old new (Some count) bytes = (count ≤ length bytes) × Appends old new (take count bytes)
+Takes old new None bytes = Appends old new []
+
+-- known bytes grow by a beginning of others
+pub record AppendsBeginning (old new : Option (List ℕ)) (bytes : List ℕ) : Type 0 where
+  pub gained : List ℕ
+  pub missed : List ℕ
+  pub parts : bytes ≡ gained ++ missed
+  pub grows : Appends old new gained
