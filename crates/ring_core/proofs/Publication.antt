@@ -101,12 +101,14 @@ published_stays n machine step h may id published = stays_in n machine.size mach
 -- ---- the read index
 
 -- a step raises the read index, between clearing a header and raising it; or it leaves the index, and only clearing leads there
-pub record Raised (machine next : Machine) : Type 0 where
+pub record Raised (machine next : Machine) (access : Access) : Type 0 where
+  pub access_is : access ≡ RaiseReadIndex
   pub was_cleared : (processor_of machine.parts).raising ≡ true
   pub is_done : (processor_of next.parts).raising ≡ false
   pub index_is : read_index next ≡ read_index machine + 1
 
 pub record Stayed (machine next : Machine) (access : Access) : Type 0 where
+  pub other : access ≢ RaiseReadIndex
   pub index_is : read_index next ≡ read_index machine
   pub clears : (processor_of next.parts).raising ≡ true → ((processor_of machine.parts).raising ≡ true) ⊎ (access ≡ ClearHeader)
 
@@ -123,14 +125,14 @@ index_stays size words RaiseReadIndex in1 other = absurd (other refl)
 
 -- what becomes of the read index, as one of the two
 abbrev pub Moved : Machine → Step → Type 0
-Moved machine step = Raised machine (made machine step) ⊎ Stayed machine (made machine step) step.access
+Moved machine step = Raised machine (made machine step) step.access ⊎ Stayed machine (made machine step) step.access
 
 processor_moves : (size : ℕ) (words : List ℕ) (q : ProcessorPart) (rest : List Part) → 1 < length words → (access : Access) → may_make size (Processor q) access ≡ true
     → Moved (record { size = size; words = words; parts = Processor q ∷ rest }) (record { seat = zero; access = access })
-processor_moves size words q rest in1 LoadHeader m = inr (record { index_is = index_stays size words LoadHeader in1 (λ e. cc); clears = λ r. inl r })
-processor_moves size words q rest in1 (LoadBody place) m = inr (record { index_is = index_stays size words (LoadBody place) in1 (λ e. cc); clears = λ r. inl r })
-processor_moves size words q rest in1 ClearHeader m = inr (record { index_is = index_stays size words ClearHeader in1 (λ e. cc); clears = λ r. inr refl })
-processor_moves size words q rest in1 RaiseReadIndex m = inl (record { was_cleared = m; is_done = refl; index_is = get_or-set_same words 1 (get_or words 1 0 + 1) 0 in1 })
+processor_moves size words q rest in1 LoadHeader m = inr (record { other = λ e. cc; index_is = index_stays size words LoadHeader in1 (λ e. cc); clears = λ r. inl r })
+processor_moves size words q rest in1 (LoadBody place) m = inr (record { other = λ e. cc; index_is = index_stays size words (LoadBody place) in1 (λ e. cc); clears = λ r. inl r })
+processor_moves size words q rest in1 ClearHeader m = inr (record { other = λ e. cc; index_is = index_stays size words ClearHeader in1 (λ e. cc); clears = λ r. inr refl })
+processor_moves size words q rest in1 RaiseReadIndex m = inl (record { access_is = refl; was_cleared = m; is_done = refl; index_is = get_or-set_same words 1 (get_or words 1 0 + 1) 0 in1 })
 processor_moves size words q rest in1 Reserve m = absurd (cc)
 processor_moves size words q rest in1 (LoadReadIndex ticket) m = absurd (cc)
 processor_moves size words q rest in1 (StoreBody ticket place w) m = absurd (cc)
@@ -147,7 +149,8 @@ moves_in n size words (Processor q ∷ rest) zero access h may = processor_moves
 moves_in n size words (Processor q ∷ rest) (suc seat) access h may =
     let p = producer_of (get_or rest seat nobody) (producers_all rest seat h.shared.seats.1) in
     let m : producer_may size p.0 access ≡ true = ap (λ u. may_make size u access) (sym p.1) ∙ may in
-    inr (record { index_is = index_stays size words access (omega (arith, h.words)) (λ is. raises_not size p.0 (subst (λ (a : Access). producer_may size p.0 a ≡ true) is m)); clears = λ r. inl r })
+    let other : access ≢ RaiseReadIndex = λ is. raises_not size p.0 (subst (λ (a : Access). producer_may size p.0 a ≡ true) is m) in
+    inr (record { other = other; index_is = index_stays size words access (omega (arith, h.words)) other; clears = λ r. inl r })
 
 pub index_moves : (n : ℕ) (machine : Machine) (step : Step) → IsRule n machine → is_allowed machine step ≡ true → Moved machine step
 index_moves n machine step h may = moves_in n machine.size machine.words machine.parts step.seat step.access h may

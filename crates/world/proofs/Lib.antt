@@ -1,1 +1,13 @@
 pub mod RingLemmas
+pub mod Filling
+pub mod Numbering
+pub mod Entering
+pub mod Joining
+pub mod Taking
+pub mod OpeningKept
+pub mod Kept
+pub mod Refusing
+pub mod Obeyed
+pub mod Deciding
+pub mod Handing
+pub mod Replies

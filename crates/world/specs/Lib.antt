@@ -2,3 +2,12 @@ pub mod Rings
 pub mod Serving
 pub mod Opening
 pub mod Steps
+pub mod States
+pub mod Bytes
+pub mod Calls
+pub mod Dues
+pub mod InStep
+pub mod Making
+pub mod Headline
+pub mod Obeying
+pub mod Starting

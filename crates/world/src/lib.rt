@@ -1,11 +1,22 @@
-//! The core with a ring for each of its queues, served command by command: the broker that scripts
-//! run on.
+//! The world: one core, and a ring for each of its queues. What is asked of it, a step of a ring, a take
+//! or a call, is served in the order of asking, whoever asks: every interleaving is a list of requests.
 
 // The check tries its tactics on what is left of each proof.
 #![tactic(auto)]
 
+mod bytes;
+pub mod joined;
+mod laws;
+mod queue_ring;
+mod reply;
+mod request;
 mod ring;
+mod rings;
+mod serving;
 mod world;
 
+pub use laws::{refusals_change_nothing, the_headline};
+pub use reply::{Answer, Refusal, Reply};
+pub use request::{Call, Request};
 pub use ring::Ring;
 pub use world::World;

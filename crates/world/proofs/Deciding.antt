@@ -1,0 +1,284 @@
+-- What is kept beside each ring stays what the history says of the packet at its read index.
+use Rattle.std.proofs.Common.{◌≡◌, ◌≢◌, ℕ, ◌+◌, ◌<◌, ◌≤◌, List, [], ◌∷◌, ◌++◌, length, refl, sym, ap, ◌∙◌, subst, Bool, true, false, Option, Some, None, Result, Ok, Err, inl, inr, arith}
+use Rattle.std.specs.Prelude.{◌⊎◌, ◌==◌, map, nat_lt, if◌then◌else◌}
+use Rattle.std.proofs.lemmas.Bool.{eq-eqb}
+use Rattle.std.proofs.lemmas.Bool.Decides.{eqb_tells, nat_tests}
+use Rattle.aql_packet.specs.declared.ids.AgentHandle.{AgentHandle}
+use Rattle.aql_packet.specs.declared.ids.ClientId.{ClientId}
+use Rattle.aql_packet.specs.declared.ids.QueueId.{QueueId}
+use Rattle.aql_packet.specs.declared.ids.PacketId.{PacketId}
+use Rattle.aql_packet.specs.Reading.{barrier_bit}
+use Rattle.queue_error.specs.declared.rule.Rule.{Rule}
+use Rattle.policy.specs.Policy.{numbered}
+use Rattle.core_model.specs.declared.event.Event.{Event}
+use Rattle.core_model.specs.declared.event.Event.TheVariants.{OpenQueue, Take}
+use Rattle.core_model.specs.declared.event.Query.{Query}
+use Rattle.core_model.specs.declared.event.Request.{Request as Asked}
+use Rattle.core_model.specs.declared.event.Request.TheVariants as asked
+use Rattle.core_model.specs.declared.entry.Entry.{Entry}
+use Rattle.core_model.specs.declared.entry.Effect.{Effect}
+use Rattle.core_model.specs.declared.outcome.Cause.{Cause}
+use Rattle.core_model.specs.declared.outcome.Outcome.{Outcome}
+use Rattle.core_model.specs.declared.outcome.Outcome.TheVariants as outcome
+use Rattle.core_model.specs.declared.outcome.Taken.{Taken}
+use Rattle.core_model.specs.declared.outcome.Taken.TheVariants as taken
+use Rattle.core_model.specs.declared.refusal.Refusal as cores
+use Rattle.core_model.specs.declared.refusal.Refusal.TheVariants as refusal
+use Rattle.core_model.specs.History.{Start, History}
+use Rattle.core_model.specs.Flight.{flight_of}
+use Rattle.core_model.specs.LaunchRules.{first_failing, may_start}
+use Rattle.core_model.specs.Queues.{Opening, hands_over, is_down, next_id, owner}
+use Rattle.core_model.specs.Owed.{Owed, owed, refuses, answers, enters, decided, error_at, facts_of, for_some, owed_take, refuse_if, refuse_unless}
+use Rattle.core_model.specs.Legal as cores_law
+use Rattle.core_model.specs.Legal.{MeetsOrLacks, due, entry_of, history_after, reply_of, wrapped}
+use Rattle.core_model.proofs.More.{next_id-more}
+use Rattle.core_model.proofs.Entered.{Decided, take-decided}
+use Rattle.ring_core.specs.declared.access.Access.{Access}
+use Rattle.ring_core.specs.declared.access.Access.TheVariants.{Reserve, LoadReadIndex, StoreBody, StoreHeader, LoadHeader, LoadBody, ClearHeader, RaiseReadIndex}
+use Rattle.ring_core.specs.declared.access.Step.{Step}
+use Rattle.ring_core.specs.Parts.{collected_packet}
+use Rattle.ring_core.specs.Machine.{Machine, is_allowed, made, producers_of, read_index}
+use Rattle.ring_core.specs.Rule.{IsRing, processor_of}
+use Rattle.ring_core.proofs.Publication.{Moved, Raised, Stayed, index_moves}
+use Rattle.world.specs.declared.queue_ring.QueueRing.{QueueRing}
+use Rattle.world.specs.declared.request.Call.{Call}
+use Rattle.world.specs.declared.request.Request.{Request}
+use Rattle.world.specs.declared.request.Request.TheVariants as request
+use Rattle.world.specs.declared.reply.Refusal.{Refusal}
+use Rattle.world.specs.States.{Joined, joined, ring_of}
+use Rattle.world.specs.Bytes.{bytes_of}
+use Rattle.world.specs.Calls.{event_of}
+use Rattle.world.specs.Dues.{Reply, asked_size, hindrance, is_decided, taking}
+use Rattle.world.specs.InStep.{IsInStep, IsJoined, IsUntouched, Stands}
+use Rattle.world.specs.Making.{AreDecided, MakesAt, MakesOn, MakesWhere, decided_after, ring_made, rings_of, with_queue_ring}
+use Rattle.world.specs.Obeying.{Asks, HandsOver, Obeys, Opens, TakesAt, new_ring, ring_taken, rings_opened}
+use Rattle.world.proofs.Numbering.{numbered_map, numbered_new, numbered_next, numbered_old, numbered_other, numbered_same}
+use Rattle.world.proofs.Entering.{due_answers, due_enters}
+use Rattle.world.proofs.Joining.{IsAside, same_queue}
+use Rattle.world.proofs.Kept.{call_aside, unhindered}
+use Rattle.world.proofs.Obeyed.{World, ring_is}
+
+same_some : {X : Type 0} (x y : X) → Some x ≡ Some y → x ≡ y
+same_some x y e = cc
+
+-- ---- lists of rings
+
+-- where no queue's next id changes, nothing else does
+decided_along : (core core' : History) (rings : List QueueRing) → ((queue : QueueId) → next_id core'.start core'.entries queue ≡ next_id core.start core.entries queue) → AreDecided core rings → AreDecided core' rings
+decided_along core core' rings next h queue r found = h queue r found ∙ ap (nat_lt (read_index r.ring)) (sym (next queue))
+
+-- another state of one queue's ring, where other queues' next ids stay
+decided_put : (core core' : History) (rings : List QueueRing) (queue : QueueId) (r after : QueueRing) → numbered rings queue.0 ≡ Some r → after.decided ≡ is_decided core' queue after.ring
+    → ((other : QueueId) → other.0 ≢ queue.0 → next_id core'.start core'.entries other ≡ next_id core.start core.entries other) → AreDecided core rings → AreDecided core' (with_queue_ring rings queue after)
+decided_put core core' rings queue r after found here next h other x at =
+    elim (eqb_tells other.0 queue.0) [
+      | inl e ↦
+          let place : numbered (with_queue_ring rings queue after) other.0 ≡ Some after = ap (numbered (with_queue_ring rings queue after)) e.1 ∙ numbered_same rings queue.0 r after found in
+          let is : after ≡ x = same_some after x (sym place ∙ at) in
+          subst (λ (y : QueueRing). y.decided ≡ is_decided core' other y.ring) is (here ∙ ap (λ q. is_decided core' q after.ring) (sym (same_queue other queue e.1)))
+      | inr e ↦
+          let place : numbered rings other.0 ≡ Some x = sym (numbered_other rings queue.0 other.0 r after found e.1) ∙ at in
+          h other x place ∙ ap (nat_lt (read_index x.ring)) (sym (next other e.1))
+    ]
+
+-- ---- steps
+
+kept_after : (decided : Bool) (access : Access) → access ≢ RaiseReadIndex → decided_after decided access ≡ decided
+kept_after decided Reserve other = refl
+kept_after decided (LoadReadIndex ticket) other = refl
+kept_after decided (StoreBody ticket place w) other = refl
+kept_after decided (StoreHeader ticket w) other = refl
+kept_after decided LoadHeader other = refl
+kept_after decided (LoadBody place) other = refl
+kept_after decided ClearHeader other = refl
+kept_after decided RaiseReadIndex other = absurd (other refl)
+
+made_decided : (core : History) (queue : QueueId) (r : QueueRing) (step : Step) → IsInStep core queue r.ring → r.decided ≡ is_decided core queue r.ring → Moved r.ring step
+    → (ring_made r step).decided ≡ is_decided core queue (made r.ring step)
+made_decided core queue r step h d (inl raised) =
+    let past : nat_lt (read_index (made r.ring step)) (next_id core.start core.entries queue) ≡ false =
+    let le : next_id core.start core.entries queue ≤ read_index (made r.ring step) = omega (arith, raised.index_is, h.ceiling) in grind (arith, nat_tests) in
+    ap (decided_after r.decided) raised.access_is ∙ sym past
+made_decided core queue r step h d (inr stayed) =
+    kept_after r.decided step.access stayed.other ∙ d ∙ ap (λ n. nat_lt n (next_id core.start core.entries queue)) (sym stayed.index_is)
+
+module _ (core : History) (rings : List QueueRing) (h : IsJoined (World core rings)) (d : AreDecided core rings) where
+  stands : (queue : QueueId) (r : QueueRing) → numbered rings queue.0 ≡ Some r → Stands core queue (Some r.ring)
+  stands queue r found = subst (Stands core queue) (ring_is core rings queue (Some r) found) (h.each queue)
+
+  after_step : (queue : QueueId) (step : Step) (r after : QueueRing) (reply : Reply) → numbered rings queue.0 ≡ Some r → (o : Option Refusal) → hindrance r.decided r.ring step ≡ o → MakesWhere o r step reply after
+      → after.decided ≡ is_decided core queue after.ring
+  after_step queue step r after reply found (Some why) is (told, same) = subst (λ (x : QueueRing). x.decided ≡ is_decided core queue x.ring) (sym same) (d queue r found)
+  after_step queue step r after reply found None is (inl (told, same)) =
+      let free = unhindered r.decided r.ring step is in
+      let s = stands queue r found in
+      subst (λ (x : QueueRing). x.decided ≡ is_decided core queue x.ring) (sym same) (made_decided core queue r step s.1 (d queue r found) (index_moves (producers_of r.ring) r.ring step s.0.rule free.0))
+  after_step queue step r after reply found None is (inr (told, same)) = subst (λ (x : QueueRing). x.decided ≡ is_decided core queue x.ring) (sym same) (d queue r found)
+
+  step_decided : (queue : QueueId) (step : Step) (reply : Reply) (new : List QueueRing) (o : Option QueueRing) → numbered rings queue.0 ≡ o → MakesAt o queue step rings reply new → AreDecided core new
+  step_decided queue step reply new None found (told, is) = subst (AreDecided core) (sym is) d
+  step_decided queue step reply new (Some r) found (after, makes, put) =
+      subst (AreDecided core) (sym put)
+      (decided_put core core rings queue r after found (after_step queue step r after reply found (hindrance r.decided r.ring step) refl makes) (λ other apart. refl) d)
+
+-- ---- takes
+
+through_unless : (b : Bool) (why : cores.Refusal) (rest : Owed) (told : Outcome) → refuse_unless b why rest ≡ answers told → rest ≡ answers told
+through_unless true why rest told is = is
+through_unless false why rest told is = absurd (cc)
+
+through_if : (b : Bool) (why : cores.Refusal) (rest : Owed) (told : Outcome) → refuse_if b why rest ≡ answers told → rest ≡ answers told
+through_if true why rest told is = absurd (cc)
+through_if false why rest told is = is
+
+decided_waits : (queue : QueueId) (id : ℕ) (cause : Option Cause) (verdict : Option Rule) (told : Outcome) → decided queue id cause verdict ≡ answers told → (c : Cause) × (told ≡ outcome.Taken (taken.Waiting c))
+decided_waits queue id (Some cause) verdict told is = (cause, cc)
+decided_waits queue id None None told is = absurd (cc)
+decided_waits queue id None (Some rule) told is = absurd (cc)
+
+-- a hand-over that leaves no entry waits
+take_waits : (start : Start) (es : List Entry) (queue : QueueId) (id : PacketId) (bytes : List ℕ) (told : Outcome) → owed start es (Take queue id bytes) ≡ answers told → (c : Cause) × (told ≡ outcome.Taken (taken.Waiting c))
+unfolding owed
+take_waits start es queue id bytes told = by_owner (owner start es queue)
+  where
+    by_owner : (o : Option Opening) → for_some o refusal.UnknownQueue (owed_take start es queue id bytes) ≡ answers told → (c : Cause) × (told ≡ outcome.Taken (taken.Waiting c))
+    by_owner None is = absurd (cc)
+    by_owner (Some opening) is =
+        let one = through_if (is_down start es queue) refusal.QueueDown _ told is in
+        let two = through_unless (id.0 == next_id start es queue) (refusal.OutOfStep (next_id start es queue)) _ told one in
+        decided_waits queue id.0 (may_start (map (λ f. f.packet) (flight_of start es queue)) (barrier_bit bytes)) (first_failing (facts_of start es opening) bytes) told two
+
+-- a hand-over that leaves an entry decides
+decides : (queue : QueueId) (id : ℕ) (verdict : Option Rule) (became : Result Taken cores.Refusal) (told : Outcome)
+    → told ≡ elim verdict [ None ↦ outcome.Taken taken.Launched | Some rule ↦ outcome.Taken (taken.Denied (error_at queue id rule)) ] → wrapped outcome.Taken became ≡ Ok told
+    → (r : QueueRing) → (ring_taken r became ≡ record { ring = r.ring; decided = true })
+decides queue id None (Ok taken.Launched) told is made r = refl
+decides queue id None (Ok (taken.Denied error)) told is made r = refl
+decides queue id None (Ok (taken.Waiting cause)) told is made r = absurd (cc)
+decides queue id None (Err why) told is made r = absurd (cc)
+decides queue id (Some rule) (Ok taken.Launched) told is made r = refl
+decides queue id (Some rule) (Ok (taken.Denied error)) told is made r = refl
+decides queue id (Some rule) (Ok (taken.Waiting cause)) told is made r = absurd (cc)
+decides queue id (Some rule) (Err why) told is made r = absurd (cc)
+
+waits_stay : (r : QueueRing) (became : Result Taken cores.Refusal) (c : Cause) → wrapped outcome.Taken became ≡ Ok (outcome.Taken (taken.Waiting c)) → ring_taken r became ≡ r
+waits_stay r (Ok taken.Launched) c is = absurd (cc)
+waits_stay r (Ok (taken.Denied error)) c is = absurd (cc)
+waits_stay r (Ok (taken.Waiting cause)) c is = refl
+waits_stay r (Err why) c is = absurd (cc)
+
+refused_stays : (r : QueueRing) (became : Result Taken cores.Refusal) (why : cores.Refusal) → wrapped outcome.Taken became ≡ Err why → ring_taken r became ≡ r
+refused_stays r (Ok became) why is = absurd (cc)
+refused_stays r (Err other) why is = refl
+
+module _ (core : History) (rings : List QueueRing) (h : IsJoined (World core rings)) (d : AreDecided core rings) (queue : QueueId) (r : QueueRing) (found : numbered rings queue.0 ≡ Some r) (words : List ℕ) where
+  abbrev Taking : Event
+  Taking = taking queue (read_index r.ring) words
+
+  -- the ring stays as it was, and so does the core
+  unmoved : (became : Result Taken cores.Refusal) → ring_taken r became ≡ r → AreDecided core (with_queue_ring rings queue (ring_taken r became))
+  unmoved became is =
+      decided_put core core rings queue r (ring_taken r became) found (subst (λ (x : QueueRing). x.decided ≡ is_decided core queue x.ring) (sym is) (d queue r found)) (λ other apart. refl) d
+
+  by_owing : (became : Result Taken cores.Refusal) (owing : Owed) → due core Taking ≡ owing → wrapped outcome.Taken became ≡ reply_of owing → AreDecided (history_after core Taking owing) (with_queue_ring rings queue (ring_taken r became))
+  by_owing became (refuses why) is made = unmoved became (refused_stays r became why made)
+  by_owing became (answers told) is made =
+      let waits = take_waits core.start core.entries queue (record { 0 = read_index r.ring }) (bytes_of words) told (due_answers core Taking told is) in
+      unmoved became (waits_stay r became waits.0 (made ∙ ap Ok waits.1))
+  by_owing became (enters told effects) is made =
+      let entry : Entry = entry_of Taking told effects in
+      let new : History = history_after core Taking (enters told effects) in
+      let was = take-decided core.start core.entries told effects queue (record { 0 = read_index r.ring }) (bytes_of words) (due_enters core Taking told effects is) in
+      let put : ring_taken r became ≡ record { ring = r.ring; decided = true } = decides queue (read_index r.ring) was.verdict became told was.outcome_is made r in
+      let more : next_id core.start (core.entries ++ entry ∷ []) queue ≡ next_id core.start core.entries queue + 1 =
+      next_id-more core.start core.entries entry queue ∙ ap (λ b. if b then next_id core.start core.entries queue + 1 else next_id core.start core.entries queue) (eq-eqb queue.0 queue.0 refl) in
+      let next : read_index r.ring ≡ next_id core.start core.entries queue = was.is_next in
+      let below : nat_lt (read_index r.ring) (next_id core.start (core.entries ++ entry ∷ []) queue) ≡ true =
+      let lt : read_index r.ring < next_id core.start (core.entries ++ entry ∷ []) queue = omega (arith, more, next) in grind (arith, nat_tests) in
+      decided_put core (history_after core Taking (enters told effects)) rings queue r (ring_taken r became) found
+      (subst (λ (x : QueueRing). x.decided ≡ is_decided (history_after core Taking (enters told effects)) queue x.ring) (sym put) (sym below))
+      (λ other apart.
+      let differs : (queue.0 == other.0) ≡ false = elim (eqb_tells queue.0 other.0) [ inl e ↦ absurd (apart (sym e.1)) | inr e ↦ e.0 ] in
+      next_id-more core.start core.entries entry other ∙ ap (λ b. if b then next_id core.start core.entries other + 1 else next_id core.start core.entries other) differs)
+      d
+
+  handed_decided : (core' : History) (became : Result Taken cores.Refusal) → MeetsOrLacks Taking core core' (wrapped outcome.Taken became) → AreDecided core' (with_queue_ring rings queue (ring_taken r became))
+  handed_decided core' became (inl m) =
+      subst (λ (x : History). AreDecided x (with_queue_ring rings queue (ring_taken r became))) (sym m.history_is) (by_owing became (due core Taking) refl m.reply_is)
+  handed_decided core' became (inr l) =
+      subst (λ (x : History). AreDecided x (with_queue_ring rings queue (ring_taken r became))) (sym l.history_is) (unmoved became (refused_stays r became refusal.OutOfMemory l.reply_is))
+
+-- ---- calls
+
+aside_next : (core : History) (event : Event) → IsAside event → (owing : Owed) → (queue : QueueId)
+    → next_id (history_after core event owing).start (history_after core event owing).entries queue ≡ next_id core.start core.entries queue
+aside_next core event aside (refuses why) queue = refl
+aside_next core event aside (answers told) queue = refl
+aside_next core event aside (enters told effects) queue =
+    next_id-more core.start core.entries (entry_of event told effects) queue ∙ ap (λ b. if b then next_id core.start core.entries queue + 1 else next_id core.start core.entries queue) (aside.hands queue)
+
+opening_next : (core : History) (client : ClientId) (agent : AgentHandle) (size : ℕ) (owing : Owed) → (queue : QueueId)
+    → next_id (history_after core (OpenQueue client agent size) owing).start (history_after core (OpenQueue client agent size) owing).entries queue ≡ next_id core.start core.entries queue
+opening_next core client agent size (refuses why) queue = refl
+opening_next core client agent size (answers told) queue = refl
+opening_next core client agent size (enters told effects) queue = next_id-more core.start core.entries (entry_of (OpenQueue client agent size) told effects) queue
+
+-- ---- any request
+
+length_rings : (rings : List QueueRing) → length (rings_of rings) ≡ length rings
+length_rings [] = refl
+length_rings (r ∷ rings) = omega (arith, length_rings rings)
+
+module _ (core core' : History) (rings new : List QueueRing) (h : IsJoined (World core rings)) (d : AreDecided core rings) (reply : Reply) where
+  take_decided : (queue : QueueId) (o : Option QueueRing) → numbered rings queue.0 ≡ o → TakesAt o queue core rings reply core' new → AreDecided core' new
+  take_decided queue None found (told, same, is) = subst (λ (x : History). AreDecided x new) (sym same) (subst (AreDecided core) (sym is) d)
+  take_decided queue (Some r) found takes = by_packet (collected_packet (processor_of r.ring.parts)) takes
+    where
+      by_packet : (packet : Option (List ℕ)) → HandsOver packet r queue core rings reply core' new → AreDecided core' new
+      by_packet None (told, same, is) = subst (λ (x : History). AreDecided x new) (sym same) (subst (AreDecided core) (sym is) d)
+      by_packet (Some words) (became, meets, told, put) = subst (AreDecided core') (sym put) (handed_decided core rings h d queue r found words core' became meets)
+
+  -- a queue that is opened has no packet yet
+  opened_decided : (size producers : ℕ) (made : Result QueueId cores.Refusal) → ((queue : QueueId) → next_id core'.start core'.entries queue ≡ next_id core.start core.entries queue) → AreDecided core' (rings_opened rings size producers made)
+  opened_decided size producers (Err why) next queue r at = decided_along core core' rings next d queue r at
+  opened_decided size producers (Ok opened) next queue r at =
+      elim (eqb_tells queue.0 (length rings + 1)) [
+        | inl e ↦
+            let place : numbered (rings ++ new_ring size producers ∷ []) queue.0 ≡ Some (new_ring size producers) = ap (numbered (rings ++ new_ring size producers ∷ [])) e.1 ∙ numbered_new rings (new_ring size producers) in
+            let is : new_ring size producers ≡ r = same_some (new_ring size producers) r (sym place ∙ at) in
+            let none : numbered rings queue.0 ≡ None = ap (numbered rings) e.1 ∙ numbered_next rings in
+            let fresh : IsUntouched core queue = subst (Stands core queue) (ring_is core rings queue None none) (h.each queue) in
+            let zero_next : next_id core'.start core'.entries queue ≡ 0 = next queue ∙ fresh.next in
+            subst (λ (y : QueueRing). y.decided ≡ is_decided core' queue y.ring) is (ap (nat_lt 0) (sym zero_next))
+        | inr e ↦
+            let place : numbered rings queue.0 ≡ Some r = sym (numbered_old rings (new_ring size producers) queue.0 e.1) ∙ at in
+            decided_along core core' rings next d queue r place
+      ]
+
+  opening_decided : (client : ClientId) (agent : AgentHandle) (size producers : ℕ) → Opens client agent size producers core rings reply core' new → AreDecided core' new
+  opening_decided client agent size producers (made, meets, told, put) = subst (AreDecided core') (sym put) (opened_decided size producers made (by_due meets))
+    where
+      by_due : MeetsOrLacks (OpenQueue client agent (asked_size size producers)) core core' (wrapped outcome.Opened made) → (queue : QueueId) → next_id core'.start core'.entries queue ≡ next_id core.start core.entries queue
+      by_due (inl m) queue = ap (λ (x : History). next_id x.start x.entries queue) m.history_is ∙ opening_next core client agent (asked_size size producers) (due core (OpenQueue client agent (asked_size size producers))) queue
+      by_due (inr l) queue = ap (λ (x : History). next_id x.start x.entries queue) l.history_is
+
+  call_decided : (call : Call) → Asks (asked.Event (event_of call)) core reply core' × (new ≡ rings) → AreDecided core' new
+  call_decided call ((replied, served, told), same) = subst (AreDecided core') (sym same) (decided_along core core' rings (by_served served) d)
+    where
+      by_served : cores_law.IsServed core (asked.Event (event_of call)) replied core' → (queue : QueueId) → next_id core'.start core'.entries queue ≡ next_id core.start core.entries queue
+      by_served (inl (is, leads)) queue = ap (λ (x : History). next_id x.start x.entries queue) leads ∙ aside_next core (event_of call) (call_aside (World core rings) h call) (due core (event_of call)) queue
+      by_served (inr (may, is, leads)) queue = ap (λ (x : History). next_id x.start x.entries queue) leads
+
+  query_decided : (query : Query) → Asks (asked.Query query) core reply core' × (new ≡ rings) → AreDecided core' new
+  query_decided query ((replied, served, told), same) = subst (AreDecided core') (sym same) (decided_along core core' rings (by_served served) d)
+    where
+      by_served : cores_law.IsServed core (asked.Query query) replied core' → (queue : QueueId) → next_id core'.start core'.entries queue ≡ next_id core.start core.entries queue
+      by_served (inl (is, leads)) queue = ap (λ (x : History). next_id x.start x.entries queue) leads
+      by_served (inr (may, is, leads)) queue = ap (λ (x : History). next_id x.start x.entries queue) leads
+
+  pub obeyed_decided : (wanted : Request) → Obeys wanted core rings reply core' new → AreDecided core' new
+  obeyed_decided (request.Step queue step) (makes, same) = subst (λ (x : History). AreDecided x new) (sym same) (step_decided core rings h d queue step reply new (numbered rings queue.0) refl makes)
+  obeyed_decided (request.Take queue) takes = take_decided queue (numbered rings queue.0) refl takes
+  obeyed_decided (request.OpenQueue client agent size producers) opens = opening_decided client agent size producers opens
+  obeyed_decided (request.Call call) asks = call_decided call asks
+  obeyed_decided (request.Query query) asks = query_decided query asks

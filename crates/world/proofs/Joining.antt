@@ -1,0 +1,146 @@
+-- The rings and the history stay in step, whatever is asked.
+use Rattle.std.proofs.Common.{◌≡◌, ◌≢◌, ℕ, ◌+◌, ◌-◌, ◌<◌, ◌≤◌, List, [], ◌∷◌, ◌++◌, length, refl, sym, ap, ◌∙◌, subst, Bool, true, false, Option, Some, None, inl, inr, arith, length-set}
+use Rattle.std.specs.Prelude.{◌⊎◌, ◌==◌, ◌&&◌, map, nat_lt, slice_get, slice_set, is_some, if◌then◌else◌}
+use Rattle.std.specs.List.{list_all}
+use Rattle.std.proofs.lemmas.Bool.{ltb-true}
+use Rattle.std.proofs.lemmas.Bool.Decides.{eqb_tells}
+use Rattle.aql_packet.specs.declared.ids.QueueId.{QueueId}
+use Rattle.core_model.specs.declared.event.Event.{Event}
+use Rattle.core_model.specs.declared.event.Event.TheVariants.{OpenQueue, Take}
+use Rattle.core_model.specs.declared.entry.Entry.{Entry}
+use Rattle.core_model.specs.declared.entry.Effect.{Effect}
+use Rattle.core_model.specs.declared.outcome.Outcome.{Outcome}
+use Rattle.core_model.specs.History.{History}
+use Rattle.core_model.specs.Queues.{hands_over, next_id, opening_of, openings}
+use Rattle.core_model.specs.Owed.{Owed, owed, refuses, answers, enters}
+use Rattle.core_model.specs.Legal.{IsLegal, due, entry_of, history_after, with_entry}
+use Rattle.core_model.proofs.More.{with_some, next_id-more, openings-more}
+use Rattle.ring_core.specs.declared.access.Access.{Access}
+use Rattle.ring_core.specs.declared.access.Access.TheVariants.{ClearHeader}
+use Rattle.ring_core.specs.declared.access.Step.{Step}
+use Rattle.ring_core.specs.Words.{packet_of}
+use Rattle.ring_core.specs.Tickets.{is_published}
+use Rattle.ring_core.specs.Parts.{collected_packet}
+use Rattle.ring_core.specs.Machine.{Machine, is_allowed, made, producers_of, read_index}
+use Rattle.ring_core.specs.Rule.{IsRing, IsRule, processor_of, ticket_of}
+use Rattle.ring_core.proofs.States.{ring_steps}
+use Rattle.ring_core.proofs.Publication.{Raised, Stayed, collected_is, index_moves, published_stays}
+use Rattle.world.specs.Bytes.{bytes_of}
+use Rattle.world.specs.States.{Joined, joined, ring_of, with_core, with_ring}
+use Rattle.world.specs.Dues.{is_decided, may_follow}
+use Rattle.world.specs.InStep.{IsInStep, IsJoined, IsPublished, IsUntouched, Stands, published, size_of, sizes, taken_from, takes}
+use Rattle.world.proofs.Numbering.{get_last, get_left, map_same, numbered_other, numbered_place, numbered_same}
+use Rattle.world.proofs.Entering.{due_enters, due_legal, sizes_more, takes_more}
+
+-- ---- a ring's step
+
+module _ (core : History) (queue : QueueId) (ring : Machine) (step : Step) (is_ring : IsRing ring) (may : is_allowed ring step ≡ true) (follows : may_follow (is_decided core queue ring) step.access ≡ true) (h : IsInStep core queue ring) where
+  next : ℕ
+  next = next_id core.start core.entries queue
+
+  -- what is published stays published, as it was
+  still_published : (id : ℕ) → IsPublished ring id → IsPublished (made ring step) id × (published (made ring step) id ≡ published ring id)
+  still_published id is =
+      let same = published_stays (producers_of ring) ring step is_ring.rule may id is in
+      (ap is_published same ∙ is, ap (λ t. bytes_of (packet_of t.words)) same)
+
+  still_whole : (id : ℕ) → id < next_id core.start core.entries queue → IsPublished (made ring step) id × (slice_get (takes core.entries queue) id ≡ Some (published (made ring step) id))
+  still_whole id lt =
+      let was = h.whole id lt in
+      let now = still_published id was.0 in
+      (now.0, was.1 ∙ ap Some (sym now.1))
+
+  may_clear : step.access ≡ ClearHeader → read_index ring < next_id core.start core.entries queue
+  may_clear is = ltb-true (read_index ring) (next_id core.start core.entries queue) (ap (may_follow (is_decided core queue ring)) (sym is) ∙ follows)
+
+  by_index : Raised ring (made ring step) step.access ⊎ Stayed ring (made ring step) step.access → IsInStep core queue (made ring step)
+  by_index (inl raised) =
+      let below : read_index ring < next_id core.start core.entries queue = h.cleared raised.was_cleared in
+      record {
+        floor = omega (arith, raised.index_is, below);
+        ceiling = omega (arith, raised.index_is, h.ceiling);
+        cleared = λ raising. absurd (let no_more : false ≡ true = sym raised.is_done ∙ raising in cc);
+        count = h.count;
+        whole = still_whole;
+      }
+  by_index (inr stayed) = record {
+    floor = omega (arith, stayed.index_is, h.floor);
+    ceiling = omega (arith, stayed.index_is, h.ceiling);
+    cleared = λ raising. by_cause (stayed.clears raising);
+    count = h.count;
+    whole = still_whole;
+  }
+    where
+      by_cause : ((processor_of ring.parts).raising ≡ true) ⊎ (step.access ≡ ClearHeader) → read_index (made ring step) < next_id core.start core.entries queue
+      by_cause (inl was) = omega (arith, stayed.index_is, h.cleared was)
+      by_cause (inr is) = omega (arith, stayed.index_is, may_clear is)
+
+  pub step_in_step : IsInStep core queue (made ring step)
+  step_in_step = by_index (index_moves (producers_of ring) ring step is_ring.rule may)
+
+-- a queue is its number
+pub same_queue : (one other : QueueId) → one.0 ≡ other.0 → one ≡ other
+same_queue one other e = λ i. record { 0 = e i }
+
+-- another state of a queue's ring, in step
+pub ring_replaced : (world : Joined) (queue : QueueId) (ring new : Machine) → IsJoined world → ring_of world queue ≡ Some ring → new.size ≡ ring.size → Stands world.core queue (Some new) → IsJoined (with_ring world queue new)
+ring_replaced world queue ring new h found size stands = record {
+  legal = h.legal;
+  count = length-set world.rings (queue.0 - 1) new ∙ h.count;
+  sizes = map_same (λ (r : Machine). r.size) world.rings (queue.0 - 1) ring new (numbered_place world.rings queue.0 ring found).1 size ∙ h.sizes;
+  each = λ other.
+      elim (eqb_tells other.0 queue.0) [
+        | inl e ↦
+            let same = same_queue other queue e.1 in
+            subst (λ (q : QueueId). Stands world.core q (ring_of (with_ring world queue new) q)) (sym same)
+            (subst (Stands world.core queue) (sym (numbered_same world.rings queue.0 ring new found)) stands)
+        | inr e ↦ subst (Stands world.core other) (sym (numbered_other world.rings queue.0 other.0 ring new found e.1)) (h.each other)
+      ];
+}
+
+-- ---- an entry
+
+-- a queue stands as before where its questions have the same answers
+pub stands_along : (old new : History) (queue : QueueId) (o : Option Machine) → next_id new.start new.entries queue ≡ next_id old.start old.entries queue → takes new.entries queue ≡ takes old.entries queue → Stands old queue o → Stands new queue o
+stands_along old new queue None next same h = record { next = next ∙ h.next; takes = same ∙ h.takes }
+stands_along old new queue (Some ring) next same h = (
+  h.0,
+  record {
+    floor = omega (arith, next, h.1.floor);
+    ceiling = omega (arith, next, h.1.ceiling);
+    cleared = λ raising. let below = h.1.cleared raising in omega arith;
+    count = ap length same ∙ h.1.count ∙ sym next;
+    whole = λ id lt.
+        let was = h.1.whole id (omega (arith, next, lt)) in
+        (was.0, ap (λ xs. slice_get xs id) same ∙ was.1);
+  },
+)
+
+-- an event that neither opens a queue nor hands over a packet
+pub record IsAside (event : Event) : Type 0 where
+  pub opens : opening_of event ≡ None
+  pub sizes : size_of event ≡ None
+  pub takes : (queue : QueueId) → taken_from queue event ≡ None
+  pub hands : (queue : QueueId) → hands_over queue event ≡ false
+
+module _ (world : Joined) (h : IsJoined world) (event : Event) where
+  abbrev After : Owed → Joined
+  After owing = with_core world (history_after world.core event owing)
+
+  aside_by : IsAside event → (owing : Owed) → due world.core event ≡ owing → IsJoined (After owing)
+  aside_by aside (refuses why) is = h
+  aside_by aside (answers outcome) is = h
+  aside_by aside (enters outcome effects) is =
+      let e : Entry = entry_of event outcome effects in
+      record {
+        legal = subst (λ o. IsLegal (history_after world.core event o).start (history_after world.core event o).entries) is (due_legal world.core event h.legal);
+        count = h.count ∙ ap length (sym (openings-more world.core.start world.core.entries e ∙ ap (with_some (openings world.core.start world.core.entries)) aside.opens));
+        sizes = h.sizes ∙ sym (sizes_more world.core.entries e ∙ ap (with_some (sizes world.core.entries)) aside.sizes);
+        each = λ queue. stands_along world.core (history_after world.core event (enters outcome effects)) queue (ring_of world queue)
+            (next_id-more world.core.start world.core.entries e queue ∙ ap (λ b. if b then next_id world.core.start world.core.entries queue + 1 else next_id world.core.start world.core.entries queue) (aside.hands queue))
+            (takes_more world.core.entries e queue ∙ ap (with_some (takes world.core.entries queue)) (aside.takes queue))
+            (h.each queue);
+      }
+
+  pub aside_kept : IsAside event → IsJoined (After (due world.core event))
+  aside_kept aside = aside_by aside (due world.core event) refl

@@ -1,0 +1,105 @@
+-- Whatever is asked, the world stays joined.
+use Rattle.std.proofs.Common.{◌≡◌, ℕ, List, [], ◌∷◌, refl, sym, subst, Bool, true, false, Option, Some, None, inl, inr}
+use Rattle.std.proofs.Common.{ap}
+use Rattle.std.specs.Prelude.{◌&&◌, length, nat_lt, slice_get, if◌then◌else◌}
+use Rattle.aql_packet.specs.declared.ids.QueueId.{QueueId}
+use Rattle.policy.specs.Policy.{Declared, numbered}
+use Rattle.core_model.specs.Legal.{opened}
+use Rattle.ring_core.specs.declared.access.Step.{Step}
+use Rattle.ring_core.specs.Parts.{collected_packet}
+use Rattle.ring_core.specs.Machine.{Machine, is_allowed, made, read_index}
+use Rattle.ring_core.specs.Rule.{processor_of}
+use Rattle.ring_core.proofs.Kept.{both}
+use Rattle.ring_core.proofs.States.{ring_steps}
+use Rattle.world.specs.declared.request.Call.{Call}
+use Rattle.world.specs.declared.request.Call.TheVariants as call
+use Rattle.world.specs.declared.request.Request.{Request}
+use Rattle.world.specs.declared.request.Request.TheVariants as request
+use Rattle.world.specs.declared.reply.Refusal.{Refusal}
+use Rattle.world.specs.declared.reply.Refusal.TheVariants as refusal
+use Rattle.world.specs.States.{Joined, joined, ring_of}
+use Rattle.world.specs.Calls.{event_of}
+use Rattle.world.specs.Dues.{AreReplies, IsServed, Reply, due_collected, due_step, due_take, due_where, has_spent, hindrance, is_decided, may_follow, owed_to, reserves}
+use Rattle.world.specs.InStep.{IsInStep, IsJoined, Stands}
+use Rattle.world.proofs.Numbering.{numbered_none}
+use Rattle.world.proofs.Entering.{no_openings, no_sizes, no_takes, none_next}
+use Rattle.world.proofs.Joining.{IsAside, aside_kept, ring_replaced, step_in_step}
+use Rattle.world.proofs.Taking.{take_kept}
+use Rattle.world.proofs.OpeningKept.{opening_kept}
+
+-- ---- steps
+
+-- a step that nothing hinders is allowed, and clears no header too early
+pub unhindered : (decided : Bool) (ring : Machine) (step : Step) → hindrance decided ring step ≡ None → (is_allowed ring step ≡ true) × (may_follow decided step.access ≡ true)
+unhindered decided ring step = by_spent (reserves step.access && has_spent (slice_get ring.parts step.seat))
+  where
+    by_may : (b : Bool) → (is_allowed ring step && may_follow decided step.access) ≡ b → (if b then None else Some refusal.NotAStep) ≡ None → (is_allowed ring step ≡ true) × (may_follow decided step.access ≡ true)
+    by_may true is e = both (is_allowed ring step) (may_follow decided step.access) is
+    by_may false is e = absurd (cc)
+
+    by_spent : (b : Bool) → (if b then Some refusal.Spent else if is_allowed ring step && may_follow decided step.access then None else Some refusal.NotAStep) ≡ None
+        → (is_allowed ring step ≡ true) × (may_follow decided step.access ≡ true)
+    by_spent true e = absurd (cc)
+    by_spent false e = by_may (is_allowed ring step && may_follow decided step.access) refl e
+
+module _ (world : Joined) (h : IsJoined world) where
+  step_kept : (queue : QueueId) (step : Step) (o : Option Machine) → ring_of world queue ≡ o → IsJoined (due_step world queue step o).after
+  step_kept queue step None found = h
+  step_kept queue step (Some ring) found = by_hindrance (hindrance (is_decided world.core queue ring) ring step) refl
+    where
+      by_hindrance : (why : Option Refusal) → hindrance (is_decided world.core queue ring) ring step ≡ why → IsJoined (due_where world queue ring step why).after
+      by_hindrance (Some why) is = h
+      by_hindrance None is =
+          let free = unhindered (is_decided world.core queue ring) ring step is in
+          let stands : Stands world.core queue (Some ring) = subst (Stands world.core queue) found (h.each queue) in
+          ring_replaced world queue ring (made ring step) h found refl (ring_steps ring step stands.0 free.0, step_in_step world.core queue ring step stands.0 free.0 free.1 stands.1)
+
+  taking_kept : (queue : QueueId) (o : Option Machine) → ring_of world queue ≡ o → IsJoined (due_take world queue o).after
+  taking_kept queue None found = h
+  taking_kept queue (Some ring) found = by_packet (collected_packet (processor_of ring.parts)) refl
+    where
+      by_packet : (packet : Option (List ℕ)) → collected_packet (processor_of ring.parts) ≡ packet → IsJoined (due_collected world queue (read_index ring) packet).after
+      by_packet None is = h
+      by_packet (Some words) is = take_kept world h queue ring found words is
+
+  -- a call concerns no ring
+  pub call_aside : (asked : Call) → IsAside (event_of asked)
+  call_aside (call.Grant client object rights) = record { opens = refl; sizes = refl; takes = λ q. refl; hands = λ q. refl }
+  call_aside (call.Revoke client object rights) = record { opens = refl; sizes = refl; takes = λ q. refl; hands = λ q. refl }
+  call_aside (call.Stop queue) = record { opens = refl; sizes = refl; takes = λ q. refl; hands = λ q. refl }
+  call_aside (call.RunNext queue packet) = record { opens = refl; sizes = refl; takes = λ q. refl; hands = λ q. refl }
+  call_aside (call.Poll queue packet) = record { opens = refl; sizes = refl; takes = λ q. refl; hands = λ q. refl }
+  call_aside (call.Finish queue packet) = record { opens = refl; sizes = refl; takes = λ q. refl; hands = λ q. refl }
+  call_aside (call.HostWrite client address bytes) = record { opens = refl; sizes = refl; takes = λ q. refl; hands = λ q. refl }
+  call_aside (call.ChangeSignal client signal operation) = record { opens = refl; sizes = refl; takes = λ q. refl; hands = λ q. refl }
+
+  owed_kept : (asked : Request) → IsJoined (owed_to world asked).after
+  owed_kept (request.Step queue step) = step_kept queue step (ring_of world queue) refl
+  owed_kept (request.Take queue) = taking_kept queue (ring_of world queue) refl
+  owed_kept (request.OpenQueue client agent size producers) = opening_kept world h client agent size producers
+  owed_kept (request.Call asked) = aside_kept world h (event_of asked) (call_aside asked)
+  owed_kept (request.Query asked) = h
+
+  -- one request
+  pub served_kept : (asked : Request) (reply : Reply) (new : Joined) → IsServed world asked reply new → IsJoined new
+  served_kept asked reply new (inl served) = subst IsJoined (sym served.1) (owed_kept asked)
+  served_kept asked reply new (inr lacked) = subst IsJoined (sym lacked.2) h
+
+-- any list of requests
+pub replies_kept : (world new : Joined) (requests : List Request) (replies : List Reply) → IsJoined world → AreReplies world requests replies new → IsJoined new
+replies_kept world new [] [] h are = subst IsJoined (sym are) h
+replies_kept world new (asked ∷ requests) (reply ∷ replies) h are = replies_kept are.0 new requests replies (served_kept world h asked reply are.0 are.1) are.2
+replies_kept world new [] (reply ∷ replies) h are = absurd are
+replies_kept world new (asked ∷ requests) [] h are = absurd are
+
+-- ---- the opening
+
+pub begins : (policy : Declared) (capacity : ℕ) → IsJoined (joined (opened policy capacity) [])
+begins policy capacity = record {
+  legal = tt;
+  count = sym (ap length (no_openings (record { policy = policy })));
+  sizes = sym no_sizes;
+  each = λ queue.
+      subst (Stands (opened policy capacity) queue) (sym (numbered_none (joined (opened policy capacity) []).rings queue.0 refl))
+      (record { next = none_next (record { policy = policy }) queue; takes = no_takes queue });
+}

@@ -1,0 +1,152 @@
+-- A queue that is opened gets a ring of its own, in which nothing happened.
+use Rattle.std.proofs.Common.{◌≡◌, ◌≢◌, ℕ, ◌+◌, ◌<◌, ◌≤◌, List, [], ◌∷◌, ◌++◌, length, refl, sym, ap, ◌∙◌, subst, Bool, true, false, Option, Some, None, Ok, Err, inl, inr, arith, length-append}
+use Rattle.std.specs.Prelude.{◌==◌, ◌||◌, ◌&&◌, nat_le, if◌then◌else◌}
+use Rattle.std.proofs.lemmas.Bool.Decides.{eqb_tells, nat_tests}
+use Rattle.aql_packet.specs.declared.ids.AgentHandle.{AgentHandle}
+use Rattle.aql_packet.specs.declared.ids.ClientId.{ClientId}
+use Rattle.aql_packet.specs.declared.ids.QueueId.{QueueId}
+use Rattle.policy.specs.declared.object.Object.TheVariants as object
+use Rattle.policy.specs.declared.rights.Right.TheVariants as right
+use Rattle.policy.specs.Policy.{declares_client, numbered}
+use Rattle.core_model.specs.declared.event.Event.{Event}
+use Rattle.core_model.specs.declared.event.Event.TheVariants.{OpenQueue}
+use Rattle.core_model.specs.declared.entry.Entry.{Entry}
+use Rattle.core_model.specs.declared.entry.Effect.{Effect}
+use Rattle.core_model.specs.declared.limits.TheConstants.{QUEUES}
+use Rattle.core_model.specs.declared.outcome.Outcome.{Outcome}
+use Rattle.core_model.specs.declared.outcome.Outcome.TheVariants as outcome
+use Rattle.core_model.specs.declared.refusal.Refusal.{Refusal}
+use Rattle.core_model.specs.declared.refusal.Refusal.TheVariants as refusal
+use Rattle.core_model.specs.History.{Start, History}
+use Rattle.core_model.specs.Grants.{in_force}
+use Rattle.core_model.specs.Queues.{next_id, openings}
+use Rattle.core_model.specs.Owed as owed_size
+use Rattle.core_model.specs.Owed.{Owed, owed, refuses, answers, enters, refuse_if, refuse_unless}
+use Rattle.core_model.specs.Legal.{IsLegal, due, entry_of, history_after, opened, reply_of}
+use Rattle.core_model.proofs.More.{next_id-more, openings-more}
+use Rattle.ring_core.specs.Machine as machine
+use Rattle.ring_core.specs.Machine.{Machine, is_ring_size}
+use Rattle.ring_core.proofs.States.{ring_opens}
+use Rattle.world.specs.States.{Joined, joined, ring_of}
+use Rattle.world.specs.Dues.{are_producers, asked_size, rings_after}
+use Rattle.world.specs.InStep as InStep
+use Rattle.world.specs.InStep.{IsInStep, IsJoined, IsUntouched, Stands}
+use Rattle.world.proofs.Numbering.{map_more, numbered_new, numbered_next, numbered_old}
+use Rattle.world.proofs.Entering.{due_answers, due_enters, due_legal, no_openings, no_sizes, no_takes, none_next, sizes_more, takes_more}
+use Rattle.world.proofs.Joining.{same_queue, stands_along}
+
+-- ---- what an opening is owed
+
+through_unless : (b : Bool) (why : Refusal) (rest owing : Owed) → ((w : Refusal) → owing ≢ refuses w) → refuse_unless b why rest ≡ owing → (b ≡ true) × (rest ≡ owing)
+through_unless true why rest owing some is = (refl, is)
+through_unless false why rest owing some is = absurd (some why (sym is))
+
+through_if : (b : Bool) (why : Refusal) (rest owing : Owed) → ((w : Refusal) → owing ≢ refuses w) → refuse_if b why rest ≡ owing → rest ≡ owing
+through_if true why rest owing some is = absurd (some why (sym is))
+through_if false why rest owing some is = is
+
+-- what isn't refused is an entry, and the size is one that a ring may have
+pub opening_owed : (start : Start) (es : List Entry) (client : ClientId) (agent : AgentHandle) (size : ℕ) (owing : Owed) → ((w : Refusal) → owing ≢ refuses w) → owed start es (OpenQueue client agent size) ≡ owing
+    → (owed_size.is_ring_size size ≡ true) × (enters (outcome.Opened (record { 0 = length (openings start es) + 1 })) [] ≡ owing)
+unfolding owed
+opening_owed start es client agent size owing some is =
+    let one = through_unless (declares_client start.policy client) _ _ owing some is in
+    let two = through_unless (in_force start es client (object.Agent agent) right.Use) _ _ owing some one.1 in
+    let three = through_unless (owed_size.is_ring_size size) _ _ owing some two.1 in
+    (three.0, through_if (nat_le QUEUES (length (openings start es))) _ _ owing some three.1)
+
+-- the two crates' sizes are the same
+flip : (a b : ℕ) → (a == b) ≡ (b == a)
+flip a b = grind (arith, nat_tests)
+
+pub same_sizes : (size : ℕ) → owed_size.is_ring_size size ≡ is_ring_size size
+same_sizes size = λ i.
+    flip size 2 i || (flip size 4 i || (flip size 8 i || (flip size 16 i || (flip size 32 i || (flip size 64 i
+    || (flip size 128 i || (flip size 256 i || (flip size 512 i || (flip size 1024 i || (flip size 2048 i || (flip size 4096 i || false)))))))))))
+
+-- a size that was asked for and is a ring's comes with good producers
+pub size_asked : (size producers : ℕ) → owed_size.is_ring_size (asked_size size producers) ≡ true → (asked_size size producers ≡ size) × (are_producers producers ≡ true)
+size_asked size producers fits = by_test (are_producers producers) refl fits
+  where
+    by_test : (b : Bool) → are_producers producers ≡ b → owed_size.is_ring_size (if b then size else 0) ≡ true → ((if b then size else 0) ≡ size) × (are_producers producers ≡ true)
+    by_test true is fits = (refl, is)
+    by_test false is fits = absurd (cc)
+
+-- ---- the ring of an opened queue
+
+opens_in_step : (core : History) (queue : QueueId) (size producers : ℕ) → IsUntouched core queue → IsInStep core queue (machine.opened size producers)
+opens_in_step core queue size producers h = record {
+  floor = omega (arith, h.next);
+  ceiling = omega (arith, h.next);
+  cleared = λ raising. absurd (cc);
+  count = ap length h.takes ∙ sym h.next;
+  whole = λ id lt. absurd (omega (arith, h.next));
+}
+
+module _ (world : Joined) (h : IsJoined world) (client : ClientId) (agent : AgentHandle) (size producers : ℕ) where
+  abbrev Opening : Event
+  Opening = OpenQueue client agent (asked_size size producers)
+
+  abbrev After : Owed → Joined
+  After owing = joined (history_after world.core Opening owing) (rings_after world.rings size producers (reply_of owing))
+
+  module _ (told : Outcome) (effects : List Effect) (owing : due world.core Opening ≡ enters told effects) where
+    abbrev New : History
+    New = history_after world.core Opening (enters told effects)
+
+    abbrev TheEntry : Entry
+    TheEntry = entry_of Opening told effects
+
+    abbrev NewRing : Machine
+    NewRing = machine.opened size producers
+
+    good : (owed_size.is_ring_size (asked_size size producers) ≡ true) × (enters (outcome.Opened (record { 0 = length (openings world.core.start world.core.entries) + 1 })) [] ≡ enters told effects)
+    good = opening_owed world.core.start world.core.entries client agent (asked_size size producers) (enters told effects) (λ w e. cc) (due_enters world.core Opening told effects owing)
+
+    asked : (asked_size size producers ≡ size) × (are_producers producers ≡ true)
+    asked = size_asked size producers good.0
+
+    fits : is_ring_size size ≡ true
+    fits = sym (same_sizes size) ∙ ap owed_size.is_ring_size (sym asked.0) ∙ good.0
+
+    few : producers ≤ 16
+    few = let are : (nat_le 1 producers && nat_le producers 16) ≡ true = asked.1 in grind (arith, nat_tests)
+
+    after : (queue : QueueId) (o : Option Machine) → Stands world.core queue o → Stands New queue o
+    after queue o = stands_along world.core New queue o (next_id-more world.core.start world.core.entries TheEntry queue) (takes_more world.core.entries TheEntry queue)
+
+    new_here : (queue : QueueId) → queue.0 ≡ length world.rings + 1 → Stands New queue (Some NewRing)
+    new_here queue is =
+        let none : ring_of world queue ≡ None = ap (numbered world.rings) is ∙ numbered_next world.rings in
+        let fresh : Stands New queue None = after queue None (subst (Stands world.core queue) none (h.each queue)) in
+        (ring_opens size producers fits few, opens_in_step New queue size producers fresh)
+
+    made : IsJoined (joined New (world.rings ++ NewRing ∷ []))
+    made = record {
+      legal = subst (λ o. IsLegal (history_after world.core Opening o).start (history_after world.core Opening o).entries) owing (due_legal world.core Opening h.legal);
+      count =
+          let rings = length-append world.rings (NewRing ∷ []) in
+          let more = ap length (openings-more world.core.start world.core.entries TheEntry) in
+          let longer = length-append (openings world.core.start world.core.entries) (record { client = client; agent = agent } ∷ []) in
+          omega (arith, rings, more, longer, h.count);
+      sizes =
+          map_more (λ (r : Machine). r.size) world.rings NewRing
+          ∙ ap (λ xs. xs ++ size ∷ []) h.sizes
+          ∙ ap (λ n. InStep.sizes world.core.entries ++ n ∷ []) (sym asked.0)
+          ∙ sym (sizes_more world.core.entries TheEntry);
+      each = λ queue.
+          elim (eqb_tells queue.0 (length world.rings + 1)) [
+            | inl e ↦ subst (Stands New queue) (sym (ap (numbered (world.rings ++ NewRing ∷ [])) e.1 ∙ numbered_new world.rings NewRing)) (new_here queue e.1)
+            | inr e ↦ subst (Stands New queue) (sym (numbered_old world.rings NewRing queue.0 e.1)) (after queue (ring_of world queue) (h.each queue))
+          ];
+    }
+
+  opened_by : (owing : Owed) → due world.core Opening ≡ owing → IsJoined (After owing)
+  opened_by (refuses why) is = h
+  opened_by (answers told) is =
+      let owed_is = opening_owed world.core.start world.core.entries client agent (asked_size size producers) (answers told) (λ w e. cc) (due_answers world.core Opening told is) in
+      absurd (let never : enters (outcome.Opened (record { 0 = length (openings world.core.start world.core.entries) + 1 })) [] ≡ answers told = owed_is.1 in cc)
+  opened_by (enters told effects) is = made told effects is
+
+  pub opening_kept : IsJoined (After (due world.core Opening))
+  opening_kept = opened_by (due world.core Opening) refl

@@ -1,0 +1,138 @@
+-- A packet that is handed over is the next that is published.
+use Rattle.std.proofs.Common.{◌≡◌, ◌≢◌, ℕ, ◌+◌, ◌<◌, ◌≤◌, List, [], ◌∷◌, ◌++◌, length, refl, sym, ap, ◌∙◌, subst, Bool, true, false, Option, Some, None, inl, inr, arith, length-append}
+use Rattle.std.specs.Prelude.{◌==◌, is_some, slice_get, if◌then◌else◌}
+use Rattle.std.specs.List.{list_all}
+use Rattle.std.proofs.lemmas.Bool.{eq-eqb}
+use Rattle.std.proofs.lemmas.Bool.Decides.{eqb_tells, leb_tells}
+use Rattle.aql_packet.specs.declared.ids.QueueId.{QueueId}
+use Rattle.core_model.specs.declared.event.Event.{Event}
+use Rattle.core_model.specs.declared.entry.Entry.{Entry}
+use Rattle.core_model.specs.declared.entry.Effect.{Effect}
+use Rattle.core_model.specs.declared.outcome.Outcome.{Outcome}
+use Rattle.core_model.specs.History.{History}
+use Rattle.core_model.specs.Queues.{next_id, openings}
+use Rattle.core_model.specs.Owed.{Owed, refuses, answers, enters}
+use Rattle.core_model.specs.Legal.{IsLegal, due, entry_of, history_after}
+use Rattle.core_model.proofs.More.{next_id-more, openings-more}
+use Rattle.core_model.proofs.Entered.{take-decided}
+use Rattle.ring_core.specs.declared.part.ProcessorPart.{ProcessorPart}
+use Rattle.ring_core.specs.Words.{packet_of}
+use Rattle.ring_core.specs.Parts.{collected_packet}
+use Rattle.ring_core.specs.Machine.{Machine, producers_of, read_index}
+use Rattle.ring_core.specs.Rule.{IsRing, processor_of, ticket_of}
+use Rattle.ring_core.proofs.Publication.{collected_is}
+use Rattle.world.specs.Bytes.{bytes_of}
+use Rattle.world.specs.States.{Joined, ring_of, with_core}
+use Rattle.world.specs.Dues.{taking}
+use Rattle.world.specs.InStep.{IsInStep, IsJoined, IsPublished, Stands, published, takes}
+use Rattle.world.proofs.Numbering.{get_last, get_left}
+use Rattle.world.proofs.Entering.{due_enters, due_legal, sizes_more, takes_more}
+use Rattle.world.proofs.Joining.{same_queue, stands_along}
+
+-- the words of a packet that is collected
+collected_whole : (q : ProcessorPart) (words : List ℕ) → collected_packet q ≡ Some words → (list_all is_some q.collected ≡ true) × (words ≡ packet_of q.collected)
+collected_whole q words = by_test (list_all is_some q.collected) refl
+  where
+    by_test : (b : Bool) → list_all is_some q.collected ≡ b → (if b then Some (packet_of q.collected) else None) ≡ Some words → (list_all is_some q.collected ≡ true) × (words ≡ packet_of q.collected)
+    by_test true is e = (is, cc)
+    by_test false is e = absurd (cc)
+
+module _ (world : Joined) (h : IsJoined world) (queue : QueueId) (ring : Machine) (found : ring_of world queue ≡ Some ring) (words : List ℕ) (whole : collected_packet (processor_of ring.parts) ≡ Some words) where
+  abbrev Taking : Event
+  Taking = taking queue (read_index ring) words
+
+  abbrev After : Owed → Joined
+  After owing = with_core world (history_after world.core Taking owing)
+
+  here : IsRing ring × IsInStep world.core queue ring
+  here = subst (Stands world.core queue) found (h.each queue)
+
+  -- what is handed over is what is published under the read index
+  is_published : IsPublished ring (read_index ring) × (bytes_of words ≡ published ring (read_index ring))
+  is_published =
+      let all = collected_whole (processor_of ring.parts) words whole in
+      let c = collected_is (producers_of ring) ring here.0.rule all.0 in
+      (c.0, ap bytes_of (all.1 ∙ c.1))
+
+  module _ (outcome : Outcome) (effects : List Effect) (owing : due world.core Taking ≡ enters outcome effects) where
+    abbrev New : History
+    New = history_after world.core Taking (enters outcome effects)
+
+    abbrev TheEntry : Entry
+    TheEntry = entry_of Taking outcome effects
+
+    is_next : read_index ring ≡ next_id world.core.start world.core.entries queue
+    is_next = (take-decided world.core.start world.core.entries outcome effects queue (record { 0 = read_index ring }) (bytes_of words) (due_enters world.core Taking outcome effects owing)).is_next
+
+    -- its own queue has one more
+    next_more : next_id New.start New.entries queue ≡ next_id world.core.start world.core.entries queue + 1
+    next_more =
+        next_id-more world.core.start world.core.entries TheEntry queue
+        ∙ ap (λ b. if b then next_id world.core.start world.core.entries queue + 1 else next_id world.core.start world.core.entries queue) (eq-eqb queue.0 queue.0 refl)
+
+    takes_longer : takes New.entries queue ≡ takes world.core.entries queue ++ bytes_of words ∷ []
+    takes_longer =
+        takes_more world.core.entries TheEntry queue
+        ∙ ap (λ b. elim (if b then Some (bytes_of words) else None) [ None ↦ takes world.core.entries queue | Some x ↦ takes world.core.entries queue ++ x ∷ [] ]) (eq-eqb queue.0 queue.0 refl)
+
+    whole_more : (id : ℕ) → id < next_id New.start New.entries queue → IsPublished ring id × (slice_get (takes New.entries queue) id ≡ Some (published ring id))
+    whole_more id lt =
+        elim (leb_tells (next_id world.core.start world.core.entries queue) id) [
+          | inr below ↦
+              let was = here.1.whole id below.1 in
+              let inside : id < length (takes world.core.entries queue) = omega (arith, here.1.count, below.1) in
+              (was.0, ap (λ xs. slice_get xs id) takes_longer ∙ get_left (takes world.core.entries queue) (bytes_of words ∷ []) id inside ∙ was.1)
+          | inl last ↦
+              let at : id ≡ read_index ring = omega (arith, last.1, lt, next_more, is_next) in
+              let end : id ≡ length (takes world.core.entries queue) = omega (arith, at, is_next, here.1.count) in (
+                subst (IsPublished ring) (sym at) is_published.0,
+                ap (λ xs. slice_get xs id) takes_longer
+                    ∙ ap (slice_get (takes world.core.entries queue ++ bytes_of words ∷ [])) end
+                    ∙ get_last (takes world.core.entries queue) (bytes_of words)
+                    ∙ ap Some is_published.1
+                    ∙ ap (λ i. Some (published ring i)) (sym at),
+              )
+        ]
+
+    stands_here : Stands New queue (Some ring)
+    stands_here = (
+      here.0,
+      record {
+        floor = omega (arith, here.1.floor, next_more);
+        ceiling = omega (arith, is_next, next_more);
+        cleared = λ raising. omega (arith, is_next, next_more);
+        count = let longer = length-append (takes world.core.entries queue) (bytes_of words ∷ []) in let is = ap length takes_longer in omega (arith, longer, is, here.1.count, next_more);
+        whole = whole_more;
+      },
+    )
+
+    -- other queues have what they had
+    stands_there : (other : QueueId) → other.0 ≢ queue.0 → Stands New other (ring_of world other)
+    stands_there other apart =
+        let differs : (queue.0 == other.0) ≡ false = elim (eqb_tells queue.0 other.0) [ inl e ↦ absurd (apart (sym e.1)) | inr e ↦ e.0 ] in
+        stands_along world.core New other (ring_of world other)
+        (next_id-more world.core.start world.core.entries TheEntry other ∙ ap (λ b. if b then next_id world.core.start world.core.entries other + 1 else next_id world.core.start world.core.entries other) differs)
+        (takes_more world.core.entries TheEntry other ∙ ap (λ b. elim (if b then Some (bytes_of words) else None) [ None ↦ takes world.core.entries other | Some x ↦ takes world.core.entries other ++ x ∷ [] ]) differs)
+        (h.each other)
+
+    taken : IsJoined (After (enters outcome effects))
+    taken = record {
+      legal = subst (λ o. IsLegal (history_after world.core Taking o).start (history_after world.core Taking o).entries) owing (due_legal world.core Taking h.legal);
+      count = h.count ∙ ap length (sym (openings-more world.core.start world.core.entries TheEntry));
+      sizes = h.sizes ∙ sym (sizes_more world.core.entries TheEntry);
+      each = λ other.
+          elim (eqb_tells other.0 queue.0) [
+            | inl e ↦
+                let same = same_queue other queue e.1 in
+                subst (λ (q : QueueId). Stands New q (ring_of world q)) (sym same) (subst (Stands New queue) (sym found) stands_here)
+            | inr e ↦ stands_there other e.1
+          ];
+    }
+
+  taken_by : (owing : Owed) → due world.core Taking ≡ owing → IsJoined (After owing)
+  taken_by (refuses why) is = h
+  taken_by (answers outcome) is = h
+  taken_by (enters outcome effects) is = taken outcome effects is
+
+  pub take_kept : IsJoined (After (due world.core Taking))
+  take_kept = taken_by (due world.core Taking) refl

@@ -1,0 +1,22 @@
+-- The laws of legal histories, for the history that the requests left.
+use Rattle.std.proofs.Common.{◌≡◌, ℕ, List, subst, Option, Some}
+use Rattle.world.specs.InStep.{IsJoined, Stands}
+use Rattle.world.specs.Headline.{Headline, begun}
+use Rattle.world.proofs.Kept.{begins, replies_kept}
+use Rattle.world.proofs.laws.the_headline.Goals as goal
+
+pub returns : goal.returns
+returns c = λ policy capacity requests replies world are.
+    let h : IsJoined world = replies_kept (begun policy capacity) world requests replies (begins policy capacity) are in
+    record {
+      legal = h.legal;
+      launches = λ before queue id bytes effects place. c.each_launch_was_granted.ensures world.core.start world.core.entries before queue id bytes effects h.legal place;
+      denials = λ before queue id bytes error effects place. c.denials_name_the_first_rule.ensures world.core.start world.core.entries before queue id bytes error effects h.legal place;
+      writes = λ before entry place. c.each_write_was_granted.ensures world.core.start world.core.entries before entry h.legal place;
+      changes = λ before entry place. c.each_signal_change_was_granted.ensures world.core.start world.core.entries before entry h.legal place;
+      group_reads = λ before queue id told effects place. c.each_read_of_a_group_was_granted.ensures.reads world.core.start world.core.entries before queue id told effects h.legal place;
+      reads = λ client address size told is. c.each_read_of_a_client_is_granted.ensures world.core.start world.core.entries client address size told is;
+      looks = λ client signal told is. (c.each_look_at_a_signal_is_granted.ensures.load world.core.start world.core.entries client signal told is).0;
+      listed = λ client told is. c.each_listed_right_is_in_force.ensures world.core.start world.core.entries client told is;
+      in_step = λ queue ring found. (subst (Stands world.core queue) found (h.each queue)).1;
+    }

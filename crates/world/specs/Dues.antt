@@ -1,0 +1,195 @@
+-- What each request of the world is owed: its reply, and the world after it.
+use Rattle.std.specs.Prelude.{◌≡◌, ℕ, ◌==◌, ◌&&◌, ◌⊎◌, Bool, true, false, nat_le, nat_lt, List, [], ◌∷◌, ◌++◌, slice_get, Option, Some, None, Result, Ok, Err, if◌then◌else◌}
+use Rattle.aql_packet.specs.declared.ids.QueueId.{QueueId}
+use Rattle.aql_packet.specs.declared.ids.PacketId.{PacketId}
+use Rattle.core_model.specs.declared.event.Event.{Event}
+use Rattle.core_model.specs.declared.event.Event.TheVariants.{OpenQueue, Take}
+use Rattle.core_model.specs.declared.event.Query.{Query}
+use Rattle.core_model.specs.declared.outcome.Outcome.{Outcome}
+use Rattle.core_model.specs.declared.outcome.Outcome.TheVariants as outcome
+use Rattle.core_model.specs.declared.refusal.Refusal as cores
+use Rattle.core_model.specs.declared.refusal.Refusal.TheVariants as why
+use Rattle.core_model.specs.declared.answer.Answer.TheVariants as told
+use Rattle.core_model.specs.History.{History}
+use Rattle.core_model.specs.Queues.{next_id}
+use Rattle.core_model.specs.Owed.{Owed}
+use Rattle.core_model.specs.Legal.{Replying, as_reply, due, history_after, may_lack, query_may_lack, reply_of}
+use Rattle.core_model.specs.Queries.{replied}
+use Rattle.ring_core.specs.declared.access.Access.{Access}
+use Rattle.ring_core.specs.declared.access.Access.TheVariants.{Reserve, LoadHeader, ClearHeader}
+use Rattle.ring_core.specs.declared.access.Step.{Step}
+use Rattle.ring_core.specs.declared.part.Part.{Part}
+use Rattle.ring_core.specs.declared.part.Part.TheVariants.{Producer, Processor}
+use Rattle.ring_core.specs.Parts.{collected_packet, seen_by}
+use Rattle.ring_core.specs.Machine.{Machine, found, is_allowed, made, opened, read_index}
+use Rattle.ring_core.specs.Rule.{processor_of}
+use Rattle.world.specs.declared.request.Request.{Request}
+use Rattle.world.specs.declared.request.Request.TheVariants as request
+use Rattle.world.specs.declared.reply.Answer.{Answer}
+use Rattle.world.specs.declared.reply.Answer.TheVariants as answer
+use Rattle.world.specs.declared.reply.Refusal.{Refusal}
+use Rattle.world.specs.declared.reply.Refusal.TheVariants as refusal
+use Rattle.world.specs.States.{Joined, joined, ring_of, with_core, with_ring}
+use Rattle.world.specs.Bytes.{bytes_of}
+use Rattle.world.specs.Calls.{event_of}
+
+abbrev pub Reply : Type 0
+Reply = Result Answer Refusal
+
+-- what a request is owed: its reply, the world after it, and whether it may want memory in place of both (own)
+pub record Due : Type 0 where
+  pub reply : Reply
+  pub after : Joined
+  pub may_lack : Bool
+
+-- a refusal, after which all is as before
+abbrev pub refused : Joined → Refusal → Due
+refused world why = record { reply = Err why; after = world; may_lack = false }
+
+-- ---- ring steps
+
+-- whether an access reserves an id
+abbrev pub reserves : Access → Bool
+reserves Reserve = true
+reserves _ = false
+
+-- whether a seat is a producer that has reserved all that it may
+abbrev pub has_spent : Option Part → Bool
+has_spent None = false
+has_spent (Some (Processor p)) = false
+has_spent (Some (Producer p)) = p.allowance == 0
+
+-- a header is cleared only when the packet at the read index was launched or denied (own)
+abbrev pub may_follow : Bool → Access → Bool
+may_follow decided ClearHeader = decided
+may_follow decided _ = true
+
+-- why a step on a ring isn't made, if it isn't: the producer has reserved all that it may, or the step is none that is allowed
+-- ("Ring steps"); `decided` tells whether the packet at the read index was launched or denied (own)
+abbrev pub hindrance : Bool → Machine → Step → Option Refusal
+hindrance decided ring step =
+    if reserves step.access && has_spent (slice_get ring.parts step.seat) then Some refusal.Spent
+    else if is_allowed ring step && may_follow decided step.access then None
+    else Some refusal.NotAStep
+
+-- what a step that is made answers: what it read; the look at the header tells the read index too
+abbrev pub answer_to : Access → ℕ → ℕ → Answer
+answer_to LoadHeader index old = answer.Header (record { 0 = index }) old
+answer_to access index old = answer.Step (seen_by access old)
+
+-- whether the packet at a ring's read index was launched or denied: its id is below the queue's next
+abbrev pub is_decided : History → QueueId → Machine → Bool
+is_decided core queue ring = nat_lt (read_index ring) (next_id core.start core.entries queue)
+
+abbrev pub due_where : Joined → QueueId → Machine → Step → Option Refusal → Due
+due_where world queue ring step (Some why) = refused world why
+due_where world queue ring step None = record {
+  reply = Ok (answer_to step.access (read_index ring) (found ring step));
+  after = with_ring world queue (made ring step);
+  may_lack = true;
+}
+
+-- a step on the ring of a queue, if it was opened
+abbrev pub due_step : Joined → QueueId → Step → Option Machine → Due
+due_step world queue step None = refused world (refusal.Core why.UnknownQueue)
+due_step world queue step (Some ring) = due_where world queue ring step (hindrance (is_decided world.core queue ring) ring step)
+
+-- ---- calls of the core
+
+-- the core's reply as the world's
+abbrev pub of_core : Replying → Reply
+of_core (Ok answered) = Ok (answer.Core answered)
+of_core (Err why) = Err (refusal.Core why)
+
+-- an event that concerns no ring
+abbrev pub due_event : Joined → Event → Owed → Due
+due_event world event owing = record {
+  reply = of_core (as_reply (reply_of owing));
+  after = with_core world (history_after world.core event owing);
+  may_lack = may_lack event owing;
+}
+
+-- a query
+abbrev pub due_query : Joined → Query → Due
+due_query world query = record {
+  reply = of_core (replied world.core.start world.core.entries query);
+  after = world;
+  may_lack = query_may_lack query;
+}
+
+-- ---- takes
+
+-- what the hand-over of the packet with this id is told
+abbrev pub taken_reply : ℕ → Result Outcome cores.Refusal → Reply
+taken_reply id (Ok (outcome.Taken taken)) = Ok (answer.Taken (record { 0 = id }) taken)
+taken_reply id (Ok other) = Ok (answer.Core (told.Outcome other))
+taken_reply id (Err why) = Err (refusal.Core why)
+
+-- the packet with this id is handed over
+abbrev pub due_taken : Joined → ℕ → Event → Owed → Due
+due_taken world id event owing = record {
+  reply = taken_reply id (reply_of owing);
+  after = with_core world (history_after world.core event owing);
+  may_lack = may_lack event owing;
+}
+
+abbrev pub taking : QueueId → ℕ → List ℕ → Event
+taking queue id words = Take queue (record { 0 = id }) (bytes_of words)
+
+-- the packet that the processor has collected whole is handed over, with the read index as its id
+abbrev pub due_collected : Joined → QueueId → ℕ → Option (List ℕ) → Due
+due_collected world queue id None = refused world refusal.NotAStep
+due_collected world queue id (Some words) = due_taken world id (taking queue id words) (due world.core (taking queue id words))
+
+abbrev pub due_take : Joined → QueueId → Option Machine → Due
+due_take world queue None = refused world (refusal.Core why.UnknownQueue)
+due_take world queue (Some ring) = due_collected world queue (read_index ring) (collected_packet (processor_of ring.parts))
+
+-- ---- openings
+
+-- a ring has 1 to 16 producers (own)
+abbrev pub are_producers : ℕ → Bool
+are_producers count = nat_le 1 count && nat_le count 16
+
+-- the size that the core is asked for: wrong producers are refused as a wrong size is, in its place among the refusals (own)
+abbrev pub asked_size : ℕ → ℕ → ℕ
+asked_size size producers = if are_producers producers then size else 0
+
+-- the rings after an opening that came to this: an opened queue has a ring of its size and producers, in which nothing happened
+abbrev pub rings_after : List Machine → ℕ → ℕ → Result Outcome cores.Refusal → List Machine
+rings_after rings size producers (Ok made) = rings ++ opened size producers ∷ []
+rings_after rings size producers (Err why) = rings
+
+abbrev pub due_opening : Joined → ℕ → ℕ → Event → Owed → Due
+due_opening world size producers event owing = record {
+  reply = of_core (as_reply (reply_of owing));
+  after = joined (history_after world.core event owing) (rings_after world.rings size producers (reply_of owing));
+  may_lack = may_lack event owing;
+}
+
+-- ---- any request
+
+-- what a request is owed (own)
+abbrev pub owed_to : Joined → Request → Due
+owed_to world (request.Step queue step) = due_step world queue step (ring_of world queue)
+owed_to world (request.Take queue) = due_take world queue (ring_of world queue)
+owed_to world (request.OpenQueue client agent size producers) =
+    due_opening world size producers (OpenQueue client agent (asked_size size producers)) (due world.core (OpenQueue client agent (asked_size size producers)))
+owed_to world (request.Call call) = due_event world (event_of call) (due world.core (event_of call))
+owed_to world (request.Query query) = due_query world query
+
+-- a request got what it is owed; or memory was wanted and not to be had, and all is as before (own)
+abbrev pub Meets : Joined → Due → Reply → Joined → Type 0
+Meets old owed reply new =
+    ((reply ≡ owed.reply) × (new ≡ owed.after))
+    ⊎ ((owed.may_lack ≡ true) × (reply ≡ Err (refusal.Core why.OutOfMemory)) × (new ≡ old))
+
+abbrev pub IsServed : Joined → Request → Reply → Joined → Type 0
+IsServed old asked reply new = Meets old (owed_to old asked) reply new
+
+-- these replies answer these requests in turn, and lead from one world to the other (own)
+abbrev pub AreReplies : Joined → List Request → List Reply → Joined → Type 0
+AreReplies old [] [] new = new ≡ old
+AreReplies old (asked ∷ requests) (reply ∷ replies) new = (mid : Joined) × IsServed old asked reply mid × AreReplies mid requests replies new
+AreReplies old [] (reply ∷ replies) new = ⊥
+AreReplies old (asked ∷ requests) [] new = ⊥

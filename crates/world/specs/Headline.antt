@@ -1,0 +1,101 @@
+-- The headline: what holds after any list of requests, in any interleaving.
+use Rattle.std.specs.Prelude.{◌≡◌, ℕ, true, List, [], Some, Ok, All}
+use Rattle.aql_packet.specs.declared.ids.Address.{Address}
+use Rattle.aql_packet.specs.declared.ids.ClientId.{ClientId}
+use Rattle.aql_packet.specs.declared.ids.PacketId.{PacketId}
+use Rattle.aql_packet.specs.declared.ids.QueueId.{QueueId}
+use Rattle.aql_packet.specs.declared.ids.SignalHandle.{SignalHandle}
+use Rattle.aql_packet.specs.declared.packet.Packet.{Packet}
+use Rattle.policy.specs.declared.object.Object.{Object}
+use Rattle.policy.specs.declared.object.Object.TheVariants as object
+use Rattle.policy.specs.declared.rights.Right.TheVariants as right
+use Rattle.policy.specs.declared.rights.Rights.{Rights}
+use Rattle.policy.specs.Policy.{Declared}
+use Rattle.queue_error.specs.declared.error.QueueError.{QueueError}
+use Rattle.core_model.specs.declared.answer.Answer.{Answer}
+use Rattle.core_model.specs.declared.answer.Answer.TheVariants as answer
+use Rattle.core_model.specs.declared.entry.Effect.{Effect}
+use Rattle.core_model.specs.declared.entry.Entry.{Entry}
+use Rattle.core_model.specs.declared.event.Event.TheVariants.{RunNext, Take}
+use Rattle.core_model.specs.declared.event.Query.TheVariants as query
+use Rattle.core_model.specs.declared.outcome.Outcome.{Outcome}
+use Rattle.core_model.specs.declared.outcome.Outcome.TheVariants as outcome
+use Rattle.core_model.specs.declared.outcome.Taken.TheVariants as taken
+use Rattle.core_model.specs.History.{Start}
+use Rattle.core_model.specs.Grants.{in_force}
+use Rattle.core_model.specs.Memory.{memory_from}
+use Rattle.core_model.specs.Queues.{Opening}
+use Rattle.core_model.specs.Legal.{IsLegal, entry_of, opened}
+use Rattle.core_model.specs.Queries.{replied}
+use Rattle.core_model.specs.Headline.{ChangeIsGranted, InFlightSince, IsDenied, IsEntryBehind, IsListed, MayBeLaunched, MayReach, MayReachRange, WriteIsGranted, reads_of}
+use Rattle.ring_core.specs.Machine.{Machine}
+use Rattle.world.specs.States.{Joined, joined, ring_of}
+use Rattle.world.specs.InStep.{IsInStep}
+
+-- a world that was just opened: no entry, and no queue
+abbrev pub begun : Declared → ℕ → Joined
+begun policy capacity = joined (opened policy capacity) []
+
+-- each packet that was launched may be by the grants in force at that moment, and its launch changed nothing
+abbrev pub EachLaunchWasGranted : Start → List Entry → Type 0
+EachLaunchWasGranted start entries =
+    (before : List Entry) (queue : QueueId) (id : PacketId) (bytes : List ℕ) (effects : List Effect) →
+    IsEntryBehind entries before (entry_of (Take queue id bytes) (outcome.Taken taken.Launched) effects) →
+    (opening : Opening) × (packet : Packet) × MayBeLaunched start before queue id bytes opening packet × (effects ≡ [])
+
+-- each packet that was denied failed the rule that its error names, and none before it; its denial changed nothing
+abbrev pub EachDenialNamesItsRule : Start → List Entry → Type 0
+EachDenialNamesItsRule start entries =
+    (before : List Entry) (queue : QueueId) (id : PacketId) (bytes : List ℕ) (error : QueueError) (effects : List Effect) →
+    IsEntryBehind entries before (entry_of (Take queue id bytes) (outcome.Taken (taken.Denied error)) effects) →
+    IsDenied start before queue id bytes error × (effects ≡ [])
+
+-- each byte written, and each signal changed, is one that a call or a packet of a client may by a grant: in force at the call,
+-- or at the packet's launch
+abbrev pub EachWriteWasGranted : Start → List Entry → Type 0
+EachWriteWasGranted start entries =
+    (before : List Entry) (entry : Entry) → IsEntryBehind entries before entry → All (WriteIsGranted start before entry.event) entry.effects
+
+abbrev pub EachChangeWasGranted : Start → List Entry → Type 0
+EachChangeWasGranted start entries =
+    (before : List Entry) (entry : Entry) → IsEntryBehind entries before entry → All (ChangeIsGranted start before entry.event) entry.effects
+
+-- each group that ran is one of a packet in flight that was launched with READ in force on all that its work reads
+abbrev pub EachGroupReadWasGranted : Start → List Entry → Type 0
+EachGroupReadWasGranted start entries =
+    (before : List Entry) (queue : QueueId) (id : PacketId) (told : Outcome) (effects : List Effect) →
+    IsEntryBehind entries before (entry_of (RunNext queue id) told effects) →
+    (s : InFlightSince start before queue id) × All (MayReachRange start s.launch.before s.launch.opening.client right.Read) (reads_of s.flying.packet)
+
+-- each byte that a client is told is one of memory, with READ in force
+abbrev pub EachReadIsGranted : Start → List Entry → Type 0
+EachReadIsGranted start entries =
+    (client : ClientId) (address : Address) (size : ℕ) (told : Answer) → replied start entries (query.HostRead client address size) ≡ Ok told →
+    MayReach start entries client right.Read address.0 size × (told ≡ answer.Bytes (memory_from start entries address.0 size))
+
+-- each signal whose value a client is told is one on which it has WAIT in force
+abbrev pub EachLookIsGranted : Start → List Entry → Type 0
+EachLookIsGranted start entries =
+    (client : ClientId) (signal : SignalHandle) (told : Answer) → replied start entries (query.LoadSignal client signal) ≡ Ok told →
+    in_force start entries client (object.Signal signal) right.Wait ≡ true
+
+-- each handle that a client is listed is one on which it has a right in force, with just those rights
+abbrev pub EachHandleListedIsGranted : Start → List Entry → Type 0
+EachHandleListedIsGranted start entries =
+    (client : ClientId) (told : Answer) → replied start entries (query.List client) ≡ Ok told →
+    (rows : List (Object × Rights)) × (told ≡ answer.Listing rows) × All (IsListed start entries client) rows
+
+-- the headline, of a world (own)
+pub record Headline (world : Joined) : Type 0 where
+  -- the history is legal
+  pub legal : IsLegal world.core.start world.core.entries
+  pub launches : EachLaunchWasGranted world.core.start world.core.entries
+  pub denials : EachDenialNamesItsRule world.core.start world.core.entries
+  pub writes : EachWriteWasGranted world.core.start world.core.entries
+  pub changes : EachChangeWasGranted world.core.start world.core.entries
+  pub group_reads : EachGroupReadWasGranted world.core.start world.core.entries
+  pub reads : EachReadIsGranted world.core.start world.core.entries
+  pub looks : EachLookIsGranted world.core.start world.core.entries
+  pub listed : EachHandleListedIsGranted world.core.start world.core.entries
+  -- what was launched and denied of each queue is what was published in its ring, whole, each once, in the order of ids
+  pub in_step : (queue : QueueId) (ring : Machine) → ring_of world queue ≡ Some ring → IsInStep world.core queue ring

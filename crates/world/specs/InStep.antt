@@ -1,0 +1,70 @@
+-- What holds between any two steps of the world: its rings and its history are in step.
+use Rattle.std.specs.Prelude.{◌≡◌, ℕ, ◌+◌, ◌==◌, ◌<◌, ◌≤◌, true, List, [], length, map, slice_get, Option, Some, None, if◌then◌else◌}
+use Rattle.std.specs.List.{filter_map}
+use Rattle.aql_packet.specs.declared.ids.QueueId.{QueueId}
+use Rattle.core_model.specs.declared.event.Event.{Event}
+use Rattle.core_model.specs.declared.event.Event.TheVariants.{OpenQueue, Take}
+use Rattle.core_model.specs.declared.entry.Entry.{Entry}
+use Rattle.core_model.specs.History.{History}
+use Rattle.core_model.specs.Queues.{next_id, openings}
+use Rattle.core_model.specs.Legal.{IsLegal}
+use Rattle.ring_core.specs.Words.{packet_of}
+use Rattle.ring_core.specs.Tickets.{is_published}
+use Rattle.ring_core.specs.Machine.{Machine, read_index}
+use Rattle.ring_core.specs.Rule.{IsRing, processor_of, ticket_of}
+use Rattle.world.specs.Bytes.{bytes_of}
+use Rattle.world.specs.States.{Joined, ring_of}
+
+-- the bytes of a packet of a queue that an event hands over, if it does
+abbrev pub taken_from : QueueId → Event → Option (List ℕ)
+taken_from queue (Take q id bytes) = if q.0 == queue.0 then Some bytes else None
+taken_from queue _ = None
+
+-- the packets of a queue that were launched or denied, in order: the bytes of each
+unfoldable pub takes : List Entry → QueueId → List (List ℕ)
+takes entries queue = filter_map (λ entry. taken_from queue entry.event) entries
+
+-- the size of the queue that an event opens, if it does
+abbrev pub size_of : Event → Option ℕ
+size_of (OpenQueue client agent size) = Some size
+size_of _ = None
+
+-- the sizes of the queues that were opened, in order
+unfoldable pub sizes : List Entry → List ℕ
+sizes entries = filter_map (λ entry. size_of entry.event) entries
+
+-- whether the packet of an id is published in a ring, and its bytes as they were published
+abbrev pub IsPublished : Machine → ℕ → Type 0
+IsPublished ring id = is_published (ticket_of ring.parts id) ≡ true
+
+abbrev pub published : Machine → ℕ → List ℕ
+published ring id = bytes_of (packet_of (ticket_of ring.parts id).words)
+
+-- a queue's ring and its history are in step (own)
+pub record IsInStep (core : History) (queue : QueueId) (ring : Machine) : Type 0 where
+  -- every packet that was retired was launched or denied, and at most one more was
+  pub floor : read_index ring ≤ next_id core.start core.entries queue
+  pub ceiling : next_id core.start core.entries queue ≤ read_index ring + 1
+  -- the header at the read index is cleared only once its packet was launched or denied
+  pub cleared : (processor_of ring.parts).raising ≡ true → read_index ring < next_id core.start core.entries queue
+  -- what was launched or denied is what is published under the first ids, whole, each once, in order
+  pub count : length (takes core.entries queue) ≡ next_id core.start core.entries queue
+  pub whole : (id : ℕ) → id < next_id core.start core.entries queue → IsPublished ring id × (slice_get (takes core.entries queue) id ≡ Some (published ring id))
+
+-- of a queue that wasn't opened nothing was launched or denied
+pub record IsUntouched (core : History) (queue : QueueId) : Type 0 where
+  pub next : next_id core.start core.entries queue ≡ 0
+  pub takes : takes core.entries queue ≡ []
+
+-- a queue's ring keeps the ring rule and is in step; a queue that wasn't opened has none
+abbrev pub Stands : History → QueueId → Option Machine → Type 0
+Stands core queue None = IsUntouched core queue
+Stands core queue (Some ring) = IsRing ring × IsInStep core queue ring
+
+-- the world between any two steps (own)
+pub record IsJoined (world : Joined) : Type 0 where
+  pub legal : IsLegal world.core.start world.core.entries
+  -- a ring for each opening, of its size
+  pub count : length world.rings ≡ length (openings world.core.start world.core.entries)
+  pub sizes : map (λ ring. ring.size) world.rings ≡ sizes world.core.entries
+  pub each : (queue : QueueId) → Stands world.core queue (ring_of world queue)

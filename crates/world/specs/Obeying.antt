@@ -1,0 +1,108 @@
+-- What becomes of the core and of the rings, request by request, as the code serves them.
+use Rattle.std.specs.Prelude.{◌≡◌, ℕ, Bool, true, false, List, [], ◌∷◌, ◌++◌, Option, Some, None, Result, Ok, Err}
+use Rattle.aql_packet.specs.declared.ids.AgentHandle.{AgentHandle}
+use Rattle.aql_packet.specs.declared.ids.ClientId.{ClientId}
+use Rattle.aql_packet.specs.declared.ids.QueueId.{QueueId}
+use Rattle.policy.specs.Policy.{Declared, numbered}
+use Rattle.core_model.specs.declared.answer.Answer.TheVariants as told
+use Rattle.core_model.specs.declared.event.Event.TheVariants.{OpenQueue}
+use Rattle.core_model.specs.declared.event.Request.{Request as Asked}
+use Rattle.core_model.specs.declared.event.Request.TheVariants as asked
+use Rattle.core_model.specs.declared.outcome.Outcome.TheVariants as outcome
+use Rattle.core_model.specs.declared.outcome.Taken.{Taken}
+use Rattle.core_model.specs.declared.outcome.Taken.TheVariants as taken
+use Rattle.core_model.specs.declared.refusal.Refusal as cores
+use Rattle.core_model.specs.declared.refusal.Refusal.TheVariants as why
+use Rattle.core_model.specs.History.{History}
+use Rattle.core_model.specs.Legal.{MeetsOrLacks, Replying, wrapped}
+use Rattle.core_model.specs.Legal as cores_law
+use Rattle.ring_core.specs.Parts.{collected_packet}
+use Rattle.ring_core.specs.Machine.{opened, read_index}
+use Rattle.ring_core.specs.Rule.{processor_of}
+use Rattle.world.specs.declared.queue_ring.QueueRing.{QueueRing}
+use Rattle.world.specs.declared.request.Request.{Request}
+use Rattle.world.specs.declared.request.Request.TheVariants as request
+use Rattle.world.specs.declared.reply.Answer.TheVariants as answer
+use Rattle.world.specs.declared.reply.Refusal.TheVariants as refusal
+use Rattle.world.specs.declared.queue_ring.Next.{Next}
+use Rattle.world.specs.Bytes.{bytes_of}
+use Rattle.world.specs.Calls.{event_of}
+use Rattle.world.specs.Dues.{Reply, asked_size, of_core, taking}
+use Rattle.world.specs.Making.{MakesAt, with_queue_ring}
+
+-- a queue has a ring
+abbrev pub HasRing : List QueueRing → QueueId → Type 0
+HasRing rings queue = (ring : QueueRing) × (numbered rings queue.0 ≡ Some ring)
+
+-- the packet that a ring's processor has collected whole, with its id
+abbrev pub next_where : ℕ → Option (List ℕ) → Option Next
+next_where index None = None
+next_where index (Some words) = Some (record { packet = record { 0 = index }; words = words })
+
+abbrev pub next_of : QueueRing → Option Next
+next_of r = next_where (read_index r.ring) (collected_packet (processor_of r.ring.parts))
+
+-- a queue's processor has collected this packet
+abbrev pub IsNext : List QueueRing → QueueId → Next → Type 0
+IsNext rings queue next = (ring : QueueRing) × (numbered rings queue.0 ≡ Some ring) × (next_of ring ≡ Some next)
+
+-- what a hand-over is told
+abbrev pub told_taken : ℕ → Result Taken cores.Refusal → Reply
+told_taken id (Ok became) = Ok (answer.Taken (record { 0 = id }) became)
+told_taken id (Err why) = Err (refusal.Core why)
+
+-- a queue's ring after its packet was handed over
+abbrev pub decided_by : Taken → QueueRing → QueueRing
+decided_by (taken.Waiting cause) r = r
+decided_by _ r = record { ring = r.ring; decided = true }
+
+abbrev pub ring_taken : QueueRing → Result Taken cores.Refusal → QueueRing
+ring_taken r (Ok became) = decided_by became r
+ring_taken r (Err why) = r
+
+-- the rings follow what became of a queue's packet
+abbrev pub RingFollows : Option QueueRing → QueueId → Taken → List QueueRing → List QueueRing → Type 0
+RingFollows None queue became old new = ⊥
+RingFollows (Some r) queue became old new = new ≡ with_queue_ring old queue (decided_by became r)
+
+-- the packet collected was handed over, if there is one
+abbrev pub HandsOver : Option (List ℕ) → QueueRing → QueueId → History → List QueueRing → Reply → History → List QueueRing → Type 0
+HandsOver None r queue core old reply core' new = (reply ≡ Err refusal.NotAStep) × (core' ≡ core) × (new ≡ old)
+HandsOver (Some words) r queue core old reply core' new =
+    (became : Result Taken cores.Refusal) × MeetsOrLacks (taking queue (read_index r.ring) words) core core' (wrapped outcome.Taken became)
+    × (reply ≡ told_taken (read_index r.ring) became) × (new ≡ with_queue_ring old queue (ring_taken r became))
+
+abbrev pub TakesAt : Option QueueRing → QueueId → History → List QueueRing → Reply → History → List QueueRing → Type 0
+TakesAt None queue core old reply core' new = (reply ≡ Err (refusal.Core why.UnknownQueue)) × (core' ≡ core) × (new ≡ old)
+TakesAt (Some r) queue core old reply core' new = HandsOver (collected_packet (processor_of r.ring.parts)) r queue core old reply core' new
+
+-- a ring in which nothing happened
+abbrev pub new_ring : ℕ → ℕ → QueueRing
+new_ring size producers = record { ring = opened size producers; decided = false }
+
+-- what an opening is told, and the rings after it
+abbrev pub told_opened : Result QueueId cores.Refusal → Reply
+told_opened (Ok queue) = Ok (answer.Core (told.Outcome (outcome.Opened queue)))
+told_opened (Err why) = Err (refusal.Core why)
+
+abbrev pub rings_opened : List QueueRing → ℕ → ℕ → Result QueueId cores.Refusal → List QueueRing
+rings_opened rings size producers (Ok queue) = rings ++ new_ring size producers ∷ []
+rings_opened rings size producers (Err why) = rings
+
+-- a queue was opened with its ring, or refused by the core
+abbrev pub Opens : ClientId → AgentHandle → ℕ → ℕ → History → List QueueRing → Reply → History → List QueueRing → Type 0
+Opens client agent size producers core old reply core' new =
+    (made : Result QueueId cores.Refusal) × MeetsOrLacks (OpenQueue client agent (asked_size size producers)) core core' (wrapped outcome.Opened made)
+    × (reply ≡ told_opened made) × (new ≡ rings_opened old size producers made)
+
+-- the core served a request, and told this
+abbrev pub Asks : Asked → History → Reply → History → Type 0
+Asks wanted core reply core' = (replied : Replying) × cores_law.IsServed core wanted replied core' × (reply ≡ of_core replied)
+
+-- any request
+abbrev pub Obeys : Request → History → List QueueRing → Reply → History → List QueueRing → Type 0
+Obeys (request.Step queue step) core old reply core' new = MakesAt (numbered old queue.0) queue step old reply new × (core' ≡ core)
+Obeys (request.Take queue) core old reply core' new = TakesAt (numbered old queue.0) queue core old reply core' new
+Obeys (request.OpenQueue client agent size producers) core old reply core' new = Opens client agent size producers core old reply core' new
+Obeys (request.Call call) core old reply core' new = Asks (asked.Event (event_of call)) core reply core' × (new ≡ old)
+Obeys (request.Query query) core old reply core' new = Asks (asked.Query query) core reply core' × (new ≡ old)

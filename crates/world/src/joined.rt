@@ -1,0 +1,119 @@
+//! The core with the ring of each queue, served request by request.
+
+ghost use Rattle.std.specs.Prelude.{◌≡◌, ◌≤◌, [], IfOk, OnErr, length};
+ghost use Rattle.world.specs.Dues.{AreReplies, IsServed};
+ghost use Rattle.world.specs.InStep.{IsJoined};
+ghost use Rattle.world.specs.Starting.{Begins};
+
+use crate::queue_ring::QueueRing;
+use crate::reply::Reply;
+use crate::request::Request;
+use crate::serving::obey;
+use access_core::{AccessCore, OpenFault};
+use policy::Policy;
+use sequences::Reserved;
+use std::alloc::{AllocError, Global};
+use std::marker::Model;
+
+/// The core, and the ring of each of its queues, in the order in which they were opened. A contract sees
+/// the core's history and each ring's machine.
+pub struct World {
+    core: AccessCore,
+    rings: Vec<QueueRing>,
+}
+
+// Written out, so that where a world ends stands one call, and not what ends each of its parts.
+impl Drop for World {
+    fn drop(self) {
+        let World { core: _, rings: _ } = self;
+    }
+}
+
+impl Model for World {
+    ghost use Rattle.world.specs.States.{Joined, joined};
+
+    ghost Value = { Joined };
+
+    ghost use Rattle.world.specs.InStep.{IsJoined};
+    ghost use Rattle.world.specs.Making.{AreDecided, rings_of};
+
+    ghost view = { λ world. joined world.core (rings_of world.rings.items) };
+
+    ghost invariant = { λ world. IsJoined (joined world.core (rings_of world.rings.items)) × AreDecided world.core world.rings.items };
+}
+
+impl World {
+    /// Opens a world over a policy, with places for `capacity` entries in its audit: no queue is open.
+    /// Refused as the core's opening is.
+    pub fn open(alloc: Global, policy: Policy, capacity: usize) -> Result<World, OpenFault>
+        ensures { Begins policy capacity result }
+    {
+        let core = AccessCore::open(alloc, policy, capacity)?;
+        Ok(World {
+            core,
+            rings: Vec::new(alloc),
+        })
+    }
+
+    /// The policy that it was opened over.
+    pub fn policy(&self) -> &Policy
+        ensures { result.now ≡ self.now.core.start.policy }
+    {
+        self.core.policy()
+    }
+
+    /// Serves a request: one step, or a query.
+    pub fn serve(&mut self, alloc: Global, request: Request) -> Reply
+        ensures served { IsServed self.old request result self.new }
+        ensures joined { IsJoined self.new }
+    {
+        obey(alloc, &mut self.core, &mut self.rings, request)
+    }
+
+    /// Serves requests in turn, and tells the reply to each. Want of memory for the list of replies is
+    /// told before any is served.
+    pub fn run(
+        &mut self,
+        alloc: Global,
+        requests: Vec<Request>,
+    ) -> Result<Reserved<Reply>, AllocError>
+        ensures replies { IfOk result (λ replies. AreReplies self.old requests.items replies.items self.new) }
+        ensures joined { IsJoined self.new }
+        ensures err { OnErr result (self.new ≡ self.old) }
+    {
+        match Reserved::with_room(alloc, requests.len()) {
+            Ok(replies) => Ok(self.serve_each(alloc, requests, replies)),
+            Err(want) => {
+                self.is_joined();
+                Err(want)
+            }
+        }
+    }
+
+    // Serves requests in turn, and puts the replies in a list with room for them.
+    fn serve_each(
+        &mut self,
+        alloc: Global,
+        requests: Vec<Request>,
+        mut replies: Reserved<Reply>,
+    ) -> Reserved<Reply>
+        requires room { length requests.items ≤ replies.room }
+        requires empty { replies.items ≡ [] }
+        ensures replies { AreReplies self.old requests.items result.items self.new }
+        ensures joined { IsJoined self.new }
+    {
+        for request in requests {
+            let reply = self.serve(alloc, request);
+            replies.push(reply);
+        }
+        self.is_joined();
+        replies
+    }
+
+    // Does nothing: what the type keeps is said to callers by it.
+    fn is_joined(&self)
+        ensures { IsJoined self.now }
+    {
+        let _ = &self.rings;
+    }
+}

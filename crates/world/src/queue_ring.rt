@@ -1,0 +1,129 @@
+//! The ring of one queue, beside what the core decided of the packet at its read index.
+
+ghost use Rattle.std.specs.Prelude.{◌≡◌, ◌&&◌, ℕ, slice_get};
+ghost use Rattle.std.specs.Option.{option_copied};
+ghost use Rattle.ring_core.specs.Machine.{is_allowed};
+ghost use Rattle.ring_core.specs.Parts.{seen_by};
+ghost use Rattle.world.specs.Dues.{answer_to, has_spent, may_follow, reserves};
+ghost use Rattle.world.specs.Making.{MakesOn, decided_after};
+ghost use Rattle.world.specs.Obeying.{next_of};
+
+use crate::reply::{Answer, Refusal, Reply};
+use aql_packet::PacketId;
+use ring_core::{Access, Part, RingState, Seen, Step, StepFault};
+
+/// A queue's ring.
+#[derive(Drop)]
+pub struct QueueRing {
+    pub ring: RingState,
+    /// Whether the packet at the read index was launched or denied.
+    pub decided: bool,
+}
+
+/// The packet that a queue's processor has collected whole, with its id.
+#[derive(Clone, Copy)]
+pub struct Next {
+    pub packet: PacketId,
+    pub words: [u64; 8],
+}
+
+impl QueueRing {
+    /// The packet at the read index, if the processor has collected it whole.
+    pub(crate) fn next(&self) -> Option<Next>
+        ensures { result ≡ next_of self.now }
+    {
+        let words = self.ring.processor().collected_packet()?;
+        Some(Next {
+            packet: PacketId(self.ring.read_index()),
+            words,
+        })
+    }
+
+    /// A seat makes a step, unless it is none that it may make now.
+    pub(crate) fn make(&mut self, step: Step) -> Reply
+        ensures { MakesOn self.old step result self.new }
+    {
+        if self.is_spent(step) {
+            return Err(Refusal::Spent);
+        }
+        if !self.may_make(step) {
+            return Err(Refusal::NotAStep);
+        }
+        let index = PacketId(self.ring.read_index());
+        match self.ring.step(step) {
+            Ok(seen) => {
+                self.decided = decided_after(self.decided, step.access);
+                Ok(answer_to(step.access, index, seen))
+            }
+            Err(StepFault::OutOfMemory) => Err(Refusal::Core(core_model::Refusal::OutOfMemory)),
+            Err(StepFault::NotAStep) => Err(Refusal::NotAStep),
+        }
+    }
+
+    // Whether a step reserves an id for a producer that has reserved all that it may.
+    fn is_spent(&self, step: Step) -> bool
+        ensures { result ≡ (reserves step.access && has_spent (slice_get self.now.ring.parts step.seat)) }
+    {
+        reserves(step.access) & has_spent(self.ring.parts().get(step.seat as usize))
+    }
+
+    // Whether a step is allowed, and clears no header before its packet was decided.
+    fn may_make(&self, step: Step) -> bool
+        ensures { result ≡ (is_allowed self.now.ring step && may_follow self.now.decided step.access) }
+    {
+        self.ring.allows(step) & may_follow(self.decided, step.access)
+    }
+}
+
+// Whether an access reserves an id.
+fn reserves(access: Access) -> bool
+    ensures { result ≡ reserves access }
+{
+    match access {
+        Access::Reserve => true,
+        _ => false,
+    }
+}
+
+// Whether a seat is a producer that has reserved all that it may.
+fn has_spent(part: Option<&Part>) -> bool
+    ensures { result ≡ has_spent (option_copied part.entry) }
+{
+    match part {
+        Some(Part::Producer(part)) => part.allowance == 0,
+        _ => false,
+    }
+}
+
+// Whether an access may be made, where it is known whether the packet at the read index was decided.
+fn may_follow(decided: bool, access: Access) -> bool
+    ensures { result ≡ may_follow decided access }
+{
+    match access {
+        Access::ClearHeader => decided,
+        _ => true,
+    }
+}
+
+// Whether the packet at the read index is decided after an access.
+fn decided_after(decided: bool, access: Access) -> bool
+    ensures { result ≡ decided_after decided access }
+{
+    match access {
+        Access::RaiseReadIndex => false,
+        _ => decided,
+    }
+}
+
+// What a step that was made answers, at a read index.
+fn answer_to(access: Access, index: PacketId, seen: Seen) -> Answer
+    ensures { (old : ℕ) → seen ≡ seen_by access old → result ≡ answer_to access index.0 old }
+{
+    match (access, seen) {
+        (Access::LoadHeader, Seen::Read(word)) => Answer::Header {
+            packet: index,
+            word,
+        },
+        _ => Answer::Step(seen),
+    }
+}

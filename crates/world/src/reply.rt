@@ -1,0 +1,33 @@
+//! What the world answers.
+
+use aql_packet::PacketId;
+use core_model::Taken;
+use ring_core::Seen;
+
+/// What a request that isn't refused is answered.
+#[derive(Drop)]
+pub enum Answer {
+    /// A step on a ring was made, and read this.
+    Step(Seen),
+    /// The processor read the header word of the packet at the read index, which has this id.
+    Header { packet: PacketId, word: u64 },
+    /// What became of the packet at the read index, which was handed over.
+    Taken { packet: PacketId, taken: Taken },
+    /// What the core answers.
+    Core(core_model::Answer),
+}
+
+/// Why a request was refused. After every refusal all is as before.
+#[derive(Clone, Copy, PartialEq, Eq)]
+pub enum Refusal {
+    /// The core's refusal, or that a queue isn't open.
+    Core(core_model::Refusal),
+    /// The step is none that the seat may make now, the header would be cleared of a packet that is
+    /// neither launched nor denied, or no packet is collected whole.
+    NotAStep,
+    /// The producer has reserved as many ids as it may.
+    Spent,
+}
+
+/// The reply to a request.
+pub type Reply = Result<Answer, Refusal>;

@@ -1,0 +1,67 @@
+//! The rings of all queues, in the order in which the queues were opened.
+
+ghost use Rattle.std.specs.Prelude.{◌≡◌, option_map};
+ghost use Rattle.std.specs.Option.{option_copied};
+ghost use Rattle.policy.specs.Policy.{numbered};
+ghost use Rattle.world.specs.Making.{MakesAt};
+ghost use Rattle.world.specs.Obeying.{HasRing, RingFollows, next_of};
+
+use crate::queue_ring::{Next, QueueRing};
+use crate::reply::{Refusal, Reply};
+use aql_packet::QueueId;
+use core_model::Taken;
+use ring_core::Step;
+
+// A queue's ring, if it was opened.
+fn ring_at(rings: &Vec<QueueRing>, queue: QueueId) -> Option<&QueueRing>
+    ensures { option_copied result ≡ numbered rings.now.items queue.0 }
+{
+    if queue.0 == 0 {
+        return None;
+    }
+    rings.get(queue.0 as usize - 1)
+}
+
+/// A seat makes a step on a queue's ring.
+pub(crate) fn make_step(rings: &mut Vec<QueueRing>, queue: QueueId, step: Step) -> Reply
+    ensures { MakesAt (numbered rings.old.items queue.0) queue step rings.old.items result rings.new.items }
+{
+    match ring_at(rings, queue) {
+        None => Err(Refusal::Core(core_model::Refusal::UnknownQueue)),
+        Some(_) => make_at(rings, queue, step),
+    }
+}
+
+// A seat makes a step on the ring of a queue that is open.
+fn make_at(rings: &mut Vec<QueueRing>, queue: QueueId, step: Step) -> Reply
+    requires { HasRing rings.old.items queue }
+    ensures { MakesAt (numbered rings.old.items queue.0) queue step rings.old.items result rings.new.items }
+{
+    let place = queue.0 as usize - 1;
+    let ring = &mut rings[place];
+    ring.make(step)
+}
+
+/// The packet that a queue's processor has collected, if the queue is open and it has one whole.
+pub(crate) fn next_packet(rings: &Vec<QueueRing>, queue: QueueId) -> Option<Option<Next>>
+    ensures { result ≡ option_map next_of (numbered rings.now.items queue.0) }
+{
+    match ring_at(rings, queue) {
+        None => None,
+        Some(ring) => Some(ring.next()),
+    }
+}
+
+/// Notes beside a queue's ring what became of the packet at its read index.
+pub(crate) fn note_taken(rings: &mut Vec<QueueRing>, queue: QueueId, taken: Taken)
+    requires { HasRing rings.old.items queue }
+    ensures { RingFollows (numbered rings.old.items queue.0) queue taken rings.old.items rings.new.items }
+{
+    match taken {
+        Taken::Launched | Taken::Denied(_) => {
+            let place = queue.0 as usize - 1;
+            rings[place].decided = true;
+        }
+        Taken::Waiting(_) => {}
+    }
+}
