@@ -24,7 +24,7 @@ use Rattle.core_model.specs.Owed.{owed, enters, refuses, refuse_unless}
 use Rattle.core_model.specs.Legal.{due}
 use Rattle.access_core.specs.declared.access.AccessCore.TheInside.{Inside}
 use Rattle.access_core.specs.inner.Cached.{IsCached, history_of, is_full, start_of}
-use Rattle.access_core.specs.inner.Granting.{refusal_of}
+use Rattle.access_core.specs.inner.Deciding.{refusal_of}
 use Rattle.access_core.proofs.Calls.{due-by}
 use Rattle.access_core.proofs.HeldMore.{AreHeld-legal}
 use Rattle.access_core.proofs.HeldRights.{is_holder-history}

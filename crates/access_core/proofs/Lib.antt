@@ -8,7 +8,6 @@ pub mod ChangedQueue
 pub mod PollLemmas
 pub mod StopLemmas
 pub mod LookupLemmas
-pub mod ReadLemmas
 pub mod WorkLemmas
 pub mod WorkReadLemmas
 pub mod RunLemmas

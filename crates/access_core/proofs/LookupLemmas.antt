@@ -8,7 +8,7 @@ use Rattle.access_core.specs.declared.access.AccessCore.TheInside.{Inside}
 use Rattle.access_core.specs.declared.queue.Queue.{Queue}
 use Rattle.access_core.specs.inner.Cached.{IsCached, history_of}
 use Rattle.access_core.specs.inner.CachedQueue.{cached_opening}
-use Rattle.access_core.specs.inner.Lookups.{IsQueue}
+use Rattle.access_core.specs.inner.CachedQueue.{IsQueue}
 
 -- the queue with a number among those kept
 pub IsQueue-kept : (a : Inside) (history : History) (queue : QueueId) (kept : Option Queue) → IsCached a → history_of a ≡ history → kept ≡ numbered a.queues.items queue.0 → IsQueue history queue kept

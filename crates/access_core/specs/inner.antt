@@ -5,8 +5,6 @@ pub mod QueueChanges
 pub mod LiesInRegions
 pub mod Deciding
 pub mod Cached
-pub mod Lookups
 pub mod InPlace
 pub mod Polling
 pub mod Held
-pub mod Granting

@@ -137,8 +137,8 @@ module _ (start : Start) (es : List Entry) (told : Outcome) (effects : List Effe
     pub opening : Opening
     pub owner_is : owner start es queue ≡ Some opening
     pub launches_yet : is_down start es queue ≡ false
-    pub is_next : id.0 ≡ next_id start es queue
-    pub may_start : may_start (map (λ f. f.packet) (flight_of start es queue)) (barrier_bit bytes) ≡ None
+    pub id_is_next : id.0 ≡ next_id start es queue
+    pub need_not_wait : may_start (map (λ f. f.packet) (flight_of start es queue)) (barrier_bit bytes) ≡ None
     pub effects_are : effects ≡ []
     pub verdict : Option Rule
     pub verdict_is : first_failing (facts_of start es opening) bytes ≡ verdict
@@ -162,8 +162,8 @@ module _ (start : Start) (es : List Entry) (told : Outcome) (effects : List Effe
         opening = opening;
         owner_is = found.is;
         launches_yet = up.0;
-        is_next = eqb-true _ _ next.test_is;
-        may_start = last.2;
+        id_is_next = eqb-true _ _ next.test_is;
+        need_not_wait = last.2;
         effects_are = last.0;
         verdict = first_failing (facts_of start es opening) bytes;
         verdict_is = refl;

@@ -293,7 +293,7 @@ module _ (start : Start) (es : List Entry) (e : Entry) where
       let opening = granted.opening in
       let packet_is : granted.packet ≡ f.packet = one-packet (decoded launch.bytes) granted.packet f.packet granted.allowed.is_read launch.reads in
       let entry_is : e ≡ entry_of (Take f.queue f.id launch.bytes) (outcome.Taken Launched) [] = λ i. record { event = event_is i; outcome = outcome_is i; effects = granted.effects_are i } in
-      let none : was_launched es f.queue f.id ≡ false = by_test (was_launched es f.queue f.id) refl granted.allowed.is_next in
+      let none : was_launched es f.queue f.id ≡ false = by_test (was_launched es f.queue f.id) refl granted.allowed.id_is_next in
       let itself : is_packet f.queue f.id f ≡ true = and_from _ _ (eq-eqb f.queue.0 f.queue.0 refl) (eq-eqb f.id.0 f.id.0 refl) in
       let now : is_launch f.queue f.id (launched_by e.event e.outcome) ≡ true = rw launches itself in
       let facts : Facts = facts_of start es opening in

@@ -103,7 +103,7 @@ module _ (queue : QueueId) (id : PacketId) where
           by_test : (b : Bool) → was_launched l.before queue id ≡ b → was_launched l.before queue id ≡ false
           by_test true was =
               let below : id.0 < next_id start l.before queue = AreBelowNext-legal start l.before (legal-at start es l.before _ legal l.place).0 queue id was in
-              let at = l.allowed.is_next in absurd (omega arith)
+              let at = l.allowed.id_is_next in absurd (omega arith)
           by_test false was = was
 
 -- ---- a queue that is opened is a new one, its opener's

@@ -115,8 +115,8 @@ pub record HasItsRights (start : Start) (entries : List Entry) (opening : Openin
 pub record MayBeLaunched (start : Start) (before : List Entry) (queue : QueueId) (id : PacketId) (bytes : List ℕ) (opening : Opening) (packet : Packet) : Type 0 where
   pub owner_is : owner start before queue ≡ Some opening
   pub launches_yet : is_down start before queue ≡ false
-  pub is_next : id.0 ≡ next_id start before queue
-  pub may_start : may_start (map (λ f. f.packet) (flight_of start before queue)) (barrier_bit bytes) ≡ None
+  pub id_is_next : id.0 ≡ next_id start before queue
+  pub need_not_wait : may_start (map (λ f. f.packet) (flight_of start before queue)) (barrier_bit bytes) ≡ None
   pub is_read : decoded bytes ≡ Some packet
   pub laid_out : Are64Bytes bytes → PacketOf bytes packet
   pub every_rule : All (λ rule. holds_rule (facts_of start before opening) bytes packet rule ≡ true) launch_rules

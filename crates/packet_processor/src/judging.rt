@@ -9,11 +9,11 @@ ghost use Rattle.packet_processor.specs.Judged.{facts_seen, later_failing, Judge
 
 use crate::facts::{Facts, Verdict};
 use crate::need_table::{Needs, function_of, needs};
-use aql_packet::{Packet, RegionHandle, decode};
+use aql_packet::{Packet, decode};
 use core_model::{Need, Subject};
 use policy::{Object, Takes};
 use queue_error::Rule;
-use regions::Regions;
+use regions::{Regions, region_of};
 
 /// The rules that look at a packet's fields, in the order in which they are tried.
 const RULES_OF_FIELDS: [Rule; 7] = [
@@ -133,6 +133,6 @@ pub(crate) fn object_of(subject: &Subject) -> Object
 {
     match subject {
         Subject::Object(object) => *object,
-        Subject::Range(range) => Object::Region(RegionHandle((range.address.0 >> 32) as u32)),
+        Subject::Range(range) => Object::Region(region_of(range.address)),
     }
 }

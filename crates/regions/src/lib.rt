@@ -6,4 +6,4 @@ mod region;
 mod regions;
 
 pub use fault::RegionFault;
-pub use regions::Regions;
+pub use regions::{Regions, region_of};

@@ -2,7 +2,7 @@
 ghost use Rattle.std.specs.Prelude.{◌≡◌, IfOk, OnOk, OnErr, IsTrue, true, length, replicate};
 ghost use Rattle.std.specs.List.{list_all};
 ghost use Rattle.std.specs.Result.{result_err};
-ghost use Rattle.regions.specs.Memory.{are_region_lengths, bytes_from, is_region_length, is_within, IsMemory, IsWritten, lengths_of, region_length, zeros};
+ghost use Rattle.regions.specs.Memory.{are_region_lengths, bytes_from, is_region_length, is_within, IsMemory, IsWritten, lengths_of, region_length, region_of, zeros};
 ghost use Rattle.regions.specs.Faults.{range_fault, copy_fault};
 ghost use Rattle.regions.specs.Place.{IsPlaceOf, LiesInside, handle_at, laid_at, length_of_region, part_at};
 
@@ -40,6 +40,13 @@ impl Model for Regions {
     ghost invariant = { λ r. IsMemory r.regions.items };
 }
 
+/// The region in which an address would lie: region `h` covers addresses from `h * 2^32` (own).
+pub fn region_of(address: Address) -> RegionHandle
+    ensures { result.0 ≡ region_of address.0 }
+{
+    RegionHandle((address.0 / SPAN) as u32)
+}
+
 /// Where a range lies: the index of its region, and the offset of its first byte there.
 #[derive(Clone, Copy)]
 struct Place {
@@ -72,7 +79,7 @@ impl Regions {
         ensures found { result ≡ handle_at (lengths_of self.now) address.0 }
         ensures memory { IsMemory self.now }
     {
-        let region = RegionHandle((address.0 / SPAN) as u32);
+        let region = region_of(address);
         if address.0 % SPAN < self.room(region) {
             Some(region)
         } else {

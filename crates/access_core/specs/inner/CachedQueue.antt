@@ -1,17 +1,18 @@
--- What the core keeps of a queue, and what the history says of it.
+-- What the core caches of a queue, and what the history says of it.
 use Rattle.std.specs.Prelude.{◌≡◌, ◌<◌, ◌≤◌, ◌+◌, ℕ, Bool, false, List, [], map, length, Option, Some, None, All}
+use Rattle.std.specs.Option.{option_map}
 use Rattle.aql_packet.specs.declared.ids.QueueId.{QueueId}
 use Rattle.queue_error.specs.declared.error.QueueError.{QueueError}
 use Rattle.core_model.specs.declared.entry.Entry.{Entry}
 use Rattle.core_model.specs.declared.flight.InFlight.{InFlight}
 use Rattle.core_model.specs.declared.limits.TheConstants.{SLOTS}
-use Rattle.core_model.specs.History.{Start}
-use Rattle.core_model.specs.Queues.{Opening, next_id, errors, is_stopped}
+use Rattle.core_model.specs.History.{Start, History}
+use Rattle.core_model.specs.Queues.{Opening, next_id, errors, is_stopped, owner}
 use Rattle.core_model.specs.Flight.{flight_of, progress}
 use Rattle.packet_processor.specs.declared.places.Place.{Place}
 use Rattle.access_core.specs.declared.queue.Queue.{Queue}
 
--- the opening of a queue that is kept
+-- the opening of a queue that is cached
 abbrev pub cached_opening : Queue → Opening
 cached_opening q = record { client = q.client; agent = q.agent }
 
@@ -22,7 +23,7 @@ pub record QueueView : Type 0 where
   pub errors : List QueueError
   pub places : List Place
 
--- what is kept of a queue; of one that isn't there, nothing
+-- what is cached of a queue; of one that isn't there, nothing
 abbrev pub cached : Option Queue → QueueView
 cached None = record { next = 0; stopped = false; errors = []; places = [] }
 cached (Some q) = record { next = q.next; stopped = q.stopped; errors = q.errors.items; places = q.places }
@@ -46,3 +47,8 @@ pub record IsSound (q : Queue) : Type 0 where
   pub room : length q.errors.items + q.errors.room ≡ SLOTS
   pub free : length q.errors.items + length q.places ≤ SLOTS
   pub below : All (λ place. place.id.0 < q.next) q.places
+
+-- this is what is cached of a queue of the history: who opened it, and what became of it since
+pub record IsQueue (history : History) (queue : QueueId) (one : Option Queue) : Type 0 where
+  pub opening : option_map cached_opening one ≡ owner history.start history.entries queue
+  pub cached_is : cached one ≡ queue_at history.start history.entries queue

@@ -1,4 +1,4 @@
--- What was decided of a packet that is handed over.
+-- What was decided of a packet that is handed over, and how refusals of changes of grants are told.
 use Rattle.std.specs.Prelude.{◌≡◌, ◌<◌, ℕ, List, [], length, Some}
 use Rattle.aql_packet.specs.declared.ids.QueueId.{QueueId}
 use Rattle.aql_packet.specs.declared.ids.PacketId.{PacketId}
@@ -22,6 +22,10 @@ use Rattle.access_core.specs.declared.access.taking.Launching.{Launching}
 use Rattle.access_core.specs.declared.access.taking.Decision.{Decision}
 use Rattle.access_core.specs.declared.access.taking.Decision.TheVariants.{Wait, Deny, Launch}
 use Rattle.std.specs.Prelude.{true, false}
+use Rattle.grants.specs.declared.refusal.Refusal.{Refusal as Why}
+use Rattle.grants.specs.declared.refusal.Refusal.TheVariants as why
+use Rattle.core_model.specs.declared.refusal.Refusal.{Refusal}
+use Rattle.core_model.specs.declared.refusal.Refusal.TheVariants as refusal
 
 -- a queue takes its next packet: it was opened, launches packets yet, and has a slot free
 abbrev pub TakesNext : History → QueueId → Type 0
@@ -48,3 +52,10 @@ Decides history queue id bytes (Launch launching) =
     (due history (Take queue id bytes) ≡ enters (outcome.Taken Launched) [])
     × (decoded bytes ≡ Some launching.packet) × (lies_in_regions (region_lengths history.start) launching.packet ≡ true) × TakesNext history queue
     × (owner history.start history.entries queue ≡ Some (opening_of launching)) × MayHold history (opening_of launching) launching.packet
+
+-- the core's refusal where a change of grants is refused
+abbrev pub refusal_of : Why → Refusal
+refusal_of why.UnknownClient = refusal.UnknownClient
+refusal_of why.UnknownObject = refusal.UnknownObject
+refusal_of why.NotAllowed = refusal.NotAllowed
+refusal_of (why.Busy queue packet) = refusal.Busy queue packet

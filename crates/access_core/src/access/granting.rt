@@ -2,7 +2,7 @@
 
 ghost use Rattle.std.specs.Prelude.{◌≡◌};
 ghost use Rattle.core_model.specs.Legal.{Meets, accepted};
-ghost use Rattle.access_core.specs.inner.Granting.{refusal_of};
+ghost use Rattle.access_core.specs.inner.Deciding.{refusal_of};
 
 use crate::access::{AccessCore, enter};
 use aql_packet::ClientId;

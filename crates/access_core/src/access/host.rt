@@ -7,11 +7,11 @@ ghost use Rattle.core_model.specs.Owed.{enters, old_if_asked, refuses};
 ghost use Rattle.core_model.specs.Legal.{Meets, MeetsOrLacks, accepted, due, wrapped};
 ghost use Rattle.core_model.specs.Memory.{region_lengths, signals};
 
-use crate::access::lookups::region_at;
 use crate::access::{AccessCore, enter};
 use aql_packet::{Address, ClientId, SignalHandle};
 use core_model::{Effect, Effects, Event, MOST_HOST_BYTES, Outcome, Refusal};
 use policy::{Object, Right};
+use regions::region_of;
 use sequences::Sequence;
 use signals::{SignalOp, Signals};
 use std::alloc::Global;
@@ -86,8 +86,8 @@ impl AccessCore {
         if bytes.is_empty() || bytes.len() as u64 > MOST_HOST_BYTES {
             return Err(Refusal::BadSize);
         }
-        let region = Object::Region(region_at(address));
-        if !self.lies_within(address, bytes.len())
+        let region = Object::Region(region_of(address));
+        if !self.lies_within(address, bytes.len() as u64)
             || !self.is_in_force(client, region, Right::Write)
         {
             return Err(Refusal::Denied(Right::Write));
@@ -99,10 +99,10 @@ impl AccessCore {
     }
 
     // Whether a range of addresses lies whole in one region.
-    fn lies_within(&self, address: Address, size: usize) -> bool
+    pub(crate) fn lies_within(&self, address: Address, size: u64) -> bool
         ensures { result ≡ is_within (region_lengths self.now.start) address.0 size }
     {
-        self.memory.contains(address, size as u64)
+        self.memory.contains(address, size)
     }
 
     // The value of a signal that a client may change, where the audit has room for that.

@@ -3,15 +3,14 @@
 ghost use Rattle.std.specs.Prelude.{◌≡◌};
 ghost use Rattle.std.specs.Option.{option_copied};
 ghost use Rattle.policy.specs.Policy.{numbered};
-ghost use Rattle.regions.specs.Memory.{region_of};
 ghost use Rattle.signals.specs.Values.{value_of};
 ghost use Rattle.core_model.specs.Grants.{in_force};
 ghost use Rattle.core_model.specs.Memory.{signals};
-ghost use Rattle.access_core.specs.inner.Lookups.{IsQueue, bytes_within};
+ghost use Rattle.access_core.specs.inner.CachedQueue.{IsQueue};
 
 use crate::access::AccessCore;
 use crate::queue::Queue;
-use aql_packet::{Address, ClientId, QueueId, RegionHandle, SignalHandle};
+use aql_packet::{ClientId, QueueId, SignalHandle};
 use policy::{Object, Right};
 
 impl AccessCore {
@@ -20,13 +19,6 @@ impl AccessCore {
         ensures { result ≡ in_force self.now.start self.now.entries client object right }
     {
         self.grants.is_in_force(client, object, right)
-    }
-
-    // The bytes of a range of addresses, if it lies whole in one region.
-    pub(crate) fn bytes_at(&self, address: Address, length: u64) -> Option<&[u8]>
-        ensures { option_copied result ≡ bytes_within self.now address length }
-    {
-        self.memory.read(address, length).ok()
     }
 
     // The value of a signal, if there is one of this number.
@@ -42,13 +34,6 @@ impl AccessCore {
     {
         queue_of(self.queues.as_slice(), queue)
     }
-}
-
-// The region in which an address would lie.
-pub(crate) fn region_at(address: Address) -> RegionHandle
-    ensures { result.0 ≡ region_of address.0 }
-{
-    RegionHandle((address.0 >> 32) as u32)
 }
 
 // The queue with a number, which counts from 1.

@@ -5,11 +5,11 @@ ghost use Rattle.core_model.specs.declared.answer.Answer.TheVariants as answer;
 ghost use Rattle.core_model.specs.Legal.{IsLegal, Replies, RepliesOrLacks, wrapped};
 
 use crate::access::AccessCore;
-use crate::access::lookups::region_at;
 use aql_packet::{Address, ClientId, QueueId, SignalHandle};
-use core_model::{Entry, MOST_HOST_BYTES, Query, Refusal};
+use core_model::{Entry, MOST_HOST_BYTES, Query, Range, Refusal};
 use policy::{Object, Policy, Right, Rights};
 use queue_error::QueueError;
+use regions::region_of;
 use sequences::Sequence;
 use signals::Condition;
 use std::alloc::Global;
@@ -50,13 +50,15 @@ impl AccessCore {
         if length == 0 || length > MOST_HOST_BYTES {
             return Err(Refusal::BadSize);
         }
-        let Some(bytes) = self.bytes_at(address, length) else {
-            return Err(Refusal::Denied(Right::Read));
-        };
-        if !self.is_in_force(client, Object::Region(region_at(address)), Right::Read) {
+        let region = Object::Region(region_of(address));
+        if !self.lies_within(address, length) || !self.is_in_force(client, region, Right::Read) {
             return Err(Refusal::Denied(Right::Read));
         }
-        Ok(Sequence::from_vec(Vec::from_slice(alloc, bytes)?))
+        let range = Range {
+            address,
+            size: length,
+        };
+        Ok(self.copied(alloc, range)?)
     }
 
     /// A signal's value. Refused in this order: no client has the number; the client's right to

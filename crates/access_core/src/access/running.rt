@@ -147,7 +147,7 @@ impl AccessCore {
     }
 
     // The bytes of a range, as a list of its own.
-    fn copied(&self, alloc: Global, range: Range) -> Result<Sequence<u8>, AllocError>
+    pub(crate) fn copied(&self, alloc: Global, range: Range) -> Result<Sequence<u8>, AllocError>
         requires { IsPlaced self.now range.address.0 range.size }
         ensures { IfOk result (λ bytes.
             bytes ≡ memory_from self.now.start self.now.entries range.address.0 range.size) }

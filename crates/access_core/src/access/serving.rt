@@ -15,7 +15,7 @@ impl AccessCore {
         ensures legal { IsLegal self.new.start self.new.entries }
     {
         let reply = self.obey(alloc, request);
-        self.keeps_the_law();
+        self.ensure_legal();
         reply
     }
 
@@ -33,7 +33,7 @@ impl AccessCore {
         match Reserved::with_room(alloc, requests.len()) {
             Ok(replies) => Ok(self.serve_each(alloc, requests, replies)),
             Err(want) => {
-                self.keeps_the_law();
+                self.ensure_legal();
                 Err(want)
             }
         }
@@ -56,12 +56,12 @@ impl AccessCore {
             let reply = self.obey(alloc, request);
             replies.push(reply);
         }
-        self.keeps_the_law();
+        self.ensure_legal();
         replies
     }
 
-    // Does nothing: what the type keeps, that the audit is a legal history, is said to callers by it.
-    fn keeps_the_law(&self)
+    // Does nothing but say to callers what holds of each core: its audit is a legal history.
+    fn ensure_legal(&self)
         ensures { IsLegal self.now.start self.now.entries }
     {
         self.audit.as_slice();

@@ -4,7 +4,7 @@ use Rattle.core_model.proofs.Turns.{one-launch, taken-or-denied}
 use Rattle.core_model.proofs.laws.each_packet_is_taken_in_turn.Goals as goal
 
 pub returns-clause-turn : goal.returns-clause-turn
-returns-clause-turn c = λ start entries before queue id bytes told effects legal place. (take-decided start before told effects queue id bytes (legal-at start entries before _ legal place).1).is_next
+returns-clause-turn c = λ start entries before queue id bytes told effects legal place. (take-decided start before told effects queue id bytes (legal-at start entries before _ legal place).1).id_is_next
 
 pub returns-clause-decided : goal.returns-clause-decided
 returns-clause-decided c = λ start entries before queue id bytes told effects legal place. taken-or-denied start before told effects queue id bytes (legal-at start entries before _ legal place).1
