@@ -1,5 +1,5 @@
 -- What the core with its rings owes to each command.
-use Rattle.std.specs.Prelude.{ℕ, ◌≡◌, ◌-◌, ◌&&◌, Bool, nat_le, List, [], ◌∷◌, ◌++◌, slice_set, Option, Some, None, Result, Ok, Err, if◌then◌else◌}
+use Rattle.std.specs.Prelude.{ℕ, ◌≡◌, ◌⊎◌, ◌-◌, ◌&&◌, Bool, nat_le, List, [], ◌∷◌, ◌++◌, slice_set, Option, Some, None, Result, Ok, Err, if◌then◌else◌}
 use Rattle.aql_packet.specs.declared.ids.QueueId.{QueueId}
 use Rattle.aql_packet.specs.declared.ids.PacketId.{PacketId}
 use Rattle.policy.specs.Policy.{numbered}
@@ -66,10 +66,14 @@ abbrev pub rings_opened : List Ring → Ring → Result QueueId Refusal → List
 rings_opened rings ring (Ok queue) = rings ++ ring ∷ []
 rings_opened rings ring (Err why) = rings
 
--- a queue was opened with its ring, or refused by the core (own)
+-- memory for the ring was wanted and not to be had, and all is as before
+abbrev pub RingLacks : Result QueueId Refusal → Ringed → Ringed → Type 0
+RingLacks made old new = (made ≡ Err refusal.OutOfMemory) × (new.core ≡ old.core)
+
+-- a queue was opened with its ring, or refused by the core, or memory for its ring was wanted (own)
 abbrev pub Opens : Event → Ring → Ringed → Told → Ringed → Type 0
 Opens event ring old reply new =
-    (made : Result QueueId Refusal) × MeetsOrLacks event old.core new.core (wrapped outcome.Opened made)
+    (made : Result QueueId Refusal) × (MeetsOrLacks event old.core new.core (wrapped outcome.Opened made) ⊎ RingLacks made old new)
     × (reply ≡ told_opened made) × (new.rings ≡ rings_opened old.rings ring made)
 
 -- a request was served by the core, and no ring changed; a queue that is opened so has no producers, and only what stands in a ring is handed over (own)

@@ -7,7 +7,7 @@ use Rattle.world.proofs.world.World.open_queue.Goals as goal
 pub returns-in-Err : goal.returns-in-Err
 returns-in-Err c = (
   Err refusal.OutOfMemory,
-  inr (record { may = refl; reply_is = refl; history_is = ap (λ (w : Ringed). w.core) c.self.view_is }),
+  inr (refl, ap (λ (w : Ringed). w.core) c.self.view_is),
   refl,
   c.in-Err.ensures.items ∙ ap (λ (w : Ringed). w.rings) c.self.view_is,
 )
