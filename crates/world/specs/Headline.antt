@@ -1,5 +1,5 @@
 -- The headline: what holds after any list of requests, in any interleaving.
-use Rattle.std.specs.Prelude.{◌≡◌, ℕ, true, List, [], Some, Ok, All}
+use Rattle.std.specs.Prelude.{◌≡◌, ◌⊎◌, ℕ, true, List, [], ◌∷◌, Some, Ok, All}
 use Rattle.aql_packet.specs.declared.ids.Address.{Address}
 use Rattle.aql_packet.specs.declared.ids.ClientId.{ClientId}
 use Rattle.aql_packet.specs.declared.ids.PacketId.{PacketId}
@@ -15,19 +15,22 @@ use Rattle.queue_error.specs.declared.error.QueueError.{QueueError}
 use Rattle.core_model.specs.declared.answer.Answer.{Answer}
 use Rattle.core_model.specs.declared.answer.Answer.TheVariants as answer
 use Rattle.core_model.specs.declared.entry.Effect.{Effect}
+use Rattle.core_model.specs.declared.entry.Effect.TheVariants as effect
 use Rattle.core_model.specs.declared.entry.Entry.{Entry}
 use Rattle.core_model.specs.declared.event.Event.TheVariants.{RunNext, Take}
 use Rattle.core_model.specs.declared.event.Query.TheVariants as query
 use Rattle.core_model.specs.declared.outcome.Outcome.{Outcome}
 use Rattle.core_model.specs.declared.outcome.Outcome.TheVariants as outcome
+use Rattle.core_model.specs.declared.outcome.Polled.TheVariants as polled
 use Rattle.core_model.specs.declared.outcome.Taken.TheVariants as taken
+use Rattle.core_model.specs.declared.outcome.Worked.TheVariants as worked
 use Rattle.core_model.specs.History.{Start}
 use Rattle.core_model.specs.Grants.{in_force}
 use Rattle.core_model.specs.Memory.{memory_from}
 use Rattle.core_model.specs.Queues.{Opening}
 use Rattle.core_model.specs.Legal.{IsLegal, entry_of, opened}
 use Rattle.core_model.specs.Queries.{replied}
-use Rattle.core_model.specs.Headline.{ChangeIsGranted, InFlightSince, IsDenied, IsEntryBehind, IsListed, MayBeLaunched, MayReach, MayReachRange, WriteIsGranted, reads_of}
+use Rattle.core_model.specs.Headline.{ChangeIsGranted, InFlightSince, IsDenied, IsEntryBehind, IsListed, MayBeLaunched, MayReach, MayReachRange, WriteIsGranted, packet_named, reads_of}
 use Rattle.ring_core.specs.Machine.{Machine}
 use Rattle.world.specs.States.{Joined, joined, ring_of}
 use Rattle.world.specs.InStep.{IsInStep}
@@ -49,6 +52,13 @@ EachDenialNamesItsRule start entries =
     (before : List Entry) (queue : QueueId) (id : PacketId) (bytes : List ℕ) (error : QueueError) (effects : List Effect) →
     IsEntryBehind entries before (entry_of (Take queue id bytes) (outcome.Taken (taken.Denied error)) effects) →
     IsDenied start before queue id bytes error × (effects ≡ [])
+
+-- each packet that faulted left nothing of its group, and its error names it
+abbrev pub EachFaultReleasesAlone : List Entry → Type 0
+EachFaultReleasesAlone entries =
+    (before : List Entry) (entry : Entry) (error : QueueError) → IsEntryBehind entries before entry →
+    (entry.outcome ≡ outcome.Worked (worked.Faulted error)) ⊎ (entry.outcome ≡ outcome.Polled (polled.Failed error)) →
+    (packet_named entry.event ≡ Some (error.queue, error.packet)) × (entry.effects ≡ effect.Release error.queue error.packet ∷ [])
 
 -- each byte written, and each signal changed, is one that a call or a packet of a client may by a grant: in force at the call,
 -- or at the packet's launch
@@ -91,6 +101,7 @@ pub record Headline (world : Joined) : Type 0 where
   pub legal : IsLegal world.core.start world.core.entries
   pub launches : EachLaunchWasGranted world.core.start world.core.entries
   pub denials : EachDenialNamesItsRule world.core.start world.core.entries
+  pub faults : EachFaultReleasesAlone world.core.entries
   pub writes : EachWriteWasGranted world.core.start world.core.entries
   pub changes : EachChangeWasGranted world.core.start world.core.entries
   pub group_reads : EachGroupReadWasGranted world.core.start world.core.entries

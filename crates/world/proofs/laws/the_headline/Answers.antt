@@ -1,5 +1,6 @@
 -- The laws of legal histories, for the history that the requests left.
-use Rattle.std.proofs.Common.{◌≡◌, ℕ, List, subst, Option, Some}
+use Rattle.std.proofs.Common.{ap, inl, inr, subst}
+use Rattle.core_model.specs.Queues.{error_of}
 use Rattle.world.specs.InStep.{IsJoined, Stands}
 use Rattle.world.specs.Headline.{Headline, begun}
 use Rattle.world.proofs.Kept.{begins, replies_kept}
@@ -12,6 +13,10 @@ returns c = λ policy capacity requests replies world are.
       legal = h.legal;
       launches = λ before queue id bytes effects place. c.each_launch_was_granted.ensures world.core.start world.core.entries before queue id bytes effects h.legal place;
       denials = λ before queue id bytes error effects place. c.denials_name_the_first_rule.ensures world.core.start world.core.entries before queue id bytes error effects h.legal place;
+      faults = λ before entry error place told. (
+        c.faults_release_alone.ensures.names world.core.start world.core.entries before entry error h.legal place (elim told [ inl e ↦ ap error_of e | inr e ↦ ap error_of e ]),
+        c.faults_release_alone.ensures.releases world.core.start world.core.entries before entry error h.legal place told,
+      );
       writes = λ before entry place. c.each_write_was_granted.ensures world.core.start world.core.entries before entry h.legal place;
       changes = λ before entry place. c.each_signal_change_was_granted.ensures world.core.start world.core.entries before entry h.legal place;
       group_reads = λ before queue id told effects place. c.each_read_of_a_group_was_granted.ensures.reads world.core.start world.core.entries before queue id told effects h.legal place;
