@@ -2,8 +2,8 @@
 use Rattle.std.specs.Prelude.{ℕ, ◌+◌, ◌-◌, ◌%◌, ◌^◌, ◌<◌, if◌then◌else◌, nat_lt, ℤ, pos, unsigned_abs}
 use Rattle.std.specs.Ordering.{int_eq}
 use Rattle.std.specs.Int.{w8, w16, w32, w64}
-use Rattle.executor.specs.declared.conversion.NumberType.{NumberType}
-use Rattle.executor.specs.declared.conversion.NumberType.TheVariants.{B1, U8, U16, U32, U64, S8, S16, S32, S64}
+use Rattle.kernel_check.specs.declared.step.NumberType.{NumberType}
+use Rattle.kernel_check.specs.declared.step.NumberType.TheVariants.{B1, U8, U16, U32, U64, S8, S16, S32, S64}
 use Rattle.executor.specs.Numbers.{unsigned, signed, number, wrapped}
 
 -- the number that a register's low bits mean as a type (PRM, Base Data Types)

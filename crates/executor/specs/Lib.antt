@@ -2,3 +2,13 @@ pub mod Numbers
 pub mod Conversions
 pub mod Written
 pub mod Told
+pub mod Registers
+pub mod Values
+pub mod Locations
+pub mod Accesses
+pub mod Outcomes
+pub mod Items
+pub mod Meaning
+pub mod Turns
+pub mod Group
+pub mod Runs

@@ -5,8 +5,8 @@ use Rattle.std.specs.Ordering.{int_eq}
 use Rattle.std.specs.Int.RustNames.{int_div, int_rem}
 use mir.Val.{bits}
 use Rattle.std.specs.Int.{Width, int_rem_euclid, int_shr, cast_signed}
-use Rattle.executor.specs.declared.comparison.Comparison.{Comparison}
-use Rattle.executor.specs.declared.comparison.Comparison.TheVariants.{Equal, NotEqual, Less, LessOrEqual, Greater, GreaterOrEqual}
+use Rattle.hsail_reader.specs.declared.types.Comparison.{Comparison}
+use Rattle.hsail_reader.specs.declared.types.Comparison.TheVariants.{Equal, NotEqual, Less, LessOrEqual, Greater, GreaterOrEqual}
 
 -- how a type reads its bits: types `u` as they are, types `s` in two's complement (PRM, Base Data Types)
 pub data Sign : Type 0 where

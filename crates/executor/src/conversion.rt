@@ -2,31 +2,10 @@
 ghost use Rattle.std.specs.Prelude.{◌≡◌, ◌+◌, ◌%◌, ◌<◌, ◌≤◌, ◌-◌, ◌^◌, ℤ, nat_lt, if◌then◌else◌};
 ghost use Rattle.std.specs.Int.{w64};
 ghost use Rattle.executor.specs.Numbers.{wrapped};
+ghost use Rattle.kernel_check.specs.Steps.{number_bytes};
 ghost use Rattle.executor.specs.Conversions.{converted, read_as, written_as, extended_bits, IsShort};
 
-/// The types that `cvt` and `ld` read and write (PRM, Base Data Types). A `b` type is loaded as the `u`
-/// type of its width.
-#[derive(Clone, Copy, Debug, PartialEq, Eq)]
-pub enum NumberType {
-    /// One bit.
-    B1,
-    /// Eight bits, unsigned.
-    U8,
-    /// Sixteen bits, unsigned.
-    U16,
-    /// Thirty-two bits, unsigned.
-    U32,
-    /// Sixty-four bits, unsigned.
-    U64,
-    /// Eight bits in two's complement.
-    S8,
-    /// Sixteen bits in two's complement.
-    S16,
-    /// Thirty-two bits in two's complement.
-    S32,
-    /// Sixty-four bits in two's complement.
-    S64,
-}
+use kernel_check::NumberType;
 
 /// `cvt`: the low bits of a register read as a number of one type, and written as another type into a
 /// register of that type's class, 32 bits for the types below 64 (PRM, Conversion (cvt) Operation). From
@@ -82,5 +61,20 @@ fn extend_sign(bits: u64, half: u64) -> u64
         bits
     } else {
         bits + (u64::MAX - (half + half - 1))
+    }
+}
+
+/// The bytes that a number takes in memory.
+#[inline(always)]
+pub fn bytes_of(kind: NumberType) -> usize
+    ensures value { result ≡ number_bytes kind }
+    ensures some { 1 ≤ result }
+    ensures few { result ≤ 8 }
+{
+    match kind {
+        NumberType::B1 | NumberType::U8 | NumberType::S8 => 1,
+        NumberType::U16 | NumberType::S16 => 2,
+        NumberType::U32 | NumberType::S32 => 4,
+        NumberType::U64 | NumberType::S64 => 8,
     }
 }

@@ -1,18 +1,33 @@
-//! Runs work-groups of kernels. So far: the numbers that instructions compute with, and the bytes that
-//! a work-group has written over memory that is lent to it.
+//! Runs work-groups of checked kernels: one item after another, each step by step, over memory that is lent
+//! and stays as it is.
 #![tactic(auto)]
 
+mod access;
+mod act;
 mod chunk;
-mod comparison;
 mod conversion;
+mod dispatch;
+mod fault;
+mod group;
+mod item;
+mod item_run;
+mod location;
+mod memory;
 pub mod number32;
 pub mod number64;
 mod page;
 mod region;
+mod registers;
 mod run;
+mod values;
+mod view;
 mod written;
 
-pub use comparison::Comparison;
-pub use conversion::{NumberType, convert};
+pub use conversion::convert;
+pub use dispatch::Dispatch;
+pub use fault::{ItemFault, RunFault};
+pub use group::run_group;
+pub use location::Extent;
 pub use run::Run;
+pub use view::HeldRegion;
 pub use written::WrittenBytes;

@@ -5,7 +5,7 @@ ghost use Rattle.std.specs.Prelude.{◌≡◌, if◌then◌else◌, bit_and, bit
 ghost use Rattle.std.specs.Int.{w32, bit_not};
 ghost use Rattle.executor.specs.Numbers.{Sign, unsigned, signed, number, computed, compared, wrapped, sum, difference, product, quotient, remainder, least, greatest, shifted_left, shifted_right};
 
-use crate::comparison::Comparison;
+use hsail_reader::Comparison;
 
 /// `add`: the sum, wrapping (PRM, Integer Arithmetic Operations).
 #[inline(always)]

@@ -1,0 +1,77 @@
+-- What one instruction does to a work-item and to memory, an equation an instruction.
+use Rattle.std.specs.Prelude.{ℕ, ◌+◌, ◌%◌, ◌^◌, ◌==◌, if◌then◌else◌, List, drop, slice_get, slice_index, Option, Some, None, Result, Ok, Err}
+use Rattle.byteorder.specs.Endian.{little_number}
+use Rattle.executor.specs.Accesses.{loaded, stored}
+use Rattle.executor.specs.Conversions.{converted}
+use Rattle.executor.specs.Items.{Contents, Surroundings}
+use Rattle.executor.specs.Locations.{answer}
+use Rattle.executor.specs.Registers.{read1, read_any, with1, with32, with64, with_any}
+use Rattle.executor.specs.Values.{value1, value32, value64}
+use Rattle.executor.specs.declared.item.Item.{Item}
+use Rattle.executor.specs.declared.registers.Registers.{Registers}
+use Rattle.kernel_check.specs.Steps.{number_bytes}
+use Rattle.kernel_check.specs.declared.step.Pointer.{Pointer}
+use Rattle.kernel_check.specs.declared.step.LoadStep.{LoadStep}
+use Rattle.kernel_check.specs.declared.step.Step.{Step}
+use Rattle.kernel_check.specs.declared.step.Step.TheVariants as step
+use Rattle.queue_error.specs.declared.rule.Rule.{Rule}
+use Rattle.queue_error.specs.declared.rule.Rule.TheVariants.{A5}
+
+-- what comes of a turn: the item goes on, it has ended, or it broke a rule
+pub data Act : Type 0 where
+  goes_on : Item → Contents → Act
+  ends : Contents → Act
+  broke : Rule → Act
+
+-- the item with other registers, at the next step
+abbrev pub onward : Item → Registers → Item
+onward i r = record { registers = r; next = i.next + 1 }
+
+-- an address: what the register has and the offset, wrapping (PRM, Address Expressions)
+abbrev pub address_at : Registers → Option ℕ → ℕ → ℕ
+address_at r None offset = offset
+address_at r (Some s) offset = (slice_index r.double s + offset) % 2 ^ 64
+
+abbrev pub address_of : Registers → Pointer → ℕ
+address_of r p = address_at r p.base p.offset
+
+-- a load goes on with the value that it saw, extended as its type says
+abbrev pub after_load : Item → Contents → LoadStep → Result ℕ Rule → Act
+after_load i m l (Ok value) = goes_on (onward i (with_any i.registers l.target (converted l.kind l.kind value))) m
+after_load i m l (Err rule) = broke rule
+
+-- a store goes on with what is then written
+abbrev pub after_store : Item → Contents → Result (ℕ → Option ℕ) Rule → Act
+after_store i m (Ok written) = goes_on (onward i i.registers) (record m { written = written })
+after_store i m (Err rule) = broke rule
+
+-- PRM, Arithmetic Operations; Conversion (cvt) Operation; Load (ld) Operation; Store (st) Operation; Branch
+-- Operations; Dispatch Packet Operations
+abbrev pub act : Surroundings → Item → Contents → Step → Act
+act a i m (step.Control s) = goes_on (onward i (with1 i.registers s.target (value1 i.registers s.operation))) m
+act a i m (step.Single s) = goes_on (onward i (with32 i.registers s.target (value32 i.registers s.operation))) m
+act a i m (step.Double s) = goes_on (onward i (with64 i.registers s.target (value64 i.registers s.operation))) m
+act a i m (step.Convert c) =
+    goes_on (onward i (with_any i.registers c.target (converted c.from c.to (read_any i.registers c.source)))) m
+act a i m (step.Argument l) =
+    goes_on (onward i (with_any i.registers l.target
+    (converted l.kind l.kind (little_number (number_bytes l.kind) (drop l.offset a.arguments))))) m
+act a i m (step.Load l) =
+    after_load i m l (loaded a.view m.written (address_of i.registers l.pointer) (number_bytes l.kind))
+act a i m (step.Store s) =
+    after_store i m (stored a.view m.written (address_of i.registers s.pointer) (number_bytes s.kind) (read_any i.registers s.source))
+act a i m (step.Branch next) = goes_on (record i { next = next }) m
+act a i m (step.ConditionalBranch b) =
+    goes_on (record i { next = if read1 i.registers b.condition then b.next else i.next + 1 }) m
+act a i m step.Return = ends m
+act a i m (step.Identify q) =
+    goes_on (onward i (with_any i.registers q.target (answer a.location q.query q.dimension))) m
+
+-- the turn of an item at a step, or behind the last of them, where it ends without a step (own); an item that
+-- executed 65,536 instructions and has not ended breaks A5 (own)
+abbrev pub turn_at : Surroundings → Item → ℕ → Contents → Option Step → Act
+turn_at a i executed m None = ends m
+turn_at a i executed m (Some s) = if executed == 65536 then broke A5 else act a i m s
+
+abbrev pub turn : Surroundings → List Step → Item → ℕ → Contents → Act
+turn a steps i executed m = turn_at a i executed m (slice_get steps i.next)

@@ -1,0 +1,78 @@
+-- What running a work-group answers (own).
+use Rattle.std.specs.Prelude.{◌≡◌, ℕ, zero, suc, ◌^◌, ◌≤◌, ◌<◌, List, ◌∷◌, length}
+use Rattle.executor.specs.Group.{Standing, ready, ended, Status, running, done, faulted, Leads, beginning}
+use Rattle.executor.specs.Items.{Contents, Surroundings, blank, fresh}
+use Rattle.executor.specs.Locations.{id_of, count_of, groups_of, current_of}
+use Rattle.executor.specs.Written.{AreRuns}
+use Rattle.executor.specs.declared.dispatch.Dispatch.{Dispatch}
+use Rattle.executor.specs.declared.fault.RunFault.{RunFault}
+use Rattle.executor.specs.declared.fault.RunFault.TheVariants as fault
+use Rattle.executor.specs.declared.location.Location.{Location}
+use Rattle.executor.specs.declared.run.Run.{Run}
+use Rattle.executor.specs.declared.view.HeldRegion.{HeldRegion}
+use Rattle.kernel_check.specs.Programs.{Program, group_bytes_of}
+
+-- sizes that a dispatch may have (own limits)
+pub record HasSizes (d : Dispatch) : Type 0 where
+  pub some_x : 1 ≤ d.group_size.x
+  pub some_y : 1 ≤ d.group_size.y
+  pub some_z : 1 ≤ d.group_size.z
+  pub fits_x : d.group_size.x ≤ d.grid_size.x
+  pub fits_y : d.group_size.y ≤ d.grid_size.y
+  pub fits_z : d.group_size.z ≤ d.grid_size.z
+  pub few_items : count_of d.group_size ≤ 1024
+  pub few_groups : count_of (groups_of d.grid_size d.group_size) < 2 ^ 32
+
+-- a dispatch of a kernel that can be run, and one of its work-groups
+pub record IsRunnable (p : Program) (d : Dispatch) (group : ℕ) : Type 0 where
+  pub arguments : length d.arguments.now ≡ p.argument_bytes
+  pub sizes : HasSizes d
+  pub one_of_them : group < count_of (groups_of d.grid_size d.group_size)
+  pub segment : group_bytes_of p ≤ d.group_segment_size
+  pub segment_limit : d.group_segment_size ≤ 65536
+
+-- where the first item of a work-group stands; groups are numbered with x fastest
+abbrev pub location_of : Dispatch → ℕ → Location
+location_of d group =
+    let id = id_of (groups_of d.grid_size d.group_size) group in
+    record {
+      item = record { x = 0; y = 0; z = 0 };
+      group = id;
+      group_size = d.group_size;
+      current_size = current_of d.grid_size d.group_size id;
+      grid_size = d.grid_size;
+    }
+
+-- what surrounds the items of a work-group
+abbrev pub surroundings_of : Dispatch → ℕ → List HeldRegion → Surroundings
+surroundings_of d group view =
+    record { arguments = d.arguments.now; view = view; location = location_of d group }
+
+-- so many items that have ended, and others behind them
+abbrev pub after : ℕ → List Standing → List Standing
+after zero xs = xs
+after (suc n) xs = ended ∷ after n xs
+
+-- an item that ran to its end, the items before it having ended
+abbrev pub ItemRuns : Surroundings → Program → ℕ → Contents → Contents → Type 0
+ItemRuns a p n before now = (rest : List Standing)
+    → Leads a p (running (after n (ready fresh 0 ∷ rest)) before) (running (after n (ended ∷ rest)) now)
+
+-- an item that broke a rule; without memory nothing is said
+abbrev pub ItemFails : Surroundings → Program → ℕ → Contents → RunFault → Type 0
+ItemFails a p n before fault.OutOfMemory = Unit {0}
+ItemFails a p n before (fault.Fault f) = (rest : List Standing)
+    → Leads a p (running (after n (ready fresh 0 ∷ rest)) before) (faulted f.item f.line f.rule)
+
+-- a group that is done has written the bytes of these runs
+abbrev pub Finishes : Surroundings → Program → Status → List Run → Type 0
+Finishes a p from runs = (m : Contents) × (Leads a p from (done m) × AreRuns m.written runs)
+
+-- a group in which an item broke a rule; without memory nothing is said
+abbrev pub Fails : Surroundings → Program → Status → RunFault → Type 0
+Fails a p from fault.OutOfMemory = Unit {0}
+Fails a p from (fault.Fault f) = Leads a p from (faulted f.item f.line f.rule)
+
+-- a group as it begins
+abbrev pub begun : Dispatch → Surroundings → Status
+begun d a = beginning (count_of a.location.current_size) (blank d.group_segment_size)

@@ -1,0 +1,108 @@
+//! Accesses to the memory that is lent, and to what is written over it.
+ghost use Rattle.std.specs.Prelude.{◌≡◌, ◌+◌, ◌/◌, ◌==◌, ◌≤◌, ◌^◌, None, Some, Ok, Err, find, IfOk, IfErr, OnOk, MatchResult, length};
+ghost use Rattle.std.specs.Option.{option_copied};
+ghost use Rattle.executor.specs.Accesses.{region_of, broken, lent, loaded, stored};
+ghost use Rattle.executor.specs.Outcomes.{StoreFails};
+ghost use Rattle.executor.specs.Written.{byte_at};
+
+use crate::view::HeldRegion;
+use crate::written::WrittenBytes;
+use byteorder::{ByteOrder, LittleEndian};
+use policy::Right;
+use queue_error::Rule;
+use std::alloc::Global;
+
+/// Why a store didn't take place.
+#[derive(Clone, Copy)]
+pub enum StoreError {
+    OutOfMemory,
+    Broke(Rule),
+}
+
+/// The held region that an address lies in.
+#[inline(always)]
+fn region_of<'v>(view: &'v [HeldRegion<'v>], address: u64) -> Option<&'v HeldRegion<'v>>
+    ensures { option_copied result ≡ region_of view.now address }
+{
+    view.iter()
+        .find(|region| region.handle.0 as u64 == address >> 32)
+}
+
+/// The bytes that are lent for an access of a size, or the rule that it breaks first.
+#[inline(always)]
+fn access<'v>(
+    view: &'v [HeldRegion<'v>],
+    right: Right,
+    address: u64,
+    size: usize,
+) -> Result<&'v [u8], Rule>
+    requires { size ≤ 8 }
+    ensures allowed { IfOk result (λ bytes. broken view.now right address size ≡ None) }
+    ensures bytes { IfOk result (λ bytes. bytes.now ≡ lent view.now address size) }
+    ensures size { IfOk result (λ bytes. length bytes.now ≡ size) }
+    ensures end { IfOk result (λ bytes. address + size ≤ 2 ^ 64) }
+    ensures refused { IfErr result (λ rule. broken view.now right address size ≡ Some rule) }
+{
+    let Some(region) = region_of(view, address) else {
+        return Err(Rule::A1);
+    };
+    if !region.rights.has(right) {
+        return Err(Rule::A2);
+    }
+    let offset = (address % (1 << 32)) as usize;
+    if offset + size > region.bytes.len() {
+        return Err(Rule::A3);
+    }
+    Ok(&region.bytes[offset..offset + size])
+}
+
+/// A load: what the addresses have, the lowest byte first, or the rule that it breaks first.
+#[inline]
+pub fn load(
+    view: &[HeldRegion<'_>],
+    written: &WrittenBytes,
+    address: u64,
+    size: usize,
+) -> Result<u64, Rule>
+    requires some { 1 ≤ size }
+    requires few { size ≤ 8 }
+    ensures { result ≡ loaded view.now (byte_at written.now) address size }
+{
+    match access(view, Right::Read, address, size) {
+        Err(rule) => Err(rule),
+        Ok(bytes) => {
+            let mut buffer = [0; 8];
+            let (part, _) = buffer.split_at_mut(size);
+            part.copy_from_slice(bytes);
+            written.load(address, part);
+            Ok(LittleEndian::read_uint(part, size))
+        }
+    }
+}
+
+/// A store of a value's low bytes, the lowest first.
+#[inline]
+pub fn store(
+    alloc: Global,
+    view: &[HeldRegion<'_>],
+    written: &mut WrittenBytes,
+    address: u64,
+    size: usize,
+    value: u64,
+) -> Result<(), StoreError>
+    requires { size ≤ 8 }
+    ensures ok { OnOk result (stored view.now (byte_at written.old) address size value ≡ Ok (byte_at written.new)) }
+    ensures err { IfErr result (StoreFails (stored view.now (byte_at written.old) address size value)) }
+{
+    match access(view, Right::Write, address, size) {
+        Err(rule) => Err(StoreError::Broke(rule)),
+        Ok(_) => {
+            let bytes = value.to_le_bytes();
+            let (low, _) = bytes.split_at(size);
+            match written.store(alloc, address, low) {
+                Ok(()) => Ok(()),
+                Err(_) => Err(StoreError::OutOfMemory),
+            }
+        }
+    }
+}

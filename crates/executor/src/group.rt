@@ -1,0 +1,187 @@
+//! A work-group, item after item.
+ghost use Rattle.std.specs.Prelude.{◌≡◌, ◌<◌, ◌≤◌, IfOk, IfErr, OnOk, OnErr, length, slice_get, Some};
+ghost use Rattle.executor.specs.Group.{beginning, done, Leads};
+ghost use Rattle.executor.specs.Items.{blank, contents, surroundings};
+ghost use Rattle.executor.specs.Locations.{count_of, current_along, current_of, groups_along, groups_of};
+ghost use Rattle.executor.specs.Runs.{HasSizes, IsRunnable, location_of, surroundings_of, begun, Finishes, Fails};
+ghost use Rattle.kernel_check.specs.Programs.{Program as ProgramValue};
+
+use crate::dispatch::Dispatch;
+use crate::fault::RunFault;
+use crate::item::Around;
+use crate::item_run::{id_of, run_item};
+use crate::location::{Extent, Location};
+use crate::memory::Memory;
+use crate::run::Run;
+use crate::view::HeldRegion;
+use crate::written::WrittenBytes;
+use kernel_check::{Checked, Program};
+use sequences::Sequence;
+use std::alloc::{AllocError, Global};
+
+/// Runs items one after another, each to its end, or to the first rule that one breaks.
+fn run_items(
+    alloc: Global,
+    around: &Around<'_>,
+    program: &Program,
+    count: u32,
+    memory: &mut Memory,
+) -> Result<(), RunFault>
+    requires arguments { length around.now.arguments.now ≡ program.now.argument_bytes }
+    requires count { count ≡ count_of around.now.location.current_size }
+    ensures ok { OnOk result (Leads (surroundings around.now) program.now (beginning count (contents memory.old)) (done (contents memory.new))) }
+    ensures err { IfErr result (Fails (surroundings around.now) program.now (beginning count (contents memory.old))) }
+{
+    'items: for number in 0..count {
+        if let Err(fault) = run_item(alloc, around, program, number, memory) {
+            return Err(fault);
+        }
+    }
+    Ok(())
+}
+
+/// Memory as a work-group begins.
+fn blank(alloc: Global, size: u32) -> Result<Memory, AllocError>
+    ensures { IfOk result (λ memory. contents memory ≡ blank size) }
+{
+    Ok(Memory {
+        group: vec![in alloc; 0; size as usize]?,
+        written: WrittenBytes::new(alloc),
+    })
+}
+
+/// How many work-groups there are along a dimension.
+fn groups_along(grid: u32, size: u32) -> u32
+    requires size { 1 ≤ size }
+    requires grid { 1 ≤ grid }
+    ensures value { result ≡ groups_along grid size }
+    ensures some { 1 ≤ result }
+{
+    (grid - 1) / size + 1
+}
+
+/// A work-group's current size along a dimension.
+fn current_along(grid: u32, size: u32, id: u32) -> u32
+    ensures value { result ≡ current_along grid size id }
+    ensures few { result ≤ size }
+{
+    let begin = id as u64 * size as u64;
+    let left = (grid as u64).saturating_sub(begin);
+    if (size as u64) < left {
+        size
+    } else {
+        left as u32
+    }
+}
+
+/// How many work-groups there are in each dimension.
+fn groups_of(dispatch: &Dispatch<'_>) -> Extent
+    requires { HasSizes dispatch.now }
+    ensures value { result ≡ groups_of dispatch.now.grid_size dispatch.now.group_size }
+    ensures x { 1 ≤ result.x }
+    ensures y { 1 ≤ result.y }
+{
+    let grid = dispatch.grid_size;
+    let size = dispatch.group_size;
+    Extent {
+        x: groups_along(grid.x, size.x),
+        y: groups_along(grid.y, size.y),
+        z: groups_along(grid.z, size.z),
+    }
+}
+
+/// The current size of the work-group with an id.
+fn current_of(grid: &Extent, size: &Extent, id: &Extent) -> Extent
+    ensures value { result ≡ current_of grid.now size.now id.now }
+    ensures x { result.x ≤ size.now.x }
+    ensures y { result.y ≤ size.now.y }
+    ensures z { result.z ≤ size.now.z }
+{
+    Extent {
+        x: current_along(grid.x, size.x, id.x),
+        y: current_along(grid.y, size.y, id.y),
+        z: current_along(grid.z, size.z, id.z),
+    }
+}
+
+/// Where the first item of a work-group stands.
+fn location_of(dispatch: &Dispatch<'_>, group: u32) -> Location
+    requires { HasSizes dispatch.now }
+    ensures value { result ≡ location_of dispatch.now group }
+    ensures x { result.current_size.x ≤ dispatch.now.group_size.x }
+    ensures y { result.current_size.y ≤ dispatch.now.group_size.y }
+    ensures z { result.current_size.z ≤ dispatch.now.group_size.z }
+{
+    let id = id_of(&groups_of(dispatch), group);
+    Location {
+        item: Extent { x: 0, y: 0, z: 0 },
+        group: id,
+        group_size: dispatch.group_size,
+        current_size: current_of(&dispatch.grid_size, &dispatch.group_size, &id),
+        grid_size: dispatch.grid_size,
+    }
+}
+
+/// How many items a work-group has, of at most 1,024.
+fn count_of(current: &Extent, size: &Extent) -> u32
+    requires x { current.now.x ≤ size.now.x }
+    requires y { current.now.y ≤ size.now.y }
+    requires z { current.now.z ≤ size.now.z }
+    requires few { count_of size.now ≤ 1024 }
+    ensures { result ≡ count_of current.now }
+{
+    (current.x as u64 * current.y as u64 * current.z as u64) as u32
+}
+
+/// Runs one work-group of a kernel.
+fn run_program(
+    alloc: Global,
+    program: &Program,
+    dispatch: &Dispatch<'_>,
+    group: u32,
+    view: &[HeldRegion<'_>],
+) -> Result<Sequence<Run>, RunFault>
+    requires { IsRunnable program.now dispatch.now group }
+    ensures ok { IfOk result (Finishes (surroundings_of dispatch.now group view.now) program.now (begun dispatch.now (surroundings_of dispatch.now group view.now))) }
+    ensures err { IfErr result (Fails (surroundings_of dispatch.now group view.now) program.now (begun dispatch.now (surroundings_of dispatch.now group view.now))) }
+{
+    let location = location_of(dispatch, group);
+    let count = count_of(&location.current_size, &dispatch.group_size);
+    let around = Around {
+        arguments: dispatch.arguments,
+        view,
+        location,
+    };
+    let mut memory = blank(alloc, dispatch.group_segment_size)?;
+    if let Err(fault) = run_items(alloc, &around, program, count, &mut memory) {
+        return Err(fault);
+    }
+    let runs = memory.written.runs(alloc)?;
+    Ok(runs)
+}
+
+/// Runs one work-group of a checked kernel on the memory that it is lent, which stays as it is. Its writes
+/// are the maximal runs of written addresses, ascending, with their final bytes; or it is refused by the
+/// rule that the first of its items broke, or for want of memory.
+pub fn run_group(
+    alloc: Global,
+    checked: &Checked,
+    dispatch: &Dispatch<'_>,
+    group: u32,
+    view: &[HeldRegion<'_>],
+) -> Result<Sequence<Run>, RunFault>
+    requires kernel { dispatch.now.kernel < length checked.now }
+    requires runnable { (p : ProgramValue) → slice_get checked.now dispatch.now.kernel ≡ Some p → IsRunnable p dispatch.now group }
+    ensures ok { (p : ProgramValue) → slice_get checked.now dispatch.now.kernel ≡ Some p
+        → IfOk result (Finishes (surroundings_of dispatch.now group view.now) p (begun dispatch.now (surroundings_of dispatch.now group view.now))) }
+    ensures err { (p : ProgramValue) → slice_get checked.now dispatch.now.kernel ≡ Some p
+        → IfErr result (Fails (surroundings_of dispatch.now group view.now) p (begun dispatch.now (surroundings_of dispatch.now group view.now))) }
+{
+    run_program(
+        alloc,
+        checked.kernel(dispatch.kernel),
+        dispatch,
+        group,
+        view,
+    )
+}

@@ -1,0 +1,123 @@
+//! A work-item run to its end.
+ghost use Rattle.std.specs.Prelude.{◌≡◌, ◌<◌, ◌≤◌, ℕ, IfErr, OnOk, length, slice_index};
+ghost use Rattle.executor.specs.declared.fault.RunFault.TheVariants as fault_arm;
+ghost use Rattle.executor.specs.Group.{around_item};
+ghost use Rattle.executor.specs.Items.{contents, surroundings};
+ghost use Rattle.executor.specs.Locations.{id_of};
+ghost use Rattle.executor.specs.Meaning.{turn};
+ghost use Rattle.executor.specs.Runs.{ItemRuns, ItemFails};
+ghost use Rattle.executor.specs.Turns.{Acts};
+
+use crate::act::{Outcome, act};
+use crate::fault::{ItemFault, RunFault};
+use crate::item::{Around, Item};
+use crate::location::{Extent, Location};
+use crate::memory::Memory;
+use kernel_check::Program;
+use queue_error::Rule;
+use std::alloc::Global;
+
+/// How many instructions a work-item executes at most.
+const BUDGET: u32 = 65_536;
+
+/// The id of a number, where ids of these sizes are numbered with x fastest.
+pub fn id_of(sizes: &Extent, number: u32) -> Extent
+    requires x { 1 ≤ sizes.now.x }
+    requires y { 1 ≤ sizes.now.y }
+    ensures { result ≡ id_of sizes.now number }
+{
+    Extent {
+        x: number % sizes.x,
+        y: number / sizes.x % sizes.y,
+        z: number / sizes.x / sizes.y,
+    }
+}
+
+/// What surrounds the item of a number.
+fn around_item<'a>(around: &Around<'a>, number: u32) -> Around<'a>
+    requires x { 1 ≤ around.now.location.current_size.x }
+    requires y { 1 ≤ around.now.location.current_size.y }
+    ensures surroundings { surroundings result ≡ around_item (surroundings around.now) number }
+    ensures arguments { result.arguments.now ≡ around.now.arguments.now }
+{
+    let location = Location {
+        item: id_of(&around.location.current_size, number),
+        ..around.location
+    };
+    Around {
+        location,
+        ..*around
+    }
+}
+
+/// The line of a step.
+fn line_of(program: &Program, step: usize) -> u32
+    ensures { result ≡ slice_index program.now.lines step }
+{
+    match program.lines().get(step) {
+        Some(line) => *line,
+        None => 0,
+    }
+}
+
+/// One turn of an item that has not used up its budget.
+#[inline]
+fn turn(
+    alloc: Global,
+    around: &Around<'_>,
+    program: &Program,
+    item: &mut Item,
+    memory: &mut Memory,
+) -> Outcome
+    requires { length around.now.arguments.now ≡ program.now.argument_bytes }
+    ensures { (executed : ℕ) → executed < 65536
+        → Acts (turn (surroundings around.now) program.now.steps item.old executed (contents memory.old)) result item.new (contents memory.new) }
+{
+    match program.steps().get(item.next) {
+        None => Outcome::Ended,
+        Some(step) => act(alloc, around, item, memory, step),
+    }
+}
+
+/// Runs an item to its end, or to the rule that it breaks.
+pub fn run_item(
+    alloc: Global,
+    around: &Around<'_>,
+    program: &Program,
+    number: u32,
+    memory: &mut Memory,
+) -> Result<(), RunFault>
+    requires arguments { length around.now.arguments.now ≡ program.now.argument_bytes }
+    requires x { 1 ≤ around.now.location.current_size.x }
+    requires y { 1 ≤ around.now.location.current_size.y }
+    ensures ok { OnOk result (ItemRuns (surroundings around.now) program.now number (contents memory.old) (contents memory.new)) }
+    ensures err { IfErr result (ItemFails (surroundings around.now) program.now number (contents memory.old)) }
+{
+    let own = around_item(around, number);
+    let mut item = Item::fresh();
+    'turns: for _executed in 0..BUDGET {
+        let next = item.next;
+        match turn(alloc, &own, program, &mut item, memory) {
+            Outcome::GoesOn => {}
+            Outcome::Ended => return Ok(()),
+            Outcome::Broke(rule) => return Err(fault(program, number, next, rule)),
+            Outcome::OutOfMemory => return Err(RunFault::OutOfMemory),
+        }
+    }
+    if item.next < program.steps().len() {
+        Err(fault(program, number, item.next, Rule::A5))
+    } else {
+        Ok(())
+    }
+}
+
+/// The fault of an item at a step.
+fn fault(program: &Program, item: u32, step: usize, rule: Rule) -> RunFault
+    ensures { result ≡ fault_arm.Fault (record { item = item; line = slice_index program.now.lines step; rule = rule }) }
+{
+    RunFault::Fault(ItemFault {
+        item,
+        line: line_of(program, step),
+        rule,
+    })
+}

@@ -1,0 +1,12 @@
+//! What a work-group changes while it runs.
+
+use crate::written::WrittenBytes;
+
+/// The group memory, and what is written over the memory that is lent.
+#[derive(Drop)]
+pub struct Memory {
+    /// The bytes of the group segment (PRM, Group Segment).
+    pub group: Vec<u8>,
+    /// The bytes written to global memory.
+    pub written: WrittenBytes,
+}

@@ -1,0 +1,107 @@
+//! The registers of a work-item, and what operations read and set in them.
+ghost use Rattle.std.specs.Prelude.{◌≡◌, replicate, false, if◌then◌else◌};
+ghost use Rattle.executor.specs.Registers.{cleared, read1, read32, read64, read_any, with1, with32, with64, with_any};
+
+use kernel_check::{AnyRegister, AnySource, Slot, Source1, Source32, Source64};
+
+/// The registers of a work-item, by class and number (PRM, Registers).
+#[derive(Clone, Copy)]
+pub struct Registers {
+    /// `$c0` to `$c63`.
+    pub control: [bool; 64],
+    /// `$s0` to `$s63`.
+    pub single: [u32; 64],
+    /// `$d0` to `$d63`.
+    pub double: [u64; 64],
+}
+
+impl Registers {
+    /// Registers that are all zero.
+    pub fn cleared() -> Registers
+        ensures { result ≡ cleared }
+    {
+        Registers {
+            control: [false; 64],
+            single: [0; 64],
+            double: [0; 64],
+        }
+    }
+
+    /// One bit.
+    #[inline(always)]
+    pub fn read1(&self, source: Source1) -> bool
+        ensures { result ≡ read1 self.now source }
+    {
+        match source {
+            Source1::Register(slot) => self.control[slot.index()],
+            Source1::Constant(bit) => bit,
+        }
+    }
+
+    /// 32 bits.
+    #[inline(always)]
+    pub fn read32(&self, source: Source32) -> u32
+        ensures { result ≡ read32 self.now source }
+    {
+        match source {
+            Source32::Register(slot) => self.single[slot.index()],
+            Source32::Constant(bits) => bits,
+        }
+    }
+
+    /// 64 bits.
+    #[inline(always)]
+    pub fn read64(&self, source: Source64) -> u64
+        ensures { result ≡ read64 self.now source }
+    {
+        match source {
+            Source64::Register(slot) => self.double[slot.index()],
+            Source64::Constant(bits) => bits,
+        }
+    }
+
+    /// The bits of a source of any class.
+    #[inline(always)]
+    pub fn read_any(&self, source: AnySource) -> u64
+        ensures { result ≡ read_any self.now source }
+    {
+        match source {
+            AnySource::Control(source) => if self.read1(source) { 1 } else { 0 },
+            AnySource::Single(source) => self.read32(source) as u64,
+            AnySource::Double(source) => self.read64(source),
+        }
+    }
+
+    #[inline(always)]
+    pub fn set1(&mut self, slot: Slot, bit: bool)
+        ensures { self.new ≡ with1 self.old slot bit }
+    {
+        self.control[slot.index()] = bit;
+    }
+
+    #[inline(always)]
+    pub fn set32(&mut self, slot: Slot, bits: u32)
+        ensures { self.new ≡ with32 self.old slot bits }
+    {
+        self.single[slot.index()] = bits;
+    }
+
+    #[inline(always)]
+    pub fn set64(&mut self, slot: Slot, bits: u64)
+        ensures { self.new ≡ with64 self.old slot bits }
+    {
+        self.double[slot.index()] = bits;
+    }
+
+    /// Sets a register to the low bits of a number, as many as it has.
+    #[inline(always)]
+    pub fn set_any(&mut self, register: AnyRegister, bits: u64)
+        ensures { self.new ≡ with_any self.old register bits }
+    {
+        match register {
+            AnyRegister::Control(slot) => self.set1(slot, bits % 2 == 1),
+            AnyRegister::Single(slot) => self.set32(slot, (bits % (1 << 32)) as u32),
+            AnyRegister::Double(slot) => self.set64(slot, bits),
+        }
+    }
+}
