@@ -84,7 +84,7 @@ pub denied : (start : Start) (es : List Entry) (queue : QueueId) (id : PacketId)
     owed start es (Take queue id bytes) ≡ enters (outcome.Taken (taken.Denied error)) effects → IsDenied start es queue id bytes error × (effects ≡ [])
 denied start es queue id bytes error effects owing =
     let decided = take-decided start es (outcome.Taken (taken.Denied error)) effects queue id bytes owing in
-    (by_rule decided.opening decided.owner_is decided.launches_yet decided.is_next decided.may_start decided.verdict decided.verdict_is decided.outcome_is, decided.effects_are)
+    (by_rule decided.opening decided.owner_is decided.launches_yet decided.id_is_next decided.need_not_wait decided.verdict decided.verdict_is decided.outcome_is, decided.effects_are)
   where
     by_rule : (opening : Opening) → owner start es queue ≡ Some opening → is_down start es queue ≡ false → id.0 ≡ next_id start es queue → may_start (map (λ f. f.packet) (flight_of start es queue)) (barrier_bit bytes) ≡ None → (verdict : Option Rule) → first_failing (facts_of start es opening) bytes ≡ verdict →
         outcome.Taken (taken.Denied error) ≡ (elim verdict [ None ↦ outcome.Taken taken.Launched | Some r ↦ outcome.Taken (taken.Denied (error_at queue id.0 r)) ]) → IsDenied start es queue id bytes error
@@ -92,7 +92,7 @@ denied start es queue id bytes error effects owing =
     by_rule opening opened up next free (Some r) is same =
         let first = first-failing (facts_of start es opening) bytes r is in
         let error_is : error ≡ error_at queue id.0 r = cc in
-        record { opening = opening; owner_is = opened; launches_yet = up; is_next = next; need_not_wait = free; rule = r; error_is = error_is; earlier = first.earlier; later = first.later; in_order = first.in_order; hold = first.hold; fails = first.fails }
+        record { opening = opening; owner_is = opened; launches_yet = up; id_is_next = next; need_not_wait = free; rule = r; error_is = error_is; earlier = first.earlier; later = first.later; in_order = first.in_order; hold = first.hold; fails = first.fails }
 
 -- ---- what groups read
 

@@ -146,7 +146,7 @@ pub record IsDenied (start : Start) (before : List Entry) (queue : QueueId) (id 
   pub opening : Opening
   pub owner_is : owner start before queue ≡ Some opening
   pub launches_yet : is_down start before queue ≡ false
-  pub is_next : id.0 ≡ next_id start before queue
+  pub id_is_next : id.0 ≡ next_id start before queue
   pub need_not_wait : may_start (map (λ f. f.packet) (flight_of start before queue)) (barrier_bit bytes) ≡ None
   pub rule : Rule
   pub error_is : error ≡ error_at queue id.0 rule
