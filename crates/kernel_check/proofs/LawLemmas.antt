@@ -1,5 +1,5 @@
 -- The laws of the check.
-use Rattle.std.proofs.Common.{◌≡◌, ℕ, Bool, true, false, ◌||◌, is_none, nat_le, nat_lt, ◌≤◌, List, [], ◌∷◌, Option, Some, None, unwrap_or, if◌then◌else◌, arith, refl, ap, subst}
+use Rattle.std.proofs.Common.{◌≡◌, ℕ, Bool, true, false, ◌||◌, is_none, nat_le, List, [], ◌∷◌, Option, Some, None, unwrap_or, if◌then◌else◌, arith, refl, ap, subst}
 use Rattle.std.specs.List.{All}
 use Rattle.std.proofs.lemmas.Bool.Decides.{nat_tests}
 use Rattle.std.proofs.lemmas.List.Elements.{All-nil, All-cons}
@@ -18,7 +18,7 @@ use Rattle.hsail_reader.specs.declared.types.Source.{Source}
 use Rattle.hsail_reader.specs.declared.types.Source.TheVariants as source
 use Rattle.kernel_check.specs.Causes.{instruction_fails, misses_label, misses_argument, names_unknown, is_bad, has_bad_address}
 use Rattle.kernel_check.specs.Faults.{Checkpoint, first_fault, fault_or, least_cause, first_cause}
-use Rattle.kernel_check.specs.Laws.{IsFirst, IsEarliest, IsKept, IsKeptSource, IsKeptPlace, IsGlobal, IsArgument, IsReached, IsThere, IsFaithfulOperand, IsFaithful}
+use Rattle.kernel_check.specs.Laws.{IsFirst, IsEarliest, IsKept, IsKeptSource, IsKeptPlace, IsGlobal, IsArgument, IsReached, IsFaithfulOperand, IsFaithful}
 use Rattle.kernel_check.specs.Operands.{is_far, is_far_address, is_far_place, is_over, is_over_source, any_operand}
 use Rattle.kernel_check.specs.declared.fault.Cause.{Cause}
 use Rattle.kernel_check.specs.declared.fault.Cause.TheVariants as cause

@@ -9,3 +9,4 @@ pub mod DoneLemmas
 pub mod ModuleLemmas
 pub mod LawLemmas
 mod WideLemmas
+mod OrderLemmas

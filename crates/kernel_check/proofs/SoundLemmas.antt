@@ -39,7 +39,6 @@ use Rattle.kernel_check.specs.declared.step.LinedStep.{LinedStep}
 use Rattle.kernel_check.specs.declared.step.Pair32.{Pair32}
 use Rattle.kernel_check.specs.declared.step.Pair64.{Pair64}
 use Rattle.kernel_check.specs.declared.step.Shift64.{Shift64}
-use Rattle.kernel_check.specs.declared.step.Step.{Step}
 use Rattle.kernel_check.specs.declared.translate.Binary.{Binary}
 use Rattle.kernel_check.specs.declared.translate.Ternary.{Ternary}
 use Rattle.kernel_check.specs.declared.translate.Unary.{Unary}

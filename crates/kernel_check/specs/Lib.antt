@@ -8,3 +8,4 @@ pub mod Steps
 pub mod Checks
 pub mod Programs
 pub mod Laws
+pub mod Reads

@@ -61,7 +61,7 @@ use Rattle.hsail_reader.specs.declared.types.Source.TheVariants as source
 use Rattle.hsail_reader.specs.declared.types.TernaryOperation.{TernaryOperation}
 use Rattle.hsail_reader.specs.declared.types.TernaryOperation.TheVariants.{MultiplyAdd, ConditionalMove}
 use Rattle.hsail_reader.specs.declared.types.UnaryOperation.{UnaryOperation}
-use Rattle.hsail_reader.specs.declared.types.UnaryOperation.TheVariants.{Move, Not, Convert}
+use Rattle.hsail_reader.specs.declared.types.UnaryOperation.TheVariants.{Not, Convert}
 
 -- ---- types
 

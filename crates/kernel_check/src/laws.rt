@@ -6,6 +6,8 @@ ghost use Rattle.kernel_check.specs.Causes.{instruction_fails};
 ghost use Rattle.kernel_check.specs.Checks.{program_of};
 ghost use Rattle.kernel_check.specs.Faults.{Checkpoint, causes, first_fault, least_cause};
 ghost use Rattle.kernel_check.specs.Laws.{Ascends, IsFirst, IsEarliest, IsFaithful};
+ghost use Rattle.kernel_check.specs.Reads.{KeepsOrder};
+ghost use Rattle.kernel_check.specs.Steps.{step_of};
 ghost use Rattle.kernel_check.specs.declared.fault.Cause.{Cause};
 ghost use Rattle.kernel_check.specs.declared.fault.CheckFault.{CheckFault};
 ghost use Rattle.kernel_check.specs.declared.layout.Placed.{Placed};
@@ -22,10 +24,13 @@ pub fn faults_are_earliest()
 {}
 
 /// The step of an instruction that fails by no cause has the instruction's own registers, an argument
-/// that the kernel declares, and the place of a label that it has. It does nothing.
+/// that the kernel declares, and the place of a label that it has; and a step sets the first operand of its
+/// instruction and reads the others, in their order. It does nothing.
 pub fn steps_are_faithful()
-    ensures { (arguments : List ℕ → Option Placed) (labels : List ℕ → Option ℕ) (number : ℕ) (op : Operation)
+    ensures faithful { (arguments : List ℕ → Option Placed) (labels : List ℕ → Option ℕ) (number : ℕ) (op : Operation)
         → least_cause (instruction_fails arguments labels number op) ≡ None → IsFaithful arguments labels op }
+    ensures order { (arguments : List ℕ → Option Placed) (labels : List ℕ → Option ℕ) (op : Operation)
+        → KeepsOrder op (step_of arguments labels op) }
 {}
 
 /// The offsets of a kernel's arguments of 64 bits ascend. It does nothing.
