@@ -1,6 +1,6 @@
 -- What is kept beside each ring stays what the history says of the packet at its read index.
 use Rattle.std.proofs.Common.{◌≡◌, ◌≢◌, ℕ, ◌+◌, ◌<◌, ◌≤◌, List, [], ◌∷◌, ◌++◌, length, refl, sym, ap, ◌∙◌, subst, Bool, true, false, Option, Some, None, Result, Ok, Err, inl, inr, arith}
-use Rattle.std.specs.Prelude.{◌⊎◌, ◌==◌, map, nat_lt, if◌then◌else◌}
+use Rattle.std.specs.Prelude.{◌==◌, map, nat_lt, if◌then◌else◌}
 use Rattle.std.proofs.lemmas.Bool.{eq-eqb}
 use Rattle.std.proofs.lemmas.Bool.Decides.{eqb_tells, nat_tests}
 use Rattle.aql_packet.specs.declared.ids.AgentHandle.{AgentHandle}
@@ -13,10 +13,8 @@ use Rattle.policy.specs.Policy.{numbered}
 use Rattle.core_model.specs.declared.event.Event.{Event}
 use Rattle.core_model.specs.declared.event.Event.TheVariants.{OpenQueue, Take}
 use Rattle.core_model.specs.declared.event.Query.{Query}
-use Rattle.core_model.specs.declared.event.Request.{Request as Asked}
 use Rattle.core_model.specs.declared.event.Request.TheVariants as asked
 use Rattle.core_model.specs.declared.entry.Entry.{Entry}
-use Rattle.core_model.specs.declared.entry.Effect.{Effect}
 use Rattle.core_model.specs.declared.outcome.Cause.{Cause}
 use Rattle.core_model.specs.declared.outcome.Outcome.{Outcome}
 use Rattle.core_model.specs.declared.outcome.Outcome.TheVariants as outcome
@@ -27,32 +25,31 @@ use Rattle.core_model.specs.declared.refusal.Refusal.TheVariants as refusal
 use Rattle.core_model.specs.History.{Start, History}
 use Rattle.core_model.specs.Flight.{flight_of}
 use Rattle.core_model.specs.LaunchRules.{first_failing, may_start}
-use Rattle.core_model.specs.Queues.{Opening, hands_over, is_down, next_id, owner}
+use Rattle.core_model.specs.Queues.{Opening, is_down, next_id, owner}
 use Rattle.core_model.specs.Owed.{Owed, owed, refuses, answers, enters, decided, error_at, facts_of, for_some, owed_take, refuse_if, refuse_unless}
 use Rattle.core_model.specs.Legal as cores_law
 use Rattle.core_model.specs.Legal.{MeetsOrLacks, due, entry_of, history_after, reply_of, wrapped}
 use Rattle.core_model.proofs.More.{next_id-more}
-use Rattle.core_model.proofs.Entered.{Decided, take-decided}
+use Rattle.core_model.proofs.Entered.{take-decided}
 use Rattle.ring_core.specs.declared.access.Access.{Access}
 use Rattle.ring_core.specs.declared.access.Access.TheVariants.{Reserve, LoadReadIndex, StoreBody, StoreHeader, LoadHeader, LoadBody, ClearHeader, RaiseReadIndex}
 use Rattle.ring_core.specs.declared.access.Step.{Step}
 use Rattle.ring_core.specs.Parts.{collected_packet}
-use Rattle.ring_core.specs.Machine.{Machine, is_allowed, made, producers_of, read_index}
-use Rattle.ring_core.specs.Rule.{IsRing, processor_of}
-use Rattle.ring_core.proofs.Publication.{Moved, Raised, Stayed, index_moves}
+use Rattle.ring_core.specs.Machine.{made, producers_of, read_index}
+use Rattle.ring_core.specs.Rule.{processor_of}
+use Rattle.ring_core.proofs.Publication.{Moved, index_moves}
 use Rattle.world.specs.declared.queue_ring.QueueRing.{QueueRing}
 use Rattle.world.specs.declared.request.Call.{Call}
 use Rattle.world.specs.declared.request.Request.{Request}
 use Rattle.world.specs.declared.request.Request.TheVariants as request
 use Rattle.world.specs.declared.reply.Refusal.{Refusal}
-use Rattle.world.specs.States.{Joined, joined, ring_of}
 use Rattle.world.specs.Bytes.{bytes_of}
 use Rattle.world.specs.Calls.{event_of}
 use Rattle.world.specs.Dues.{Reply, asked_size, hindrance, is_decided, taking}
 use Rattle.world.specs.InStep.{IsInStep, IsJoined, IsUntouched, Stands}
-use Rattle.world.specs.Making.{AreDecided, MakesAt, MakesOn, MakesWhere, decided_after, ring_made, rings_of, with_queue_ring}
+use Rattle.world.specs.Making.{AreDecided, MakesAt, MakesWhere, decided_after, ring_made, rings_of, with_queue_ring}
 use Rattle.world.specs.Obeying.{Asks, HandsOver, Obeys, Opens, TakesAt, new_ring, ring_taken, rings_opened}
-use Rattle.world.proofs.Numbering.{numbered_map, numbered_new, numbered_next, numbered_old, numbered_other, numbered_same}
+use Rattle.world.proofs.Numbering.{numbered_new, numbered_next, numbered_old, numbered_other, numbered_same}
 use Rattle.world.proofs.Entering.{due_answers, due_enters}
 use Rattle.world.proofs.Joining.{IsAside, same_queue}
 use Rattle.world.proofs.Kept.{call_aside, unhindered}

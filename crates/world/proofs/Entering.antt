@@ -1,23 +1,21 @@
 -- What one event leaves of the questions that rings and history share.
-use Rattle.std.proofs.Common.{◌≡◌, ◌≢◌, ℕ, ◌+◌, List, [], ◌∷◌, ◌++◌, refl, sym, ap, ◌∙◌, subst, Bool, true, false, Option, Some, None, inl, inr, arith, Result}
-use Rattle.std.specs.Prelude.{◌⊎◌, ◌==◌, option_to_list, if◌then◌else◌}
+use Rattle.std.proofs.Common.{◌≡◌, List, [], ◌∷◌, ◌++◌, refl, ap, ◌∙◌, Bool, true, false, Option, Some, None, inl}
+use Rattle.std.specs.Prelude.{option_to_list, if◌then◌else◌}
 use Rattle.std.specs.List.{filter_map}
 use Rattle.std.proofs.lemmas.List.{append-nil}
 use Rattle.std.proofs.lemmas.List.Elements.{filter_map-append}
 use Rattle.aql_packet.specs.declared.ids.QueueId.{QueueId}
 use Rattle.core_model.specs.declared.event.Event.{Event}
-use Rattle.core_model.specs.declared.event.Event.TheVariants.{OpenQueue, Take}
 use Rattle.core_model.specs.declared.entry.Entry.{Entry}
 use Rattle.core_model.specs.declared.entry.Effect.{Effect}
 use Rattle.core_model.specs.declared.outcome.Outcome.{Outcome}
-use Rattle.core_model.specs.declared.refusal.Refusal.{Refusal}
 use Rattle.core_model.specs.declared.refusal.Refusal.TheVariants as refusal
 use Rattle.core_model.specs.History.{Start, History}
-use Rattle.core_model.specs.Queues.{hands_over, next_id, opening_of, openings}
+use Rattle.core_model.specs.Queues.{next_id, openings}
 use Rattle.core_model.specs.Owed.{Owed, owed, refuses, answers, enters}
-use Rattle.core_model.specs.Legal.{IsLegal, due, entry_of, history_after, lacks_room, reply_of, with_entry, within_room}
+use Rattle.core_model.specs.Legal.{IsLegal, due, history_after, lacks_room, reply_of, with_entry, within_room}
 use Rattle.core_model.specs.Headline.{GoesOn}
-use Rattle.core_model.proofs.More.{with_some, next_id-more, openings-more}
+use Rattle.core_model.proofs.More.{with_some}
 use Rattle.core_model.proofs.Served.{event-goes_on}
 use Rattle.world.specs.InStep.{size_of, sizes, taken_from, takes}
 

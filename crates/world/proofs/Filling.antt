@@ -1,5 +1,5 @@
 -- Eight words written behind one another fill 64 bytes.
-use Rattle.std.proofs.Common.{◌≡◌, ℕ, List, [], ◌∷◌, length, get_or, replicate, refl, ap, ◌∙◌, sym, arith}
+use Rattle.std.proofs.Common.{◌≡◌, ℕ, List, [], ◌∷◌, length, get_or, replicate, refl, ap, ◌∙◌, arith}
 use Rattle.aql_packet.specs.Numbers.{written}
 use Rattle.world.specs.Bytes.{bytes_of}
 

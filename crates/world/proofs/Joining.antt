@@ -1,36 +1,29 @@
 -- The rings and the history stay in step, whatever is asked.
-use Rattle.std.proofs.Common.{◌≡◌, ◌≢◌, ℕ, ◌+◌, ◌-◌, ◌<◌, ◌≤◌, List, [], ◌∷◌, ◌++◌, length, refl, sym, ap, ◌∙◌, subst, Bool, true, false, Option, Some, None, inl, inr, arith, length-set}
-use Rattle.std.specs.Prelude.{◌⊎◌, ◌==◌, ◌&&◌, map, nat_lt, slice_get, slice_set, is_some, if◌then◌else◌}
-use Rattle.std.specs.List.{list_all}
+use Rattle.std.proofs.Common.{◌≡◌, ℕ, ◌+◌, ◌-◌, ◌<◌, length, refl, sym, ap, ◌∙◌, subst, true, false, Option, Some, None, inl, inr, arith, length-set}
+use Rattle.std.specs.Prelude.{◌⊎◌, slice_get, if◌then◌else◌}
 use Rattle.std.proofs.lemmas.Bool.{ltb-true}
 use Rattle.std.proofs.lemmas.Bool.Decides.{eqb_tells}
 use Rattle.aql_packet.specs.declared.ids.QueueId.{QueueId}
 use Rattle.core_model.specs.declared.event.Event.{Event}
-use Rattle.core_model.specs.declared.event.Event.TheVariants.{OpenQueue, Take}
 use Rattle.core_model.specs.declared.entry.Entry.{Entry}
-use Rattle.core_model.specs.declared.entry.Effect.{Effect}
-use Rattle.core_model.specs.declared.outcome.Outcome.{Outcome}
 use Rattle.core_model.specs.History.{History}
 use Rattle.core_model.specs.Queues.{hands_over, next_id, opening_of, openings}
-use Rattle.core_model.specs.Owed.{Owed, owed, refuses, answers, enters}
-use Rattle.core_model.specs.Legal.{IsLegal, due, entry_of, history_after, with_entry}
+use Rattle.core_model.specs.Owed.{Owed, refuses, answers, enters}
+use Rattle.core_model.specs.Legal.{IsLegal, due, entry_of, history_after}
 use Rattle.core_model.proofs.More.{with_some, next_id-more, openings-more}
-use Rattle.ring_core.specs.declared.access.Access.{Access}
 use Rattle.ring_core.specs.declared.access.Access.TheVariants.{ClearHeader}
 use Rattle.ring_core.specs.declared.access.Step.{Step}
 use Rattle.ring_core.specs.Words.{packet_of}
 use Rattle.ring_core.specs.Tickets.{is_published}
-use Rattle.ring_core.specs.Parts.{collected_packet}
 use Rattle.ring_core.specs.Machine.{Machine, is_allowed, made, producers_of, read_index}
-use Rattle.ring_core.specs.Rule.{IsRing, IsRule, processor_of, ticket_of}
-use Rattle.ring_core.proofs.States.{ring_steps}
-use Rattle.ring_core.proofs.Publication.{Raised, Stayed, collected_is, index_moves, published_stays}
+use Rattle.ring_core.specs.Rule.{IsRing, processor_of}
+use Rattle.ring_core.proofs.Publication.{Raised, Stayed, index_moves, published_stays}
 use Rattle.world.specs.Bytes.{bytes_of}
-use Rattle.world.specs.States.{Joined, joined, ring_of, with_core, with_ring}
+use Rattle.world.specs.States.{Joined, ring_of, with_core, with_ring}
 use Rattle.world.specs.Dues.{is_decided, may_follow}
-use Rattle.world.specs.InStep.{IsInStep, IsJoined, IsPublished, IsUntouched, Stands, published, size_of, sizes, taken_from, takes}
-use Rattle.world.proofs.Numbering.{get_last, get_left, map_same, numbered_other, numbered_place, numbered_same}
-use Rattle.world.proofs.Entering.{due_enters, due_legal, sizes_more, takes_more}
+use Rattle.world.specs.InStep.{IsInStep, IsJoined, IsPublished, Stands, published, size_of, sizes, taken_from, takes}
+use Rattle.world.proofs.Numbering.{map_same, numbered_other, numbered_place, numbered_same}
+use Rattle.world.proofs.Entering.{due_legal, sizes_more, takes_more}
 
 -- ---- a ring's step
 

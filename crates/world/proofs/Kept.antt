@@ -1,9 +1,9 @@
 -- Whatever is asked, the world stays joined.
 use Rattle.std.proofs.Common.{◌≡◌, ℕ, List, [], ◌∷◌, refl, sym, subst, Bool, true, false, Option, Some, None, inl, inr}
 use Rattle.std.proofs.Common.{ap}
-use Rattle.std.specs.Prelude.{◌&&◌, length, nat_lt, slice_get, if◌then◌else◌}
+use Rattle.std.specs.Prelude.{◌&&◌, length, slice_get, if◌then◌else◌}
 use Rattle.aql_packet.specs.declared.ids.QueueId.{QueueId}
-use Rattle.policy.specs.Policy.{Declared, numbered}
+use Rattle.policy.specs.Policy.{Declared}
 use Rattle.core_model.specs.Legal.{opened}
 use Rattle.ring_core.specs.declared.access.Step.{Step}
 use Rattle.ring_core.specs.Parts.{collected_packet}
@@ -20,7 +20,7 @@ use Rattle.world.specs.declared.reply.Refusal.TheVariants as refusal
 use Rattle.world.specs.States.{Joined, joined, ring_of}
 use Rattle.world.specs.Calls.{event_of}
 use Rattle.world.specs.Dues.{AreReplies, IsServed, Reply, due_collected, due_step, due_take, due_where, has_spent, hindrance, is_decided, may_follow, owed_to, reserves}
-use Rattle.world.specs.InStep.{IsInStep, IsJoined, Stands}
+use Rattle.world.specs.InStep.{IsJoined, Stands}
 use Rattle.world.proofs.Numbering.{numbered_none}
 use Rattle.world.proofs.Entering.{no_openings, no_sizes, no_takes, none_next}
 use Rattle.world.proofs.Joining.{IsAside, aside_kept, ring_replaced, step_in_step}

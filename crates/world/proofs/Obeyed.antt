@@ -1,37 +1,33 @@
 -- What the code does to the core and to the rings is what the world owes.
-use Rattle.std.proofs.Common.{◌≡◌, ◌≢◌, ℕ, ◌+◌, ◌-◌, ◌<◌, ◌≤◌, List, [], ◌∷◌, ◌++◌, length, refl, sym, ap, ◌∙◌, subst, Bool, true, false, Option, Some, None, Result, Ok, Err, inl, inr, arith}
-use Rattle.std.specs.Prelude.{◌⊎◌, ◌==◌, map, nat_lt, option_map, slice_set, if◌then◌else◌}
-use Rattle.std.proofs.lemmas.Bool.Decides.{eqb_tells, nat_tests}
+use Rattle.std.proofs.Common.{◌≡◌, ℕ, ◌-◌, List, refl, sym, ap, ◌∙◌, subst, Option, Some, None, Result, Ok, Err, inl, inr}
+use Rattle.std.specs.Prelude.{option_map, slice_set}
 use Rattle.aql_packet.specs.declared.ids.AgentHandle.{AgentHandle}
 use Rattle.aql_packet.specs.declared.ids.ClientId.{ClientId}
 use Rattle.aql_packet.specs.declared.ids.QueueId.{QueueId}
 use Rattle.policy.specs.Policy.{numbered}
-use Rattle.core_model.specs.declared.event.Event.{Event}
 use Rattle.core_model.specs.declared.event.Event.TheVariants.{OpenQueue}
 use Rattle.core_model.specs.declared.event.Query.{Query}
-use Rattle.core_model.specs.declared.event.Request.{Request as Asked}
 use Rattle.core_model.specs.declared.event.Request.TheVariants as asked
 use Rattle.core_model.specs.declared.outcome.Outcome.TheVariants as outcome
 use Rattle.core_model.specs.declared.outcome.Taken.{Taken}
 use Rattle.core_model.specs.declared.outcome.Taken.TheVariants as taken
 use Rattle.core_model.specs.declared.refusal.Refusal as cores
 use Rattle.core_model.specs.History.{History}
-use Rattle.core_model.specs.Queues.{next_id}
 use Rattle.core_model.specs.Legal as cores_law
 use Rattle.core_model.specs.Legal.{MeetsOrLacks, as_reply, due, reply_of, wrapped}
 use Rattle.ring_core.specs.declared.access.Step.{Step}
 use Rattle.ring_core.specs.Parts.{collected_packet}
-use Rattle.ring_core.specs.Machine.{Machine, made, opened, read_index}
+use Rattle.ring_core.specs.Machine.{made, read_index}
 use Rattle.ring_core.specs.Rule.{processor_of}
 use Rattle.world.specs.declared.queue_ring.QueueRing.{QueueRing}
 use Rattle.world.specs.declared.request.Call.{Call}
 use Rattle.world.specs.declared.request.Request.{Request}
 use Rattle.world.specs.declared.request.Request.TheVariants as request
 use Rattle.world.specs.declared.reply.Refusal.{Refusal}
-use Rattle.world.specs.States.{Joined, joined, ring_of, with_ring}
+use Rattle.world.specs.States.{Joined, joined, ring_of}
 use Rattle.world.specs.Calls.{event_of}
-use Rattle.world.specs.Dues.{Due, IsServed, Meets, Reply, asked_size, due_collected, due_step, due_take, due_where, hindrance, is_decided, of_core, owed_to, rings_after, taken_reply, taking}
-use Rattle.world.specs.Making.{AreDecided, MakesAt, MakesOn, MakesWhere, ring_made, rings_of, with_queue_ring}
+use Rattle.world.specs.Dues.{IsServed, Meets, Reply, asked_size, due_collected, due_step, due_take, due_where, hindrance, is_decided, of_core, owed_to, rings_after, taken_reply, taking}
+use Rattle.world.specs.Making.{AreDecided, MakesAt, MakesWhere, rings_of, with_queue_ring}
 use Rattle.world.specs.Obeying.{Asks, HandsOver, Obeys, Opens, TakesAt, new_ring, ring_taken, rings_opened, told_opened, told_taken}
 use Rattle.world.proofs.Numbering.{map_more, map_same, map_set, numbered_map, numbered_place}
 

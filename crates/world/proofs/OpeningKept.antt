@@ -1,5 +1,5 @@
 -- A queue that is opened gets a ring of its own, in which nothing happened.
-use Rattle.std.proofs.Common.{◌≡◌, ◌≢◌, ℕ, ◌+◌, ◌<◌, ◌≤◌, List, [], ◌∷◌, ◌++◌, length, refl, sym, ap, ◌∙◌, subst, Bool, true, false, Option, Some, None, Ok, Err, inl, inr, arith, length-append}
+use Rattle.std.proofs.Common.{◌≡◌, ◌≢◌, ℕ, ◌+◌, ◌≤◌, List, [], ◌∷◌, ◌++◌, length, refl, sym, ap, ◌∙◌, subst, Bool, true, false, Option, Some, None, inl, inr, arith, length-append}
 use Rattle.std.specs.Prelude.{◌==◌, ◌||◌, ◌&&◌, nat_le, if◌then◌else◌}
 use Rattle.std.proofs.lemmas.Bool.Decides.{eqb_tells, nat_tests}
 use Rattle.aql_packet.specs.declared.ids.AgentHandle.{AgentHandle}
@@ -16,13 +16,12 @@ use Rattle.core_model.specs.declared.limits.TheConstants.{QUEUES}
 use Rattle.core_model.specs.declared.outcome.Outcome.{Outcome}
 use Rattle.core_model.specs.declared.outcome.Outcome.TheVariants as outcome
 use Rattle.core_model.specs.declared.refusal.Refusal.{Refusal}
-use Rattle.core_model.specs.declared.refusal.Refusal.TheVariants as refusal
 use Rattle.core_model.specs.History.{Start, History}
 use Rattle.core_model.specs.Grants.{in_force}
-use Rattle.core_model.specs.Queues.{next_id, openings}
+use Rattle.core_model.specs.Queues.{openings}
 use Rattle.core_model.specs.Owed as owed_size
 use Rattle.core_model.specs.Owed.{Owed, owed, refuses, answers, enters, refuse_if, refuse_unless}
-use Rattle.core_model.specs.Legal.{IsLegal, due, entry_of, history_after, opened, reply_of}
+use Rattle.core_model.specs.Legal.{IsLegal, due, entry_of, history_after, reply_of}
 use Rattle.core_model.proofs.More.{next_id-more, openings-more}
 use Rattle.ring_core.specs.Machine as machine
 use Rattle.ring_core.specs.Machine.{Machine, is_ring_size}
@@ -32,8 +31,8 @@ use Rattle.world.specs.Dues.{are_producers, asked_size, rings_after}
 use Rattle.world.specs.InStep as InStep
 use Rattle.world.specs.InStep.{IsInStep, IsJoined, IsUntouched, Stands}
 use Rattle.world.proofs.Numbering.{map_more, numbered_new, numbered_next, numbered_old}
-use Rattle.world.proofs.Entering.{due_answers, due_enters, due_legal, no_openings, no_sizes, no_takes, none_next, sizes_more, takes_more}
-use Rattle.world.proofs.Joining.{same_queue, stands_along}
+use Rattle.world.proofs.Entering.{due_answers, due_enters, due_legal, sizes_more, takes_more}
+use Rattle.world.proofs.Joining.{stands_along}
 
 -- ---- what an opening is owed
 

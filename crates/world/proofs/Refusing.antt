@@ -1,11 +1,10 @@
 -- What is refused changes nothing.
-use Rattle.std.proofs.Common.{◌≡◌, ℕ, List, Option, Some, None, Result, Ok, Err, inl, inr, refl, sym, ◌∙◌}
+use Rattle.std.proofs.Common.{◌≡◌, ℕ, List, Option, Some, None, Err, inl, inr, refl, ◌∙◌}
 use Rattle.aql_packet.specs.declared.ids.QueueId.{QueueId}
 use Rattle.core_model.specs.declared.event.Event.{Event}
 use Rattle.core_model.specs.declared.outcome.Outcome.TheVariants as outcome
 use Rattle.core_model.specs.Owed.{Owed, refuses, answers, enters}
 use Rattle.core_model.specs.Legal.{due}
-use Rattle.ring_core.specs.declared.access.Access.{Access}
 use Rattle.ring_core.specs.declared.access.Step.{Step}
 use Rattle.ring_core.specs.Machine.{Machine, read_index}
 use Rattle.ring_core.specs.Parts.{collected_packet}
@@ -15,7 +14,7 @@ use Rattle.world.specs.declared.request.Request.TheVariants as request
 use Rattle.world.specs.declared.reply.Refusal.{Refusal}
 use Rattle.world.specs.States.{Joined, ring_of}
 use Rattle.world.specs.Calls.{event_of}
-use Rattle.world.specs.Dues.{Due, IsServed, Reply, asked_size, due_collected, due_event, due_opening, due_step, due_take, due_taken, due_where, hindrance, is_decided, owed_to, taken_reply}
+use Rattle.world.specs.Dues.{Due, IsServed, due_collected, due_event, due_opening, due_step, due_take, due_taken, due_where, hindrance, is_decided, owed_to}
 
 -- a reply that is a refusal leaves the world
 abbrev Refuses : Joined → Due → Type 0

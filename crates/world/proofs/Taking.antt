@@ -1,5 +1,5 @@
 -- A packet that is handed over is the next that is published.
-use Rattle.std.proofs.Common.{◌≡◌, ◌≢◌, ℕ, ◌+◌, ◌<◌, ◌≤◌, List, [], ◌∷◌, ◌++◌, length, refl, sym, ap, ◌∙◌, subst, Bool, true, false, Option, Some, None, inl, inr, arith, length-append}
+use Rattle.std.proofs.Common.{◌≡◌, ◌≢◌, ℕ, ◌+◌, ◌<◌, List, [], ◌∷◌, ◌++◌, length, refl, sym, ap, ◌∙◌, subst, Bool, true, false, Some, None, inl, inr, arith, length-append}
 use Rattle.std.specs.Prelude.{◌==◌, is_some, slice_get, if◌then◌else◌}
 use Rattle.std.specs.List.{list_all}
 use Rattle.std.proofs.lemmas.Bool.{eq-eqb}
@@ -10,7 +10,7 @@ use Rattle.core_model.specs.declared.entry.Entry.{Entry}
 use Rattle.core_model.specs.declared.entry.Effect.{Effect}
 use Rattle.core_model.specs.declared.outcome.Outcome.{Outcome}
 use Rattle.core_model.specs.History.{History}
-use Rattle.core_model.specs.Queues.{next_id, openings}
+use Rattle.core_model.specs.Queues.{next_id}
 use Rattle.core_model.specs.Owed.{Owed, refuses, answers, enters}
 use Rattle.core_model.specs.Legal.{IsLegal, due, entry_of, history_after}
 use Rattle.core_model.proofs.More.{next_id-more, openings-more}
@@ -19,7 +19,7 @@ use Rattle.ring_core.specs.declared.part.ProcessorPart.{ProcessorPart}
 use Rattle.ring_core.specs.Words.{packet_of}
 use Rattle.ring_core.specs.Parts.{collected_packet}
 use Rattle.ring_core.specs.Machine.{Machine, producers_of, read_index}
-use Rattle.ring_core.specs.Rule.{IsRing, processor_of, ticket_of}
+use Rattle.ring_core.specs.Rule.{IsRing, processor_of}
 use Rattle.ring_core.proofs.Publication.{collected_is}
 use Rattle.world.specs.Bytes.{bytes_of}
 use Rattle.world.specs.States.{Joined, ring_of, with_core}

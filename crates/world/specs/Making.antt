@@ -1,5 +1,5 @@
 -- The steps on a queue's ring, as the code takes them.
-use Rattle.std.specs.Prelude.{◌≡◌, ℕ, ◌-◌, ◌⊎◌, Bool, true, false, List, slice_set, Option, Some, None, Ok, Err, map}
+use Rattle.std.specs.Prelude.{◌≡◌, ◌-◌, ◌⊎◌, Bool, false, List, slice_set, Option, Some, None, Ok, Err, map}
 use Rattle.aql_packet.specs.declared.ids.QueueId.{QueueId}
 use Rattle.core_model.specs.declared.refusal.Refusal.TheVariants as why
 use Rattle.core_model.specs.History.{History}

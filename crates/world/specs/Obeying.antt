@@ -1,9 +1,9 @@
 -- What becomes of the core and of the rings, request by request, as the code serves them.
-use Rattle.std.specs.Prelude.{◌≡◌, ℕ, Bool, true, false, List, [], ◌∷◌, ◌++◌, Option, Some, None, Result, Ok, Err}
+use Rattle.std.specs.Prelude.{◌≡◌, ℕ, true, false, List, [], ◌∷◌, ◌++◌, Option, Some, None, Result, Ok, Err}
 use Rattle.aql_packet.specs.declared.ids.AgentHandle.{AgentHandle}
 use Rattle.aql_packet.specs.declared.ids.ClientId.{ClientId}
 use Rattle.aql_packet.specs.declared.ids.QueueId.{QueueId}
-use Rattle.policy.specs.Policy.{Declared, numbered}
+use Rattle.policy.specs.Policy.{numbered}
 use Rattle.core_model.specs.declared.answer.Answer.TheVariants as told
 use Rattle.core_model.specs.declared.event.Event.TheVariants.{OpenQueue}
 use Rattle.core_model.specs.declared.event.Request.{Request as Asked}
@@ -25,7 +25,6 @@ use Rattle.world.specs.declared.request.Request.TheVariants as request
 use Rattle.world.specs.declared.reply.Answer.TheVariants as answer
 use Rattle.world.specs.declared.reply.Refusal.TheVariants as refusal
 use Rattle.world.specs.declared.queue_ring.Next.{Next}
-use Rattle.world.specs.Bytes.{bytes_of}
 use Rattle.world.specs.Calls.{event_of}
 use Rattle.world.specs.Dues.{Reply, asked_size, of_core, taking}
 use Rattle.world.specs.Making.{MakesAt, with_queue_ring}

@@ -1,5 +1,5 @@
 -- The world between two steps: one history, and one ring for each queue that was opened.
-use Rattle.std.specs.Prelude.{ℕ, ◌-◌, List, slice_set, Option}
+use Rattle.std.specs.Prelude.{◌-◌, List, slice_set, Option}
 use Rattle.aql_packet.specs.declared.ids.QueueId.{QueueId}
 use Rattle.policy.specs.Policy.{numbered}
 use Rattle.core_model.specs.History.{History}

@@ -2,7 +2,7 @@
 use Rattle.std.proofs.Common.{ap, inl, inr, subst}
 use Rattle.core_model.specs.Queues.{error_of}
 use Rattle.world.specs.InStep.{IsJoined, Stands}
-use Rattle.world.specs.Headline.{Headline, begun}
+use Rattle.world.specs.Headline.{begun}
 use Rattle.world.proofs.Kept.{begins, replies_kept}
 use Rattle.world.proofs.laws.the_headline.Goals as goal
 
