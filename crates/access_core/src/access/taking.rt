@@ -154,13 +154,7 @@ impl AccessCore {
     }
 
     // Denies the next packet of a queue.
-    fn deny(
-        &mut self,
-        queue: QueueId,
-        packet: PacketId,
-        bytes: &[u8; 64],
-        rule: Rule,
-    ) -> Taken
+    fn deny(&mut self, queue: QueueId, packet: PacketId, bytes: &[u8; 64], rule: Rule) -> Taken
         requires { Decides self.old queue packet bytes.now (Decision.Deny rule) }
         ensures { Meets (Event.Take queue packet bytes.now) self.old self.new (Ok (Outcome.Taken result)) }
     {
