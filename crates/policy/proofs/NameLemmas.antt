@@ -16,7 +16,7 @@ use Rattle.std.proofs.lemmas.List.{length-map}
 use Rattle.std.proofs.lemmas.List.Quantifiers.{position-Some}
 use Rattle.std.proofs.lemmas.Option.{slice_get-map, slice_get-get_or, slice_get_within, none-some, same_Some}
 use Rattle.std.proofs.lemmas.Slice.Eq.{bytes_eq-Decides}
-use Rattle.policy.specs.Names.{Name, names, numbered, number_in}
+use Rattle.policy.specs.Names.{Name, names, numbered, number_in, AreDistinct}
 use Rattle.policy.specs.Table.{named_rows, named_row}
 
 pub position_or_len-map : {X Y : Type 0} (p : Y → Bool) (f : X → Y) (xs : List X) → position_or_len p (map f xs) ≡ position_or_len (λ x. p (f x)) xs
@@ -149,6 +149,10 @@ pub number_back : {V : Type 0} (es : List (String Global × V)) (all : List (Nam
     → IsDistinct string_eq (keys_of es) → named_rows es ≡ all → Some name ≡ numbered (names all) n → number_in (names all) name ≡ n
 number_back es all n name distinct view found =
     number_in-numbered (names all) (subst (λ rows. IsDistinct bytes_eq (names rows)) view (distinct_names es distinct)) n name (sym found)
+
+pub names_apart : {V : Type 0} (es : List (String Global × V)) (all : List (Name × V)) → IsDistinct string_eq (keys_of es) → named_rows es ≡ all → AreDistinct (names all)
+names_apart es all distinct view n m name first second =
+    sym (number_back es all n name distinct view (sym first)) ∙ number_back es all m name distinct view (sym second)
 
 no_place_none : {V : Type 0} (p : String Global → Bool) (es : List (String Global × V)) → position_or_len p (keys_of es) ≡ length (keys_of es) → lookup p es ≡ None
 no_place_none p [] h = refl

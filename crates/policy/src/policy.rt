@@ -4,6 +4,7 @@ ghost use Rattle.std.specs.Prelude.{◌≡◌, ◌<◌, ◌≤◌, [], length, S
 ghost use Rattle.std.specs.Option.{option_copied};
 ghost use Rattle.policy.specs.Object.{kind_of, number_of};
 ghost use Rattle.policy.specs.Limits.{IsWithinLimits};
+ghost use Rattle.policy.specs.Names.{AreDistinct};
 ghost use Rattle.policy.specs.Policy.{names, numbered, number_in, names_of, name_in, count_of, takes_of, length_of, initial_of, source_of, declares_client, declares, allows};
 
 use crate::coverage::rows_allow;
@@ -206,6 +207,21 @@ impl Policy {
         ensures { option_copied result ≡ source_of self.now kernel.0 }
     {
         self.kernels.get(kernel.0)
+    }
+
+    /// No two clients, and no two objects of a kind, have the same name.
+    pub fn names_are_distinct(&self)
+        ensures clients { AreDistinct self.now.clients }
+        ensures agents { AreDistinct (names self.now.agents) }
+        ensures regions { AreDistinct (names self.now.regions) }
+        ensures signals { AreDistinct (names self.now.signals) }
+        ensures kernels { AreDistinct (names self.now.kernels) }
+    {
+        self.clients.names_are_distinct();
+        self.agents.names_are_distinct();
+        self.regions.names_are_distinct();
+        self.signals.names_are_distinct();
+        self.kernels.names_are_distinct();
     }
 
     /// The allow rows, in order.

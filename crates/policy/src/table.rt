@@ -3,7 +3,7 @@
 ghost use Rattle.std.specs.Prelude.{◌≡◌, ◌<◌, ◌≤◌, ◌++◌, [], ◌∷◌, length, position, option_map, string_bytes, sum_by, IfSome, OnOk, OnErr};
 ghost use Rattle.std.specs.Option.{option_copied};
 ghost use Rattle.std.specs.Str.{bytes_eq};
-ghost use Rattle.policy.specs.Names.{names, numbered, number_in};
+ghost use Rattle.policy.specs.Names.{names, numbered, number_in, AreDistinct};
 ghost use Rattle.policy.specs.Table.{named_row};
 
 use indexmap::IndexMap;
@@ -75,6 +75,14 @@ impl<V> Table<V> {
     {
         self.rows.insert(name, row)?;
         Ok(())
+    }
+
+    /// No two rows have the same name.
+    pub fn names_are_distinct(&self)
+        ensures { AreDistinct (names self.now) }
+    {
+        // The call of `len` tells the proof that names are distinct.
+        let _count = self.rows.len();
     }
 
     // The place of a name, from 0.

@@ -7,3 +7,4 @@ pub mod Running
 pub mod Appending
 pub mod Writing
 pub mod Blocks
+pub mod Joining

@@ -4,6 +4,7 @@ pub mod Replies
 pub mod Words
 pub mod Lines
 pub mod Runs
+pub mod Splitting
 pub mod Faults
 pub mod Sessions
 pub mod Answers

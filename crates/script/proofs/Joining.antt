@@ -1,0 +1,141 @@
+-- Lines give their text back, and numbers are the sums of their digits.
+use Rattle.std.proofs.Common.{◌≡◌, ℕ, zero, suc, ◌+◌, ◌*◌, ◌^◌, Bool, true, false, cond, not, List, [], ◌∷◌, ◌++◌, length, map, flat_map, Option, Some, None, refl, sym, ap, ◌∙◌, subst, inl, inr, ◌⊎◌, eqb, append_assoc, append-nil, arith}
+use Rattle.std.proofs.lemmas.List.{length-map}
+use Rattle.std.specs.Prelude.{◌==◌, ◌&&◌, nat_lt, option_and_then, unwrap_or, if◌then◌else◌}
+use Rattle.std.specs.List.{list_all}
+use Rattle.std.proofs.lemmas.Bool.Decides.{nat_tests, eqb_tells}
+use Rattle.std.proofs.lemmas.List.Folds.{list_all-append}
+use Rattle.std.proofs.Math.Nat.{add-mul, mul_assoc, mul-one, pow-succ', pow-zero}
+use Rattle.script.specs.Words.{kept, digit_of, with_digit, number_from, decimal_word, address_word}
+use Rattle.script.specs.Runs.{lines_from, lines_of}
+use Rattle.script.specs.Splitting.{ends_line, ended, joined, is_line, digits_of, sum_of_digits}
+use Rattle.script.proofs.Running.{lines_end, lines_feed, lines_byte}
+
+-- ---- lines
+
+-- what a last line without a line feed lacks, of bytes that come behind the begin of a line
+lacks : List ℕ → List ℕ → List ℕ
+lacks [] [] = []
+lacks (first ∷ line) [] = 10 ∷ []
+lacks line (byte ∷ bytes) = if byte == 10 then lacks [] bytes else lacks (line ++ byte ∷ []) bytes
+
+joined_kept : (line : List ℕ) → joined (kept line []) ≡ (line ++ []) ++ lacks line []
+unfolding lacks
+joined_kept [] = refl
+joined_kept (first ∷ line) = append-nil ((first ∷ line) ++ 10 ∷ []) ∙ ap (λ front. front ++ 10 ∷ []) (sym (append-nil (first ∷ line)))
+
+joined_at : (line : List ℕ) (byte : ℕ) (bytes : List ℕ) → ((eqb byte 10 ≡ true) × (byte ≡ 10)) ⊎ ((eqb byte 10 ≡ false) × (byte ≡ 10 → ⊥)) →
+    joined (lines_from [] bytes) ≡ ([] ++ bytes) ++ lacks [] bytes →
+    joined (lines_from (line ++ byte ∷ []) bytes) ≡ ((line ++ byte ∷ []) ++ bytes) ++ lacks (line ++ byte ∷ []) bytes →
+    joined (lines_from line (byte ∷ bytes)) ≡ (line ++ byte ∷ bytes) ++ lacks line (byte ∷ bytes)
+unfolding lacks
+joined_at line byte bytes (inl feed) none more =
+    ap joined (lines_feed line byte bytes feed.1)
+    ∙ ap (λ rest. (line ++ 10 ∷ []) ++ rest) none
+    ∙ append_assoc line (10 ∷ []) (bytes ++ lacks [] bytes)
+    ∙ ap (λ b. line ++ b ∷ (bytes ++ lacks [] bytes)) (sym feed.1)
+    ∙ sym (append_assoc line (byte ∷ bytes) (lacks [] bytes))
+    ∙ ap (λ b. (line ++ byte ∷ bytes) ++ cond b (lacks [] bytes) (lacks (line ++ byte ∷ []) bytes)) (sym feed.0)
+joined_at line byte bytes (inr other) none more =
+    ap joined (lines_byte line byte bytes other.1) ∙ more
+    ∙ ap (λ front. front ++ lacks (line ++ byte ∷ []) bytes) (append_assoc line (byte ∷ []) bytes)
+    ∙ ap (λ b. (line ++ byte ∷ bytes) ++ cond b (lacks [] bytes) (lacks (line ++ byte ∷ []) bytes)) (sym other.0)
+
+joined_from : (line bytes : List ℕ) → joined (lines_from line bytes) ≡ (line ++ bytes) ++ lacks line bytes
+joined_from line [] = ap joined (lines_end line) ∙ joined_kept line
+joined_from line (byte ∷ bytes) = joined_at line byte bytes (eqb_tells byte 10) (joined_from [] bytes) (joined_from (line ++ byte ∷ []) bytes)
+
+lacks_begun : (line : List ℕ) (byte : ℕ) → lacks (line ++ byte ∷ []) [] ≡ 10 ∷ []
+unfolding lacks
+lacks_begun [] byte = refl
+lacks_begun (first ∷ line) byte = refl
+
+lacks_one : (line : List ℕ) (byte : ℕ) → lacks line (byte ∷ []) ≡ cond (byte == 10) [] (10 ∷ [])
+unfolding lacks
+lacks_one line byte = ap (λ other. cond (byte == 10) [] other) (lacks_begun line byte)
+
+same_either : (b : Bool) (x y z : List ℕ) → x ≡ z → y ≡ z → cond b x y ≡ z
+same_either true x y z e f = e
+same_either false x y z e f = f
+
+lacks_ends : (line : List ℕ) (byte : ℕ) (bytes : List ℕ) → lacks line (byte ∷ bytes) ≡ cond (ends_line (byte ∷ bytes)) [] (10 ∷ [])
+unfolding lacks
+lacks_ends line byte [] = lacks_one line byte
+lacks_ends line byte (next ∷ bytes) =
+    same_either (byte == 10) (lacks [] (next ∷ bytes)) (lacks (line ++ byte ∷ []) (next ∷ bytes)) (cond (ends_line (next ∷ bytes)) [] (10 ∷ []))
+    (lacks_ends [] next bytes) (lacks_ends (line ++ byte ∷ []) next bytes)
+
+pub lines_give_back : (text : List ℕ) → joined (lines_of text) ≡ ended text
+unfolding lacks
+lines_give_back [] = joined_from [] []
+lines_give_back (byte ∷ bytes) = joined_from [] (byte ∷ bytes) ∙ ap (λ rest. (byte ∷ bytes) ++ rest) (lacks_ends [] byte bytes)
+
+is_line_more : (line : List ℕ) (byte : ℕ) → is_line line ≡ true → (byte ≡ 10 → ⊥) → is_line (line ++ byte ∷ []) ≡ true
+is_line_more line byte h other =
+    let e : (byte == 10) ≡ false = grind (arith, nat_tests) in
+    list_all-append (λ b. not (b == 10)) line (byte ∷ []) ∙ rw (h, e) refl
+
+kept_lines : (line : List ℕ) → is_line line ≡ true → list_all is_line (kept line []) ≡ true
+kept_lines [] h = refl
+kept_lines (first ∷ line) h = rw h refl
+
+lines_from_lines : (line bytes : List ℕ) → is_line line ≡ true → list_all is_line (lines_from line bytes) ≡ true
+lines_from_lines line [] h = ap (list_all is_line) (lines_end line) ∙ kept_lines line h
+lines_from_lines line (byte ∷ bytes) h =
+    elim (eqb_tells byte 10) [
+      | inl feed ↦ ap (list_all is_line) (lines_feed line byte bytes feed.1) ∙ ap (λ b. b && list_all is_line (lines_from [] bytes)) h ∙ lines_from_lines [] bytes refl
+      | inr other ↦ ap (list_all is_line) (lines_byte line byte bytes other.1) ∙ lines_from_lines (line ++ byte ∷ []) bytes (is_line_more line byte h other.1)
+    ]
+
+pub lines_are_lines : (text : List ℕ) → list_all is_line (lines_of text) ≡ true
+lines_are_lines text = lines_from_lines [] text refl
+
+-- ---- numbers
+
+shifted : (base number digit power rest : ℕ) → (number * base + digit) * power + rest ≡ number * (base * power) + (digit * power + rest)
+shifted base number digit power rest =
+    let split : (number * base + digit) * power ≡ number * base * power + digit * power = add-mul (number * base) digit power in
+    let turned : number * base * power ≡ number * (base * power) = mul_assoc number base power in
+    omega (arith, split, turned)
+
+no_some : (n : ℕ) → ◌≡◌ {A = Option ℕ} None (Some n) → ⊥
+no_some n e = cc
+
+-- a digit more, of those that follow a number
+number_more : (base number digit : ℕ) (bytes : List ℕ) (n : ℕ) (fits : Bool) →
+    ((next : ℕ) → number_from base next bytes ≡ Some n → n ≡ next * base ^ length bytes + sum_of_digits base (digits_of bytes)) →
+    option_and_then (λ next. number_from base next bytes) (cond fits (Some (number * base + digit)) None) ≡ Some n →
+    n ≡ number * base ^ suc (length bytes) + (digit * base ^ length bytes + sum_of_digits base (digits_of bytes))
+number_more base number digit bytes n false rest e = absurd (no_some n e)
+number_more base number digit bytes n true rest e =
+    rest (number * base + digit) e ∙ shifted base number digit (base ^ length bytes) (sum_of_digits base (digits_of bytes))
+    ∙ ap (λ power. number * power + (digit * base ^ length bytes + sum_of_digits base (digits_of bytes))) (sym (pow-succ' base (length bytes)))
+
+number_at : (base number byte : ℕ) (bytes : List ℕ) (n : ℕ) (digit : Option ℕ) → digit_of byte ≡ digit →
+    ((next : ℕ) → number_from base next bytes ≡ Some n → n ≡ next * base ^ length bytes + sum_of_digits base (digits_of bytes)) →
+    option_and_then (λ next. number_from base next bytes) (option_and_then (with_digit base number) digit) ≡ Some n →
+    n ≡ number * base ^ suc (length bytes) + (unwrap_or digit 0 * base ^ length bytes + sum_of_digits base (digits_of bytes))
+number_at base number byte bytes n None is rest e = absurd (no_some n e)
+number_at base number byte bytes n (Some digit) is rest e =
+    number_more base number digit bytes n (nat_lt digit base && nat_lt (number * base + digit) (2 ^ 64)) rest e
+
+number_is : (base number : ℕ) (bytes : List ℕ) (n : ℕ) → number_from base number bytes ≡ Some n → n ≡ number * base ^ length bytes + sum_of_digits base (digits_of bytes)
+unfolding number_from
+number_is base number [] n e = let same : number ≡ n = cc in let once : number * base ^ length {A = ℕ} [] ≡ number = ap (λ power. number * power) (pow-zero base) ∙ mul-one number in omega (arith, same, once)
+number_is base number (byte ∷ bytes) n e =
+    number_at base number byte bytes n (digit_of byte) refl (λ next f. number_is base next bytes n f) e
+    ∙ ap (λ count. number * base ^ suc (length bytes) + (unwrap_or (digit_of byte) 0 * base ^ count + sum_of_digits base (digits_of bytes))) (sym (length-map bytes (λ b. unwrap_or (digit_of b) 0)))
+
+pub number_is_sum : (base : ℕ) (word : List ℕ) (n : ℕ) → number_from base 0 word ≡ Some n → n ≡ sum_of_digits base (digits_of word)
+number_is_sum base word n e = number_is base 0 word n e ∙ omega arith
+
+pub decimal_is_sum : (word : List ℕ) (n : ℕ) → decimal_word word ≡ Some n → n ≡ sum_of_digits 10 (digits_of word)
+decimal_is_sum [] n e = absurd (no_some n e)
+decimal_is_sum (byte ∷ bytes) n e = number_is_sum 10 (byte ∷ bytes) n e
+
+pub address_is_sum : (word : List ℕ) (n : ℕ) → address_word word ≡ Some n → n ≡ sum_of_digits 16 (digits_of word)
+address_is_sum word n e = by_length (length word == 16) e
+  where
+    by_length : (b : Bool) → cond b (number_from 16 0 word) None ≡ Some n → n ≡ sum_of_digits 16 (digits_of word)
+    by_length true f = number_is_sum 16 word n f
+    by_length false f = absurd (no_some n f)

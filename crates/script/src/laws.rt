@@ -1,0 +1,20 @@
+//! What the lines and the numbers of a script come to, as laws of their definitions.
+
+ghost use Rattle.std.specs.Prelude.{◌≡◌, ℕ, List, Some, true};
+ghost use Rattle.std.specs.List.{list_all};
+ghost use Rattle.script.specs.Runs.{lines_of};
+ghost use Rattle.script.specs.Splitting.{digits_of, ended, is_line, joined, sum_of_digits};
+ghost use Rattle.script.specs.Words.{address_word, decimal_word};
+
+/// The lines of a text, each with a line feed behind it, are the text, with a line feed behind a last line that has
+/// none; and no line has a line feed in it.
+pub fn lines_give_their_text_back()
+    ensures back { (text : List ℕ) → joined (lines_of text) ≡ ended text }
+    ensures lines { (text : List ℕ) → list_all is_line (lines_of text) ≡ true }
+{}
+
+/// A word that is read as a number is read as the sum of its digits, each times the power of its place.
+pub fn numbers_are_sums_of_their_digits()
+    ensures decimal { (word : List ℕ) (number : ℕ) → decimal_word word ≡ Some number → number ≡ sum_of_digits 10 (digits_of word) }
+    ensures address { (word : List ℕ) (number : ℕ) → address_word word ≡ Some number → number ≡ sum_of_digits 16 (digits_of word) }
+{}
