@@ -23,11 +23,11 @@ fn push_layout(whole: &mut String, program: &Program) -> Result<(), AllocError> 
 }
 
 // A kernel's steps, a line each, with the line that each stands on in the text.
-fn push_steps(whole: &mut String, program: &Program) -> Result<(), AllocError> {
+fn push_steps(alloc: Global, whole: &mut String, program: &Program) -> Result<(), AllocError> {
     for lined in program.steps() {
         let line = lined.line;
         write!(whole, "{line} ")?;
-        push_step(whole, &lined.step)?;
+        push_step(alloc, whole, &lined.step)?;
         whole.push_str("\n")?;
     }
     Ok(())
@@ -39,7 +39,7 @@ fn kernels_of(alloc: Global, checked: &Checked) -> Result<String, AllocError> {
     for index in 0..checked.count() {
         let program = checked.kernel(index);
         push_layout(&mut whole, program)?;
-        push_steps(&mut whole, program)?;
+        push_steps(alloc, &mut whole, program)?;
     }
     whole.push_str("ok\n")?;
     Ok(whole)

@@ -8,8 +8,7 @@ use kernel_check::{
     ArgumentStep, BinaryStep, BranchStep, Dimension, IdentifyStep, LoadStep, Operand, Pointer,
     Slot, Step, StoreStep, TernaryStep, UnaryStep,
 };
-use std::alloc::AllocError;
-use std::fmt;
+use std::alloc::{AllocError, Global};
 
 fn type_name(kind: DataType) -> &'static str {
     match kind {
@@ -93,133 +92,125 @@ fn right_kind(operation: BinaryOperation, kind: DataType) -> DataType {
     }
 }
 
-/// A register as it is written: its class by the type of what it holds, and its number.
-#[derive(Clone, Copy)]
-struct Register(DataType, Slot);
+fn register(alloc: Global, kind: DataType, slot: Slot) -> Result<String, AllocError> {
+    let class = class_name(kind);
+    let number = slot.index();
+    format!(in alloc; "${class}{number}")
+}
 
-impl fmt::Display for Register {
-    fn fmt<W: fmt::Write>(&self, f: &mut fmt::Formatter<W>) -> fmt::Result {
-        let class = class_name(self.0);
-        let number = self.1.index();
-        write!(f, "${class}{number}")
+fn operand(alloc: Global, kind: DataType, source: Operand) -> Result<String, AllocError> {
+    match source {
+        Operand::Register(slot) => register(alloc, kind, slot),
+        Operand::Constant(bits) => format!(in alloc; "{bits}"),
     }
 }
 
-/// A source of a type as it is written.
-#[derive(Clone, Copy)]
-struct Source(DataType, Operand);
-
-impl fmt::Display for Source {
-    fn fmt<W: fmt::Write>(&self, f: &mut fmt::Formatter<W>) -> fmt::Result {
-        match self.1 {
-            Operand::Register(slot) => Register(self.0, slot).fmt(f),
-            Operand::Constant(bits) => write!(f, "{bits}"),
+fn pointer(alloc: Global, pointer: Pointer) -> Result<String, AllocError> {
+    match pointer {
+        Pointer::Absolute(number) => format!(in alloc; "[{number}]"),
+        Pointer::Relative(relative) => {
+            let base = register(alloc, DataType::U64, relative.register)?;
+            let offset = relative.offset;
+            format!(in alloc; "[{base}+{offset}]")
         }
     }
 }
 
-/// A place in memory as it is written.
-#[derive(Clone, Copy)]
-struct Place(Pointer);
-
-impl fmt::Display for Place {
-    fn fmt<W: fmt::Write>(&self, f: &mut fmt::Formatter<W>) -> fmt::Result {
-        match self.0 {
-            Pointer::Absolute(number) => write!(f, "[{number}]"),
-            Pointer::Relative(relative) => {
-                let base = Register(DataType::U64, relative.register);
-                let offset = relative.offset;
-                write!(f, "[{base}+{offset}]")
-            }
-        }
-    }
-}
-
-fn push_unary(whole: &mut String, step: &UnaryStep) -> Result<(), AllocError> {
+fn unary(alloc: Global, step: &UnaryStep) -> Result<String, AllocError> {
     let kind = type_name(step.kind);
-    let source = Source(step.kind, step.source);
-    let (word, converted, target) = match step.operation {
-        UnaryOperation::Move => ("mov", "", step.kind),
-        UnaryOperation::Not => ("not", "", step.kind),
-        UnaryOperation::Convert(target) => ("cvt_", type_name(target), target),
+    let source = operand(alloc, step.kind, step.source)?;
+    let (word, target) = match step.operation {
+        UnaryOperation::Move => ("mov", step.kind),
+        UnaryOperation::Not => ("not", step.kind),
+        UnaryOperation::Convert(target) => ("cvt", target),
     };
-    let register = Register(target, step.target);
-    write!(whole, "{word}{converted}_{kind} {register}, {source}")
+    let register = register(alloc, target, step.target)?;
+    match step.operation {
+        UnaryOperation::Convert(target) => {
+            let target = type_name(target);
+            format!(in alloc; "{word}_{target}_{kind} {register}, {source}")
+        }
+        _ => format!(in alloc; "{word}_{kind} {register}, {source}"),
+    }
 }
 
-fn push_binary(whole: &mut String, step: &BinaryStep) -> Result<(), AllocError> {
+fn binary(alloc: Global, step: &BinaryStep) -> Result<String, AllocError> {
     let word = binary_name(step.operation);
     let kind = type_name(step.kind);
-    let target = Register(target_kind(step.operation, step.kind), step.target);
-    let left = Source(step.kind, step.left);
-    let right = Source(right_kind(step.operation, step.kind), step.right);
-    write!(whole, "{word}_{kind} {target}, {left}, {right}")
+    let target = register(alloc, target_kind(step.operation, step.kind), step.target)?;
+    let left = operand(alloc, step.kind, step.left)?;
+    let right = operand(alloc, right_kind(step.operation, step.kind), step.right)?;
+    format!(in alloc; "{word}_{kind} {target}, {left}, {right}")
 }
 
-fn push_ternary(whole: &mut String, step: &TernaryStep) -> Result<(), AllocError> {
+fn ternary(alloc: Global, step: &TernaryStep) -> Result<String, AllocError> {
     let kind = type_name(step.kind);
     let (word, first) = match step.operation {
         TernaryOperation::MultiplyAdd => ("mad", step.kind),
         TernaryOperation::ConditionalMove => ("cmov", DataType::B1),
     };
-    let target = Register(step.kind, step.target);
-    let first = Source(first, step.first);
-    let second = Source(step.kind, step.second);
-    let third = Source(step.kind, step.third);
-    write!(whole, "{word}_{kind} {target}, {first}, {second}, {third}")
+    let target = register(alloc, step.kind, step.target)?;
+    let first = operand(alloc, first, step.first)?;
+    let second = operand(alloc, step.kind, step.second)?;
+    let third = operand(alloc, step.kind, step.third)?;
+    format!(in alloc; "{word}_{kind} {target}, {first}, {second}, {third}")
 }
 
-fn push_argument(whole: &mut String, step: &ArgumentStep) -> Result<(), AllocError> {
+fn argument(alloc: Global, step: &ArgumentStep) -> Result<String, AllocError> {
     let kind = type_name(step.kind);
-    let target = Register(step.kind, step.target);
+    let target = register(alloc, step.kind, step.target)?;
     let offset = step.offset;
-    write!(whole, "ld_kernarg_{kind} {target}, [{offset}]")
+    format!(in alloc; "ld_kernarg_{kind} {target}, [{offset}]")
 }
 
-fn push_load(whole: &mut String, step: &LoadStep) -> Result<(), AllocError> {
+fn load(alloc: Global, step: &LoadStep) -> Result<String, AllocError> {
     let kind = type_name(step.kind);
-    let target = Register(step.kind, step.target);
-    let place = Place(step.pointer);
-    write!(whole, "ld_global_{kind} {target}, {place}")
+    let target = register(alloc, step.kind, step.target)?;
+    let place = pointer(alloc, step.pointer)?;
+    format!(in alloc; "ld_global_{kind} {target}, {place}")
 }
 
-fn push_store(whole: &mut String, step: &StoreStep) -> Result<(), AllocError> {
+fn store(alloc: Global, step: &StoreStep) -> Result<String, AllocError> {
     let kind = type_name(step.kind);
-    let source = Source(step.kind, step.source);
-    let place = Place(step.pointer);
-    write!(whole, "st_global_{kind} {source}, {place}")
+    let source = operand(alloc, step.kind, step.source)?;
+    let place = pointer(alloc, step.pointer)?;
+    format!(in alloc; "st_global_{kind} {source}, {place}")
 }
 
-fn push_conditional_branch(whole: &mut String, step: &BranchStep) -> Result<(), AllocError> {
-    let condition = Source(DataType::B1, step.condition);
+fn conditional_branch(alloc: Global, step: &BranchStep) -> Result<String, AllocError> {
+    let condition = operand(alloc, DataType::B1, step.condition)?;
     let next = step.next;
-    write!(whole, "cbr_b1 {condition}, {next}")
+    format!(in alloc; "cbr_b1 {condition}, {next}")
 }
 
-fn push_query(whole: &mut String, step: &IdentifyStep) -> Result<(), AllocError> {
+fn query(alloc: Global, step: &IdentifyStep) -> Result<String, AllocError> {
     let word = query_name(step.query);
     let kind = type_name(step.kind);
-    let target = Register(step.kind, step.target);
+    let target = register(alloc, step.kind, step.target)?;
     let dimension = match step.dimension {
         Dimension::X => 0,
         Dimension::Y => 1,
         Dimension::Z => 2,
     };
-    write!(whole, "{word}_{kind} {target}, {dimension}")
+    format!(in alloc; "{word}_{kind} {target}, {dimension}")
+}
+
+fn text_of(alloc: Global, step: &Step) -> Result<String, AllocError> {
+    match step {
+        Step::Unary(step) => unary(alloc, step),
+        Step::Binary(step) => binary(alloc, step),
+        Step::Ternary(step) => ternary(alloc, step),
+        Step::Argument(step) => argument(alloc, step),
+        Step::Load(step) => load(alloc, step),
+        Step::Store(step) => store(alloc, step),
+        Step::Branch(next) => format!(in alloc; "br {next}"),
+        Step::ConditionalBranch(step) => conditional_branch(alloc, step),
+        Step::Return => String::from_str(alloc, "ret"),
+        Step::Identify(step) => query(alloc, step),
+    }
 }
 
 /// Adds a step's line, without its end.
-pub fn push_step(whole: &mut String, step: &Step) -> Result<(), AllocError> {
-    match step {
-        Step::Unary(step) => push_unary(whole, step),
-        Step::Binary(step) => push_binary(whole, step),
-        Step::Ternary(step) => push_ternary(whole, step),
-        Step::Argument(step) => push_argument(whole, step),
-        Step::Load(step) => push_load(whole, step),
-        Step::Store(step) => push_store(whole, step),
-        Step::Branch(next) => write!(whole, "br {next}"),
-        Step::ConditionalBranch(step) => push_conditional_branch(whole, step),
-        Step::Return => whole.push_str("ret"),
-        Step::Identify(step) => push_query(whole, step),
-    }
+pub fn push_step(alloc: Global, whole: &mut String, step: &Step) -> Result<(), AllocError> {
+    whole.push_str(text_of(alloc, step)?.as_str())
 }
