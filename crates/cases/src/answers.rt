@@ -87,6 +87,27 @@ fn changed(alloc: Global, policy: &str, old: &str, new: &str) -> Result<String, 
     }
 }
 
+// The policy with one text in place of another, as both are spelled.
+fn respelled(
+    alloc: Global,
+    setting: &Setting<'_>,
+    policy: &str,
+    old: &str,
+    new: &str,
+) -> Result<String, Error> {
+    let old = setting.names.spelled(alloc, old)?;
+    let new = setting.names.spelled(alloc, new)?;
+    changed(alloc, policy, old.as_str(), new.as_str())
+}
+
+// How many places a line gives the audit.
+fn places_in(line: &str) -> Result<usize, Error> {
+    match line.strip_prefix("audit ").unwrap_or("").parse::<usize>() {
+        Ok(places) => Ok(places),
+        Err(_) => Err(anyhow!("`with {line}` is no setting")),
+    }
+}
+
 // Reads a setting, and changes what it speaks of.
 fn read_setting(
     alloc: Global,
@@ -95,21 +116,11 @@ fn read_setting(
     line: &str,
 ) -> Result<(), Error> {
     if let Some((old, new)) = line.split_once(" => ") {
-        let old = setting.names.spelled(alloc, old)?;
-        let new = setting.names.spelled(alloc, new)?;
-        settings.policy = changed(alloc, settings.policy.as_str(), old.as_str(), new.as_str())?;
-        return Ok(());
+        settings.policy = respelled(alloc, setting, settings.policy.as_str(), old, new)?;
+    } else {
+        settings.places = places_in(line)?;
     }
-    match line
-        .strip_prefix("audit ")
-        .map(|number| number.parse::<usize>())
-    {
-        Some(Ok(places)) => {
-            settings.places = places;
-            Ok(())
-        }
-        _ => Err(anyhow!("`with {line}` is no setting")),
-    }
+    Ok(())
 }
 
 /// Reads the settings of a case: `audit 10`, or `OLD => NEW`, by which a text of the policy is replaced.

@@ -4,7 +4,7 @@ use crate::answers::{Setting, Settings, answer, read_settings};
 use crate::file::{Case, Kind, Wanted, read_front};
 use crate::spelling::{bytes_of, choices, chosen};
 use anyhow::{Context, Error, anyhow};
-use std::alloc::Global;
+use std::alloc::{AllocError, Global};
 use std::fmt;
 
 /// How many texts came to what was wanted, and how many didn't.
@@ -71,6 +71,25 @@ fn choices_of(case: &Case<'_>) -> usize {
     product
 }
 
+// A frame with a text in place of the mark of a column, which is `{1}` for the first.
+fn with_text(alloc: Global, frame: &str, place: usize, text: &str) -> Result<String, AllocError> {
+    let number = place.saturating_add(1);
+    let mark = format!(in alloc; "{{{number}}}")?;
+    frame.replace(alloc, mark.as_str(), text)
+}
+
+// A frame with a choice of a text in place of the mark of a column.
+fn with_column(
+    alloc: Global,
+    frame: &str,
+    place: usize,
+    text: &str,
+    choice: usize,
+) -> Result<String, Error> {
+    let text = chosen(alloc, text, choice)?;
+    Ok(with_text(alloc, frame, place, text.as_str())?)
+}
+
 // A frame, but for its last line feed, with a row's texts in place of `{1}`, `{2}` and so on, each by its part of the
 // choice.
 fn framed(alloc: Global, frame: &str, asked: &[&str], choice: usize) -> Result<String, Error> {
@@ -78,11 +97,8 @@ fn framed(alloc: Global, frame: &str, asked: &[&str], choice: usize) -> Result<S
     let mut whole = String::from_str(alloc, frame)?;
     let mut left = choice;
     for (place, text) in asked.iter().enumerate() {
-        let place = place.saturating_add(1);
-        let mark = format!(in alloc; "{{{place}}}")?;
         let count = choices(text).max(1);
-        let text = chosen(alloc, text, left % count)?;
-        whole = whole.replace(alloc, mark.as_str(), text.as_str())?;
+        whole = with_column(alloc, whole.as_str(), place, text, left % count)?;
         left /= count;
     }
     Ok(whole)
@@ -154,6 +170,19 @@ fn wanted_of(
     Ok(wanted)
 }
 
+// A text behind a front, as it is spelled.
+fn asked_behind(
+    alloc: Global,
+    setting: &Setting<'_>,
+    front: &Case<'_>,
+    behind: &str,
+) -> Result<Vec<u8>, Error> {
+    let mut asked = joined(alloc, front.asked.as_slice())?;
+    asked.push_str(behind)?;
+    let asked = setting.names.spelled(alloc, asked.as_str())?;
+    bytes_of(alloc, asked.as_str())
+}
+
 // What comes of a text behind a front.
 fn answer_to(
     alloc: Global,
@@ -162,10 +191,7 @@ fn answer_to(
     settings: &Settings,
     behind: &str,
 ) -> Result<String, Error> {
-    let mut asked = joined(alloc, front.asked.as_slice())?;
-    asked.push_str(behind)?;
-    let asked = setting.names.spelled(alloc, asked.as_str())?;
-    let bytes = bytes_of(alloc, asked.as_str())?;
+    let bytes = asked_behind(alloc, setting, front, behind)?;
     answer(alloc, setting.kind, settings, bytes.as_slice())
 }
 
@@ -246,6 +272,23 @@ fn report(
     Ok(())
 }
 
+// Tells whether an answer is what was wanted, and prints how it differs.
+fn judge(
+    rt: &HostRuntime,
+    case: &Case<'_>,
+    asked: &str,
+    wanted: &[Line],
+    answer: &str,
+) -> Result<bool, Error> {
+    match first_difference(wanted, compared(case, answer), case.last_line()) {
+        None => Ok(true),
+        Some(difference) => {
+            report(rt, case, asked, &difference)?;
+            Ok(false)
+        }
+    }
+}
+
 // Tries a text that a case stands for, and prints how it differs. Tells whether it came to what was wanted.
 fn try_choice(
     rt: &HostRuntime,
@@ -255,21 +298,19 @@ fn try_choice(
     case: &Case<'_>,
     choice: usize,
 ) -> Result<bool, Error> {
-    let alloc = rt.alloc();
-    let behind = asked_of(alloc, setting, case, choice)?;
-    let answer = answer_to(alloc, setting, front, settings, behind.as_str())?;
+    let behind = asked_of(rt.alloc(), setting, case, choice)?;
+    let answer = answer_to(rt.alloc(), setting, front, settings, behind.as_str())?;
     if is_accepted(case, answer.as_str()) {
         return Ok(true);
     }
-    let wanted = wanted_of(alloc, setting, front, case)?;
-    let came = compared(case, answer.as_str());
-    match first_difference(wanted.as_slice(), came, case.last_line()) {
-        None => Ok(true),
-        Some(difference) => {
-            report(rt, case, behind.as_str(), &difference)?;
-            Ok(false)
-        }
-    }
+    let wanted = wanted_of(rt.alloc(), setting, front, case)?;
+    judge(
+        rt,
+        case,
+        behind.as_str(),
+        wanted.as_slice(),
+        answer.as_str(),
+    )
 }
 
 // Tries each text that a case stands for.
