@@ -189,7 +189,7 @@ module _ (core : History) (rings : List QueueRing) (h : IsJoined (World core rin
       let put : ring_taken r became ≡ record { ring = r.ring; decided = true } = decides queue (read_index r.ring) was.verdict became told was.outcome_is made r in
       let more : next_id core.start (core.entries ++ entry ∷ []) queue ≡ next_id core.start core.entries queue + 1 =
       next_id-more core.start core.entries entry queue ∙ ap (λ b. if b then next_id core.start core.entries queue + 1 else next_id core.start core.entries queue) (eq-eqb queue.0 queue.0 refl) in
-      let next : read_index r.ring ≡ next_id core.start core.entries queue = was.is_next in
+      let next : read_index r.ring ≡ next_id core.start core.entries queue = was.id_is_next in
       let below : nat_lt (read_index r.ring) (next_id core.start (core.entries ++ entry ∷ []) queue) ≡ true =
       let lt : read_index r.ring < next_id core.start (core.entries ++ entry ∷ []) queue = omega (arith, more, next) in grind (arith, nat_tests) in
       decided_put core (history_after core Taking (enters told effects)) rings queue r (ring_taken r became) found

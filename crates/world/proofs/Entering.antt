@@ -13,7 +13,7 @@ use Rattle.core_model.specs.declared.refusal.Refusal.TheVariants as refusal
 use Rattle.core_model.specs.History.{Start, History}
 use Rattle.core_model.specs.Queues.{next_id, openings}
 use Rattle.core_model.specs.Owed.{Owed, owed, refuses, answers, enters}
-use Rattle.core_model.specs.Legal.{IsLegal, due, history_after, lacks_room, reply_of, with_entry, within_room}
+use Rattle.core_model.specs.Legal.{IsLegal, due, entry_of, history_after, lacks_room, reply_of, within_room}
 use Rattle.core_model.specs.Headline.{GoesOn}
 use Rattle.core_model.proofs.More.{with_some}
 use Rattle.core_model.proofs.Served.{event-goes_on}
@@ -64,7 +64,7 @@ due_enters old event outcome effects = by_owed (owed old.start old.entries event
     by_owed : (owing : Owed) → within_room old event owing ≡ enters outcome effects → owing ≡ enters outcome effects
     by_owed (refuses why) is = is
     by_owed (answers told) is = is
-    by_owed (enters told made) is = by_room (lacks_room old.capacity old.start (with_entry old.entries event told made)) is
+    by_owed (enters told made) is = by_room (lacks_room old (entry_of event told made)) is
       where
         by_room : (b : Bool) → (if b then refuses refusal.AuditFull else enters told made) ≡ enters outcome effects → enters told made ≡ enters outcome effects
         by_room true f = absurd (cc)
@@ -76,7 +76,7 @@ due_answers old event outcome = by_owed (owed old.start old.entries event)
     by_owed : (owing : Owed) → within_room old event owing ≡ answers outcome → owing ≡ answers outcome
     by_owed (refuses why) is = is
     by_owed (answers told) is = is
-    by_owed (enters told made) is = by_room (lacks_room old.capacity old.start (with_entry old.entries event told made)) is
+    by_owed (enters told made) is = by_room (lacks_room old (entry_of event told made)) is
       where
         by_room : (b : Bool) → (if b then refuses refusal.AuditFull else enters told made) ≡ answers outcome → enters told made ≡ answers outcome
         by_room true f = absurd (cc)

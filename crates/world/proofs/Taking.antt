@@ -62,7 +62,7 @@ module _ (world : Joined) (h : IsJoined world) (queue : QueueId) (ring : Machine
     TheEntry = entry_of Taking outcome effects
 
     is_next : read_index ring ≡ next_id world.core.start world.core.entries queue
-    is_next = (take-decided world.core.start world.core.entries outcome effects queue (record { 0 = read_index ring }) (bytes_of words) (due_enters world.core Taking outcome effects owing)).is_next
+    is_next = (take-decided world.core.start world.core.entries outcome effects queue (record { 0 = read_index ring }) (bytes_of words) (due_enters world.core Taking outcome effects owing)).id_is_next
 
     -- its own queue has one more
     next_more : next_id New.start New.entries queue ≡ next_id world.core.start world.core.entries queue + 1

@@ -12,8 +12,8 @@ use Rattle.core_model.specs.declared.answer.Answer.TheVariants as told
 use Rattle.core_model.specs.History.{History}
 use Rattle.core_model.specs.Queues.{next_id}
 use Rattle.core_model.specs.Owed.{Owed}
-use Rattle.core_model.specs.Legal.{Replying, as_reply, due, history_after, may_lack, query_may_lack, reply_of}
-use Rattle.core_model.specs.Queries.{replied}
+use Rattle.core_model.specs.Legal.{as_reply, due, history_after, may_lack, query_may_lack, reply_of}
+use Rattle.core_model.specs.Queries.{Replying, replied}
 use Rattle.ring_core.specs.declared.access.Access.{Access}
 use Rattle.ring_core.specs.declared.access.Access.TheVariants.{Reserve, LoadHeader, ClearHeader}
 use Rattle.ring_core.specs.declared.access.Step.{Step}
@@ -113,7 +113,7 @@ abbrev pub due_query : Joined → Query → Due
 due_query world query = record {
   reply = of_core (replied world.core.start world.core.entries query);
   after = world;
-  may_lack = query_may_lack query;
+  may_lack = query_may_lack (replied world.core.start world.core.entries query);
 }
 
 -- ---- takes

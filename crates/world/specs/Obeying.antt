@@ -14,7 +14,8 @@ use Rattle.core_model.specs.declared.outcome.Taken.TheVariants as taken
 use Rattle.core_model.specs.declared.refusal.Refusal as cores
 use Rattle.core_model.specs.declared.refusal.Refusal.TheVariants as why
 use Rattle.core_model.specs.History.{History}
-use Rattle.core_model.specs.Legal.{MeetsOrLacks, Replying, wrapped}
+use Rattle.core_model.specs.Legal.{MeetsOrLacks, due, may_lack, wrapped}
+use Rattle.core_model.specs.Queries.{Replying}
 use Rattle.core_model.specs.Legal as cores_law
 use Rattle.ring_core.specs.Parts.{collected_packet}
 use Rattle.ring_core.specs.Machine.{opened, read_index}
@@ -87,6 +88,11 @@ told_opened (Err why) = Err (refusal.Core why)
 abbrev pub rings_opened : List QueueRing → ℕ → ℕ → Result QueueId cores.Refusal → List QueueRing
 rings_opened rings size producers (Ok queue) = rings ++ new_ring size producers ∷ []
 rings_opened rings size producers (Err why) = rings
+
+-- the core will open a queue, memory aside
+abbrev pub MayOpen : History → ClientId → AgentHandle → ℕ → ℕ → Type 0
+MayOpen core client agent size producers =
+    may_lack (OpenQueue client agent (asked_size size producers)) (due core (OpenQueue client agent (asked_size size producers))) ≡ true
 
 -- a queue was opened with its ring, or refused by the core
 abbrev pub Opens : ClientId → AgentHandle → ℕ → ℕ → History → List QueueRing → Reply → History → List QueueRing → Type 0

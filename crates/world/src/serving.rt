@@ -1,13 +1,13 @@
 //! Requests are served: each by the core, by a queue's ring, or by both.
 
-ghost use Rattle.std.specs.Prelude.{◌≡◌, ◌&&◌, false};
+ghost use Rattle.std.specs.Prelude.{◌≡◌, ◌&&◌, false, true};
 ghost use Rattle.policy.specs.Policy.{numbered};
 ghost use Rattle.core_model.specs.declared.answer.Answer.TheVariants as told;
 ghost use Rattle.core_model.specs.declared.outcome.Outcome.TheVariants as outcome;
 ghost use Rattle.ring_core.specs.Machine.{is_ring_size, opened};
 ghost use Rattle.world.specs.declared.reply.Answer.TheVariants as answer;
 ghost use Rattle.world.specs.Dues.{are_producers, asked_size};
-ghost use Rattle.world.specs.Obeying.{Asks, IsNext, Obeys, Opens, TakesAt};
+ghost use Rattle.world.specs.Obeying.{Asks, IsNext, MayOpen, Obeys, Opens, TakesAt};
 
 use crate::bytes::bytes_of;
 use crate::queue_ring::{Next, QueueRing};
@@ -124,13 +124,31 @@ fn asked_size(size: u64, producers: u64) -> u64
     if are_producers(producers) { size } else { 0 }
 }
 
-// Opens a queue, with its ring. Memory for the ring is got first.
+// Opens a queue, with its ring. Memory for the ring is got where the core will open the queue.
 fn open(alloc: Global, core: &mut AccessCore, rings: &mut Vec<QueueRing>, opening: Opening) -> Reply
     ensures { Opens opening.client opening.agent opening.size opening.producers core.old rings.old.items result core.new rings.new.items }
 {
     if !is_ring(opening.size, opening.producers) {
         return refuse_opening(alloc, core, rings, opening);
     }
+    let size = asked_size(opening.size, opening.producers);
+    match core.may_open(opening.client, opening.agent, size) {
+        Ok(_) => open_fit(alloc, core, rings, opening),
+        Err(why) => Err(Refusal::Core(why)),
+    }
+}
+
+// Opens a queue that the core will open, with its ring.
+fn open_fit(
+    alloc: Global,
+    core: &mut AccessCore,
+    rings: &mut Vec<QueueRing>,
+    opening: Opening,
+) -> Reply
+    requires fits { (are_producers opening.producers && is_ring_size opening.size) ≡ true }
+    requires due { MayOpen core.old opening.client opening.agent opening.size opening.producers }
+    ensures { Opens opening.client opening.agent opening.size opening.producers core.old rings.old.items result core.new rings.new.items }
+{
     match RingState::new(alloc, opening.size, opening.producers) {
         Ok(ring) => open_with(alloc, core, rings, opening, ring),
         Err(_) => Err(Refusal::Core(core_model::Refusal::OutOfMemory)),
@@ -163,7 +181,8 @@ fn open_with(
     opening: Opening,
     ring: RingState,
 ) -> Reply
-    requires { ring ≡ opened opening.size opening.producers }
+    requires ring { ring ≡ opened opening.size opening.producers }
+    requires due { MayOpen core.old opening.client opening.agent opening.size opening.producers }
     ensures { Opens opening.client opening.agent opening.size opening.producers core.old rings.old.items result core.new rings.new.items }
 {
     let new = QueueRing {

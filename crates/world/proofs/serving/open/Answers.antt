@@ -1,7 +1,4 @@
--- Without memory for the ring all is as before.
-use Rattle.std.proofs.Common.{refl, inr, Err}
-use Rattle.core_model.specs.declared.refusal.Refusal.TheVariants as refusal
+-- What the core refuses leaves all as it was; what it will open is opened.
+use Rattle.std.proofs.Common.{ap, refl, sym, ◌∙◌, inl, Err}
+use Rattle.core_model.specs.Legal.{history_after, may_lack, reply_of}
 use Rattle.world.proofs.serving.open.Goals as goal
-
-pub returns-in-Err : goal.returns-in-Err
-returns-in-Err c = (Err refusal.OutOfMemory, inr (record { may = refl; reply_is = refl; history_is = refl }), refl, refl)
