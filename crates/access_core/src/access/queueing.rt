@@ -64,7 +64,12 @@ impl AccessCore {
     /// room for that; else why `open_queue` is refused. It changes nothing and takes no memory, so what
     /// else an opening wants memory for can be got behind it.
     #[tactic(auto, unfolding(core_model::specs::Owed::owed))]
-    pub fn may_open(&self, client: ClientId, agent: AgentHandle, size: u64) -> Result<QueueId, Refusal>
+    pub fn may_open(
+        &self,
+        client: ClientId,
+        agent: AgentHandle,
+        size: u64,
+    ) -> Result<QueueId, Refusal>
         ensures may { IfOk result (λ queue. due self.now (Event.OpenQueue client agent size) ≡ enters (Outcome.Opened queue) []) }
         ensures few { OnOk result (length (openings self.now.start self.now.entries) < QUEUES) }
         ensures why { IfErr result (λ why. due self.now (Event.OpenQueue client agent size) ≡ refuses why) }
