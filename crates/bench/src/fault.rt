@@ -1,5 +1,8 @@
 //! Why a measurement told no figure.
 
+use executor::RunFault;
+use hsail_reader::ReadError;
+use kernel_check::CheckError;
 use ring::{RingFault, Spent};
 use std::alloc::AllocError;
 use std::error::Error;
@@ -18,6 +21,10 @@ pub enum Fault {
     NotWhole,
     /// A ring refused what it was asked.
     Refused,
+    /// A kernel was refused, or did not end as it has to.
+    Kernel,
+    /// What the items of a kernel stored is not what they have to store.
+    OtherSum,
 }
 
 /// How often a producer looks for room, and the processor for a packet, before it gives up.
@@ -32,6 +39,8 @@ impl Fault {
             Fault::Stuck => "no packet and no room came, however often they were looked for",
             Fault::NotWhole => "a packet is not whole, or not the next of its producer",
             Fault::Refused => "a ring refused what it was asked",
+            Fault::Kernel => "a kernel was refused, or did not end",
+            Fault::OtherSum => "what the items stored does not add up",
         }
     }
 }
@@ -68,5 +77,32 @@ impl From<RingFault> for Fault {
 impl From<Spent> for Fault {
     fn from(_: Spent) -> Fault {
         Fault::Refused
+    }
+}
+
+impl From<ReadError> for Fault {
+    fn from(error: ReadError) -> Fault {
+        match error {
+            ReadError::OutOfMemory => Fault::OutOfMemory,
+            ReadError::Fault(_) => Fault::Kernel,
+        }
+    }
+}
+
+impl From<CheckError> for Fault {
+    fn from(error: CheckError) -> Fault {
+        match error {
+            CheckError::OutOfMemory => Fault::OutOfMemory,
+            CheckError::Fault(_) => Fault::Kernel,
+        }
+    }
+}
+
+impl From<RunFault> for Fault {
+    fn from(fault: RunFault) -> Fault {
+        match fault {
+            RunFault::OutOfMemory => Fault::OutOfMemory,
+            RunFault::Fault(_) => Fault::Kernel,
+        }
     }
 }

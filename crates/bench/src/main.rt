@@ -1,28 +1,29 @@
-//! The program that measures. `bench ring PACKETS` measures the ring over atomics. Its figures go to
-//! standard error, and standard output says what is the same in every run.
+//! The program that measures. `bench ring PACKETS` measures the ring over atomics, `bench kernels ITEMS`
+//! the executor of kernels, `bench all PACKETS ITEMS` both. Its figures go to standard error, and standard
+//! output says what is the same in every run.
 #![tactic(auto)]
 
 mod fault;
+mod kernel_speed;
 mod lane;
 mod mark;
+mod report;
 mod ring_speed;
 
 use clap::builder::ValueParser;
 use clap::error::ErrorKind;
 use clap::{Arg, ArgAction, ArgMatches, Command, Error};
 use fault::Fault;
-use ring_speed::{many_threads, one_thread};
+use kernel_speed::MOST_ITEMS;
+use report::{measure_kernels, measure_ring};
 use std::alloc::{AllocError, Global};
 use std::process::ExitCode;
 use std::thread::Threads;
-use std::time::{Clock, Duration};
+use std::time::Clock;
 use std::{env, io};
 
 /// How many packets a producer sends at the most.
 const MOST_PACKETS: u64 = 1_000_000_000;
-
-/// With how many producers the ring is measured.
-const PRODUCERS: [u64; 5] = [1, 2, 4, 8, 16];
 
 /// How often everything is measured at the most.
 const MOST_RUNS: u64 = 1_000;
@@ -40,6 +41,15 @@ fn packets<'a>(alloc: Global) -> Arg<'a> {
         .action(ArgAction::Set)
         .value_parser(ValueParser::Unsigned(1, MOST_PACKETS))
         .help("How many packets each producer sends, 1 to 1000000000")
+}
+
+// The argument that says how many items are run.
+fn items<'a>(alloc: Global) -> Arg<'a> {
+    Arg::new(alloc, "ITEMS")
+        .required(true)
+        .action(ArgAction::Set)
+        .value_parser(ValueParser::Unsigned(1, u64::from(MOST_ITEMS)))
+        .help("How many items the work-group has, 1 to 1024")
 }
 
 // The argument that says how often all is measured.
@@ -60,84 +70,57 @@ fn ring_command<'a>(alloc: Global) -> Result<Command<'a>, AllocError> {
         .arg(runs(alloc))
 }
 
+// The command that measures kernels.
+fn kernels_command<'a>(alloc: Global) -> Result<Command<'a>, AllocError> {
+    Command::new(alloc, "kernels")
+        .about("Measures the executor, with some 65,500 steps an item")
+        .arg(items(alloc))?
+        .arg(runs(alloc))
+}
+
+// The command that measures all.
+fn all_command<'a>(alloc: Global) -> Result<Command<'a>, AllocError> {
+    Command::new(alloc, "all")
+        .about("Measures both")
+        .arg(packets(alloc))?
+        .arg(items(alloc))?
+        .arg(runs(alloc))
+}
+
 // The command line that the program understands.
 fn command<'a>(alloc: Global) -> Result<Command<'a>, AllocError> {
     let ring = ring_command(alloc)?;
+    let kernels = kernels_command(alloc)?;
+    let all = all_command(alloc)?;
     Command::new(alloc, "bench")
         .about("Measures the broker; the figures go to standard error")
         .version("0.1.0")
         .subcommand_required(true)
-        .subcommand(ring)
+        .subcommand(ring)?
+        .subcommand(kernels)?
+        .subcommand(all)
 }
 
 // What a command line asks for.
 #[derive(Clone, Copy)]
 struct Request {
-    packets: u64,
+    // How many packets each producer sends, where the ring is measured.
+    packets: Option<u64>,
+    // How many items a kernel has, where kernels are measured.
+    items: Option<u32>,
     runs: u64,
 }
 
-// Nanoseconds a packet, whole ones and tenths, where so many packets took so long.
-fn each(packets: u64, least: Duration) -> (u128, u128) {
-    let tenths = least.as_nanos() * 10 / u128::from(packets.max(1));
-    (tenths / 10, tenths % 10)
-}
-
-// The least time of all runs on one thread.
-fn least_of_one(rt: &(impl Clock + AllocGlobal), request: Request) -> Result<Duration, Fault> {
-    let mut least = one_thread(rt, rt.alloc(), request.packets)?;
-    for _ in 1..request.runs {
-        least = least.min(one_thread(rt, rt.alloc(), request.packets)?);
-    }
-    Ok(least)
-}
-
-// Measures one thread.
-fn measure_one<R: Print + Eprint + Clock + AllocGlobal>(
-    rt: &R,
-    request: Request,
-) -> Result<(), Fault> {
-    let packets = request.packets;
-    let (whole, tenth) = each(packets, least_of_one(rt, request)?);
-    println!(rt; "one thread: {packets} packets, each whole")?;
-    eprintln!(rt; "one thread: {whole}.{tenth} ns a packet")?;
-    Ok(())
-}
-
-// The least time of all runs with so many producers.
-fn least_of_many<R: Clock + AllocGlobal + Threads + Sync>(
-    rt: &R,
-    request: Request,
-    producers: u64,
-) -> Result<Duration, Fault> {
-    let mut least = many_threads(rt, rt.alloc(), producers, request.packets)?;
-    for _ in 1..request.runs {
-        least = least.min(many_threads(rt, rt.alloc(), producers, request.packets)?);
-    }
-    Ok(least)
-}
-
-// Measures so many producers, each on a thread, and the processor on another.
-fn measure_many<R: Print + Eprint + Clock + AllocGlobal + Threads + Sync>(
-    rt: &R,
-    request: Request,
-    producers: u64,
-) -> Result<(), Fault> {
-    let all = request.packets.saturating_mul(producers);
-    let (whole, tenth) = each(all, least_of_many(rt, request, producers)?);
-    println!(rt; "producers {producers}: {all} packets, each whole and in order")?;
-    eprintln!(rt; "producers {producers}: {whole}.{tenth} ns a packet")?;
-    Ok(())
-}
-
-// Measures the ring, with more and more threads.
+// Measures what is asked for.
 fn measure<R: Print + Eprint + Clock + AllocGlobal + Threads + Sync>(
     rt: &R,
     request: Request,
 ) -> Result<(), Fault> {
-    measure_one(rt, request)?;
-    for producers in PRODUCERS {
-        measure_many(rt, request, producers)?;
+    if let Some(packets) = request.packets {
+        measure_ring(rt, packets, request.runs)?;
+    }
+    if let Some(items) = request.items {
+        measure_kernels(rt, items, request.runs)?;
     }
     Ok(())
 }
@@ -172,9 +155,11 @@ fn understand(rt: &HostRuntime, words: &[String]) -> Result<Request, u8> {
 // What the words of a command line ask for.
 fn requested(matches: &ArgMatches<'_>) -> Option<Request> {
     let (_, asked) = matches.subcommand()?;
-    let packets = asked.get_one("PACKETS")?;
-    let runs = asked.get_one("runs").unwrap_or(1);
-    Some(Request { packets, runs })
+    Some(Request {
+        packets: asked.get_one("PACKETS"),
+        items: asked.get_one("ITEMS"),
+        runs: asked.get_one("runs").unwrap_or(1),
+    })
 }
 
 // Tells what failed.

@@ -1,0 +1,157 @@
+//! The measurements of kernels: items that count, and items that load, add and store.
+
+use crate::fault::Fault;
+use aql_packet::RegionHandle;
+use executor::{Dispatch, Extent, HeldRegion, Run, run_group};
+use hsail_reader::read_module;
+use kernel_check::{Checked, check};
+use policy::Rights;
+use sequences::Sequence;
+use std::alloc::Global;
+use std::time::{Clock, Duration, Instant};
+
+/// How many items are run at the most: those of one work-group.
+pub const MOST_ITEMS: u32 = 1_024;
+
+/// Counts down in registers alone: 2 steps, 13,106 turns of 5 steps, and the end.
+const COUNTING: &str = "module &counting:1:0:$full:$large:$default;
+prog kernel &counting()
+{
+  mov_u32 $s0, 0;
+  mov_u32 $s1, 13106;
+@again:
+  add_u32 $s0, $s0, 3;
+  xor_b32 $s2, $s0, $s1;
+  sub_u32 $s1, $s1, 1;
+  cmp_ne_b1_u32 $c0, $s1, 0;
+  cbr_b1 $c0, @again;
+  ret;
+};
+";
+
+/// How many steps an item of the counting kernel executes.
+const COUNTING_STEPS: u64 = 65_533;
+
+/// Adds 1 to a word at a random place of 8,192 bytes, again and again: 3 steps, 6,553 turns of 10 steps,
+/// and the end.
+const STORING: &str = "module &storing:1:0:$full:$large:$default;
+prog kernel &storing(kernarg_u64 %words)
+{
+  ld_kernarg_u64 $d0, [%words];
+  workitemabsid_u32 $s0, 0;
+  mov_u32 $s1, 6553;
+@again:
+  mad_u32 $s0, $s0, 1664525, 1013904223;
+  shr_u32 $s2, $s0, 21;
+  cvt_u64_u32 $d1, $s2;
+  mad_u64 $d1, $d1, 4, $d0;
+  ld_global_u32 $s3, [$d1];
+  add_u32 $s3, $s3, 1;
+  st_global_u32 $s3, [$d1];
+  sub_u32 $s1, $s1, 1;
+  cmp_ne_b1_u32 $c0, $s1, 0;
+  cbr_b1 $c0, @again;
+  ret;
+};
+";
+
+/// How many steps an item of the storing kernel executes.
+const STORING_STEPS: u64 = 65_534;
+
+/// How many words an item of the storing kernel adds 1 to.
+const STORING_TURNS: u64 = 6_553;
+
+/// The region of the storing kernel, and its argument: the region's first address.
+const REGION: u32 = 1;
+
+const ARGUMENT: [u8; 8] = [0, 0, 0, 0, 1, 0, 0, 0];
+
+/// How many bytes the region has.
+const REGION_BYTES: usize = 8_192;
+
+/// How many steps some items took, and how long.
+#[derive(Clone, Copy)]
+pub struct Taken {
+    pub steps: u64,
+    pub time: Duration,
+}
+
+/// The first kernel of a text, checked.
+fn kernel(alloc: Global, text: &str) -> Result<Checked, Fault> {
+    let module = read_module(alloc, text.as_bytes())?;
+    Ok(check(alloc, &module)?)
+}
+
+/// Runs so many items of a text's first kernel, as one work-group.
+fn run_items(
+    alloc: Global,
+    checked: &Checked,
+    items: u32,
+    arguments: &[u8],
+    view: &[HeldRegion<'_>],
+) -> Result<Sequence<Run>, Fault> {
+    if items < 1 || items > MOST_ITEMS || checked.count() < 1 {
+        return Err(Fault::Kernel);
+    }
+    if checked.kernarg_bytes(0) as usize != arguments.len() || checked.group_bytes(0) > 0 {
+        return Err(Fault::Kernel);
+    }
+    let size = Extent {
+        x: items,
+        y: 1,
+        z: 1,
+    };
+    let dispatch = Dispatch {
+        kernel: 0,
+        group_size: size,
+        grid_size: size,
+        group_segment_size: 0,
+        arguments,
+    };
+    Ok(run_group(alloc, checked, &dispatch, 0, view)?)
+}
+
+/// Measures so many items that count in registers.
+pub fn count(rt: &impl Clock, alloc: Global, items: u32) -> Result<Taken, Fault> {
+    let checked = kernel(alloc, COUNTING)?;
+    let start = Instant::now(rt)?;
+    run_items(alloc, &checked, items, &[], &[])?;
+    let time = start.elapsed(rt)?;
+    Ok(Taken {
+        steps: u64::from(items).wrapping_mul(COUNTING_STEPS),
+        time,
+    })
+}
+
+/// The sum of the words that runs have.
+fn sum(runs: &Sequence<Run>) -> u64 {
+    let mut sum = 0u64;
+    for run in runs.as_slice() {
+        for (place, byte) in run.bytes.as_slice().iter().enumerate() {
+            let weight = 1u64 << (place % 4 * 8);
+            sum = sum.wrapping_add(u64::from(*byte).wrapping_mul(weight));
+        }
+    }
+    sum
+}
+
+/// Measures so many items that load, add and store; what they stored has to add up to their turns.
+pub fn store(rt: &impl Clock, alloc: Global, items: u32) -> Result<Taken, Fault> {
+    let checked = kernel(alloc, STORING)?;
+    let bytes = vec![in alloc; 0; REGION_BYTES]?;
+    let view = [HeldRegion {
+        handle: RegionHandle(REGION),
+        rights: Rights::from_each(false, true, true, false, false, false),
+        bytes: bytes.as_slice(),
+    }];
+    let start = Instant::now(rt)?;
+    let runs = run_items(alloc, &checked, items, &ARGUMENT, &view)?;
+    let time = start.elapsed(rt)?;
+    if sum(&runs) != u64::from(items).wrapping_mul(STORING_TURNS) {
+        return Err(Fault::OtherSum);
+    }
+    Ok(Taken {
+        steps: u64::from(items).wrapping_mul(STORING_STEPS),
+        time,
+    })
+}

@@ -1,0 +1,113 @@
+//! What is measured, and what is told of it.
+
+use crate::fault::Fault;
+use crate::kernel_speed::{Taken, count, store};
+use crate::ring_speed::{many_threads, one_thread};
+use std::thread::Threads;
+use std::time::{Clock, Duration};
+
+/// With how many producers the ring is measured.
+const PRODUCERS: [u64; 5] = [1, 2, 4, 8, 16];
+
+// Nanoseconds a packet, whole ones and tenths, where so many packets took so long.
+fn each(packets: u64, least: Duration) -> (u128, u128) {
+    let tenths = least.as_nanos() * 10 / u128::from(packets.max(1));
+    (tenths / 10, tenths % 10)
+}
+
+// The least time of all runs on one thread.
+fn least_of_one(
+    rt: &(impl Clock + AllocGlobal),
+    packets: u64,
+    runs: u64,
+) -> Result<Duration, Fault> {
+    let mut least = one_thread(rt, rt.alloc(), packets)?;
+    for _ in 1..runs {
+        least = least.min(one_thread(rt, rt.alloc(), packets)?);
+    }
+    Ok(least)
+}
+
+// Measures one thread.
+fn measure_one<R: Print + Eprint + Clock + AllocGlobal>(
+    rt: &R,
+    packets: u64,
+    runs: u64,
+) -> Result<(), Fault> {
+    let (whole, tenth) = each(packets, least_of_one(rt, packets, runs)?);
+    println!(rt; "one thread: {packets} packets, each whole")?;
+    eprintln!(rt; "one thread: {whole}.{tenth} ns a packet")?;
+    Ok(())
+}
+
+// The least time of all runs with so many producers.
+fn least_of_many<R: Clock + AllocGlobal + Threads + Sync>(
+    rt: &R,
+    packets: u64,
+    runs: u64,
+    producers: u64,
+) -> Result<Duration, Fault> {
+    let mut least = many_threads(rt, rt.alloc(), producers, packets)?;
+    for _ in 1..runs {
+        least = least.min(many_threads(rt, rt.alloc(), producers, packets)?);
+    }
+    Ok(least)
+}
+
+// Measures so many producers, each on a thread, and the processor on another.
+fn measure_many<R: Print + Eprint + Clock + AllocGlobal + Threads + Sync>(
+    rt: &R,
+    packets: u64,
+    runs: u64,
+    producers: u64,
+) -> Result<(), Fault> {
+    let all = packets.saturating_mul(producers);
+    let (whole, tenth) = each(all, least_of_many(rt, packets, runs, producers)?);
+    println!(rt; "producers {producers}: {all} packets, each whole and in order")?;
+    eprintln!(rt; "producers {producers}: {whole}.{tenth} ns a packet")?;
+    Ok(())
+}
+
+/// Measures the ring, with more and more threads.
+pub fn measure_ring<R: Print + Eprint + Clock + AllocGlobal + Threads + Sync>(
+    rt: &R,
+    packets: u64,
+    runs: u64,
+) -> Result<(), Fault> {
+    measure_one(rt, packets, runs)?;
+    for producers in PRODUCERS {
+        measure_many(rt, packets, runs, producers)?;
+    }
+    Ok(())
+}
+
+// Whole millions of steps a second.
+fn millions(taken: Taken) -> u128 {
+    u128::from(taken.steps) * 1_000 / taken.time.as_nanos().max(1)
+}
+
+// The faster of two runs.
+fn faster(one: Taken, other: Taken) -> Taken {
+    if other.time < one.time { other } else { one }
+}
+
+/// Measures kernels: items that count in registers, and items that load, add and store.
+pub fn measure_kernels<R: Print + Eprint + Clock + AllocGlobal>(
+    rt: &R,
+    items: u32,
+    runs: u64,
+) -> Result<(), Fault> {
+    let mut counted = count(rt, rt.alloc(), items)?;
+    let mut stored = store(rt, rt.alloc(), items)?;
+    for _ in 1..runs {
+        counted = faster(counted, count(rt, rt.alloc(), items)?);
+        stored = faster(stored, store(rt, rt.alloc(), items)?);
+    }
+    let counting = millions(counted);
+    let storing = millions(stored);
+    println!(rt; "counting: {items} items, each to its end")?;
+    eprintln!(rt; "counting: {counting} million steps a second")?;
+    println!(rt; "storing: {items} items, and what they stored adds up")?;
+    eprintln!(rt; "storing: {storing} million steps a second")?;
+    Ok(())
+}
