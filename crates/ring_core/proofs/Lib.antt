@@ -7,3 +7,4 @@ pub mod Kept
 pub mod States
 pub mod Own
 pub mod Publication
+mod Walks
