@@ -21,5 +21,5 @@ pub use part::{ALLOWANCE, Part, ProcessorPart, ProducerPart};
 pub use state::{
     RING_SIZES, ReplayFault, RingState, StepFault, is_ring_size, opening_words, replay,
 };
-pub use ticket::{INVALID, Reserved, Ticket, is_invalid};
+pub use ticket::{INVALID, Reserved, Ticket, TicketChange, is_invalid};
 pub use tickets::Tickets;

@@ -1,13 +1,13 @@
 //! What each seat of a ring knows: the parts that the steps of its own seat alone change.
 
 ghost use Rattle.std.specs.Prelude.{◌≡◌, OnOk, OnErr};
-ghost use Rattle.ring_core.specs.Parts.{producer_may, processor_may, may_make, part_after, new_producer, new_processor, after_producing, after_processing, passes, collected_packet, IsNew, TakesNew};
+ghost use Rattle.ring_core.specs.Parts.{producer_may, processor_may, may_make, part_after, new_producer, new_processor, after_producing, after_processing, passes, collected_packet, Suits, SuitsPart};
 ghost use Rattle.ring_core.specs.Words.{has_body};
 ghost use Rattle.ring_core.specs.Tickets.{shows_room};
 
 use crate::access::{Access, Made};
 use crate::log::Log;
-use crate::ticket::{Reserved, Ticket, has_body, is_body, is_invalid, packet_of, whole, with_word};
+use crate::ticket::{Ticket, has_body, is_body, is_invalid, packet_of, whole, with_word};
 use crate::tickets::Tickets;
 use aql_packet::PacketId;
 use std::alloc::{AllocError, Global};
@@ -67,17 +67,13 @@ impl ProducerPart {
     /// Notes an access that the producer made and the word that it found. Without memory for it
     /// nothing changes.
     pub(crate) fn record(&mut self, access: Access, old: u64) -> Result<(), AllocError>
-        requires { IsNew access old self.old.tickets }
+        requires { Suits access old self.old.tickets }
         ensures ok { OnOk result (self.new ≡ after_producing self.old access old) }
         ensures err { OnErr result (self.new ≡ self.old) }
     {
         match access {
             Access::Reserve => {
-                let reserved = Reserved {
-                    id: PacketId(old),
-                    ticket: Ticket::blank(),
-                };
-                self.tickets.push(reserved)?;
+                self.tickets.push(PacketId(old))?;
                 self.allowance = self.allowance.saturating_sub(1);
             }
             Access::LoadReadIndex { ticket } => self.tickets.note_read_index(ticket, old),
@@ -86,7 +82,7 @@ impl ProducerPart {
                 place,
                 word,
             } => self.tickets.note_word(ticket, place, word),
-            Access::StoreHeader { ticket, word } => self.tickets.note_word(ticket, 0, word),
+            Access::StoreHeader { ticket, word } => self.tickets.publish(ticket, word),
             _ => {}
         }
         self.steps.push(&access.made(old));
@@ -195,7 +191,7 @@ impl Part {
     /// Notes an access that the seat made and the word that it found. Without memory for it nothing
     /// changes.
     pub(crate) fn record(&mut self, access: Access, old: u64) -> Result<(), AllocError>
-        requires { TakesNew self.old access old }
+        requires { SuitsPart self.old access old }
         ensures ok { OnOk result (self.new ≡ part_after self.old access old) }
         ensures err { OnErr result (self.new ≡ self.old) }
     {
