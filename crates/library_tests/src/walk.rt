@@ -4,9 +4,7 @@
 ghost use Rattle.std.specs.Prelude.{◌<◌};
 
 use aql_packet::PacketId;
-use ring_core::{
-    ALLOWANCE, Access, Part, Reserved, RingState, Seen, Step, StepFault, Ticket,
-};
+use ring_core::{ALLOWANCE, Access, Part, Reserved, RingState, Seen, Step, StepFault, Ticket};
 use std::alloc::{AllocError, Global};
 use std::process::Abort;
 use std::test::Fail;
