@@ -5,7 +5,8 @@ use Rattle.std.proofs.lemmas.List.{get_or_read, get_or_default}
 use Rattle.std.proofs.lemmas.Bool.Decides.{nat_tests, eqb_tells, leb_tells}
 use Rattle.ring_core.specs.declared.ticket.Ticket.{Ticket}
 use Rattle.ring_core.specs.declared.ticket.Reserved.{Reserved}
-use Rattle.ring_core.specs.Tickets.{held, changed, unnamed, IsPlaceOf, IsAscending}
+use Rattle.std.specs.List.{remove}
+use Rattle.ring_core.specs.Tickets.{held, changed, without, unnamed, HasEightWords, IsPlaceOf, IsAscending}
 
 eqb_same : (a b : ℕ) → a ≡ b → eqb a b ≡ true
 eqb_same a b e = grind (arith, nat_tests)
@@ -94,3 +95,39 @@ rise_missed xs low id d rise below above missed k inside same =
             | inr g ↦ let b : (get_or xs low unnamed).id.0 < (get_or xs k unnamed).id.0 = rise low k (omega (arith, h.1, g.1)) inside in omega (arith, a, b, same)
           ]
     ]
+
+-- ---- the entry under an id, taken off
+
+without_at : (id : ℕ) (xs : List Reserved) (i : ℕ) → i < length xs → (get_or xs i unnamed).id.0 ≡ id → ((k : ℕ) → k < i → (get_or xs k unnamed).id.0 ≢ id) → without id xs ≡ remove xs i
+without_at id [] i lt same first = absurd (omega arith)
+without_at id (x ∷ xs) zero lt same first = rw (eqb_same x.id.0 id same) refl
+without_at id (x ∷ xs) (suc i) lt same first =
+    rw (eqb_other x.id.0 id (first 0 (omega arith))) (ap (λ ys. x ∷ ys) (without_at id xs i (omega arith) same (λ k h. first (suc k) (omega arith))))
+
+without_none : (id : ℕ) (xs : List Reserved) → ((k : ℕ) → k < length xs → (get_or xs k unnamed).id.0 ≢ id) → without id xs ≡ xs
+without_none id [] other = refl
+without_none id (x ∷ xs) other = rw (eqb_other x.id.0 id (other 0 (omega arith))) (ap (λ ys. x ∷ ys) (without_none id xs (λ k h. other (suc k) (omega arith))))
+
+pub without_read : (id : ℕ) (slice items rest : List Reserved) (i : ℕ) → slice ≡ items → IsPlaceOf id slice (Some i) → rest ≡ remove items i → rest ≡ without id items
+without_read id slice items rest i e place rests =
+    let h : without id slice ≡ remove slice i = without_at id slice i place.0 place.1 place.2 in
+    cc
+
+pub without_missed : (id : ℕ) (slice items : List Reserved) → slice ≡ items → IsPlaceOf id slice None → items ≡ without id items
+without_missed id slice items e place =
+    let h : without id slice ≡ slice = without_none id slice place in
+    cc
+
+pub eight_read : (id : ℕ) (slice items : List Reserved) (i : ℕ) (x : Reserved) → slice ≡ items → IsPlaceOf id slice (Some i) → x ≡ get_or items i x → length x.ticket.words ≡ 8 → HasEightWords id items
+eight_read id slice items i x e place read eight ticket is =
+    let h : Some x.ticket ≡ held id items = held_read id slice items items i x e refl place read in
+    let same : x.ticket ≡ ticket = cc in
+    ap (λ (t : Ticket). length t.words) (sym same) ∙ eight
+
+pub eight_missed : (id : ℕ) (slice items : List Reserved) → slice ≡ items → IsPlaceOf id slice None → HasEightWords id items
+eight_missed id slice items e place ticket is =
+    let h : held id items ≡ None = held_missed id slice items items e refl place in
+    absurd (cc)
+
+pub held_here : (id : ℕ) (xs : List Reserved) (i : ℕ) (d : Reserved) → IsPlaceOf id xs (Some i) → Some (get_or xs i d).ticket ≡ held id xs
+held_here id xs i d place = held_read id xs xs xs i (get_or xs i d) refl refl place (get_or_default xs i d (get_or xs i d) place.0)

@@ -7,3 +7,5 @@ pub mod Kept
 pub mod States
 pub mod Own
 pub mod Publication
+pub mod Opened
+mod Walks

@@ -1,9 +1,9 @@
 -- Each seat's part follows from its own steps, and retired packets have eight words.
-use Rattle.std.proofs.Common.{◌≡◌, ◌≢◌, ℕ, zero, suc, ◌+◌, ◌<◌, ◌≤◌, Bool, true, false, List, [], ◌∷◌, ◌++◌, length, map, get_or, set, replicate, eqb, refl, ap, ◌∙◌, sym, subst, arith, cond, inl, inr, length-set, get_or-set_same, get_or-set_other, append_assoc, append-nil, length-append}
-use Rattle.std.specs.Prelude.{Option, Some, None, ◌==◌, unwrap_or}
+use Rattle.std.proofs.Common.{◌≡◌, ◌≢◌, ℕ, zero, suc, ◌<◌, ◌≤◌, true, false, List, [], ◌∷◌, ◌++◌, length, map, get_or, set, refl, ap, ◌∙◌, sym, subst, arith, inl, inr, get_or-set_same, get_or-set_other, append_assoc, append-nil, length-append}
+use Rattle.std.specs.Prelude.{Some, None, ◌==◌, unwrap_or}
 use Rattle.std.specs.List.{filter, fold}
 use Rattle.std.proofs.lemmas.Bool.Decides.{nat_tests, eqb_tells, leb_tells}
-use Rattle.std.proofs.lemmas.List.{length-map, get_or-map, length-replicate, get_or-replicate, map-append, ext_get_or, get_or_append_left}
+use Rattle.std.proofs.lemmas.List.{length-map, get_or-map, get_or-replicate, map-append, ext_get_or, get_or_append_left}
 use Rattle.std.proofs.Math.Seq.{get_or-append_seam}
 use Rattle.std.proofs.lemmas.List.Elements.{filter-append}
 use Rattle.ring_core.specs.declared.access.Access.{Access}
@@ -14,9 +14,9 @@ use Rattle.ring_core.specs.declared.part.Part.{Part}
 use Rattle.ring_core.specs.declared.part.Part.TheVariants.{Producer, Processor}
 use Rattle.ring_core.specs.declared.part.ProcessorPart.{ProcessorPart}
 use Rattle.ring_core.specs.Words.{word, packet_of}
-use Rattle.ring_core.specs.Parts.{may_make, part_after, seen_by, new_producer, new_processor, nobody}
-use Rattle.ring_core.specs.Machine.{Machine, Leads, Replays, part_at, is_allowed, touched, found, made, opened, knows_after, read_index}
-use Rattle.ring_core.specs.Rule.{AreSeats, processor_of, IsRule, ticket_of}
+use Rattle.ring_core.specs.Parts.{part_after, seen_by, new_producer, nobody}
+use Rattle.ring_core.specs.Machine.{Machine, Leads, Replays, part_at, is_allowed, found, made, opened, knows_after, read_index}
+use Rattle.ring_core.specs.Rule.{AreSeats, processor_of, IsRule}
 use Rattle.ring_core.specs.Runs.{steps_of, word_read, after_own, begins_with, accesses_of, KnowsItsOwn, retired_at, ticket_words, all_known}
 use Rattle.ring_core.proofs.Kept.{keeps, opens, seated, replays_keep}
 

@@ -1,20 +1,21 @@
 -- What a ring state is known to be, for the code that steps it.
 use Rattle.std.proofs.Common.{◌≡◌, ℕ, zero, suc, ◌+◌, ◌-◌, ◌*◌, ◌^◌, ◌<◌, ◌≤◌, Bool, true, false, List, [], ◌∷◌, ◌++◌, length, get_or, set, take, refl, ap, ◌∙◌, sym, subst, arith, cond, inl, inr, length-set}
-use Rattle.std.specs.Prelude.{unwrap_or, sum_by, nat_lt, Result, Err}
+use Rattle.std.specs.Prelude.{unwrap_or, sum_by, nat_lt, not, Option, Some, None, is_some, Result, Err}
 use Rattle.std.proofs.lemmas.Bool.Decides.{nat_tests, leb_tells}
 use Rattle.std.proofs.lemmas.List.{length-replicate, get_or_read, take_more, take_all}
 use Rattle.ring_core.specs.declared.access.Access.{Access}
 use Rattle.ring_core.specs.declared.access.Access.TheVariants.{Reserve, LoadReadIndex, StoreBody, StoreHeader, LoadHeader, LoadBody, ClearHeader, RaiseReadIndex}
 use Rattle.ring_core.specs.declared.access.Step.{Step}
 use Rattle.ring_core.specs.declared.access.Seen.{Seen}
+use Rattle.ring_core.specs.declared.ticket.Ticket.{Ticket}
 use Rattle.ring_core.specs.declared.part.Part.{Part}
 use Rattle.ring_core.specs.declared.state.StepFault.{StepFault}
 use Rattle.ring_core.specs.declared.state.StepFault.TheVariants as step
 use Rattle.ring_core.specs.Faults.{IsReplayFault, fault_at}
 use Rattle.ring_core.specs.declared.part.Part.TheVariants.{Producer, Processor}
-use Rattle.ring_core.specs.Words.{word, is_body}
-use Rattle.ring_core.specs.Tickets.{blank, is_published, IsAbove}
-use Rattle.ring_core.specs.Parts.{may_make, part_after, new_producer, nobody, seen_by, TakesNew}
+use Rattle.ring_core.specs.Words.{word, is_body, has_body, is_invalid}
+use Rattle.ring_core.specs.Tickets.{blank, is_published, shows_room, open_ticket, IsAbove}
+use Rattle.ring_core.specs.Parts.{may_make, part_after, new_producer, nobody, seen_by, passes, SuitsPart}
 use Rattle.ring_core.specs.Machine.{Machine, Makes, Leads, Replays, StopsAt, slot_word, write_index, read_index, place_of, word_after, part_at, is_allowed, touched, found, made, opened, is_ring_size, producers_of, Fits64, NamesWord}
 use Rattle.ring_core.specs.Rule.{tickets_of, all_tickets, ticket_of, times, allowance_of, AreSeats, processor_of, IsRule, IsRing}
 use Rattle.ring_core.proofs.Places.{place_in}
@@ -102,6 +103,11 @@ raises n size (Processor q ∷ rest) (suc seat) seats may =
     let none : may_make size (get_or rest seat nobody) RaiseReadIndex ≡ false = ap (λ u. may_make size u RaiseReadIndex) p.1 in
     absurd (cc)
 
+-- a ticket that passes a test is there
+passed : (test : Ticket → Bool) (ticket : Option Ticket) → passes test ticket ≡ true → is_some ticket ≡ true
+passed test None may = absurd (cc)
+passed test (Some ticket) may = refl
+
 -- an allowed step that adds to a word leaves it within 64 bits
 pub fits_by : (machine : Machine) (access : Access) → IsRing machine → (access ≡ RaiseReadIndex → (processor_of machine.parts).raising ≡ true) → Fits64 access (get_or machine.words (place_of machine.size (read_index machine) access) 0)
 fits_by machine Reserve h raising = let f : write_index machine ≤ 16 * 2 ^ 40 = few_reserved machine h in omega (arith, f)
@@ -151,26 +157,30 @@ module _ (size : ℕ) (words : List ℕ) (parts : List Part) (value : Machine) (
         (λ e. raises (producers_of (record { size = size; words = words; parts = parts })) size parts step.seat h.rule.shared.seats (ap (λ a. may_make size (get_or parts step.seat nobody) a) (sym e) ∙ may)) in
         subst (λ (n : ℕ). Fits64 step.access n) (sym old_is) f
 
-    -- an id that is reserved is above those that its seat has
-    pub takes_new : (part : Part) → part ≡ get_or parts step.seat part → TakesNew part step.access old
-    takes_new part has =
+    -- an id that is reserved is above those that its seat has, and a ticket that is named is open
+    pub suits : (part : Part) → part ≡ get_or parts step.seat part → SuitsPart part step.access old
+    suits part has =
         let lt : step.seat < length parts = seated size parts step.seat step.access may in
         let e : part ≡ get_or parts step.seat nobody = get_or_read parts step.seat part lt has nobody in
-        let n : TakesNew (get_or parts step.seat nobody) step.access (found (record { size = size; words = words; parts = parts }) step) =
+        let n : SuitsPart (get_or parts step.seat nobody) step.access (found (record { size = size; words = words; parts = parts }) step) =
         new_by (get_or parts step.seat nobody) step.access (get_or words 0 0) (found (record { size = size; words = words; parts = parts }) step)
-        (all_below (get_or words 0 0) parts step.seat h.rule.shared.named) (λ a. ap (λ x. get_or words (place_of size (get_or words 1 0) x) 0) a) in
-        subst (λ (u : Part). TakesNew u step.access old) (sym e) (subst (λ (w : ℕ). TakesNew (get_or parts step.seat nobody) step.access w) (sym old_is) n)
+        may (all_below (get_or words 0 0) parts step.seat h.rule.shared.named) (λ a. ap (λ x. get_or words (place_of size (get_or words 1 0) x) 0) a) in
+        subst (λ (u : Part). SuitsPart u step.access old) (sym e) (subst (λ (w : ℕ). SuitsPart (get_or parts step.seat nobody) step.access w) (sym old_is) n)
       where
-        new_by : (part : Part) (access : Access) (w old : ℕ) → IsAbove w (tickets_of part) → (access ≡ Reserve → old ≡ w) → TakesNew part access old
-        new_by (Processor q) access w old above is = tt
-        new_by (Producer p) Reserve w old above is = subst (λ (n : ℕ). IsAbove n p.tickets) (sym (is refl)) above
-        new_by (Producer p) (LoadReadIndex ticket) w old above is = tt
-        new_by (Producer p) (StoreBody ticket place word) w old above is = tt
-        new_by (Producer p) (StoreHeader ticket word) w old above is = tt
-        new_by (Producer p) LoadHeader w old above is = tt
-        new_by (Producer p) (LoadBody place) w old above is = tt
-        new_by (Producer p) ClearHeader w old above is = tt
-        new_by (Producer p) RaiseReadIndex w old above is = tt
+        new_by : (part : Part) (access : Access) (w old : ℕ) → may_make size part access ≡ true → IsAbove w (tickets_of part) → (access ≡ Reserve → old ≡ w) → SuitsPart part access old
+        new_by (Processor q) access w old can above is = tt
+        new_by (Producer p) Reserve w old can above is = subst (λ (n : ℕ). IsAbove n p.tickets) (sym (is refl)) above
+        new_by (Producer p) (LoadReadIndex ticket) w old can above is = can
+        new_by (Producer p) (StoreBody ticket place word) w old can above is =
+            let b = both (is_body place) (passes (λ t. shows_room size ticket.0 t.saw) (open_ticket ticket.0 p.tickets)) can in
+            (passed (λ t. shows_room size ticket.0 t.saw) (open_ticket ticket.0 p.tickets) b.1, b.0)
+        new_by (Producer p) (StoreHeader ticket word) w old can above is =
+            let b = both (not (is_invalid word)) (passes (λ t. has_body t.words) (open_ticket ticket.0 p.tickets)) can in
+            passed (λ t. has_body t.words) (open_ticket ticket.0 p.tickets) b.1
+        new_by (Producer p) LoadHeader w old can above is = tt
+        new_by (Producer p) (LoadBody place) w old can above is = tt
+        new_by (Producer p) ClearHeader w old can above is = tt
+        new_by (Producer p) RaiseReadIndex w old can above is = tt
 
     -- the fields after the step
     pub leads_to : (w : ℕ) (part part' : Part) → w ≡ word_after step.access old → part ≡ get_or parts step.seat part → part' ≡ part_after part step.access old → ◌≡◌ {A = Machine} (record { size = size; words = set words place w; parts = set parts step.seat part' }) (made value step)

@@ -1,6 +1,6 @@
 -- What each seat may do and knows: the eight steps, as far as the part of the step's own seat goes
 -- (own; over PSA, User Mode Queuing).
-use Rattle.std.specs.Prelude.{ℕ, ◌-◌, ◌^◌, Bool, true, false, not, ◌&&◌, nat_lt, List, [], ◌∷◌, ◌++◌, slice_set, Option, Some, None, ⊤, is_some, if◌then◌else◌}
+use Rattle.std.specs.Prelude.{◌≡◌, ℕ, ◌-◌, ◌^◌, Bool, true, false, not, ◌&&◌, nat_lt, List, [], ◌∷◌, ◌++◌, slice_set, Option, Some, None, ⊤, is_some, if◌then◌else◌}
 use Rattle.std.specs.List.{list_all}
 use Rattle.ring_core.specs.declared.ticket.Ticket.{Ticket}
 use Rattle.ring_core.specs.declared.ticket.Reserved.{Reserved}
@@ -117,14 +117,18 @@ abbrev pub part_after : Part → Access → ℕ → Part
 part_after (Producer p) access old = Producer (after_producing p access old)
 part_after (Processor p) access old = Processor (after_processing p access old)
 
--- an id that a seat reserves is above those that it has
-abbrev pub IsNew : Access → ℕ → List Reserved → Type 0
-IsNew Reserve old tickets = IsAbove old tickets
-IsNew _ old tickets = ⊤
+-- what an access asks of the tickets of its seat: an id that is reserved is above theirs, a ticket that is
+-- named is open
+abbrev pub Suits : Access → ℕ → List Reserved → Type 0
+Suits Reserve old tickets = IsAbove old tickets
+Suits (LoadReadIndex ticket) old tickets = is_some (open_ticket ticket.0 tickets) ≡ true
+Suits (StoreBody ticket place word) old tickets = (is_some (open_ticket ticket.0 tickets) ≡ true) × (is_body place ≡ true)
+Suits (StoreHeader ticket word) old tickets = is_some (open_ticket ticket.0 tickets) ≡ true
+Suits _ old tickets = ⊤
 
-abbrev pub TakesNew : Part → Access → ℕ → Type 0
-TakesNew (Producer p) access old = IsNew access old p.tickets
-TakesNew (Processor p) access old = ⊤
+abbrev pub SuitsPart : Part → Access → ℕ → Type 0
+SuitsPart (Producer p) access old = Suits access old p.tickets
+SuitsPart (Processor p) access old = ⊤
 
 -- the parts at the opening: 2 ^ 40 ids to reserve, no ticket, nothing retired or collected, no step made
 abbrev pub new_producer : Part

@@ -1,7 +1,10 @@
 -- The tickets of a producer, by id.
-use Rattle.std.specs.Prelude.{◌≡◌, ◌≢◌, ◌<◌, length, get_or, ℕ, ◌+◌, Bool, false, ◌==◌, nat_lt, List, [], ◌∷◌, slice_set, Option, Some, None, is_some, if◌then◌else◌}
+use Rattle.std.specs.Prelude.{◌≡◌, ◌≢◌, ◌<◌, length, get_or, ℕ, ◌+◌, Bool, false, ◌==◌, nat_lt, List, [], ◌∷◌, ◌++◌, slice_set, Option, Some, None, is_some, if◌then◌else◌}
+use Rattle.std.specs.List.{fold}
 use Rattle.ring_core.specs.declared.ticket.Ticket.{Ticket}
 use Rattle.ring_core.specs.declared.ticket.Reserved.{Reserved}
+use Rattle.ring_core.specs.declared.ticket.TicketChange.{TicketChange}
+use Rattle.ring_core.specs.declared.ticket.TicketChange.TheVariants.{Opened, Saw, Wrote}
 use Rattle.ring_core.specs.Words.{word, no_words}
 
 -- a new ticket: nothing seen, nothing written
@@ -47,6 +50,29 @@ abbrev pub changed : ℕ → (Ticket → Ticket) → List Reserved → List Rese
 changed id change [] = []
 changed id change (entry ∷ entries) =
     if entry.id.0 == id then record { id = entry.id; ticket = change entry.ticket } ∷ entries else entry ∷ changed id change entries
+
+-- the open ones among tickets, in order
+abbrev pub open_ones : List Reserved → List Reserved
+open_ones [] = []
+open_ones (entry ∷ entries) = if is_published entry.ticket then open_ones entries else entry ∷ open_ones entries
+
+-- the tickets but the first under an id
+abbrev pub without : ℕ → List Reserved → List Reserved
+without id [] = []
+without id (entry ∷ entries) = if entry.id.0 == id then entries else entry ∷ without id entries
+
+-- the tickets after one change of them, and after many from the opening
+abbrev pub after_change : List Reserved → TicketChange → List Reserved
+after_change tickets (Opened id) = tickets ++ record { id = id; ticket = blank } ∷ []
+after_change tickets (Saw id read_index) = changed id.0 (seeing read_index) tickets
+after_change tickets (Wrote id k w) = changed id.0 (writing k w) tickets
+
+abbrev pub after_changes : List TicketChange → List Reserved
+after_changes changes = fold after_change [] changes
+
+-- the ticket under an id, if there is one, has its eight words
+abbrev pub HasEightWords : ℕ → List Reserved → Type 0
+HasEightWords id entries = (ticket : Ticket) → held id entries ≡ Some ticket → length ticket.words ≡ 8
 
 -- where the first ticket under an id stands, if there is one
 abbrev pub IsPlaceOf : ℕ → List Reserved → Option ℕ → Type 0

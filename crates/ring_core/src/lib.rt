@@ -4,9 +4,10 @@
 
 mod access;
 mod laws;
+mod log;
 mod part;
+mod past;
 mod state;
-mod steps;
 mod ticket;
 mod tickets;
 
@@ -15,10 +16,10 @@ pub use laws::{
     each_part_follows_from_its_own_steps, each_retired_packet_is_its_tickets,
     each_step_keeps_the_rule, every_run_meets_the_rule, ring_sizes_are_bounded,
 };
+pub use log::Log;
 pub use part::{ALLOWANCE, Part, ProcessorPart, ProducerPart};
 pub use state::{
     RING_SIZES, ReplayFault, RingState, StepFault, is_ring_size, opening_words, replay,
 };
-pub use steps::Steps;
-pub use ticket::{INVALID, Reserved, Ticket, is_invalid};
+pub use ticket::{INVALID, Reserved, Ticket, TicketChange, is_invalid};
 pub use tickets::Tickets;

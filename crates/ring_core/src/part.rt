@@ -1,16 +1,15 @@
 //! What each seat of a ring knows: the parts that the steps of its own seat alone change.
 
 ghost use Rattle.std.specs.Prelude.{◌≡◌, OnOk, OnErr};
-ghost use Rattle.ring_core.specs.Parts.{producer_may, processor_may, may_make, part_after, new_producer, new_processor, after_producing, after_processing, passes, collected_packet, IsNew, TakesNew};
+ghost use Rattle.ring_core.specs.Parts.{producer_may, processor_may, may_make, part_after, new_producer, new_processor, after_producing, after_processing, passes, collected_packet, Suits, SuitsPart};
 ghost use Rattle.ring_core.specs.Words.{has_body};
 ghost use Rattle.ring_core.specs.Tickets.{shows_room};
 
-use crate::access::Access;
-use crate::steps::Steps;
-use crate::ticket::{Reserved, Ticket, has_body, is_body, is_invalid, packet_of, whole, with_word};
+use crate::access::{Access, Made};
+use crate::log::Log;
+use crate::ticket::{Ticket, has_body, is_body, is_invalid, packet_of, whole, with_word};
 use crate::tickets::Tickets;
 use aql_packet::PacketId;
-use sequences::Sequence;
 use std::alloc::{AllocError, Global};
 
 /// What a producer knows.
@@ -21,20 +20,20 @@ pub struct ProducerPart {
     /// The ids that it reserved, in order.
     pub tickets: Tickets,
     /// The steps that it made, in order.
-    pub steps: Steps,
+    pub steps: Log<Made>,
 }
 
 /// What the processor knows.
 #[derive(Drop, Debug)]
 pub struct ProcessorPart {
     /// The retired packets: the packet with id `n` is at index `n`.
-    pub retired: Sequence<[u64; 8]>,
+    pub retired: Log<[u64; 8]>,
     /// The words collected of the slot at the read index.
     pub collected: [Option<u64>; 8],
     /// Whether it has cleared the header of the slot at the read index, and not yet raised the index.
     pub raising: bool,
     /// The steps that it made, in order.
-    pub steps: Steps,
+    pub steps: Log<Made>,
 }
 
 /// What one seat knows.
@@ -68,21 +67,13 @@ impl ProducerPart {
     /// Notes an access that the producer made and the word that it found. Without memory for it
     /// nothing changes.
     pub(crate) fn record(&mut self, access: Access, old: u64) -> Result<(), AllocError>
-        requires { IsNew access old self.old.tickets }
+        requires { Suits access old self.old.tickets }
         ensures ok { OnOk result (self.new ≡ after_producing self.old access old) }
         ensures err { OnErr result (self.new ≡ self.old) }
     {
-        self.steps.push(access.made(old))?;
         match access {
             Access::Reserve => {
-                let reserved = Reserved {
-                    id: PacketId(old),
-                    ticket: Ticket::blank(),
-                };
-                if self.tickets.push(reserved).is_err() {
-                    self.steps.pop();
-                    return Err(AllocError);
-                }
+                self.tickets.push(PacketId(old))?;
                 self.allowance = self.allowance.saturating_sub(1);
             }
             Access::LoadReadIndex { ticket } => self.tickets.note_read_index(ticket, old),
@@ -91,9 +82,10 @@ impl ProducerPart {
                 place,
                 word,
             } => self.tickets.note_word(ticket, place, word),
-            Access::StoreHeader { ticket, word } => self.tickets.note_word(ticket, 0, word),
+            Access::StoreHeader { ticket, word } => self.tickets.publish(ticket, word),
             _ => {}
         }
+        self.steps.push(&access.made(old));
         Ok(())
     }
 }
@@ -139,13 +131,10 @@ impl ProcessorPart {
         }
     }
 
-    /// Notes an access that the processor made and the word that it found. Without memory for it
-    /// nothing changes.
-    pub(crate) fn record(&mut self, access: Access, old: u64) -> Result<(), AllocError>
-        ensures ok { OnOk result (self.new ≡ after_processing self.old access old) }
-        ensures err { OnErr result (self.new ≡ self.old) }
+    /// Notes an access that the processor made and the word that it found.
+    pub(crate) fn record(&mut self, access: Access, old: u64)
+        ensures { self.new ≡ after_processing self.old access old }
     {
-        self.steps.push(access.made(old))?;
         match access {
             Access::LoadHeader => {
                 if !is_invalid(old) {
@@ -155,16 +144,13 @@ impl ProcessorPart {
             Access::LoadBody { place } => self.collected = with_word(self.collected, place, old),
             Access::ClearHeader => self.raising = true,
             Access::RaiseReadIndex => {
-                if self.retired.push(packet_of(&self.collected)).is_err() {
-                    self.steps.pop();
-                    return Err(AllocError);
-                }
+                self.retired.push(&packet_of(&self.collected));
                 self.collected = [None; 8];
                 self.raising = false;
             }
             _ => {}
         }
-        Ok(())
+        self.steps.push(&access.made(old));
     }
 }
 
@@ -176,19 +162,19 @@ impl Part {
         Part::Producer(ProducerPart {
             allowance: ALLOWANCE,
             tickets: Tickets::new(alloc),
-            steps: Steps::new(alloc),
+            steps: Log::new(),
         })
     }
 
     /// The part of the processor as a ring opens. It takes no memory.
-    pub(crate) fn new_processor(alloc: Global) -> Part
+    pub(crate) fn new_processor() -> Part
         ensures { result ≡ new_processor }
     {
         Part::Processor(ProcessorPart {
-            retired: Sequence::new(alloc),
+            retired: Log::new(),
             collected: [None; 8],
             raising: false,
-            steps: Steps::new(alloc),
+            steps: Log::new(),
         })
     }
 
@@ -205,12 +191,15 @@ impl Part {
     /// Notes an access that the seat made and the word that it found. Without memory for it nothing
     /// changes.
     pub(crate) fn record(&mut self, access: Access, old: u64) -> Result<(), AllocError>
-        requires { TakesNew self.old access old }
+        requires { SuitsPart self.old access old }
         ensures ok { OnOk result (self.new ≡ part_after self.old access old) }
         ensures err { OnErr result (self.new ≡ self.old) }
     {
         match self {
-            Part::Processor(part) => part.record(access, old),
+            Part::Processor(part) => {
+                part.record(access, old);
+                Ok(())
+            }
             Part::Producer(part) => part.record(access, old),
         }
     }

@@ -226,7 +226,7 @@ fn opening_parts(alloc: Global, producers: u64) -> Result<Vec<Part>, AllocError>
     ensures { IfOk result (λ parts. parts.items ≡ (opened 0 producers).parts) }
 {
     let mut parts = Vec::new(alloc);
-    parts.push(Part::new_processor(alloc))?;
+    parts.push(Part::new_processor())?;
     for _producer in 0..producers {
         parts.push(Part::new_producer(alloc))?;
     }

@@ -1,6 +1,6 @@
 //! What a producer knows of one id that it reserved.
 
-ghost use Rattle.std.specs.Prelude.{◌≡◌, None, slice_set, Some, is_some, if◌then◌else◌};
+ghost use Rattle.std.specs.Prelude.{◌≡◌, None, length, slice_set, Some, is_some, if◌then◌else◌};
 ghost use Rattle.std.specs.List.{list_all};
 ghost use Rattle.ring_core.specs.Words.{no_words, is_body, has_body, packet_of, is_invalid};
 ghost use Rattle.ring_core.specs.Tickets.{blank, is_published, shows_room};
@@ -22,6 +22,24 @@ pub struct Ticket {
 pub struct Reserved {
     pub id: PacketId,
     pub ticket: Ticket,
+}
+
+/// A change of a producer's tickets.
+#[derive(Clone, Copy)]
+pub enum TicketChange {
+    /// An id was reserved: its ticket is open.
+    Opened(PacketId),
+    /// The ticket under an id saw the read index.
+    Saw {
+        ticket: PacketId,
+        read_index: u64,
+    },
+    /// Word `place`, 0 to 7, of the ticket under an id was written.
+    Wrote {
+        ticket: PacketId,
+        place: u64,
+        word: u64,
+    },
 }
 
 impl Ticket {
@@ -78,6 +96,13 @@ pub(crate) fn whole(words: &[Option<u64>; 8]) -> Option<[u64; 8]>
     } else {
         None
     }
+}
+
+/// Does nothing: that a packet has eight words is said to callers by it.
+pub(crate) fn eight_words(words: &[Option<u64>; 8])
+    ensures { length words.now ≡ 8 }
+{
+    let _ = words;
 }
 
 /// Whether all eight words are known.

@@ -1,30 +1,34 @@
 //! The tickets of one producer.
 
-ghost use Rattle.std.specs.Prelude.{◌≡◌, ◌++◌, ◌∷◌, [], OnOk, OnErr};
-ghost use Rattle.ring_core.specs.Tickets.{held, changed, seeing, writing, open_ticket, IsPlaceOf, IsAscending, IsAbove};
+ghost use Rattle.std.specs.Prelude.{◌≡◌, ◌++◌, ◌∷◌, [], is_some, true, OnOk, OnErr};
+ghost use Rattle.ring_core.specs.Words.{is_body};
+ghost use Rattle.ring_core.specs.Tickets.{blank, changed, seeing, writing, held, open_ticket, open_ones, without, HasEightWords, IsPlaceOf, IsAscending, IsAbove};
 
-use crate::ticket::{Reserved, Ticket, with_word};
+use crate::log::Log;
+use crate::ticket::{Reserved, Ticket, TicketChange, eight_words, with_word};
 use aql_packet::PacketId;
 use std::alloc::{AllocError, Global};
 use std::marker::Model;
 
-/// The tickets of one producer, in the order in which it reserved them. A contract sees the list.
+/// The tickets of one producer, in the order in which it reserved them. A contract sees them all; memory
+/// holds the open ones alone, so that none is looked for among the published.
 #[derive(Drop, Debug)]
 pub struct Tickets {
-    reserved: Vec<Reserved>,
+    open_tickets: Vec<Reserved>,
+    changes: Log<TicketChange>,
 }
 
 impl Model for Tickets {
-    ghost use Rattle.std.specs.Prelude.{List};
+    ghost use Rattle.std.specs.Prelude.{◌≡◌, List};
     ghost use Rattle.ring_core.specs.declared.ticket.Reserved.{Reserved};
 
     ghost Value = { List Reserved };
 
-    ghost use Rattle.ring_core.specs.Tickets.{IsAscending};
+    ghost use Rattle.ring_core.specs.Tickets.{IsAscending, after_changes, open_ones};
 
-    ghost view = { λ t. t.reserved.items };
+    ghost view = { λ t. after_changes t.changes };
 
-    ghost invariant = { λ t. IsAscending t.reserved.items };
+    ghost invariant = { λ t. IsAscending (after_changes t.changes) × (t.open_tickets.items ≡ open_ones (after_changes t.changes)) };
 }
 
 impl Tickets {
@@ -33,63 +37,119 @@ impl Tickets {
         ensures { result ≡ [] }
     {
         Tickets {
-            reserved: Vec::new(alloc),
+            open_tickets: Vec::new(alloc),
+            changes: Log::new(),
         }
     }
 
-    /// The tickets, in the order in which they were reserved.
-    pub fn as_slice(&self) -> &[Reserved]
-        ensures { result.now ≡ self.now }
+    /// The open tickets, in the order in which they were reserved.
+    pub fn open_tickets(&self) -> &[Reserved]
+        ensures { result.now ≡ open_ones self.now }
     {
-        self.reserved.as_slice()
-    }
-
-    /// The ticket under an id, if it is one of these.
-    pub fn get(&self, id: PacketId) -> Option<Ticket>
-        ensures { result ≡ held id.0 self.now }
-    {
-        let index = place_of(self.reserved.as_slice(), id)?;
-        Some(self.reserved[index].ticket)
+        self.open_tickets.as_slice()
     }
 
     /// The ticket under an id, if it is one of these and open.
-    pub(crate) fn get_open(&self, id: PacketId) -> Option<Ticket>
+    pub fn get_open(&self, id: PacketId) -> Option<Ticket>
         ensures { result ≡ open_ticket id.0 self.now }
     {
-        let ticket = self.get(id)?;
-        if ticket.is_published() {
-            return None;
-        }
-        Some(ticket)
+        ticket_under(self.open_tickets.as_slice(), id)
     }
 
-    /// Notes the read index that the ticket under an id saw.
+    /// Notes the read index that the open ticket under an id saw.
     pub(crate) fn note_read_index(&mut self, id: PacketId, read_index: u64)
+        requires { is_some (open_ticket id.0 self.old) ≡ true }
         ensures { self.new ≡ changed id.0 (seeing read_index) self.old }
     {
-        if let Some(index) = place_of(self.reserved.as_slice(), id) {
-            self.reserved[index].ticket.saw = Some(read_index);
-        }
+        see(&mut self.open_tickets, id, read_index);
+        self.changes.push(&TicketChange::Saw {
+            ticket: id,
+            read_index,
+        });
     }
 
-    /// Notes a word that the ticket under an id wrote.
+    /// Notes a body word that the open ticket under an id wrote.
     pub(crate) fn note_word(&mut self, id: PacketId, place: u64, word: u64)
+        requires ticket { is_some (open_ticket id.0 self.old) ≡ true }
+        requires body { is_body place ≡ true }
         ensures { self.new ≡ changed id.0 (writing place word) self.old }
     {
-        if let Some(index) = place_of(self.reserved.as_slice(), id) {
-            let reserved = &mut self.reserved[index];
-            reserved.ticket.words = with_word(reserved.ticket.words, place, word);
-        }
+        write(&mut self.open_tickets, id, place, word);
+        self.changes.push(&TicketChange::Wrote {
+            ticket: id,
+            place,
+            word,
+        });
+    }
+
+    /// Notes that the open ticket under an id wrote its header word: it is published.
+    pub(crate) fn publish(&mut self, id: PacketId, word: u64)
+        requires { is_some (open_ticket id.0 self.old) ≡ true }
+        ensures { self.new ≡ changed id.0 (writing 0 word) self.old }
+    {
+        close(&mut self.open_tickets, id);
+        self.changes.push(&TicketChange::Wrote {
+            ticket: id,
+            place: 0,
+            word,
+        });
     }
 
     /// Puts a new ticket, with an id above theirs, behind the others.
-    pub(crate) fn push(&mut self, reserved: Reserved) -> Result<(), AllocError>
-        requires { IsAbove reserved.id.0 self.old }
-        ensures ok { OnOk result (self.new ≡ self.old ++ reserved ∷ []) }
+    pub(crate) fn push(&mut self, id: PacketId) -> Result<(), AllocError>
+        requires { IsAbove id.0 self.old }
+        ensures ok { OnOk result (self.new ≡ self.old ++ record { id = id; ticket = blank } ∷ []) }
         ensures err { OnErr result (self.new ≡ self.old) }
     {
-        self.reserved.push(reserved)?;
+        let reserved = Reserved {
+            id,
+            ticket: Ticket::blank(),
+        };
+        self.open_tickets.push(reserved)?;
+        self.changes.push(&TicketChange::Opened(id));
         Ok(())
+    }
+}
+
+/// The ticket under an id, if it is one of these.
+fn ticket_under(reserved: &[Reserved], id: PacketId) -> Option<Ticket>
+    requires { IsAscending reserved.now }
+    ensures { result ≡ held id.0 reserved.now }
+{
+    let index = place_of(reserved, id)?;
+    Some(reserved[index].ticket)
+}
+
+/// The ticket under an id saw the read index.
+fn see(reserved: &mut Vec<Reserved>, id: PacketId, read_index: u64)
+    requires { IsAscending reserved.old.items }
+    ensures { reserved.new.items ≡ changed id.0 (seeing read_index) reserved.old.items }
+{
+    if let Some(index) = place_of(reserved.as_slice(), id) {
+        reserved[index].ticket.saw = Some(read_index);
+    }
+}
+
+/// A word of the ticket under an id was written.
+fn write(reserved: &mut Vec<Reserved>, id: PacketId, place: u64, word: u64)
+    requires { IsAscending reserved.old.items }
+    ensures { reserved.new.items ≡ changed id.0 (writing place word) reserved.old.items }
+{
+    if let Some(index) = place_of(reserved.as_slice(), id) {
+        let entry = &mut reserved[index];
+        entry.ticket.words = with_word(entry.ticket.words, place, word);
+    }
+}
+
+/// Takes the ticket under an id off.
+fn close(reserved: &mut Vec<Reserved>, id: PacketId)
+    requires { IsAscending reserved.old.items }
+    ensures rest { reserved.new.items ≡ without id.0 reserved.old.items }
+    ensures eight { HasEightWords id.0 reserved.old.items }
+{
+    if let Some(index) = place_of(reserved.as_slice(), id) {
+        let entry = reserved.remove(index);
+        eight_words(&entry.ticket.words);
     }
 }
 

@@ -1,5 +1,5 @@
 use Rattle.std.proofs.Common.{arith, ◌<◌, length}
-use Rattle.ring_core.proofs.States.{place_within, old_fits, takes_new, ring_after, makes}
+use Rattle.ring_core.proofs.States.{place_within, old_fits, suits, ring_after, makes}
 use Rattle.ring_core.proofs.state.RingState.step.Goals as goal
 
 pub index-old-requires : goal.index-old-requires
@@ -27,5 +27,5 @@ returns-clause-made c =
 
 pub record-requires : goal.record-requires
 record-requires c =
-    takes_new _ _ _ _ _ _ _ _ c.self.view_is c.self.invariant c.allows.ensures c.if-not-allows.false c.index.ensures c.place-place.ensures _ c.index-old.ensures
+    suits _ _ _ _ _ _ _ _ c.self.view_is c.self.invariant c.allows.ensures c.if-not-allows.false c.index.ensures c.place-place.ensures _ c.index-old.ensures
     _ c.index_mut.ensures.value

@@ -1,9 +1,8 @@
-use Rattle.ring_core.specs.Tickets.{seeing}
-use Rattle.ring_core.proofs.Entries.{changed_read, changed_missed}
+use Rattle.ring_core.proofs.Opened.{open_rises, saw_keeps}
 use Rattle.ring_core.proofs.tickets.Tickets.note_read_index.Goals as goal
 
-pub returns-in-Some : goal.returns-in-Some
-returns-in-Some c = changed_read _ (seeing c.args.read_index) _ _ _ _ _ c.as_slice.ensures.value c.self.view_is c.in-Some.ensures c.index_mut.ensures.value
+pub see-requires : goal.see-requires
+see-requires c = open_rises _ c.self.inside.changes c.self.invariant
 
-pub returns-in_default : goal.returns-in_default
-returns-in_default c = changed_missed _ (seeing c.args.read_index) _ _ _ c.as_slice.ensures.value c.self.view_is c.in_default.ensures
+pub invariant_of-self : goal.invariant_of-self
+invariant_of-self c = saw_keeps c.args.id c.args.read_index _ _ _ c.self.inside.changes c.push.new.self c.push.ensures c.self.invariant c.self.view_is c.requires c.see.ensures

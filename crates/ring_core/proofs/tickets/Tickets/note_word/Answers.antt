@@ -1,9 +1,9 @@
-use Rattle.ring_core.specs.Tickets.{writing}
-use Rattle.ring_core.proofs.Entries.{changed_read, changed_missed}
+use Rattle.ring_core.proofs.Opened.{open_rises, wrote_keeps}
 use Rattle.ring_core.proofs.tickets.Tickets.note_word.Goals as goal
 
-pub returns-in-Some : goal.returns-in-Some
-returns-in-Some c = rw c.with_word-reserved.ensures (changed_read _ (writing c.args.place c.args.word) _ _ _ _ _ c.as_slice.ensures.value c.self.view_is c.in-Some.ensures c.index_mut-reserved.ensures.value)
+pub write-requires : goal.write-requires
+write-requires c = open_rises _ c.self.inside.changes c.self.invariant
 
-pub returns-in_default : goal.returns-in_default
-returns-in_default c = changed_missed _ (writing c.args.place c.args.word) _ _ _ c.as_slice.ensures.value c.self.view_is c.in_default.ensures
+pub invariant_of-self : goal.invariant_of-self
+invariant_of-self c =
+    wrote_keeps c.args.id c.args.place c.args.word _ _ _ c.self.inside.changes c.push.new.self c.requires.body c.push.ensures c.self.invariant c.self.view_is c.requires.ticket c.write.ensures
