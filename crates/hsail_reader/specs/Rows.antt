@@ -86,10 +86,14 @@ modifier_view r = spelling r.0.now r.1
 
 -- whether a row takes these modifiers, in their order: each at most once, and no others
 abbrev pub allows : ModifierSet → Modifiers → Bool
-allows _ modifiers.Plain = true
+allows Plain modifiers.Plain = true
+allows Align modifiers.Plain = true
 allows Align (modifiers.One (modifier.Align n)) = true
+allows Width modifiers.Plain = true
 allows Width (modifiers.One (modifier.Width w)) = true
-allows AlignAndWidth (modifiers.One m) = true
+allows AlignAndWidth modifiers.Plain = true
+allows AlignAndWidth (modifiers.One (modifier.Align n)) = true
+allows AlignAndWidth (modifiers.One (modifier.Width w)) = true
 allows AlignAndWidth (modifiers.Two (modifier.Align n) (modifier.Width w)) = true
 allows AlignAndWidth (modifiers.Two (modifier.Width w) (modifier.Align n)) = true
 allows _ _ = false

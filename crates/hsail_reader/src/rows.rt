@@ -7,6 +7,7 @@ use crate::types::BinaryOperation::{
 };
 use crate::types::Comparison::{Equal, Greater, GreaterOrEqual, Less, LessOrEqual, NotEqual};
 use crate::types::DataType::{B1, B8, B16, B32, B64, S8, S16, S32, S64, U8, U16, U32, U64};
+use crate::types::Modifiers::{One, Two};
 use crate::types::Query::{
     CurrentWorkGroupSize, GridSize, WorkGroupId, WorkGroupSize, WorkItemAbsoluteId, WorkItemId,
 };
@@ -227,13 +228,17 @@ pub fn modifier_table() -> &'static [ModifierRow]
 pub fn allowed(set: ModifierSet, modifiers: Modifiers) -> bool
     ensures { result ≡ allows set modifiers }
 {
-    match (set, modifiers) {
-        (_, Modifiers::Plain) => true,
-        (Align | AlignAndWidth, Modifiers::One(Modifier::Align(_))) => true,
-        (Width | AlignAndWidth, Modifiers::One(Modifier::Width(_))) => true,
-        (AlignAndWidth, Modifiers::Two(Modifier::Align(_), Modifier::Width(_))) => true,
-        (AlignAndWidth, Modifiers::Two(Modifier::Width(_), Modifier::Align(_))) => true,
-        _ => false,
+    match set {
+        ModifierSet::Plain => matches!(modifiers, Modifiers::Plain),
+        ModifierSet::Align => matches!(modifiers, Modifiers::Plain | One(Modifier::Align(_))),
+        ModifierSet::Width => matches!(modifiers, Modifiers::Plain | One(Modifier::Width(_))),
+        ModifierSet::AlignAndWidth => matches!(
+            modifiers,
+            Modifiers::Plain
+                | One(Modifier::Align(_) | Modifier::Width(_))
+                | Two(Modifier::Align(_), Modifier::Width(_))
+                | Two(Modifier::Width(_), Modifier::Align(_))
+        ),
     }
 }
 

@@ -118,7 +118,7 @@ pub enum Width {
 }
 
 /// A modifier of an operation (PRM, Operations). None has an effect (own).
-#[derive(Clone, Copy, Debug, PartialEq, Eq)]
+#[derive(Clone, Copy)]
 pub enum Modifier {
     /// `_align(n)`
     Align(u64),
@@ -139,7 +139,7 @@ impl Modifier {
 }
 
 /// The modifiers of an operation, in the order of the text: two at most.
-#[derive(Clone, Copy, Debug, PartialEq, Eq)]
+#[derive(Clone, Copy)]
 pub enum Modifiers {
     Plain,
     One(Modifier),
