@@ -22,8 +22,8 @@ use Rattle.hsail_reader.specs.declared.types.TernaryOperation.{TernaryOperation}
 use Rattle.hsail_reader.specs.declared.types.TernaryOperation.TheVariants.{MultiplyAdd, ConditionalMove}
 use Rattle.hsail_reader.specs.declared.types.UnaryOperation.{UnaryOperation}
 use Rattle.hsail_reader.specs.declared.types.UnaryOperation.TheVariants.{Move, Not, Convert}
-use Rattle.kernel_check.specs.Reads.{reads, sets, number_in, Is1, Is32, Is64, IsSource, AreSources, IsTarget, sources_of, KeepsOrder}
-use Rattle.kernel_check.specs.Steps.{step_of, form_step, slot_of, register_in, source1_of, source32_of, source64_of, source_in, unary_in, unary_by, binary1, binary32, binary64, binary_in, ternary_in, is_signed, load_from, load_at, store_at, target_in, read_in, as_unary, as_binary, as_ternary}
+use Rattle.kernel_check.specs.Reads.{Is1, Is32, Is64, IsSource, AreSources, IsTarget, KeepsOrder}
+use Rattle.kernel_check.specs.Steps.{reads, sets, number_in, sources_of, step_of, form_step, slot_of, register_in, source1_of, source32_of, source64_of, source_in, unary_in, unary_by, binary1, binary32, binary64, binary_in, ternary_in, is_signed, load_from, load_at, store_at, target_in, read_in, as_unary, as_binary, as_ternary}
 use Rattle.kernel_check.specs.declared.layout.Placed.{Placed}
 use Rattle.kernel_check.specs.declared.step.Step.{Step}
 use Rattle.kernel_check.specs.declared.translate.Binary.{Binary}
@@ -113,7 +113,7 @@ ternary_keeps class.Double ConditionalMove t = (refl, (is1 t.first, (is64 t.seco
 
 load_keeps : (arguments : List ℕ → Option Placed) (s : Segment) (r : Register) (a : Access) → Keeps (load_from arguments s r a) r []
 load_keeps arguments segment.Kernarg r a = (same_number (type_class a.kind) r, tt)
-load_keeps arguments segment.Global r a = (same_number (type_class a.kind) r, tt)
+load_keeps arguments _ r a = (same_number (type_class a.kind) r, tt)
 
 load_at_keeps : (arguments : List ℕ → Option Placed) (r : Register) (o : Operand) → Keeps (load_at arguments r o) r []
 load_at_keeps arguments r (operand.Address a) = load_keeps arguments a.segment r a
@@ -130,9 +130,7 @@ form_keeps arguments labels (form.Binary f) op = binary_keeps (type_class op.kin
 form_keeps arguments labels (form.Ternary f) op = ternary_keeps (type_class op.kind) f (as_ternary f op)
 form_keeps arguments labels form.Load op = load_at_keeps arguments (target_in op.operands.first) op.operands.second
 form_keeps arguments labels form.Store op = store_at_keeps (read_in op.operands.first) (target_in op.operands.first) op.operands.second
-form_keeps arguments labels form.ConditionalBranch op = (tt, (is1 (read_in op.operands.first), tt))
-form_keeps arguments labels (form.Identify q) op = (same_number (type_class op.kind) (target_in op.operands.first), tt)
-form_keeps arguments labels _ op = (tt, tt)
+form_keeps arguments labels _ op = search (same_number, is_source, is1, is32, is64)
 
 pub keeps_order : (arguments : List ℕ → Option Placed) (labels : List ℕ → Option ℕ) (op : Operation)
     → KeepsOrder op (step_of arguments labels op)

@@ -214,7 +214,7 @@ module _ (arguments : List ℕ → Option Placed) (labels : List ℕ → Option 
       let fits : offset_of arguments a.address + kind_bytes a.kind ≤ bytes = offset_within a.kind a.address same known good in
       let same_bytes : number_bytes (number_type a.kind) ≡ kind_bytes a.kind = number_bytes_are a.kind in
       omega arith
-  load_within d a segment.Global same known good = tt
+  load_within d a _ same known good = tt
 
   load_at_within : (d : Register) (o : Operand) → has_wrong_type arguments o ≡ false → misses_argument arguments o ≡ false
       → has_bad_address o ≡ false → StaysWithin count bytes (load_at arguments d o)

@@ -2,9 +2,10 @@
 -- number is below 64, each constant fits its place and each name stands for something, so the zeros below
 -- never come in; and no text spells an operation with a type that it has no row for, so neither do the moves
 -- that stand for those.
-use Rattle.std.specs.Prelude.{ℕ, ◌%◌, ◌^◌, List, Bool, true, false, ◌==◌, nat_lt, if◌then◌else◌, Option, Some, None, unwrap_or}
+use Rattle.std.specs.Prelude.{ℕ, ◌%◌, ◌^◌, List, [], ◌∷◌, Bool, true, false, ◌==◌, nat_lt, if◌then◌else◌, Option, Some, None, unwrap_or}
 use Rattle.kernel_check.specs.Constants.{constant_bits}
 use Rattle.kernel_check.specs.declared.layout.Placed.{Placed}
+use Rattle.kernel_check.specs.declared.step.AddressForms.{AddressForms}
 use Rattle.kernel_check.specs.declared.step.AnyRegister.{AnyRegister}
 use Rattle.kernel_check.specs.declared.step.AnyRegister.TheVariants as register
 use Rattle.kernel_check.specs.declared.step.AnySource.{AnySource}
@@ -135,6 +136,12 @@ source_in class.Double kind s = any.Double (source64_of s)
 
 abbrev pub source_of : DataType → Source → AnySource
 source_of kind s = source_in (type_class kind) kind s
+
+-- the addresses that a segment has (PRM, Address Expressions): [%x]; [n] and [r+n], for base registers r of a
+-- class; [%x][..], with one of these in the second brackets
+abbrev pub forms_of : Segment → AddressForms
+forms_of segment.Kernarg = record { variable = true; base = None; indexed = false }
+forms_of segment.Global = record { variable = false; base = Some class.Double; indexed = false }
 
 -- a place of global memory; what is taken away is added modulo 2^64
 abbrev pub pointer_of : Place → Pointer
@@ -398,3 +405,112 @@ form_step arguments labels (form.Identify q) op = step.Identify (record {
 -- the step that an instruction comes to, by what the kernel's names stand for
 abbrev pub step_of : (List ℕ → Option Placed) → (List ℕ → Option ℕ) → Operation → Step
 step_of arguments labels op = form_step arguments labels op.form op
+
+-- ---- what a step reads and sets
+
+abbrev pub two1 : Source1 → Source1 → List AnySource
+two1 left right = any.Control left ∷ any.Control right ∷ []
+
+abbrev pub two32 : Source32 → Source32 → List AnySource
+two32 left right = any.Single left ∷ any.Single right ∷ []
+
+abbrev pub two64 : Source64 → Source64 → List AnySource
+two64 left right = any.Double left ∷ any.Double right ∷ []
+
+-- what the operations of one bit read, in order
+abbrev pub control_reads : ControlOperation → List AnySource
+control_reads (control.Move s) = any.Control s ∷ []
+control_reads (control.Not s) = any.Control s ∷ []
+control_reads (control.And p) = two1 p.left p.right
+control_reads (control.Or p) = two1 p.left p.right
+control_reads (control.Xor p) = two1 p.left p.right
+control_reads (control.Choose c) = any.Control c.condition ∷ two1 c.one c.zero
+control_reads (control.Compare c) = two1 c.left c.right
+control_reads (control.CompareUnsigned32 c) = two32 c.left c.right
+control_reads (control.CompareSigned32 c) = two32 c.left c.right
+control_reads (control.CompareUnsigned64 c) = two64 c.left c.right
+control_reads (control.CompareSigned64 c) = two64 c.left c.right
+
+-- what those of 32 bits read
+abbrev pub single_reads : SingleOperation → List AnySource
+single_reads (single.Move s) = any.Single s ∷ []
+single_reads (single.Not s) = any.Single s ∷ []
+single_reads (single.MultiplyAdd t) = any.Single t.first ∷ two32 t.second t.third
+single_reads (single.Choose c) = any.Control c.condition ∷ two32 c.one c.zero
+single_reads (single.Add p) = two32 p.left p.right
+single_reads (single.Subtract p) = two32 p.left p.right
+single_reads (single.Multiply p) = two32 p.left p.right
+single_reads (single.DivideUnsigned p) = two32 p.left p.right
+single_reads (single.DivideSigned p) = two32 p.left p.right
+single_reads (single.RemainderUnsigned p) = two32 p.left p.right
+single_reads (single.RemainderSigned p) = two32 p.left p.right
+single_reads (single.LeastUnsigned p) = two32 p.left p.right
+single_reads (single.LeastSigned p) = two32 p.left p.right
+single_reads (single.GreatestUnsigned p) = two32 p.left p.right
+single_reads (single.GreatestSigned p) = two32 p.left p.right
+single_reads (single.And p) = two32 p.left p.right
+single_reads (single.Or p) = two32 p.left p.right
+single_reads (single.Xor p) = two32 p.left p.right
+single_reads (single.ShiftLeft p) = two32 p.left p.right
+single_reads (single.ShiftRightUnsigned p) = two32 p.left p.right
+single_reads (single.ShiftRightSigned p) = two32 p.left p.right
+
+-- what those of 64 bits read
+abbrev pub double_reads : DoubleOperation → List AnySource
+double_reads (double.Move s) = any.Double s ∷ []
+double_reads (double.Not s) = any.Double s ∷ []
+double_reads (double.MultiplyAdd t) = any.Double t.first ∷ two64 t.second t.third
+double_reads (double.Choose c) = any.Control c.condition ∷ two64 c.one c.zero
+double_reads (double.Add p) = two64 p.left p.right
+double_reads (double.Subtract p) = two64 p.left p.right
+double_reads (double.Multiply p) = two64 p.left p.right
+double_reads (double.DivideUnsigned p) = two64 p.left p.right
+double_reads (double.DivideSigned p) = two64 p.left p.right
+double_reads (double.RemainderUnsigned p) = two64 p.left p.right
+double_reads (double.RemainderSigned p) = two64 p.left p.right
+double_reads (double.LeastUnsigned p) = two64 p.left p.right
+double_reads (double.LeastSigned p) = two64 p.left p.right
+double_reads (double.GreatestUnsigned p) = two64 p.left p.right
+double_reads (double.GreatestSigned p) = two64 p.left p.right
+double_reads (double.And p) = two64 p.left p.right
+double_reads (double.Or p) = two64 p.left p.right
+double_reads (double.Xor p) = two64 p.left p.right
+double_reads (double.ShiftLeft s) = any.Double s.value ∷ any.Single s.count ∷ []
+double_reads (double.ShiftRightUnsigned s) = any.Double s.value ∷ any.Single s.count ∷ []
+double_reads (double.ShiftRightSigned s) = any.Double s.value ∷ any.Single s.count ∷ []
+
+-- the sources that a step reads, in order
+abbrev pub reads : Step → List AnySource
+reads (step.Control s) = control_reads s.operation
+reads (step.Single s) = single_reads s.operation
+reads (step.Double s) = double_reads s.operation
+reads (step.Convert c) = c.source ∷ []
+reads (step.Store s) = s.source ∷ []
+reads (step.ConditionalBranch b) = any.Control b.condition ∷ []
+reads _ = []
+
+abbrev pub number_in : AnyRegister → ℕ
+number_in (register.Control n) = n
+number_in (register.Single n) = n
+number_in (register.Double n) = n
+
+-- the number of the register that a step sets
+abbrev pub sets : Step → Option ℕ
+sets (step.Control s) = Some s.target
+sets (step.Single s) = Some s.target
+sets (step.Double s) = Some s.target
+sets (step.Convert c) = Some (number_in c.target)
+sets (step.Argument a) = Some (number_in a.target)
+sets (step.Load l) = Some (number_in l.target)
+sets (step.Identify i) = Some (number_in i.target)
+sets _ = None
+
+-- the sources of an instruction, in the order of the text
+abbrev pub sources_of : Form → Operation → List Source
+sources_of (form.Unary f) op = read_in op.operands.second ∷ []
+sources_of (form.Binary f) op = read_in op.operands.second ∷ read_in op.operands.third ∷ []
+sources_of (form.Ternary f) op =
+    read_in op.operands.second ∷ read_in op.operands.third ∷ read_in op.operands.fourth ∷ []
+sources_of form.Store op = read_in op.operands.first ∷ []
+sources_of form.ConditionalBranch op = read_in op.operands.first ∷ []
+sources_of _ op = []

@@ -2,7 +2,7 @@
 
 ghost use Rattle.std.specs.Prelude.{◌≡◌};
 ghost use Rattle.kernel_check.specs.Names.{find};
-ghost use Rattle.kernel_check.specs.Steps.{number_type, is_signed, slot_of, register_of, source1_of, source32_of, source64_of, source_of, pointer_of, pointer_in, offset_of, dimension_of, next_of, unary_in, unary_of, control_operation, single_operation, double_operation, compare32, compare64, pair32_of, pair64_of, shift64_of, binary1, binary32, binary64, binary_of, ternary_in, ternary_of, load_from, load_at, store_of, store_at, dimension_in, next_at, target_in, read_in, as_unary, as_binary, as_ternary, step_of, sets1, sets32, sets64};
+ghost use Rattle.kernel_check.specs.Steps.{forms_of, number_type, is_signed, slot_of, register_of, source1_of, source32_of, source64_of, source_of, pointer_of, pointer_in, offset_of, dimension_of, next_of, unary_in, unary_of, control_operation, single_operation, double_operation, compare32, compare64, pair32_of, pair64_of, shift64_of, binary1, binary32, binary64, binary_of, ternary_in, ternary_of, load_from, load_at, store_of, store_at, dimension_in, next_at, target_in, read_in, as_unary, as_binary, as_ternary, step_of, sets1, sets32, sets64};
 ghost use Rattle.hsail_reader.specs.Types.{type_class};
 ghost use Rattle.hsail_reader.specs.declared.types.TernaryOperation.TheVariants.{MultiplyAdd, ConditionalMove};
 
@@ -10,11 +10,11 @@ use crate::constants::bits;
 use crate::layout::Placed;
 use crate::names::Names;
 use crate::step::{
-    AnyRegister, AnySource, ArgumentStep, BranchStep, Choice1, Choice32, Choice64, Compare1,
-    Compare32, Compare64, ControlOperation, ControlStep, ConvertStep, Dimension, DoubleOperation,
-    DoubleStep, IdentifyStep, LoadStep, NumberType, Pair1, Pair32, Pair64, Pointer, Shift64,
-    SingleOperation, SingleStep, Slot, Source1, Source32, Source64, Step, StoreStep, Triple32,
-    Triple64,
+    AddressForms, AnyRegister, AnySource, ArgumentStep, BranchStep, Choice1, Choice32, Choice64,
+    Compare1, Compare32, Compare64, ControlOperation, ControlStep, ConvertStep, Dimension,
+    DoubleOperation, DoubleStep, IdentifyStep, LoadStep, NumberType, Pair1, Pair32, Pair64,
+    Pointer, Shift64, SingleOperation, SingleStep, Slot, Source1, Source32, Source64, Step,
+    StoreStep, Triple32, Triple64,
 };
 use hsail_reader::{
     Access, Address, BinaryOperation, Comparison, Constant, DataType, Form, Operand, Operation,
@@ -200,6 +200,24 @@ fn any_source(kind: DataType, source: Source) -> AnySource
         RegisterClass::Control => AnySource::Control(source1(source)),
         RegisterClass::Single => AnySource::Single(source32(kind, source)),
         RegisterClass::Double => AnySource::Double(source64(source)),
+    }
+}
+
+/// The addresses that a segment has.
+pub fn forms(segment: Segment) -> AddressForms
+    ensures { result ≡ forms_of segment }
+{
+    match segment {
+        Segment::Kernarg => AddressForms {
+            variable: true,
+            base: None,
+            indexed: false,
+        },
+        Segment::Global => AddressForms {
+            variable: false,
+            base: Some(RegisterClass::Double),
+            indexed: false,
+        },
     }
 }
 
