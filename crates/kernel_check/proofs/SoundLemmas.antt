@@ -16,6 +16,7 @@ use Rattle.hsail_reader.specs.declared.module.Access.{Access}
 use Rattle.hsail_reader.specs.declared.module.Operand.{Operand}
 use Rattle.hsail_reader.specs.declared.module.Operand.TheVariants as operand
 use Rattle.hsail_reader.specs.declared.module.Operation.{Operation}
+use Rattle.hsail_reader.specs.declared.module.TypedSource.{TypedSource}
 use Rattle.hsail_reader.specs.declared.rows.Form.{Form}
 use Rattle.hsail_reader.specs.declared.rows.Form.TheVariants as form
 use Rattle.hsail_reader.specs.declared.types.Register.{Register}
@@ -46,7 +47,6 @@ use Rattle.hsail_reader.specs.declared.types.BinaryOperation.{BinaryOperation}
 use Rattle.hsail_reader.specs.declared.types.BinaryOperation.TheVariants.{Compare}
 use Rattle.hsail_reader.specs.declared.types.RegisterClass.{RegisterClass}
 use Rattle.hsail_reader.specs.declared.types.RegisterClass.TheVariants as class
-use Rattle.hsail_reader.specs.declared.types.Source.{Source}
 use Rattle.hsail_reader.specs.declared.types.TernaryOperation.{TernaryOperation}
 use Rattle.hsail_reader.specs.declared.types.TernaryOperation.TheVariants.{MultiplyAdd, ConditionalMove}
 use Rattle.hsail_reader.specs.declared.types.UnaryOperation.{UnaryOperation}
@@ -225,7 +225,7 @@ module _ (arguments : List ℕ → Option Placed) (labels : List ℕ → Option 
   load_at_within d (operand.Label x) same known good = tt
   load_at_within d (operand.Dimension n) same known good = tt
 
-  store_at_within : (s : Source) (o : Operand) → StaysWithin count bytes (store_at s o)
+  store_at_within : (s : TypedSource) (o : Operand) → StaysWithin count bytes (store_at s o)
   store_at_within s (operand.Address a) = tt
   store_at_within s operand.Absent = tt
   store_at_within s (operand.Target t) = tt
@@ -242,22 +242,22 @@ module _ (arguments : List ℕ → Option Placed) (labels : List ℕ → Option 
   next_at_within (operand.Dimension n) = omega arith
 
   -- steps that set a register lead nowhere
-  unary_within : (k : RegisterClass) (op : UnaryOperation) (kind : DataType) (target : ℕ) (s : Source)
-      → StaysWithin count bytes (unary_in k op kind target s)
-  unary_within class.Control Not kind target s = tt
-  unary_within class.Control Move kind target s = tt
-  unary_within class.Control (Convert to) kind target s = tt
-  unary_within class.Single Not kind target s = tt
-  unary_within class.Single Move kind target s = tt
-  unary_within class.Single (Convert to) kind target s = tt
-  unary_within class.Double Not kind target s = tt
-  unary_within class.Double Move kind target s = tt
-  unary_within class.Double (Convert to) kind target s = tt
+  unary_within : (k : RegisterClass) (op : UnaryOperation) (target : ℕ) (s : TypedSource)
+      → StaysWithin count bytes (unary_in k op target s)
+  unary_within class.Control Not target s = tt
+  unary_within class.Control Move target s = tt
+  unary_within class.Control (Convert to) target s = tt
+  unary_within class.Single Not target s = tt
+  unary_within class.Single Move target s = tt
+  unary_within class.Single (Convert to) target s = tt
+  unary_within class.Double Not target s = tt
+  unary_within class.Double Move target s = tt
+  unary_within class.Double (Convert to) target s = tt
 
   unary_by_within : (op : UnaryOperation) (u : Unary) → StaysWithin count bytes (unary_by op u)
   unary_by_within (Convert to) u = tt
-  unary_by_within Move u = unary_within (type_class u.kind) Move u.kind (slot_of u.target) u.source
-  unary_by_within Not u = unary_within (type_class u.kind) Not u.kind (slot_of u.target) u.source
+  unary_by_within Move u = unary_within (type_class u.kind) Move (slot_of u.target) u.source
+  unary_by_within Not u = unary_within (type_class u.kind) Not (slot_of u.target) u.source
 
   single_within : (op : BinaryOperation) (signed : Bool) (target : ℕ) (p : Pair32) → StaysWithin count bytes (binary32 op signed target p)
   single_within (Compare c) signed target p = tt

@@ -13,38 +13,38 @@ use Rattle.kernel_check.specs.declared.step.Source64.{Source64}
 use Rattle.kernel_check.specs.declared.step.Source64.TheVariants as source64
 use Rattle.kernel_check.specs.declared.step.Step.{Step}
 use Rattle.hsail_reader.specs.declared.module.Operation.{Operation}
+use Rattle.hsail_reader.specs.declared.module.TypedSource.{TypedSource}
 use Rattle.hsail_reader.specs.declared.types.DataType.{DataType}
-use Rattle.hsail_reader.specs.declared.types.DataType.TheVariants.{B1, U64}
 use Rattle.hsail_reader.specs.declared.types.Register.{Register}
 use Rattle.hsail_reader.specs.declared.types.Source.{Source}
 use Rattle.hsail_reader.specs.declared.types.Source.TheVariants as source
 
--- a source of a step is one of the text: the register's number, or the constant's bits at a type
-abbrev pub Is1 : Source1 → Source → Type 0
-Is1 (source1.Register n) (source.Register r) = n ≡ slot_of r
-Is1 (source1.Constant b) (source.Constant c) = b ≡ (constant_bits B1 c == 1)
-Is1 _ _ = ⊥
+-- a source of a step is one of the text: the register's number, or the constant's bits at its type
+abbrev pub Is1 : Source1 → DataType → Source → Type 0
+Is1 (source1.Register n) kind (source.Register r) = n ≡ slot_of r
+Is1 (source1.Constant b) kind (source.Constant c) = b ≡ (constant_bits kind c == 1)
+Is1 _ kind _ = ⊥
 
-abbrev pub Is32 : Source32 → Source → Type 0
-Is32 (source32.Register n) (source.Register r) = n ≡ slot_of r
-Is32 (source32.Constant n) (source.Constant c) = (kind : DataType) × (n ≡ constant_bits kind c % 2 ^ 32)
-Is32 _ _ = ⊥
+abbrev pub Is32 : Source32 → DataType → Source → Type 0
+Is32 (source32.Register n) kind (source.Register r) = n ≡ slot_of r
+Is32 (source32.Constant n) kind (source.Constant c) = n ≡ constant_bits kind c % 2 ^ 32
+Is32 _ kind _ = ⊥
 
-abbrev pub Is64 : Source64 → Source → Type 0
-Is64 (source64.Register n) (source.Register r) = n ≡ slot_of r
-Is64 (source64.Constant n) (source.Constant c) = n ≡ constant_bits U64 c
-Is64 _ _ = ⊥
+abbrev pub Is64 : Source64 → DataType → Source → Type 0
+Is64 (source64.Register n) kind (source.Register r) = n ≡ slot_of r
+Is64 (source64.Constant n) kind (source.Constant c) = n ≡ constant_bits kind c
+Is64 _ kind _ = ⊥
 
-abbrev pub IsSource : AnySource → Source → Type 0
-IsSource (any.Control a) s = Is1 a s
-IsSource (any.Single a) s = Is32 a s
-IsSource (any.Double a) s = Is64 a s
+abbrev pub IsSource : AnySource → TypedSource → Type 0
+IsSource (any.Control a) t = Is1 a t.kind t.source
+IsSource (any.Single a) t = Is32 a t.kind t.source
+IsSource (any.Double a) t = Is64 a t.kind t.source
 
 -- what is read are the sources of the text, in their order, from the first on
-abbrev pub AreSources : List AnySource → List Source → Type 0
+abbrev pub AreSources : List AnySource → List TypedSource → Type 0
 AreSources [] sources = Unit {0}
 AreSources (a ∷ later) [] = ⊥
-AreSources (a ∷ later) (s ∷ sources) = IsSource a s × AreSources later sources
+AreSources (a ∷ later) (t ∷ sources) = IsSource a t × AreSources later sources
 
 -- what is set is a register of the text
 abbrev pub IsTarget : Option ℕ → Register → Type 0

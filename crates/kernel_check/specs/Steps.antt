@@ -41,6 +41,7 @@ use Rattle.hsail_reader.specs.declared.module.Access.{Access}
 use Rattle.hsail_reader.specs.declared.module.Operand.{Operand}
 use Rattle.hsail_reader.specs.declared.module.Operand.TheVariants as operand
 use Rattle.hsail_reader.specs.declared.module.Operation.{Operation}
+use Rattle.hsail_reader.specs.declared.module.TypedSource.{TypedSource}
 use Rattle.hsail_reader.specs.declared.rows.Form.{Form}
 use Rattle.hsail_reader.specs.declared.rows.Form.TheVariants as form
 use Rattle.hsail_reader.specs.declared.module.Place.{Place}
@@ -116,26 +117,35 @@ register_in class.Double r = register.Double (slot_of r)
 abbrev pub register_of : DataType → Register → AnyRegister
 register_of kind r = register_in (type_class kind) r
 
--- sources: registers, and constants at the type of their place
-abbrev pub source1_of : Source → Source1
-source1_of (source.Register r) = source1.Register (slot_of r)
-source1_of (source.Constant c) = source1.Constant (constant_bits B1 c == 1)
+-- sources: registers, and constants at their types
+abbrev pub source1_at : DataType → Source → Source1
+source1_at kind (source.Register r) = source1.Register (slot_of r)
+source1_at kind (source.Constant c) = source1.Constant (constant_bits kind c == 1)
 
-abbrev pub source32_of : DataType → Source → Source32
-source32_of kind (source.Register r) = source32.Register (slot_of r)
-source32_of kind (source.Constant c) = source32.Constant (constant_bits kind c % 2 ^ 32)
+abbrev pub source1_of : TypedSource → Source1
+source1_of t = source1_at t.kind t.source
 
-abbrev pub source64_of : Source → Source64
-source64_of (source.Register r) = source64.Register (slot_of r)
-source64_of (source.Constant c) = source64.Constant (constant_bits U64 c)
+abbrev pub source32_at : DataType → Source → Source32
+source32_at kind (source.Register r) = source32.Register (slot_of r)
+source32_at kind (source.Constant c) = source32.Constant (constant_bits kind c % 2 ^ 32)
 
-abbrev pub source_in : RegisterClass → DataType → Source → AnySource
-source_in class.Control kind s = any.Control (source1_of s)
-source_in class.Single kind s = any.Single (source32_of kind s)
-source_in class.Double kind s = any.Double (source64_of s)
+abbrev pub source32_of : TypedSource → Source32
+source32_of t = source32_at t.kind t.source
 
-abbrev pub source_of : DataType → Source → AnySource
-source_of kind s = source_in (type_class kind) kind s
+abbrev pub source64_at : DataType → Source → Source64
+source64_at kind (source.Register r) = source64.Register (slot_of r)
+source64_at kind (source.Constant c) = source64.Constant (constant_bits kind c)
+
+abbrev pub source64_of : TypedSource → Source64
+source64_of t = source64_at t.kind t.source
+
+abbrev pub source_in : RegisterClass → TypedSource → AnySource
+source_in class.Control t = any.Control (source1_of t)
+source_in class.Single t = any.Single (source32_of t)
+source_in class.Double t = any.Double (source64_of t)
+
+abbrev pub source_of : TypedSource → AnySource
+source_of t = source_in (type_class t.kind) t
 
 -- the addresses that a segment has (PRM, Address Expressions): [%x]; [n] and [r+n], for base registers r of a
 -- class; [%x][..], with one of these in the second brackets
@@ -177,9 +187,9 @@ abbrev pub target_in : Operand → Register
 target_in (operand.Target t) = t.register
 target_in _ = record { class = class.Control; number = 0 }
 
-abbrev pub read_in : Operand → Source
-read_in (operand.Source s) = s.source
-read_in _ = source.Constant (record { negative = false; magnitude = 0 })
+abbrev pub read_in : Operand → TypedSource
+read_in (operand.Source s) = s
+read_in _ = record { kind = B1; source = source.Constant (record { negative = false; magnitude = 0 }) }
 
 abbrev pub as_unary : UnaryOperation → Operation → Unary
 as_unary f op = record {
@@ -220,22 +230,22 @@ abbrev pub sets64 : ℕ → DoubleOperation → Step
 sets64 target op = step.Double (record { target = target; operation = op })
 
 -- mov and not by the class of their type
-abbrev pub unary_in : RegisterClass → UnaryOperation → DataType → ℕ → Source → Step
-unary_in class.Control Not kind target s = sets1 target (control.Not (source1_of s))
-unary_in class.Control _ kind target s = sets1 target (control.Move (source1_of s))
-unary_in class.Single Not kind target s = sets32 target (single.Not (source32_of kind s))
-unary_in class.Single _ kind target s = sets32 target (single.Move (source32_of kind s))
-unary_in class.Double Not kind target s = sets64 target (double.Not (source64_of s))
-unary_in class.Double _ kind target s = sets64 target (double.Move (source64_of s))
+abbrev pub unary_in : RegisterClass → UnaryOperation → ℕ → TypedSource → Step
+unary_in class.Control Not target s = sets1 target (control.Not (source1_of s))
+unary_in class.Control _ target s = sets1 target (control.Move (source1_of s))
+unary_in class.Single Not target s = sets32 target (single.Not (source32_of s))
+unary_in class.Single _ target s = sets32 target (single.Move (source32_of s))
+unary_in class.Double Not target s = sets64 target (double.Not (source64_of s))
+unary_in class.Double _ target s = sets64 target (double.Move (source64_of s))
 
 abbrev pub unary_by : UnaryOperation → Unary → Step
 unary_by (Convert to) u = step.Convert (record {
-  from = number_type u.kind;
+  from = number_type u.source.kind;
   to = number_type to;
   target = register_of to u.target;
-  source = source_of u.kind u.source;
+  source = source_of u.source;
 })
-unary_by op u = unary_in (type_class u.kind) op u.kind (slot_of u.target) u.source
+unary_by op u = unary_in (type_class u.kind) op (slot_of u.target) u.source
 
 abbrev pub unary_of : Unary → Step
 unary_of u = unary_by u.operation u
@@ -313,14 +323,14 @@ binary64 (Compare c) signed target p s = sets1 target (compare64 c signed p)
 binary64 op signed target p s = sets64 target (double_operation op signed p s)
 
 abbrev pub pair32_of : Binary → Pair32
-pair32_of b = record { left = source32_of b.kind b.left; right = source32_of b.kind b.right }
+pair32_of b = record { left = source32_of b.left; right = source32_of b.right }
 
 abbrev pub pair64_of : Binary → Pair64
 pair64_of b = record { left = source64_of b.left; right = source64_of b.right }
 
 -- the count of a shift has 32 bits
 abbrev pub shift64_of : Binary → Shift64
-shift64_of b = record { value = source64_of b.left; count = source32_of U32 b.right }
+shift64_of b = record { value = source64_of b.left; count = source32_of b.right }
 
 abbrev pub binary_in : RegisterClass → Binary → Step
 binary_in class.Control b = binary1 b
@@ -337,9 +347,9 @@ ternary_in class.Control MultiplyAdd t = sets1 (slot_of t.target) (control.Move 
 ternary_in class.Control ConditionalMove t = sets1 (slot_of t.target)
     (control.Choose (record { condition = source1_of t.first; one = source1_of t.second; zero = source1_of t.third }))
 ternary_in class.Single MultiplyAdd t = sets32 (slot_of t.target)
-    (single.MultiplyAdd (record { first = source32_of t.kind t.first; second = source32_of t.kind t.second; third = source32_of t.kind t.third }))
+    (single.MultiplyAdd (record { first = source32_of t.first; second = source32_of t.second; third = source32_of t.third }))
 ternary_in class.Single ConditionalMove t = sets32 (slot_of t.target)
-    (single.Choose (record { condition = source1_of t.first; one = source32_of t.kind t.second; zero = source32_of t.kind t.third }))
+    (single.Choose (record { condition = source1_of t.first; one = source32_of t.second; zero = source32_of t.third }))
 ternary_in class.Double MultiplyAdd t = sets64 (slot_of t.target)
     (double.MultiplyAdd (record { first = source64_of t.first; second = source64_of t.second; third = source64_of t.third }))
 ternary_in class.Double ConditionalMove t = sets64 (slot_of t.target)
@@ -366,14 +376,14 @@ abbrev pub load_at : (List ℕ → Option Placed) → Register → Operand → S
 load_at arguments d (operand.Address a) = load_from arguments a.segment d a
 load_at arguments d _ = step.Return
 
-abbrev pub store_of : Source → Access → Step
+abbrev pub store_of : TypedSource → Access → Step
 store_of s a = step.Store (record {
-  kind = number_type a.kind;
-  source = source_of a.kind s;
+  kind = number_type s.kind;
+  source = source_of s;
   pointer = pointer_in a.address;
 })
 
-abbrev pub store_at : Source → Operand → Step
+abbrev pub store_at : TypedSource → Operand → Step
 store_at s (operand.Address a) = store_of s a
 store_at s _ = step.Return
 
@@ -506,7 +516,7 @@ sets (step.Identify i) = Some (number_in i.target)
 sets _ = None
 
 -- the sources of an instruction, in the order of the text
-abbrev pub sources_of : Form → Operation → List Source
+abbrev pub sources_of : Form → Operation → List TypedSource
 sources_of (form.Unary f) op = read_in op.operands.second ∷ []
 sources_of (form.Binary f) op = read_in op.operands.second ∷ read_in op.operands.third ∷ []
 sources_of (form.Ternary f) op =
