@@ -26,7 +26,7 @@ use Rattle.kernel_check.specs.declared.fault.Cause.{Cause}
 use Rattle.kernel_check.specs.declared.fault.Cause.TheVariants as cause
 use Rattle.kernel_check.specs.declared.fault.CheckFault.{CheckFault}
 use Rattle.kernel_check.specs.declared.layout.Placed.{Placed}
-use Rattle.kernel_check.proofs.SoundLemmas.{none_fails, no_fault, four}
+use Rattle.kernel_check.proofs.SoundLemmas.{none_fails, no_fault, four, second_false}
 
 -- where a fault is told, its item is the first that fails
 earliest_at : (line : ℕ) (c : Option Cause) (later : List Checkpoint) (f : CheckFault) → fault_or line c (first_fault later) ≡ Some f
@@ -59,10 +59,6 @@ all_pass [] e = All-nil (λ (c : Checkpoint). c.cause ≡ None)
 all_pass (c ∷ later) e =
     let p = no_fault c.line c.cause (first_fault later) e in
     All-cons (λ (c : Checkpoint). c.cause ≡ None) c later p.0 (all_pass later p.1)
-
-second_false : (a b : Bool) → (a || b) ≡ false → b ≡ false
-second_false true b e = cc
-second_false false b e = e
 
 kept : (r : Register) → is_far r ≡ false → IsKept r
 kept r near = grind (arith, nat_tests)
