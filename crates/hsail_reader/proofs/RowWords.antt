@@ -1,127 +1,154 @@
 -- The modifiers of a word are read where they are spelled, and what is read as modifiers spells them; and so the
 -- words of a row, with the modifiers and the type behind its stem.
-use Rattle.std.proofs.Common.{◌≡◌, ℕ, inl, inr, ⊎_elim, List, [], ◌++◌, Option, Some, None, refl, sym, ap, subst, ◌∙◌, codes, append_assoc}
+use Rattle.std.proofs.Common.{◌≡◌, ℕ, ◌⊎◌, inl, inr, ⊎_elim, List, [], ◌∷◌, ◌++◌, Bool, true, false, ◌&&◌, ◌||◌, not, Option, Some, None, drop, refl, sym, ap, subst, ◌∙◌, codes, append_assoc}
+use Rattle.std.proofs.lemmas.Bool.Decides.{eqb_tells}
+use Rattle.std.proofs.Math.Seq.{drop-append_seam}
+use Rattle.std.specs.Char.{is_digit}
 use Rattle.std.specs.Option.{option_map}
-use Rattle.hsail_reader.specs.Bytes.{numeral_at, width_value_at, align_at, width_at}
-use Rattle.hsail_reader.specs.Rows.{InstructionRow, allows, type_name}
-use Rattle.hsail_reader.specs.Words.{part_at, modifiers, modifiers_behind, modifiers_at, opcode, opcode_behind, opcode_at, type_at}
-use Rattle.hsail_reader.specs.WordSpelling.{SpellsNumber, SpellsWidthValue, SpellsMaybe, SpellsAlign, SpellsWidth, SpellsModifiers, SpellsType, SpellsBehindStem}
-use Rattle.hsail_reader.specs.Nouns.{DataType, Modifiers, Opcode, TypeSet, Width, B1, Untyped}
-use Rattle.hsail_reader.proofs.Bracketed.{PartFound, part_there, part_is_read, part_is_found, value_is_read, value_is_found}
-use Rattle.hsail_reader.proofs.Numbers.{number_before_bracket_is_read, number_is_spelled}
-use Rattle.hsail_reader.proofs.Options.{chosen, mapped, nothing, same_some}
-use Rattle.hsail_reader.proofs.WordRows.{type_is_read, type_is_found}
+use Rattle.hsail_reader.specs.Bytes.{behind, numeral_at, ◌>>=◌}
+use Rattle.hsail_reader.specs.Rows.{InstructionRow, ModifierSpelling, allows, modifier_rows, type_name, with_number}
+use Rattle.hsail_reader.specs.Spelling.{first_passes}
+use Rattle.hsail_reader.specs.Words.{closed_at, ended_at, modifier_among, modifier_by, modifier_at, first_behind, second_behind, modifiers_at, opcode, opcode_behind, opcode_at, type_at}
+use Rattle.hsail_reader.specs.WordSpelling.{SpellsEnd, SpellsModifier, SpellsModifiers, SpellsType, SpellsBehindStem}
+use Rattle.hsail_reader.specs.Nouns.{DataType, Modifier, ModifierEnd, Modifiers, Opcode, TypeSet, B1, Untyped}
+use Rattle.hsail_reader.specs.declared.rows.ModifierEnd.TheVariants as end
+use Rattle.hsail_reader.specs.declared.types.Modifiers.TheVariants as modifiers
+use Rattle.hsail_reader.proofs.Bracketed.{closed}
+use Rattle.hsail_reader.proofs.Numbers.{first_digit, number_before_bracket_is_read, number_is_spelled}
+use Rattle.hsail_reader.proofs.Options.{bound, chosen, mapped, nothing, not_false, same_some, true_is_not_false}
+use Rattle.hsail_reader.proofs.Runs.{behind_front, behind_parts, differs}
+use Rattle.hsail_reader.proofs.WordRows.{all_apart, clash, clash_not_behind, apart_is_read, first_is_found, type_is_read, type_is_found}
 
--- _align(n), or nothing, is read at the front
-align_is_read : (a : Option ℕ) (text more : List ℕ) → SpellsMaybe SpellsAlign a text →
-    part_at align_at more ≡ (None, more) → part_at align_at (text ++ more) ≡ (a, more)
-align_is_read = part_is_read (codes "align(") numeral_at SpellsNumber number_before_bracket_is_read refl
+-- a text is a front up to a byte that is no digit
+abbrev before_no_digit : List ℕ → List ℕ → Bool
+before_no_digit [] text = false
+before_no_digit (f ∷ front) [] = not (is_digit f 10)
+before_no_digit (f ∷ front) (b ∷ text) = before_no_digit front text
 
--- _width(w), or nothing, is read at the front
-width_is_read : (w : Option Width) (text more : List ℕ) → SpellsMaybe SpellsWidth w text →
-    part_at width_at more ≡ (None, more) → part_at width_at (text ++ more) ≡ (w, more)
-width_is_read = part_is_read (codes "width(") width_value_at SpellsWidthValue value_is_read refl
+-- so a number behind the text isn't the rest of the front
+number_not_behind : (front text digits : List ℕ) → before_no_digit front text ≡ true →
+    first_passes (λ d. is_digit d 10) digits ≡ true → behind front (text ++ digits) ≡ None
+number_not_behind [] text digits e first = true_is_not_false false e refl
+number_not_behind (f ∷ front) [] [] e first = refl
+number_not_behind (f ∷ front) [] (d ∷ digits) e first =
+    rw (differs (λ d. is_digit d 10) d f first (not_false (is_digit f 10) e)) refl
+number_not_behind (f ∷ front) (b ∷ text) digits e first =
+    ⊎_elim (λ w. rw w.0 (number_not_behind front text digits e first)) (λ w. rw w.0 refl) (eqb_tells b f)
 
--- nothing is read as a modifier there
-abbrev NoModifier : List ℕ → Type 0
-NoModifier more = (part_at align_at more ≡ (None, more)) × (part_at width_at more ≡ (None, more))
+abbrev is_numbered : ModifierEnd → Bool
+is_numbered (end.Whole m) = false
+is_numbered (end.Number k) = true
 
--- modifiers are read one behind the other
-modifiers_step : (bytes more rest : List ℕ) (a : Option ℕ) (w : Option Width) → part_at align_at bytes ≡ (a, more) →
-    part_at width_at more ≡ (w, rest) → modifiers_at bytes ≡ modifiers_behind (a, more) (w, rest)
-modifiers_step bytes more rest a w e f =
-    ap (λ p. modifiers_behind p (part_at width_at p.1)) e ∙ ap (modifiers_behind (a, more)) f
+-- where a modifier of the second spelling stands, the text of the first doesn't
+abbrev stands_apart : ModifierSpelling → ModifierSpelling → Bool
+stands_apart z x = clash z.text x.text || (is_numbered x.end && before_no_digit z.text x.text)
 
--- no _align(n) is read in front of a width and what stands behind it
-no_align_at_width : (w : Width) (text more : List ℕ) → SpellsWidth w text →
-    part_at align_at (text ++ more) ≡ (None, text ++ more)
-no_align_at_width w text more (inside, e, spelled) =
-    subst (λ (xs : List ℕ). part_at align_at (xs ++ more) ≡ (None, xs ++ more)) (sym e) refl
+one_holds : (p q : Bool) → (p || q) ≡ true → (p ≡ true) ⊎ (q ≡ true)
+one_holds true q e = inl refl
+one_holds false q e = inr e
 
-no_align : (w : Option Width) (text more : List ℕ) → SpellsMaybe SpellsWidth w text →
-    part_at align_at more ≡ (None, more) → part_at align_at (text ++ more) ≡ (None, text ++ more)
-no_align None text more spelled none =
-    subst (λ (xs : List ℕ). part_at align_at (xs ++ more) ≡ (None, xs ++ more)) (sym spelled) none
-no_align (Some w) text more spelled none = no_align_at_width w text more spelled
+apart_not_behind : (front text : List ℕ) (e : ModifierEnd) (m : Modifier) (rest more : List ℕ) → SpellsEnd e m rest →
+    (clash front text || (is_numbered e && before_no_digit front text)) ≡ true → behind front (text ++ (rest ++ more)) ≡ None
+apart_not_behind front text (end.Whole x) m rest more s apart =
+    ⊎_elim (λ w. clash_not_behind front text (rest ++ more) w) (λ w. true_is_not_false false w refl)
+    (one_holds (clash front text) false apart)
+apart_not_behind front text (end.Number k) m rest more (n, number, e, s, is) apart =
+    ⊎_elim (λ w. clash_not_behind front text (rest ++ more) w)
+    (λ w. number_not_behind front text (rest ++ more) w
+    (ap (λ xs. first_passes (λ d. is_digit d 10) (xs ++ more)) e
+    ∙ ap (first_passes (λ d. is_digit d 10)) (append_assoc number (codes ")") more) ∙ first_digit n number more s))
+    (one_holds (clash front text) (before_no_digit front text) apart)
 
--- modifiers are read where the alignment stands first
-align_first : (a : Option ℕ) (w : Option Width) (align width more : List ℕ) → SpellsMaybe SpellsAlign a align →
-    SpellsMaybe SpellsWidth w width → NoModifier more → modifiers_at (align ++ (width ++ more)) ≡ (modifiers a w, more)
-align_first a w align width more spells_align spells_width none =
-    modifiers_step (align ++ (width ++ more)) (width ++ more) more a w (there a spells_align)
-    (width_is_read w width more spells_width none.1) ∙ ends a
-  where
-    there : (a : Option ℕ) → SpellsMaybe SpellsAlign a align → part_at align_at (align ++ (width ++ more)) ≡ (a, width ++ more)
-    there a spells_align =
-        align_is_read a align (width ++ more) spells_align (no_align w width more spells_width none.0)
+-- what stands behind the text of a modifier's row is read
+end_is_read : (e : ModifierEnd) (m : Modifier) (rest more : List ℕ) → SpellsEnd e m rest → ended_at e (rest ++ more) ≡ Some (m, more)
+end_is_read (end.Whole x) m rest more (none, is) =
+    ap (λ xs. ended_at (end.Whole x) (xs ++ more)) none ∙ ap (λ (y : Modifier). Some (y, more)) (sym is)
+end_is_read (end.Number k) m rest more (n, number, e, s, is) =
+    ap (λ xs. ended_at (end.Number k) (xs ++ more)) e ∙ ap (ended_at (end.Number k)) (append_assoc number (codes ")") more)
+    ∙ ap (λ o. o >>= closed_at k (number ++ 41 ∷ more)) (number_before_bracket_is_read n number more s)
+    ∙ ap (λ o. option_map (λ (after : List ℕ). (with_number k n, after)) (behind (codes ")") o)) (drop-append_seam number (41 ∷ more))
+    ∙ ap (λ (y : Modifier). Some (y, more)) (sym is)
 
-    ends : (a : Option ℕ) → modifiers_behind (a, width ++ more) (w, more) ≡ (modifiers a w, more)
-    ends None = ap (λ (p : Option ℕ × List ℕ). (modifiers p.0 w, p.1)) none.0
-    ends (Some n) = refl
+-- and what is read there is spelled
+end_is_found : (e : ModifierEnd) (rest : List ℕ) (m : Modifier × List ℕ) → ended_at e rest ≡ Some m →
+    (text : List ℕ) × (rest ≡ text ++ m.1) × SpellsEnd e m.0 text
+end_is_found (end.Whole x) rest m is =
+    let same = same_some (x, rest) m is in
+    ([], ap (λ (p : Modifier × List ℕ). p.1) same, (refl, sym (ap (λ (p : Modifier × List ℕ). p.0) same)))
+end_is_found (end.Number k) rest m is =
+    let n = bound (numeral_at rest) (closed_at k rest) m is in
+    let after = mapped (λ (after : List ℕ). (with_number k n.0.value, after)) (behind (codes ")") (drop n.0.length rest)) m n.2 in
+    let same = same_some (with_number k n.0.value, after.0) m after.2 in
+    let v = number_is_spelled rest n.0 n.1 in (
+      v.0 ++ codes ")",
+      closed rest v.0 v.1 after.0 n.0.length v.2 v.3 after.1
+          ∙ ap (λ (p : Modifier × List ℕ). (v.0 ++ codes ")") ++ p.1) same,
+      (n.0.value, v.0, refl, v.4, sym (ap (λ (p : Modifier × List ℕ). p.0) same)),
+    )
 
--- modifiers are read where the width stands first
-width_first : (a : Option ℕ) (w : Option Width) (align width more : List ℕ) → SpellsMaybe SpellsAlign a align →
-    SpellsMaybe SpellsWidth w width → NoModifier more → modifiers_at (width ++ (align ++ more)) ≡ (modifiers a w, more)
-width_first None w align width more spells_align spells_width none =
-    subst (λ (xs : List ℕ). modifiers_at (width ++ (xs ++ more)) ≡ (modifiers None w, more)) (sym spells_align)
-    (align_first None w [] width more refl spells_width none)
-width_first (Some n) None align width more spells_align spells_width none =
-    subst (λ (xs : List ℕ). modifiers_at (xs ++ (align ++ more)) ≡ (modifiers (Some n) None, more)) (sym spells_width)
-    (align_first (Some n) None align [] more spells_align refl none)
-width_first (Some n) (Some w) align width more spells_align spells_width none =
-    modifiers_step (width ++ (align ++ more)) (width ++ (align ++ more)) (align ++ more) None (Some w)
-    (no_align_at_width w width (align ++ more) spells_width)
-    (part_there (codes "width(") width_value_at SpellsWidthValue value_is_read refl w width (align ++ more) spells_width)
-    ∙ ap (λ (p : Option ℕ × List ℕ). (modifiers p.0 (Some w), p.1))
-    (align_is_read (Some n) align more spells_align none.0)
+module _ (spellings : List ModifierSpelling) where
+  -- a modifier is read where one of these rows spells it, if the rows stand apart
+  pub modifier_is_read : all_apart stands_apart spellings ≡ true → (m : Modifier) (text more : List ℕ) →
+      SpellsModifier spellings m text → modifier_among spellings (text ++ more) ≡ Some (m, more)
+  modifier_is_read apart m text more (row, rest, c, e, s) =
+      ap (λ xs. modifier_among spellings (xs ++ more)) e ∙ ap (modifier_among spellings) (append_assoc row.text rest more)
+      ∙ apart_is_read stands_apart modifier_by row (row.text ++ (rest ++ more)) (m, more)
+      (λ z one. ap (λ o. o >>= ended_at z.end) (apart_not_behind z.text row.text row.end m rest more s one)) spellings apart c
+      (ap (λ o. o >>= ended_at row.end) (behind_front row.text (rest ++ more)) ∙ end_is_read row.end m rest more s)
 
--- modifiers are read at the front, in either order
-pub modifiers_are_read : (m : Modifiers) (text more : List ℕ) → SpellsModifiers m text → NoModifier more →
+  -- what is read as a modifier spells it
+  pub modifier_is_found : (bytes : List ℕ) (m : Modifier × List ℕ) → modifier_among spellings bytes ≡ Some m →
+      (text : List ℕ) × (bytes ≡ text ++ m.1) × SpellsModifier spellings m.0 text
+  modifier_is_found bytes m is =
+      let f = first_is_found modifier_by spellings bytes m is in
+      let b = bound (behind f.0.text bytes) (ended_at f.0.end) m f.2 in
+      let e = end_is_found f.0.end b.0 m b.2 in (
+        f.0.text ++ e.0,
+        behind_parts f.0.text bytes b.0 b.1 ∙ ap (λ xs. f.0.text ++ xs) e.1 ∙ sym (append_assoc f.0.text e.0 m.1),
+        (f.0, e.0, f.1, refl, e.2),
+      )
+
+-- modifiers are read in front of what is none
+pub modifiers_are_read : (m : Modifiers) (text more : List ℕ) → SpellsModifiers m text → modifier_at more ≡ None →
     modifiers_at (text ++ more) ≡ (m, more)
-modifiers_are_read m text more (align, width, inl e, spells_align, spells_width) none =
-    ap (λ xs. modifiers_at (xs ++ more)) e ∙ ap modifiers_at (append_assoc align width more)
-    ∙ align_first m.align m.width align width more spells_align spells_width none
-modifiers_are_read m text more (align, width, inr e, spells_align, spells_width) none =
-    ap (λ xs. modifiers_at (xs ++ more)) e ∙ ap modifiers_at (append_assoc width align more)
-    ∙ width_first m.align m.width align width more spells_align spells_width none
-
-align_is_found : (bytes : List ℕ) → PartFound (codes "align(") numeral_at SpellsNumber bytes (part_at align_at bytes)
-align_is_found = part_is_found (codes "align(") numeral_at SpellsNumber number_is_spelled refl
+modifiers_are_read modifiers.Plain text more e none =
+    ap (λ xs. modifiers_at (xs ++ more)) e ∙ ap (λ o. first_behind o more) none
+modifiers_are_read (modifiers.One m) text more s none =
+    ap (λ o. first_behind o (text ++ more)) (modifier_is_read modifier_rows refl m text more s) ∙ ap (λ o. second_behind m o more) none
+modifiers_are_read (modifiers.Two m n) text more (first, second, e, s, t) none =
+    ap (λ xs. modifiers_at (xs ++ more)) e ∙ ap modifiers_at (append_assoc first second more)
+    ∙ ap (λ o. first_behind o (first ++ (second ++ more))) (modifier_is_read modifier_rows refl m first (second ++ more) s)
+    ∙ ap (λ o. second_behind m o (second ++ more)) (modifier_is_read modifier_rows refl n second more t)
 
 -- the front that is taken for modifiers, and what stands behind them
 abbrev ModifiersFound : List ℕ → Modifiers × List ℕ → Type 0
 ModifiersFound bytes m = (text : List ℕ) × (bytes ≡ text ++ m.1) × SpellsModifiers m.0 text
 
--- modifiers, by the alignment in front and the width behind it
-modifiers_go : (bytes : List ℕ) (a : Option ℕ × List ℕ) (w : Option Width × List ℕ) → PartFound (codes "align(") numeral_at SpellsNumber bytes a →
-    PartFound (codes "width(") width_value_at SpellsWidthValue a.1 w → ModifiersFound bytes (modifiers_behind a w)
-modifiers_go bytes (Some n, more) w (align, e, spells_align) (width, f, spells_width) = (
-  align ++ width,
-  e ∙ ap (λ xs. align ++ xs) f ∙ sym (append_assoc align width w.1),
-  (align, width, inl refl, spells_align, spells_width),
-)
-modifiers_go bytes (None, more) w (none, e, is_none) (width, f, spells_width) =
-    let a = align_is_found w.1 in (
-      width ++ a.0,
-      e ∙ ap (λ xs. xs ++ more) is_none ∙ f ∙ ap (λ xs. width ++ xs) a.1
-          ∙ sym (append_assoc width a.0 (part_at align_at w.1).1),
-      (a.0, width, inr refl, a.2, spells_width),
-    )
+second_is_found : (first rest : List ℕ) (m : Modifier) (o : Option (Modifier × List ℕ)) → SpellsModifier modifier_rows m first →
+    modifier_at rest ≡ o → ModifiersFound (first ++ rest) (second_behind m o rest)
+second_is_found first rest m None s is = (first, refl, s)
+second_is_found first rest m (Some n) s is =
+    let f = modifier_is_found modifier_rows rest n is in
+    (first ++ f.0, ap (λ xs. first ++ xs) f.1 ∙ sym (append_assoc first f.0 n.1), (first, f.0, refl, s, f.2))
+
+first_is_taken : (bytes : List ℕ) (o : Option (Modifier × List ℕ)) → modifier_at bytes ≡ o → ModifiersFound bytes (first_behind o bytes)
+first_is_taken bytes None is = ([], refl, refl)
+first_is_taken bytes (Some m) is =
+    let f = modifier_is_found modifier_rows bytes m is in
+    let g = second_is_found f.0 m.1 m.0 (modifier_at m.1) f.2 refl in (g.0, f.1 ∙ g.1, g.2)
 
 -- what is taken for modifiers spells them
 modifiers_are_found : (bytes : List ℕ) → ModifiersFound bytes (modifiers_at bytes)
-modifiers_are_found bytes =
-    modifiers_go bytes (part_at align_at bytes) (part_at width_at (part_at align_at bytes).1) (align_is_found bytes)
-    (part_is_found (codes "width(") width_value_at SpellsWidthValue value_is_found refl (part_at align_at bytes).1)
+modifiers_are_found bytes = first_is_taken bytes (modifier_at bytes) refl
 
 -- no modifier stands where a type does
-type_not_modifier : (set : TypeSet) (t : DataType) (text : List ℕ) → SpellsType set t text → NoModifier text
-type_not_modifier Untyped t text (e, is) = subst NoModifier (sym e) (refl, refl)
-type_not_modifier set t text (e, c) = subst NoModifier (sym e) (named t)
+type_not_modifier : (set : TypeSet) (t : DataType) (text : List ℕ) → SpellsType set t text → modifier_at text ≡ None
+type_not_modifier Untyped t text (e, is) = ap modifier_at e
+type_not_modifier set t text (e, c) = ap modifier_at e ∙ named t
   where
-    named : (t : DataType) → NoModifier (codes "_" ++ type_name t)
-    named B1 = (refl, refl)
-    named _ = (refl, refl)
+    named : (t : DataType) → modifier_at (codes "_" ++ type_name t) ≡ None
+    named B1 = refl
+    named _ = refl
 
 -- what stands behind the stem of a row is read
 pub row_is_read : (row : InstructionRow) (code : Opcode) (text : List ℕ) → SpellsBehindStem row code text →

@@ -1,22 +1,24 @@
 -- The word at the front of some bytes: it is found where a word is spelled, it is one, and none there is longer.
-use Rattle.std.proofs.Common.{◌≡◌, ℕ, zero, suc, ◌+◌, ◌-◌, ◌<◌, ◌≤◌, ◌⊎◌, inl, inr, ⊎_elim, List, [], ◌∷◌, ◌++◌, length, drop, Bool, true, false, not, ◌||◌, ◌==◌, if◌then◌else◌, Option, Some, None, refl, sym, ap, subst, ◌∙◌, codes, append_assoc, length-append, arith}
-use Rattle.std.proofs.lemmas.Bool.{cases_Bool}
-use Rattle.std.proofs.lemmas.Bool.Decides.{eqb_tells}
+use Rattle.std.proofs.Common.{◌≡◌, ℕ, zero, suc, ◌+◌, ◌-◌, ◌<◌, ◌≤◌, ◌⊎◌, inl, inr, ⊎_elim, List, [], ◌∷◌, ◌++◌, length, drop, Bool, true, false, not, ◌&&◌, ◌||◌, ◌==◌, if◌then◌else◌, Option, Some, None, refl, sym, ap, subst, ◌∙◌, codes, append_assoc, length-append, arith}
+use Rattle.std.proofs.lemmas.Bool.{cases_Bool, eqb-true}
 use Rattle.std.proofs.Math.Dec.{eqb-zero-suc}
 use Rattle.std.proofs.Math.Seq.{drop-append_seam}
 use Rattle.std.specs.Int.{is_in_range}
-use Rattle.hsail_reader.specs.Bytes.{align_at, numeral_at, width_at, width_value_at, spelled}
+use Rattle.hsail_reader.specs.Bytes.{align_at, spelled}
 use Rattle.hsail_reader.specs.Lexemes.{lexed, length_of, modifier_length, piece_length, pieces_length, word_of, word_at}
+use Rattle.hsail_reader.specs.Rows.{ModifierSpelling, bracketed_rows}
 use Rattle.hsail_reader.specs.Spelling.{AllPass, is_name_byte, is_name_start}
 use Rattle.hsail_reader.specs.WordLexemes.{IsModifier, IsModifiedName, ArePieces, none, byte, modifier, IsWord}
-use Rattle.hsail_reader.specs.WordSpelling.{SpellsNumber, SpellsWidthValue}
-use Rattle.hsail_reader.specs.Nouns.{Lexeme, Prefix, Token, Width}
+use Rattle.hsail_reader.specs.Words.{modifier_among}
+use Rattle.hsail_reader.specs.WordSpelling.{SpellsNumber}
+use Rattle.hsail_reader.specs.Nouns.{Lexeme, Modifier, Prefix, Token}
 use Rattle.hsail_reader.specs.declared.token.TokenKind.TheVariants as token
-use Rattle.hsail_reader.proofs.Bracketed.{named_is_read, named_is_found, value_is_read, value_is_found}
-use Rattle.hsail_reader.proofs.Numbers.{number_before_bracket_is_read, number_is_spelled}
+use Rattle.hsail_reader.proofs.Bracketed.{align_is_read, align_is_found}
 use Rattle.hsail_reader.proofs.Options.{not_false, nothing, same_some, true_is_not_false}
 use Rattle.hsail_reader.proofs.Pieces.{pieces_length_step}
+use Rattle.hsail_reader.proofs.RowWords.{modifier_is_read, modifier_is_found}
 use Rattle.hsail_reader.proofs.Runs.{heads, tails, front_of}
+use Rattle.hsail_reader.proofs.WordRows.{both, every, every_passes}
 
 or_true : (p q r s : Bool) → ((q || r) || s) ≡ true → (((p || q) || r) || s) ≡ true
 or_true true q r s e = refl
@@ -26,69 +28,69 @@ pub name_start_continues : (b : ℕ) → is_name_start b ≡ true → is_name_by
 name_start_continues b e =
     or_true (is_in_range 48 57 b) (is_in_range 65 90 b) (is_in_range 97 122 b) (b == 95) e
 
--- a modifier is of eight bytes at least
-modifier_is_long : (m : List ℕ) → IsModifier m → 8 ≤ length m
-modifier_is_long m (inl (n, (inside, e, s))) = omega (arith, ap length e, length-append inside (codes ")"))
-modifier_is_long m (inr (w, (inside, e, s))) = omega (arith, ap length e, length-append inside (codes ")"))
+-- a text is a bar, bytes that are none, and some byte of no name among them
+abbrev is_barred : List ℕ → Bool
+is_barred [] = false
+is_barred (b ∷ front) = (b == 95) && (every (λ f. not (f == 95)) front && not (every is_name_byte front))
 
--- brackets and a name of five letters count seven with what stands inside, and the bar is one more
-with_bar : (n : ℕ) (inside : List ℕ) → n ≡ length inside + 7 → n + 1 ≡ 7 + length (inside ++ codes ")")
-with_bar n inside e = omega (arith, e, length-append inside (codes ")"))
+every_is : (test : ℕ → Bool) (xs : List ℕ) → every test xs ≡ true → AllPass test xs
+every_is test [] e = tt
+every_is test (x ∷ xs) e = let parts = both (test x) (every test xs) e in (parts.0, every_is test xs parts.1)
+
+is_every : (test : ℕ → Bool) (xs : List ℕ) → AllPass test xs → every test xs ≡ true
+is_every test [] pass = refl
+is_every test (x ∷ xs) pass = rw pass.0 (is_every test xs pass.1)
+
+-- what a modifier with brackets begins with: a bar, and a front without bars that is no name
+abbrev Barred : List ℕ → Type 0
+Barred m =
+    (front : List ℕ) × (after : List ℕ) × (m ≡ 95 ∷ (front ++ after)) × AllPass (λ f. not (f == 95)) front
+    × (AllPass is_name_byte front → ⊥)
+
+barred : (m : List ℕ) → IsModifier m → Barred m
+barred m (x, (row, rest, c, e, s)) =
+    go row.text e (every_passes (λ (r : ModifierSpelling). is_barred r.text) bracketed_rows row refl c)
+  where
+    go : (text : List ℕ) → m ≡ text ++ rest → is_barred text ≡ true → Barred m
+    go [] e is = true_is_not_false false is refl
+    go (b ∷ front) e is =
+        let p = both (b == 95) (every (λ f. not (f == 95)) front && not (every is_name_byte front)) is in
+        let q = both (every (λ f. not (f == 95)) front) (not (every is_name_byte front)) p.1 in (
+          front,
+          rest,
+          e ∙ ap (λ x. x ∷ (front ++ rest)) (eqb-true b 95 p.0),
+          every_is (λ f. not (f == 95)) front q.0,
+          λ all. true_is_not_false (every is_name_byte front) (is_every is_name_byte front all) (not_false (every is_name_byte front) q.1),
+        )
+
+-- so it has a byte at least
+modifier_is_long : (m : List ℕ) → IsModifier m → 0 < length m
+modifier_is_long m is = let p = barred m is in omega (arith, ap length p.2)
 
 -- a modifier is read as one of its length, whatever stands behind it
-modifier_is_read : (m more : List ℕ) → IsModifier m → modifier_length (m ++ more) ≡ length m
-modifier_is_read m more (inl (n, (inside, e, s))) =
-    let bytes = codes "align(" ++ ((inside ++ codes ")") ++ more) in
-    subst (λ xs. modifier_length (xs ++ more) ≡ length xs) (sym e)
-    (ap (λ a. length_of a (width_at bytes))
-    (named_is_read (codes "align(") numeral_at SpellsNumber number_before_bracket_is_read n inside more s)
-    ∙ with_bar (length inside + 7) inside refl ∙ omega arith)
-modifier_is_read m more (inr (w, (inside, e, s))) =
-    subst (λ xs. modifier_length (xs ++ more) ≡ length xs) (sym e)
-    (ap (length_of None) (named_is_read (codes "width(") width_value_at SpellsWidthValue value_is_read w inside more s)
-    ∙ with_bar (length inside + 7) inside refl ∙ omega arith)
+modifier_length_is : (m more : List ℕ) → IsModifier m → modifier_length (m ++ more) ≡ length m
+modifier_length_is m more (x, s) =
+    ap (length_of (length (m ++ more))) (modifier_is_read bracketed_rows refl x m more s) ∙ omega (arith, length-append m more)
 
 -- a modifier of so many bytes stands at the front
 abbrev ModifierFound : List ℕ → ℕ → Type 0
 ModifierFound bytes n = (m : List ℕ) × (more : List ℕ) × (bytes ≡ m ++ more) × (length m ≡ n) × IsModifier m
 
-modifier_go : (bytes : List ℕ) (a : Option (Prefix ℕ)) (w : Option (Prefix Width)) → align_at bytes ≡ a →
-    width_at bytes ≡ w → 0 < length_of a w → ModifierFound (95 ∷ bytes) (length_of a w)
-modifier_go bytes None None p q some = absurd (omega arith)
-modifier_go bytes None (Some w) p q some =
-    let r = named_is_found (codes "width(") width_value_at SpellsWidthValue value_is_found bytes w q in (
-      codes "_width(" ++ (r.0 ++ codes ")"),
-      r.1,
-      ap (λ xs. 95 ∷ xs) r.2,
-      omega (arith, with_bar w.length r.0 r.3),
-      inr (w.value, (r.0, refl, r.4)),
-    )
-modifier_go bytes (Some n) w p q some =
-    let r = named_is_found (codes "align(") numeral_at SpellsNumber number_is_spelled bytes n p in (
-      codes "_align(" ++ (r.0 ++ codes ")"),
-      r.1,
-      ap (λ xs. 95 ∷ xs) r.2,
-      omega (arith, with_bar n.length r.0 r.3),
-      inl (n.value, (r.0, refl, r.4)),
-    )
-
 -- a modifier that is read stands at the front
-modifier_is_found : (b : ℕ) (bytes : List ℕ) → 0 < modifier_length (b ∷ bytes) →
-    ModifierFound (b ∷ bytes) (modifier_length (b ∷ bytes))
-modifier_is_found b bytes some =
-    ⊎_elim
-    (λ w. let more : 0 < length_of (align_at bytes) (width_at bytes) = rw w.0 at some in
-    rw w.0 (subst (λ x. ModifierFound (x ∷ bytes) (length_of (align_at bytes) (width_at bytes))) (sym w.1)
-    (modifier_go bytes (align_at bytes) (width_at bytes) refl refl more)))
-    (λ w. let more : 0 < 0 = rw w.0 at some in absurd (omega (arith, more)))
-    (eqb_tells b 95)
+modifier_there : (bytes : List ℕ) → 0 < modifier_length bytes → ModifierFound bytes (modifier_length bytes)
+modifier_there bytes some = go (modifier_among bracketed_rows bytes) refl some
+  where
+    go : (o : Option (Modifier × List ℕ)) → modifier_among bracketed_rows bytes ≡ o → 0 < length_of (length bytes) o →
+        ModifierFound bytes (length_of (length bytes) o)
+    go None is some = absurd (omega arith)
+    go (Some m) is some =
+        let f = modifier_is_found bracketed_rows bytes m is in
+        (f.0, m.1, f.1, omega (arith, ap length f.1, length-append f.0 m.1), (m.0, f.2))
 
 -- a modifier begins with a bar
 modifier_bar : (c : ℕ) (m : List ℕ) → IsModifier (c ∷ m) → (c == 95) ≡ true
 modifier_bar c m is =
-    ⊎_elim (λ w. w.0)
-    (λ w. let none' : 0 ≡ length (c ∷ m) = rw w.0 at (modifier_is_read (c ∷ m) [] is) in absurd (omega (arith, none')))
-    (eqb_tells c 95)
+    let p = barred (c ∷ m) is in ap (λ x. x == 95) (heads c 95 m (p.0 ++ p.1) p.2)
 
 no_modifier : (m : List ℕ) (b : ℕ) (rest after : List ℕ) → (b == 95) ≡ false → IsModifier m → m ++ after ≡ b ∷ rest → ⊥
 no_modifier [] b rest after plain is e = absurd (omega (arith, modifier_is_long [] is))
@@ -130,14 +132,11 @@ align_stuck rest more after pieces e =
 
 modifier_stuck : (b : ℕ) (rest more m after : List ℕ) → ArePieces rest → b ∷ rest ++ more ≡ m ++ after → IsModifier m →
     length (b ∷ rest) ≤ length m
-modifier_stuck b rest more m after pieces e (inl (n, (inside, f, s))) =
-    let short = align_stuck rest more ((inside ++ codes ")") ++ after) pieces (tails b 95 (rest ++ more) _ (e ∙ ap (λ xs. xs ++ after) f)) in
-    omega (arith, short, modifier_is_long m (inl (n, (inside, f, s))))
-modifier_stuck b rest more m after pieces e (inr (w, (inside, f, s))) =
-    let short = stuck (codes "width(") rest more ((inside ++ codes ")") ++ after)
-    (refl, (refl, (refl, (refl, (refl, (refl, tt)))))) (λ all. bracket all.1.1.1.1.1.0) pieces
-    (tails b 95 (rest ++ more) _ (e ∙ ap (λ xs. xs ++ after) f)) in
-    omega (arith, short, modifier_is_long m (inr (w, (inside, f, s))))
+modifier_stuck b rest more m after pieces e is =
+    let p = barred m is in
+    let short = stuck p.0 rest more (p.1 ++ after) p.3 p.4 pieces
+    (tails b 95 (rest ++ more) _ (e ∙ ap (λ xs. xs ++ after) p.2) ∙ append_assoc p.0 p.1 after) in
+    omega (arith, short, ap length p.2, length-append p.0 p.1)
 
 piece_if : (m x : ℕ) → ((m ≡ 0) × ((if 0 == m then x else m) ≡ x)) ⊎ ((0 < m) × ((if 0 == m then x else m) ≡ m))
 piece_if zero x = inl (refl, refl)
@@ -177,7 +176,7 @@ pieces_found (suc bound) before (b ∷ bytes) fits =
     let end = ap (λ p. if 0 == p then before else pieces_length (p - 1) (before + p) bytes) ends in
     ([], b ∷ bytes, refl, none, omega (arith, end)))
     (cases_Bool (is_name_byte b)))
-    (λ w. let m = modifier_is_found b bytes w.0 in
+    (λ w. let m = modifier_there (b ∷ bytes) w.0 in
     let shorter : length m.1 ≤ bound = omega (arith, ap length m.2, length-append m.0 m.1, modifier_is_long m.0 m.4) in
     pieces_modifier before m.0 m.1 (b ∷ bytes) m.2 m.4 (m.3 ∙ sym w.1) (pieces_found bound (before + length m.0) m.1 shorter))
     (piece_if (modifier_length (b ∷ bytes)) (if is_name_byte b then 1 else 0))
@@ -198,7 +197,7 @@ pieces_reach before _ more (byte b rest ok pieces) =
     let later = pieces_reach (before + 1) rest more pieces in
     at_least (before + length (b ∷ rest)) (pieces_length 0 (before + 1) (rest ++ more)) _ step (omega (arith, later)))
     (λ w. let k = modifier_length (b ∷ rest ++ more) in
-    let m = modifier_is_found b (rest ++ more) w.0 in
+    let m = modifier_there (b ∷ rest ++ more) w.0 in
     let short = modifier_stuck b rest more m.0 m.1 pieces m.2 m.4 in
     let step = pieces_length_step before k (b ∷ rest ++ more) (sym w.1) w.0 in
     let grow = pieces_grow (before + k) (drop k (b ∷ rest ++ more)) in
@@ -209,7 +208,7 @@ pieces_reach before _ more (modifier m rest text is whole pieces) =
     let bytes = m ++ (rest ++ more) in
     let some = modifier_is_long m is in
     let step = pieces_length_step before (length m) bytes
-    (piece_of_modifier bytes (length m) (modifier_is_read m (rest ++ more) is) (omega (arith, some))) (omega (arith, some)) in
+    (piece_of_modifier bytes (length m) (modifier_length_is m (rest ++ more) is) (omega (arith, some))) (omega (arith, some)) in
     let later = pieces_reach (before + length m) rest more pieces in
     let there : pieces_length 0 before bytes ≡ pieces_length 0 (before + length m) (rest ++ more) =
     step ∙ ap (pieces_length 0 (before + length m)) (drop-append_seam m (rest ++ more)) in
@@ -236,7 +235,7 @@ align_there : (text more : List ℕ) (n : ℕ) (inside : List ℕ) → text ≡ 
     SpellsNumber n inside → align_at (text ++ more) ≡ Some (spelled n (length inside + 7))
 align_there text more n inside e s =
     ap (λ xs. align_at (xs ++ more)) e
-    ∙ named_is_read (codes "align(") numeral_at SpellsNumber number_before_bracket_is_read n inside more s
+    ∙ align_is_read n inside more s
 
 word_go : (text more : List ℕ) (a : Option (Prefix ℕ)) → align_at (text ++ more) ≡ a → IsWord text →
     WordTold text (text ++ more) (word_of a (text ++ more))
@@ -254,7 +253,7 @@ word_go (b ∷ rest) more None read (inl (starts, pieces)) =
 word_go text more None read (inr (n, (inside, e, s))) =
     nothing (spelled n (length inside + 7)) (sym read ∙ align_there text more n inside e s)
 word_go text more (Some n) read is =
-    let r = named_is_found (codes "align(") numeral_at SpellsNumber number_is_spelled (text ++ more) n read in
+    let r = align_is_found (text ++ more) n read in
     let whole = codes "align(" ++ (r.0 ++ codes ")") in
     let count : n.length ≡ length whole = omega (arith, r.3, length-append r.0 (codes ")")) in
     (whole, r.1, r.2, inr (n.value, (r.0, refl, r.4)), omega (arith, count, short is r.1 r.0 r.2 r.3), ap (lexed (Token token.Word)) count)

@@ -37,47 +37,61 @@ pub contains_none : {A : Type 0} (x : A) → Contains [] x → ⊥
 contains_none x c = omega (arith, c.1)
 
 -- a conjunction holds where both of its parts do
-both : (p q : Bool) → (p && q) ≡ true → (p ≡ true) × (q ≡ true)
+pub both : (p q : Bool) → (p && q) ≡ true → (p ≡ true) × (q ≡ true)
 both true q e = (refl, e)
 both false q e = true_is_not_false false e refl
 
+-- all of these pass a test
+abbrev pub every : {A : Type 0} → (A → Bool) → List A → Bool
+every test [] = true
+every test (x ∷ others) = test x && every test others
+
+pub every_passes : {A : Type 0} (test : A → Bool) (xs : List A) (x : A) → every test xs ≡ true → Contains xs x → test x ≡ true
+every_passes test [] x e c = absurd (contains_none x c)
+every_passes test (y ∷ others) x e c =
+    let parts = both (test y) (every test others) e in
+    ⊎_elim (λ same. subst (λ x. test x ≡ true) same parts.0) (λ later. every_passes test others x parts.1 later) (contains_cases y x others c)
+
 -- a text differs from the spellings of all these
 abbrev pub clashes_all : {A : Type 0} → (A → List ℕ) → List ℕ → List A → Bool
-clashes_all spelling front [] = true
-clashes_all spelling front (x ∷ others) = clash front (spelling x) && clashes_all spelling front others
+clashes_all spelling front xs = every (λ x. clash front (spelling x)) xs
 
 -- so none that begins as one of them begins with it
 pub clashes_not_behind : {A : Type 0} (spelling : A → List ℕ) (front : List ℕ) (xs : List A) (x : A) (rest : List ℕ) →
     clashes_all spelling front xs ≡ true → Contains xs x → behind front (spelling x ++ rest) ≡ None
-clashes_not_behind spelling front [] x rest e c = absurd (contains_none x c)
-clashes_not_behind spelling front (y ∷ others) x rest e c =
-    let parts = both (clash front (spelling y)) (clashes_all spelling front others) e in
+clashes_not_behind spelling front xs x rest e c =
+    clash_not_behind front (spelling x) rest (every_passes (λ x. clash front (spelling x)) xs x e c)
+
+-- each of these stands apart from those behind it
+abbrev pub all_apart : {A : Type 0} → (A → A → Bool) → List A → Bool
+all_apart apart [] = true
+all_apart apart (x ∷ others) = every (apart x) others && all_apart apart others
+
+-- where those that stand apart from the one that reads a text don't read it, the first that reads it is that one
+pub apart_is_read : {A B : Type 0} (apart : A → A → Bool) (read : A → List ℕ → Option B) (x : A) (text : List ℕ) (y : B) →
+    ((z : A) → apart z x ≡ true → read z text ≡ None) → (xs : List A) → all_apart apart xs ≡ true → Contains xs x →
+    read x text ≡ Some y → first_of read xs text ≡ Some y
+apart_is_read apart read x text y none [] e c is = absurd (contains_none x c)
+apart_is_read {A} apart read x text y none (z ∷ others) e c is =
+    let parts = both (every (apart z) others) (all_apart apart others) e in
     ⊎_elim
-    (λ same. subst (λ x. behind front (spelling x ++ rest) ≡ None) same (clash_not_behind front (spelling y) rest parts.0))
-    (λ later. clashes_not_behind spelling front others x rest parts.1 later)
-    (contains_cases y x others c)
+    (λ (same : z ≡ x). ap (λ o. or_else o (first_of read others text)) (ap (λ (w : A). read w text) same ∙ is))
+    (λ later. ap (λ o. or_else o (first_of read others text)) (none z (every_passes (apart z) others x parts.0 later))
+    ∙ apart_is_read apart read x text y none others parts.1 later is)
+    (contains_cases z x others c)
 
 -- the spellings of these differ from one another
 abbrev pub all_differ : {A : Type 0} → (A → List ℕ) → List A → Bool
-all_differ spelling [] = true
-all_differ spelling (x ∷ others) = clashes_all spelling (spelling x) others && all_differ spelling others
+all_differ spelling xs = all_apart (λ z x. clash (spelling z) (spelling x)) xs
 
 -- where the spellings differ, and each reads nothing where its own doesn't stand, the one that stands there reads
 pub first_is_read : {A B : Type 0} (spelling : A → List ℕ) (read : A → List ℕ → Option B) →
     ((x : A) (text : List ℕ) → behind (spelling x) text ≡ None → read x text ≡ None) →
     (xs : List A) (x : A) (rest : List ℕ) (y : B) → all_differ spelling xs ≡ true → Contains xs x →
     read x (spelling x ++ rest) ≡ Some y → first_of read xs (spelling x ++ rest) ≡ Some y
-first_is_read spelling read none [] x rest y e c is = absurd (contains_none x c)
-first_is_read {A} spelling read none (z ∷ others) x rest y e c is =
-    let parts = both (clashes_all spelling (spelling z) others) (all_differ spelling others) e in
-    ⊎_elim
-    (λ (same : z ≡ x). subst
-    (λ (x : A). read x (spelling x ++ rest) ≡ Some y → first_of read (z ∷ others) (spelling x ++ rest) ≡ Some y) same
-    (λ here. ap (λ o. or_else o (first_of read others (spelling z ++ rest))) here) is)
-    (λ later. ap (λ o. or_else o (first_of read others (spelling x ++ rest)))
-    (none z (spelling x ++ rest) (clashes_not_behind spelling (spelling z) others x rest parts.0 later))
-    ∙ first_is_read spelling read none others x rest y parts.1 later is)
-    (contains_cases z x others c)
+first_is_read spelling read none xs x rest y e c is =
+    apart_is_read (λ z x. clash (spelling z) (spelling x)) read x (spelling x ++ rest) y
+    (λ z apart. none z (spelling x ++ rest) (clash_not_behind (spelling z) (spelling x) rest apart)) xs e c is
 
 -- what is read, one of them reads
 pub first_is_found : {A B : Type 0} (read : A → List ℕ → Option B) (xs : List A) (text : List ℕ) (y : B) →

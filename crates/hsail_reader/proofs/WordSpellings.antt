@@ -3,15 +3,14 @@ use Rattle.std.proofs.Common.{◌≡◌, ℕ, ◌+◌, ⊎_elim, List, [], ◌++
 use Rattle.std.proofs.lemmas.Bool.{eq-eqb, eqb-true}
 use Rattle.std.specs.List.{Contains}
 use Rattle.std.specs.Option.{is_some}
-use Rattle.hsail_reader.specs.Bytes.{behind, align_at, numeral_at, ◌>>=◌}
+use Rattle.hsail_reader.specs.Bytes.{behind, align_at, ◌>>=◌}
 use Rattle.hsail_reader.specs.Rows.{InstructionRow, rows, types_of}
 use Rattle.hsail_reader.specs.Words.{is_spelled, is_end, type_among, opcode_at, opcode_among, instruction_at, argument_word, instruction_word, other_word, named_word, word_of}
 use Rattle.hsail_reader.specs.WordSpelling.{SpellsNumber, SpellsBehindStem, SpellsWord, stands_in_modules}
 use Rattle.hsail_reader.specs.Nouns.{DataType, Opcode, Prefix, Word, Memory}
 use Rattle.hsail_reader.specs.declared.words.Word.TheVariants as word
 use Rattle.hsail_reader.proofs.RowWords.{row_is_read, row_is_spelled}
-use Rattle.hsail_reader.proofs.Bracketed.{named_is_read, named_is_found}
-use Rattle.hsail_reader.proofs.Numbers.{number_before_bracket_is_read, number_is_spelled}
+use Rattle.hsail_reader.proofs.Bracketed.{align_is_read, align_is_found}
 use Rattle.hsail_reader.proofs.Options.{bound, chosen, true_is_not_false}
 use Rattle.hsail_reader.proofs.Runs.{behind_front, behind_parts, no_more}
 use Rattle.hsail_reader.proofs.WordRows.{clashes_all, clashes_not_behind, first_is_read, first_is_found, spelled_is, name_is_read, name_is_found}
@@ -25,7 +24,7 @@ align_word n number spelled =
     let whole : length number + 7 ≡ length text = omega (arith, length-append number (codes ")")) in
     ap (λ o. named_word o text)
     (ap (λ xs. align_at (codes "align(" ++ xs)) (sym (append-nil (number ++ codes ")")))
-    ∙ named_is_read (codes "align(") numeral_at SpellsNumber number_before_bracket_is_read n number [] spelled)
+    ∙ align_is_read n number [] spelled)
     ∙ ap (λ p. if p then word.Align n else word.Unknown) (eq-eqb (length number + 7) (length text) whole)
 
 -- the tests before the words of instructions
@@ -90,7 +89,7 @@ outside w other text no' e stands = true_is_not_false (stands_in_modules w) (ap 
 align_is_word : (text : List ℕ) (m : Prefix ℕ) → align_at text ≡ Some m → m.length ≡ length text →
     SpellsWord (word.Align m.value) text
 align_is_word text m is whole =
-    let r = named_is_found (codes "align(") numeral_at SpellsNumber number_is_spelled text m is in
+    let r = align_is_found text m is in
     let inside = r.0 ++ codes ")" in
     let long = length-append inside r.1 in
     let none : length r.1 ≡ 0 = omega (arith, whole, r.3, ap length r.2, long, length-append r.0 (codes ")")) in

@@ -1,9 +1,8 @@
 -- What is read at the front of some bytes (PRM, Source Text Format).
 use Rattle.std.specs.Prelude.{ℕ, ◌+◌, ◌*◌, ◌^◌, List, [], ◌∷◌, ◌&&◌, ◌==◌, nat_lt, if◌then◌else◌, Option, Some, None, codes, length, drop}
 use Rattle.std.specs.Char.{is_digit, digit_value}
-use Rattle.std.specs.Option.{is_some, option_map}
 use Rattle.hsail_reader.specs.Spelling.{first_passes}
-use Rattle.hsail_reader.specs.Nouns.{Prefix, Width, All, Number, WaveSize}
+use Rattle.hsail_reader.specs.Nouns.{Prefix}
 
 -- the bytes behind this front, where it is their front
 abbrev pub behind : List ℕ → List ℕ → Option (List ℕ)
@@ -63,25 +62,10 @@ abbrev pub first_of : {A B : Type 0} → (A → List ℕ → Option B) → List 
 first_of read [] text = None
 first_of read (x ∷ others) text = or_else (read x text) (first_of read others text)
 
--- a name of five letters with its bracket, what stands behind that, and the other bracket
-abbrev pub bracketed_at : {X : Type 0} → List ℕ → (List ℕ → Option (Prefix X)) → List ℕ → Option (Prefix X)
-bracketed_at name inside_at bytes = do
-  inside ← behind name bytes
-  x ← inside_at inside
-  rest ← behind (codes ")") (drop x.length inside)
-  Some (spelled x.value (x.length + 7))
-
 -- align(n)
 abbrev pub align_at : List ℕ → Option (Prefix ℕ)
-align_at bytes = bracketed_at (codes "align(") numeral_at bytes
-
--- a number, `all` or `WAVESIZE`
-abbrev pub width_value_at : List ℕ → Option (Prefix Width)
-width_value_at bytes =
-    if is_some (behind (codes "all") bytes) then Some (spelled All 3)
-    else if is_some (behind (codes "WAVESIZE") bytes) then Some (spelled WaveSize 8)
-    else option_map (λ (n : Prefix ℕ). spelled (Number n.value) n.length) (numeral_at bytes)
-
--- width(w)
-abbrev pub width_at : List ℕ → Option (Prefix Width)
-width_at bytes = bracketed_at (codes "width(") width_value_at bytes
+align_at bytes = do
+  inside ← behind (codes "align(") bytes
+  n ← numeral_at inside
+  rest ← behind (codes ")") (drop n.length inside)
+  Some (spelled n.value (n.length + 7))

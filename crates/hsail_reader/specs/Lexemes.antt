@@ -3,9 +3,11 @@
 use Rattle.std.specs.Prelude.{ℕ, zero, suc, ◌+◌, ◌-◌, List, [], ◌∷◌, ◌==◌, if◌then◌else◌, Option, Some, None, codes, length, drop}
 use Rattle.std.specs.List.{prefix_len}
 use Rattle.std.specs.Option.{is_some, option_map}
-use Rattle.hsail_reader.specs.Bytes.{behind, closing_at, decimal_at, numeral_at, align_at, width_at, or_else, ◌>>=◌}
+use Rattle.hsail_reader.specs.Bytes.{behind, closing_at, decimal_at, numeral_at, align_at, or_else, ◌>>=◌}
+use Rattle.hsail_reader.specs.Rows.{bracketed_rows}
+use Rattle.hsail_reader.specs.Words.{modifier_among}
 use Rattle.hsail_reader.specs.Spelling.{first_passes, is_blank, is_mark, is_name_byte, is_name_start, is_not_line_feed}
-use Rattle.hsail_reader.specs.Nouns.{Header, HeaderName, Lexeme, LexemeKind, RegisterClass, Prefix, TokenKind, Width, Base, Blank, Comment, Control, Default, Double, Full, Large, Near, Single, Token, Zero}
+use Rattle.hsail_reader.specs.Nouns.{Header, HeaderName, Lexeme, LexemeKind, Modifier, RegisterClass, Prefix, TokenKind, Base, Blank, Comment, Control, Default, Double, Full, Large, Near, Single, Token, Zero}
 use Rattle.hsail_reader.specs.declared.token.TokenKind.TheVariants as token
 
 abbrev pub lexed : LexemeKind → ℕ → Lexeme
@@ -74,15 +76,13 @@ dollar_at bytes = or_else (register_at bytes) (header_among header_words bytes)
 abbrev pub number_at : List ℕ → Option Lexeme
 number_at bytes = option_map (λ (n : Prefix ℕ). lexed (Token (token.Number n.value)) n.length) (numeral_at bytes)
 
-abbrev pub length_of : Option (Prefix ℕ) → Option (Prefix Width) → ℕ
-length_of None None = 0
-length_of None (Some w) = w.length + 1
-length_of (Some n) w = n.length + 1
+abbrev pub length_of : ℕ → Option (Modifier × List ℕ) → ℕ
+length_of whole None = 0
+length_of whole (Some m) = whole - length m.1
 
--- how many bytes a modifier takes, `_align(n)` or `_width(w)`; 0 where none stands at the front
+-- how many bytes a modifier with brackets takes; 0 where none stands at the front
 abbrev pub modifier_length : List ℕ → ℕ
-modifier_length [] = 0
-modifier_length (b ∷ bytes) = if b == 95 then length_of (align_at bytes) (width_at bytes) else 0
+modifier_length bytes = length_of (length bytes) (modifier_among bracketed_rows bytes)
 
 -- how many bytes the next piece of a word takes: a modifier, or one byte of a name; 0 at its end
 abbrev pub piece_length : List ℕ → ℕ

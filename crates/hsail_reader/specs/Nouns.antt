@@ -18,6 +18,8 @@ pub use Rattle.hsail_reader.specs.declared.module.Rounding.{Rounding}
 pub use Rattle.hsail_reader.specs.declared.reading.Fields.{Fields}
 pub use Rattle.hsail_reader.specs.declared.rows.Form.{Form}
 pub use Rattle.hsail_reader.specs.declared.rows.KindAt.{KindAt}
+pub use Rattle.hsail_reader.specs.declared.rows.ModifierEnd.{ModifierEnd}
+pub use Rattle.hsail_reader.specs.declared.rows.ModifierRow.{ModifierRow}
 pub use Rattle.hsail_reader.specs.declared.rows.ModifierSet.{ModifierSet}
 pub use Rattle.hsail_reader.specs.declared.rows.Row.{Row}
 pub use Rattle.hsail_reader.specs.declared.rows.Shape.{Shape}
@@ -32,6 +34,7 @@ pub use Rattle.hsail_reader.specs.declared.token.TokenKind.{TokenKind}
 pub use Rattle.hsail_reader.specs.declared.types.Alignment.{Alignment}
 pub use Rattle.hsail_reader.specs.declared.types.Constant.{Constant}
 pub use Rattle.hsail_reader.specs.declared.types.DataType.{DataType}
+pub use Rattle.hsail_reader.specs.declared.types.Modifier.{Modifier}
 pub use Rattle.hsail_reader.specs.declared.types.Modifiers.{Modifiers}
 pub use Rattle.hsail_reader.specs.declared.types.Register.{Register}
 pub use Rattle.hsail_reader.specs.declared.types.RegisterClass.{RegisterClass}

@@ -1,10 +1,14 @@
--- The table of instructions (PRM, the chapters on instructions; which rows and types there are is (own)).
-use Rattle.std.specs.Prelude.{ℕ, List, [], ◌∷◌, Bool, true, ◌&&◌, codes, is_none}
-use Rattle.hsail_reader.specs.Nouns.{DataType, Form, KindAt, Modifiers, ModifierSet, Row, Shape, Shapes, TypeSet, Bit, Bits, BitsAndIntegers, Convertible, Integers, Memory, Unsigned32, Unsigned32And64, Untyped}
+-- The table of instructions (PRM, the chapters on instructions; which rows and types there are is (own)), and what
+-- its rows name.
+use Rattle.std.specs.Prelude.{ℕ, List, [], ◌∷◌, Bool, true, false, codes}
+use Rattle.hsail_reader.specs.Nouns.{DataType, Form, KindAt, Modifier, ModifierEnd, ModifierRow, Modifiers, ModifierSet, Row, Shape, Shapes, TypeSet, All, Number, WaveSize, Bit, Bits, BitsAndIntegers, Convertible, Integers, Memory, Unsigned32, Unsigned32And64, Untyped}
 use Rattle.hsail_reader.specs.declared.rows.Form.TheVariants as form
 use Rattle.hsail_reader.specs.declared.rows.KindAt.TheVariants.{Given, Own}
 use Rattle.hsail_reader.specs.declared.rows.Shape.TheVariants.{Absent as no, Address, Dimension, Label, Source, Target}
+use Rattle.hsail_reader.specs.declared.rows.ModifierEnd.TheVariants as end
 use Rattle.hsail_reader.specs.declared.rows.ModifierSet.TheVariants.{Align, AlignAndWidth, Plain, Width}
+use Rattle.hsail_reader.specs.declared.types.Modifier.TheVariants as modifier
+use Rattle.hsail_reader.specs.declared.types.Modifiers.TheVariants as modifiers
 use Rattle.hsail_reader.specs.declared.types.DataType.TheVariants as type
 use Rattle.hsail_reader.specs.declared.types.UnaryOperation.TheVariants as unary
 use Rattle.hsail_reader.specs.declared.types.BinaryOperation.TheVariants as binary
@@ -50,12 +54,49 @@ types_of Unsigned32 = type.U32 ∷ []
 types_of Unsigned32And64 = type.U32 ∷ type.U64 ∷ []
 types_of Untyped = []
 
--- whether a row takes these modifiers
+-- how a modifier is spelled: a text, and behind it nothing, or a number and `)`
+pub record ModifierSpelling : Type 0 where
+  pub text : List ℕ
+  pub end : ModifierEnd
+
+abbrev pub spelling : List ℕ → ModifierEnd → ModifierSpelling
+spelling text e = record { text = text; end = e }
+
+-- the modifier with this number in its brackets
+abbrev pub with_number : Modifier → ℕ → Modifier
+with_number (modifier.Align _) n = modifier.Align n
+with_number (modifier.Width _) n = modifier.Width (Number n)
+
+-- the modifiers with brackets (PRM, Width Modifier; Align Modifier): _align(n), and _width(n), _width(all) and
+-- _width(WAVESIZE); a word's lexeme has them inside or at its end
+abbrev pub bracketed_rows : List ModifierSpelling
+bracketed_rows =
+    spelling (codes "_align(") (end.Number (modifier.Align 0))
+    ∷ spelling (codes "_width(all)") (end.Whole (modifier.Width All))
+    ∷ spelling (codes "_width(WAVESIZE)") (end.Whole (modifier.Width WaveSize))
+    ∷ spelling (codes "_width(") (end.Number (modifier.Width (Number 0))) ∷ []
+
+-- all modifiers that an instruction's row may name
+abbrev pub modifier_rows : List ModifierSpelling
+modifier_rows = bracketed_rows
+
+-- a row of the code's table of modifiers, with its text as bytes
+abbrev pub modifier_view : ModifierRow → ModifierSpelling
+modifier_view r = spelling r.0.now r.1
+
+-- whether a row takes these modifiers, in their order: each at most once, and no others
 abbrev pub allows : ModifierSet → Modifiers → Bool
-allows Plain m = is_none m.align && is_none m.width
-allows Align m = is_none m.width
-allows Width m = is_none m.align
-allows AlignAndWidth m = true
+allows Plain modifiers.Plain = true
+allows Align modifiers.Plain = true
+allows Align (modifiers.One (modifier.Align n)) = true
+allows Width modifiers.Plain = true
+allows Width (modifiers.One (modifier.Width w)) = true
+allows AlignAndWidth modifiers.Plain = true
+allows AlignAndWidth (modifiers.One (modifier.Align n)) = true
+allows AlignAndWidth (modifiers.One (modifier.Width w)) = true
+allows AlignAndWidth (modifiers.Two (modifier.Align n) (modifier.Width w)) = true
+allows AlignAndWidth (modifiers.Two (modifier.Width w) (modifier.Align n)) = true
+allows _ _ = false
 
 -- the type at a place: that of the word, or the row's
 abbrev pub kind_at : KindAt → DataType → DataType

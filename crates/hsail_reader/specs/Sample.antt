@@ -1,5 +1,5 @@
 -- A text and the module that it spells (own).
-use Rattle.std.specs.Prelude.{ℕ, List, [], ◌∷◌, Some, None, codes}
+use Rattle.std.specs.Prelude.{ℕ, List, [], ◌∷◌, None, codes}
 use Rattle.hsail_reader.specs.declared.module.Address.TheVariants as addresses
 use Rattle.hsail_reader.specs.Nouns.{Argument, Item, Kernel, Module}
 use Rattle.hsail_reader.specs.declared.module.Item.TheVariants as items
@@ -8,6 +8,8 @@ use Rattle.hsail_reader.specs.declared.module.Profile.TheVariants as profiles
 use Rattle.hsail_reader.specs.declared.module.Rounding.TheVariants as roundings
 use Rattle.hsail_reader.specs.declared.rows.Form.TheVariants as forms
 use Rattle.hsail_reader.specs.declared.types.DataType.TheVariants as types
+use Rattle.hsail_reader.specs.declared.types.Modifier.TheVariants as modifier
+use Rattle.hsail_reader.specs.declared.types.Modifiers.TheVariants as modifiers
 use Rattle.hsail_reader.specs.declared.types.RegisterClass.TheVariants as classes
 use Rattle.hsail_reader.specs.declared.types.Segment.TheVariants as segments
 
@@ -23,7 +25,7 @@ sample_item = items.Instruction (record {
   line = 4;
   operation = record {
     form = forms.Load;
-    modifiers = record { align = Some 8; width = None };
+    modifiers = modifiers.One (modifier.Align 8);
     kind = types.U64;
     operands = record {
       first = operand.Target (record { kind = types.U64; register = record { class = classes.Double; number = 0 } });

@@ -1,17 +1,17 @@
 -- Which whole texts are words: names with modifiers inside or at their end, and align(n)
 -- (PRM, Source Text Format; that modifiers belong to a word is (own)).
-use Rattle.std.specs.Prelude.{◌≡◌, ℕ, ◌⊎◌, List, [], ◌∷◌, ◌++◌, true, codes}
+use Rattle.std.specs.Prelude.{◌≡◌, ℕ, ◌⊎◌, List, [], ◌∷◌, ◌++◌, true}
 use Rattle.hsail_reader.specs.Spelling.{is_name_byte, is_name_start}
-use Rattle.hsail_reader.specs.WordSpelling.{SpellsNamed, SpellsNumber, SpellsAlign, SpellsWidth}
-use Rattle.hsail_reader.specs.Nouns.{Width}
+use Rattle.hsail_reader.specs.Rows.{bracketed_rows}
+use Rattle.hsail_reader.specs.WordSpelling.{SpellsAlign, SpellsModifier}
+use Rattle.hsail_reader.specs.Nouns.{Modifier}
 
--- align(n)
 abbrev pub IsAlign : List ℕ → Type 0
-IsAlign text = (n : ℕ) × SpellsNamed (codes "align(") SpellsNumber n text
+IsAlign text = (n : ℕ) × SpellsAlign n text
 
--- _align(n) or _width(w)
+-- a modifier with brackets
 abbrev pub IsModifier : List ℕ → Type 0
-IsModifier text = ((n : ℕ) × SpellsAlign n text) ⊎ ((w : Width) × SpellsWidth w text)
+IsModifier text = (m : Modifier) × SpellsModifier bracketed_rows m text
 
 -- the parts of a name behind its first byte: its bytes, and modifiers between them
 pub data ArePieces : List ℕ → Type 0 where

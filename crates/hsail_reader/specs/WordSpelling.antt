@@ -1,12 +1,14 @@
 -- How words are spelled: `module`, `prog` and `kernel`, align(n), `kernarg_` and a type; and of an
 -- instruction the stem of its row, the modifiers that its row allows, and a type of its row's where it has
 -- any (PRM, HSAIL Syntax and Semantics; the places of the modifiers are (own)).
-use Rattle.std.specs.Prelude.{◌≡◌, ℕ, ◌^◌, ◌<◌, ◌⊎◌, List, [], ◌++◌, Bool, true, false, Option, Some, None, codes}
+use Rattle.std.specs.Prelude.{◌≡◌, ℕ, ◌^◌, ◌<◌, ◌⊎◌, List, [], ◌++◌, Bool, true, false, codes}
 use Rattle.std.specs.List.{Contains}
 use Rattle.std.specs.Str.Parse.{digits_value}
-use Rattle.hsail_reader.specs.Rows.{InstructionRow, allows, rows, types_of, type_name}
+use Rattle.hsail_reader.specs.Rows.{InstructionRow, ModifierSpelling, allows, modifier_rows, rows, types_of, type_name, with_number}
 use Rattle.hsail_reader.specs.Spelling.{IsDecimal, IsHexadecimal}
-use Rattle.hsail_reader.specs.Nouns.{DataType, Modifiers, Opcode, TypeSet, Width, Word, All, B1, Memory, Number, Untyped, WaveSize}
+use Rattle.hsail_reader.specs.Nouns.{DataType, Modifier, ModifierEnd, Modifiers, Opcode, TypeSet, Word, B1, Memory, Untyped}
+use Rattle.hsail_reader.specs.declared.rows.ModifierEnd.TheVariants as end
+use Rattle.hsail_reader.specs.declared.types.Modifiers.TheVariants as modifiers
 use Rattle.hsail_reader.specs.declared.words.Word.TheVariants as word
 
 -- a decimal number that is n
@@ -22,35 +24,28 @@ SpellsHexadecimal n text =
 abbrev pub SpellsNumber : ℕ → List ℕ → Type 0
 SpellsNumber n text = (n < 2 ^ 64) × (SpellsDecimal n text ⊎ SpellsHexadecimal n text)
 
--- a name with its bracket, an x and the other bracket
-abbrev pub SpellsNamed : {X : Type 0} → List ℕ → (X → List ℕ → Type 0) → X → List ℕ → Type 0
-SpellsNamed name Spells x text =
-    (inside : List ℕ) × (text ≡ name ++ (inside ++ codes ")")) × Spells x inside
-
--- n, all or WAVESIZE
-abbrev pub SpellsWidthValue : Width → List ℕ → Type 0
-SpellsWidthValue (Number n) text = SpellsNumber n text
-SpellsWidthValue All text = text ≡ codes "all"
-SpellsWidthValue WaveSize text = text ≡ codes "WAVESIZE"
-
--- _align(n)
+-- align(n)
 abbrev pub SpellsAlign : ℕ → List ℕ → Type 0
-SpellsAlign n text = SpellsNamed (codes "_align(") SpellsNumber n text
+SpellsAlign n text = (inside : List ℕ) × (text ≡ codes "align(" ++ (inside ++ codes ")")) × SpellsNumber n inside
 
--- _width(n), _width(all) and _width(WAVESIZE)
-abbrev pub SpellsWidth : Width → List ℕ → Type 0
-SpellsWidth w text = SpellsNamed (codes "_width(") SpellsWidthValue w text
+-- behind the text of a modifier's row: nothing, or a number and the other bracket
+abbrev pub SpellsEnd : ModifierEnd → Modifier → List ℕ → Type 0
+SpellsEnd (end.Whole m) x text = (text ≡ []) × (x ≡ m)
+SpellsEnd (end.Number k) x text =
+    (n : ℕ) × (number : List ℕ) × (text ≡ number ++ codes ")") × SpellsNumber n number × (x ≡ with_number k n)
 
--- an x, or nothing
-abbrev pub SpellsMaybe : {X : Type 0} → (X → List ℕ → Type 0) → Option X → List ℕ → Type 0
-SpellsMaybe Spells None text = text ≡ []
-SpellsMaybe Spells (Some x) text = Spells x text
+-- a modifier, as one of some rows spells it
+abbrev pub SpellsModifier : List ModifierSpelling → Modifier → List ℕ → Type 0
+SpellsModifier rows m text =
+    (row : ModifierSpelling) × (rest : List ℕ) × Contains rows row × (text ≡ row.text ++ rest) × SpellsEnd row.end m rest
 
--- both modifiers, each of which may be absent, in either order
+-- modifiers, one behind the other
 abbrev pub SpellsModifiers : Modifiers → List ℕ → Type 0
-SpellsModifiers m text =
-    (align : List ℕ) × (width : List ℕ) × ((text ≡ align ++ width) ⊎ (text ≡ width ++ align))
-    × SpellsMaybe SpellsAlign m.align align × SpellsMaybe SpellsWidth m.width width
+SpellsModifiers modifiers.Plain text = text ≡ []
+SpellsModifiers (modifiers.One m) text = SpellsModifier modifier_rows m text
+SpellsModifiers (modifiers.Two m n) text =
+    (first : List ℕ) × (second : List ℕ) × (text ≡ first ++ second)
+    × SpellsModifier modifier_rows m first × SpellsModifier modifier_rows n second
 
 -- `_` and a type of the set; or nothing, where there are no types, and b1 for it
 abbrev pub SpellsType : TypeSet → DataType → List ℕ → Type 0
@@ -76,7 +71,7 @@ abbrev pub SpellsWord : Word → List ℕ → Type 0
 SpellsWord word.Module text = text ≡ codes "module"
 SpellsWord word.Prog text = text ≡ codes "prog"
 SpellsWord word.Kernel text = text ≡ codes "kernel"
-SpellsWord (word.Align n) text = SpellsNamed (codes "align(") SpellsNumber n text
+SpellsWord (word.Align n) text = SpellsAlign n text
 SpellsWord (word.Argument t) text = (text ≡ codes "kernarg_" ++ type_name t) × Contains (types_of Memory) t
 SpellsWord (word.Instruction code) text = SpellsOpcode code text
 SpellsWord word.Outside text = ⊥

@@ -2,9 +2,11 @@
 -- What spells each word stands in `WordSpelling`.
 use Rattle.std.specs.Prelude.{ℕ, List, [], ◌∷◌, Bool, true, false, ◌==◌, if◌then◌else◌, Option, Some, None, codes, drop, is_some, length}
 use Rattle.std.specs.Option.{option_map}
-use Rattle.hsail_reader.specs.Bytes.{behind, first_of, align_at, width_at, ◌>>=◌}
-use Rattle.hsail_reader.specs.Rows.{InstructionRow, allows, rows, types_of, type_name}
-use Rattle.hsail_reader.specs.Nouns.{Alignment, DataType, Form, Modifiers, Opcode, Prefix, Shapes, TypeSet, Width, Word, B1, Eight, Four, Memory, One, Sixteen, Two, Untyped}
+use Rattle.hsail_reader.specs.Bytes.{behind, first_of, align_at, numeral_at, ◌>>=◌}
+use Rattle.hsail_reader.specs.Rows.{InstructionRow, ModifierSpelling, allows, modifier_rows, rows, types_of, type_name, with_number}
+use Rattle.hsail_reader.specs.Nouns.{Alignment, DataType, Form, Modifier, ModifierEnd, Modifiers, Opcode, Prefix, Shapes, TypeSet, Word, B1, Eight, Four, Memory, One, Sixteen, Two, Untyped}
+use Rattle.hsail_reader.specs.declared.rows.ModifierEnd.TheVariants as end
+use Rattle.hsail_reader.specs.declared.types.Modifiers.TheVariants as modifiers
 use Rattle.hsail_reader.specs.declared.words.Word.TheVariants as word
 
 -- nothing stands behind
@@ -25,27 +27,37 @@ abbrev pub type_at : TypeSet → List ℕ → Option DataType
 type_at Untyped [] = Some B1
 type_at set bytes = behind (codes "_") bytes >>= type_among (types_of set)
 
--- a modifier at the front, `_` and its name with brackets, if it stands there; and what stands behind it
-abbrev pub part_behind : {X : Type 0} → Option (Prefix X) → List ℕ → List ℕ → Option X × List ℕ
-part_behind None inside bytes = (None, bytes)
-part_behind (Some x) inside bytes = (Some x.value, drop x.length inside)
+-- the bracket behind a number, and the modifier with that number
+abbrev pub closed_at : Modifier → List ℕ → Prefix ℕ → Option (Modifier × List ℕ)
+closed_at k rest n = option_map (λ after. (with_number k n.value, after)) (behind (codes ")") (drop n.length rest))
 
-abbrev pub part_at : {X : Type 0} → (List ℕ → Option (Prefix X)) → List ℕ → Option X × List ℕ
-part_at named_at [] = (None, [])
-part_at named_at (b ∷ bytes) =
-    if b == 95 then part_behind (named_at bytes) bytes (b ∷ bytes) else (None, b ∷ bytes)
+-- what stands behind the text of a modifier's row, and what stands behind the modifier
+abbrev pub ended_at : ModifierEnd → List ℕ → Option (Modifier × List ℕ)
+ended_at (end.Whole m) rest = Some (m, rest)
+ended_at (end.Number k) rest = numeral_at rest >>= closed_at k rest
 
-abbrev pub modifiers : Option ℕ → Option Width → Modifiers
-modifiers align width = record { align = align; width = width }
+-- a modifier at the front as a row of the table spells it
+abbrev pub modifier_by : ModifierSpelling → List ℕ → Option (Modifier × List ℕ)
+modifier_by row bytes = behind row.text bytes >>= ended_at row.end
 
--- the modifiers at the front, each at most once and in either order, and what stands behind them
-abbrev pub modifiers_behind : Option ℕ × List ℕ → Option Width × List ℕ → Modifiers × List ℕ
-modifiers_behind a w =
-    if is_some a.0 then (modifiers a.0 w.0, w.1)
-    else (modifiers (part_at align_at w.1).0 w.0, (part_at align_at w.1).1)
+abbrev pub modifier_among : List ModifierSpelling → List ℕ → Option (Modifier × List ℕ)
+modifier_among spellings bytes = first_of modifier_by spellings bytes
 
+-- a modifier at the front, if one stands there, and what stands behind it
+abbrev pub modifier_at : List ℕ → Option (Modifier × List ℕ)
+modifier_at bytes = modifier_among modifier_rows bytes
+
+abbrev pub second_behind : Modifier → Option (Modifier × List ℕ) → List ℕ → Modifiers × List ℕ
+second_behind first None rest = (modifiers.One first, rest)
+second_behind first (Some second) rest = (modifiers.Two first second.0, second.1)
+
+abbrev pub first_behind : Option (Modifier × List ℕ) → List ℕ → Modifiers × List ℕ
+first_behind None bytes = (modifiers.Plain, bytes)
+first_behind (Some first) bytes = second_behind first.0 (modifier_at first.1) first.1
+
+-- the modifiers at the front, two at most, and what stands behind them
 abbrev pub modifiers_at : List ℕ → Modifiers × List ℕ
-modifiers_at bytes = modifiers_behind (part_at align_at bytes) (part_at width_at (part_at align_at bytes).1)
+modifiers_at bytes = first_behind (modifier_at bytes) bytes
 
 abbrev pub opcode : Form → Shapes → Modifiers → DataType → Opcode
 opcode form operands modifiers kind =

@@ -4,12 +4,14 @@ ghost use Rattle.std.specs.Prelude.{◌≡◌, ◌+◌, ◌<◌, ◌≤◌, leng
 ghost use Rattle.hsail_reader.specs.Lexemes.{comment_at, name_at, class_at, register_at, header_words, header_view, header_among, dollar_at, number_at, modifier_length, piece_length, pieces_length, word_at, lexeme_at};
 ghost use Rattle.hsail_reader.specs.Spelling.{is_blank, is_mark};
 
+use crate::rows::bracketed_table;
 use crate::scan::{
     align, closing, continues_name, decimal, has_name, line_run, name_run, number, starts_name,
-    strip, width,
+    strip,
 };
 use crate::token::{Header, HeaderName, Lexeme, LexemeKind, TokenKind};
 use crate::types::{Register, RegisterClass};
+use crate::words::modifier_of;
 
 fn header_names() -> &'static [HeaderName]
     ensures { map header_view result.now ≡ header_words }
@@ -117,20 +119,14 @@ fn numeral(bytes: &[u8]) -> Option<Lexeme>
     Some(Lexeme::new(kind, number.length))
 }
 
-/// How many bytes the modifier at the front takes, or 0.
+/// How many bytes the modifier with brackets at the front takes, or 0.
 fn modifier(bytes: &[u8]) -> usize
     ensures value { result ≡ modifier_length bytes.now }
     ensures bound { result ≤ length bytes.now }
 {
-    let [b'_', inside @ ..] = bytes else {
-        return 0;
-    };
-    match align(inside) {
-        Some(align) => align.length + 1,
-        None => match width(inside) {
-            Some(width) => width.length + 1,
-            None => 0,
-        },
+    match modifier_of(bracketed_table(), bytes) {
+        Some((_, rest)) => bytes.len() - rest.len(),
+        None => 0,
     }
 }
 

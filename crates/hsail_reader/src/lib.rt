@@ -29,6 +29,6 @@ pub use module::{
 pub use reading::read_module;
 pub use rows::Form;
 pub use types::{
-    Alignment, BinaryOperation, Comparison, Constant, DataType, Modifiers, Query, Register,
-    RegisterClass, Segment, Source, TernaryOperation, UnaryOperation, Width,
+    Alignment, BinaryOperation, Comparison, Constant, DataType, Modifier, Modifiers, Query,
+    Register, RegisterClass, Segment, Source, TernaryOperation, UnaryOperation, Width,
 };

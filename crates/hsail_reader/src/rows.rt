@@ -1,5 +1,5 @@
 ghost use Rattle.std.specs.Prelude.{◌≡◌, map};
-ghost use Rattle.hsail_reader.specs.Rows.{kind_at, row_view, rows, types_of, type_name};
+ghost use Rattle.hsail_reader.specs.Rows.{allows, bracketed_rows, kind_at, modifier_rows, modifier_view, row_view, rows, types_of, type_name};
 
 use crate::types::BinaryOperation::{
     Add, And, Compare, Divide, Maximum, Minimum, Multiply, Or, Remainder, ShiftLeft, ShiftRight,
@@ -7,15 +7,21 @@ use crate::types::BinaryOperation::{
 };
 use crate::types::Comparison::{Equal, Greater, GreaterOrEqual, Less, LessOrEqual, NotEqual};
 use crate::types::DataType::{B1, B8, B16, B32, B64, S8, S16, S32, S64, U8, U16, U32, U64};
+use crate::types::Modifiers::{One, Two};
 use crate::types::Query::{
     CurrentWorkGroupSize, GridSize, WorkGroupId, WorkGroupSize, WorkItemAbsoluteId, WorkItemId,
 };
 use crate::types::Segment::{Global, Kernarg};
 use crate::types::TernaryOperation::{ConditionalMove, MultiplyAdd};
 use crate::types::UnaryOperation::{Convert, Move, Not};
-use crate::types::{BinaryOperation, DataType, Query, Segment, TernaryOperation, UnaryOperation};
+use crate::types::Width::{All, Number as WithNumber, WaveSize};
+use crate::types::{
+    BinaryOperation, DataType, Modifier, Modifiers, Query, Segment, TernaryOperation,
+    UnaryOperation,
+};
 use Form::{Binary, Branch, ConditionalBranch, Identify, Load, Return, Store, Ternary, Unary};
 use KindAt::{Given, Own};
+use ModifierEnd::{Number, Whole};
 use ModifierSet::{Align, AlignAndWidth, Plain, Width};
 use Shape::{Absent as NO, Address, Dimension, Label, Source, Target};
 use TypeSet::{
@@ -87,6 +93,28 @@ pub enum ModifierSet {
     /// both, in either order
     AlignAndWidth,
 }
+
+/// What stands behind the text of a modifier's row.
+#[derive(Clone, Copy)]
+pub enum ModifierEnd {
+    /// nothing: the text stands for this modifier
+    Whole(Modifier),
+    /// a number and the closing bracket, which give this modifier its number
+    Number(Modifier),
+}
+
+/// How a modifier is spelled: a text, and what stands behind it.
+#[derive(Clone, Copy)]
+pub struct ModifierRow(pub &'static str, pub ModifierEnd);
+
+/// The table of modifiers, those with brackets: a word's lexeme has them inside or at its end. A text that
+/// begins with another's stands before it.
+const MODIFIERS: [ModifierRow; 4] = [
+    ModifierRow("_align(", Number(Modifier::Align(0))),
+    ModifierRow("_width(all)", Whole(Modifier::Width(All))),
+    ModifierRow("_width(WAVESIZE)", Whole(Modifier::Width(WaveSize))),
+    ModifierRow("_width(", Number(Modifier::Width(WithNumber(0)))),
+];
 
 /// Types that a row takes.
 #[derive(Clone, Copy)]
@@ -181,6 +209,38 @@ const ROWS: [Row; 43] = rows! {
     "workitemabsid", Plain, Unsigned32And64, Identify(WorkItemAbsoluteId), D, Dimension, NO, NO;
     "gridsize", Plain, Unsigned32And64, Identify(GridSize), D, Dimension, NO, NO;
 };
+
+/// The rows of the modifiers with brackets.
+pub fn bracketed_table() -> &'static [ModifierRow]
+    ensures { map modifier_view result.now ≡ bracketed_rows }
+{
+    &MODIFIERS
+}
+
+/// The rows of all modifiers.
+pub fn modifier_table() -> &'static [ModifierRow]
+    ensures { map modifier_view result.now ≡ modifier_rows }
+{
+    &MODIFIERS
+}
+
+/// Whether a row takes these modifiers.
+pub fn allowed(set: ModifierSet, modifiers: Modifiers) -> bool
+    ensures { result ≡ allows set modifiers }
+{
+    match set {
+        ModifierSet::Plain => matches!(modifiers, Modifiers::Plain),
+        ModifierSet::Align => matches!(modifiers, Modifiers::Plain | One(Modifier::Align(_))),
+        ModifierSet::Width => matches!(modifiers, Modifiers::Plain | One(Modifier::Width(_))),
+        ModifierSet::AlignAndWidth => matches!(
+            modifiers,
+            Modifiers::Plain
+                | One(Modifier::Align(_) | Modifier::Width(_))
+                | Two(Modifier::Align(_), Modifier::Width(_))
+                | Two(Modifier::Width(_), Modifier::Align(_))
+        ),
+    }
+}
 
 /// The rows of the table.
 pub fn table() -> &'static [Row]

@@ -4,11 +4,10 @@ ghost use Rattle.std.specs.Prelude.{◌≡◌, ◌+◌, ◌<◌, ◌≤◌, leng
 ghost use Rattle.std.specs.List.{prefix_len};
 ghost use Rattle.std.specs.Char.{is_digit};
 ghost use Rattle.std.specs.Option.{option_copied};
-ghost use Rattle.hsail_reader.specs.Bytes.{behind, closing_at, digits_at, decimal_at, numeral_at, align_at, width_value_at, width_at};
+ghost use Rattle.hsail_reader.specs.Bytes.{behind, closing_at, digits_at, decimal_at, numeral_at, align_at};
 ghost use Rattle.hsail_reader.specs.Spelling.{first_passes, is_name_byte, is_name_start, is_not_line_feed};
 
 use crate::token::Prefix;
-use crate::types::Width;
 
 /// Whether a byte may begin a name: a letter or `_`.
 pub fn starts_name(byte: u8) -> bool
@@ -157,30 +156,4 @@ pub fn align(bytes: &[u8]) -> Option<Prefix<u64>>
     let number = number(inside)?;
     strip(b")", inside.split_at(number.length).1)?;
     Some(Prefix::new(number.value, number.length + 7))
-}
-
-/// A number, `all` or `WAVESIZE` at the front.
-fn width_value(bytes: &[u8]) -> Option<Prefix<Width>>
-    ensures value { result ≡ width_value_at bytes.now }
-    ensures bound { IfSome result (λ w. w.length ≤ length bytes.now) }
-{
-    if strip(b"all", bytes).is_some() {
-        return Some(Prefix::new(Width::All, 3));
-    }
-    if strip(b"WAVESIZE", bytes).is_some() {
-        return Some(Prefix::new(Width::WaveSize, 8));
-    }
-    let number = number(bytes)?;
-    Some(Prefix::new(Width::Number(number.value), number.length))
-}
-
-/// `width(n)`, `width(all)` or `width(WAVESIZE)` at the front.
-pub fn width(bytes: &[u8]) -> Option<Prefix<Width>>
-    ensures value { result ≡ width_at bytes.now }
-    ensures bound { IfSome result (λ w. w.length ≤ length bytes.now) }
-{
-    let inside = strip(b"width(", bytes)?;
-    let value = width_value(inside)?;
-    strip(b")", inside.split_at(value.length).1)?;
-    Some(Prefix::new(value.value, value.length + 7))
 }

@@ -1,4 +1,5 @@
 ghost use Rattle.std.specs.Prelude.{◌≡◌};
+ghost use Rattle.hsail_reader.specs.Rows.{with_number};
 ghost use Rattle.hsail_reader.specs.Types.{type_bits, type_class, alignment_bytes};
 
 /// The data type of an operation or a variable: bits, unsigned or signed, of so many bits
@@ -116,11 +117,33 @@ pub enum Width {
     WaveSize,
 }
 
-/// The modifiers of an operation, each where it stands (PRM, Operations). None has an effect (own).
-#[derive(Clone, Copy, Debug, PartialEq, Eq)]
-pub struct Modifiers {
-    pub align: Option<u64>,
-    pub width: Option<Width>,
+/// A modifier of an operation (PRM, Operations). None has an effect (own).
+#[derive(Clone, Copy)]
+pub enum Modifier {
+    /// `_align(n)`
+    Align(u64),
+    /// `_width(w)`
+    Width(Width),
+}
+
+impl Modifier {
+    /// The modifier with a number in its brackets.
+    pub fn with_number(self, number: u64) -> Modifier
+        ensures { result ≡ with_number self number }
+    {
+        match self {
+            Modifier::Align(_) => Modifier::Align(number),
+            Modifier::Width(_) => Modifier::Width(Width::Number(number)),
+        }
+    }
+}
+
+/// The modifiers of an operation, in the order of the text: two at most.
+#[derive(Clone, Copy)]
+pub enum Modifiers {
+    Plain,
+    One(Modifier),
+    Two(Modifier, Modifier),
 }
 
 /// The operations `d, a`.

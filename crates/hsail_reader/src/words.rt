@@ -1,13 +1,16 @@
 //! What a word is: the rows' spellings, with types and modifiers.
 
-ghost use Rattle.std.specs.Prelude.{◌≡◌};
-ghost use Rattle.hsail_reader.specs.Bytes.{align_at, width_at};
-ghost use Rattle.hsail_reader.specs.Rows.{allows, row_view};
-ghost use Rattle.hsail_reader.specs.Words.{is_spelled, type_among, type_at, part_at, modifiers_at, opcode_at, instruction_at, alignment_of, word_of};
+ghost use Rattle.std.specs.Prelude.{◌≡◌, ◌≤◌, IfSome, length, map};
+ghost use Rattle.std.specs.Option.{option_map};
+ghost use Rattle.hsail_reader.specs.Rows.{modifier_view, row_view};
+ghost use Rattle.hsail_reader.specs.Words.{is_spelled, type_among, type_at, ended_at, modifier_among, modifiers_at, opcode_at, instruction_at, alignment_of, word_of};
 
-use crate::rows::{Form, ModifierSet, Row, Shapes, TypeSet, spelling, table, types};
-use crate::scan::{align, strip, width};
-use crate::types::{Alignment, DataType, Modifiers, Width};
+use crate::rows::{
+    Form, ModifierEnd, ModifierRow, Row, Shapes, TypeSet, allowed, modifier_table, spelling, table,
+    types,
+};
+use crate::scan::{align, number, strip};
+use crate::types::{Alignment, DataType, Modifier, Modifiers};
 
 /// What a word is.
 #[derive(Clone, Copy)]
@@ -68,55 +71,49 @@ fn kind(set: TypeSet, bytes: &[u8]) -> Option<DataType>
     }
 }
 
-/// `_align(n)` at the front, if it stands there, and what stands behind it.
-fn alignment(bytes: &[u8]) -> (Option<u64>, &[u8])
-    ensures { (result.0, result.1.now) ≡ part_at align_at bytes.now }
+/// What stands behind the text of a modifier's row, and what stands behind the modifier.
+fn ended(end: ModifierEnd, rest: &[u8]) -> Option<(Modifier, &[u8])>
+    ensures value { option_map (λ x. (x.0, x.1.now)) result ≡ ended_at end rest.now }
+    ensures bound { IfSome result (λ x. length x.1.now ≤ length rest.now) }
 {
-    let [b'_', inside @ ..] = bytes else {
-        return (None, bytes);
-    };
-    match align(inside) {
-        Some(found) => (Some(found.value), inside.split_at(found.length).1),
-        None => (None, bytes),
+    match end {
+        ModifierEnd::Whole(modifier) => Some((modifier, rest)),
+        ModifierEnd::Number(modifier) => {
+            let found = number(rest)?;
+            let after = strip(b")", rest.split_at(found.length).1)?;
+            Some((modifier.with_number(found.value), after))
+        }
     }
 }
 
-/// `_width(w)` at the front, if it stands there, and what stands behind it.
-fn widening(bytes: &[u8]) -> (Option<Width>, &[u8])
-    ensures { (result.0, result.1.now) ≡ part_at width_at bytes.now }
+/// A modifier at the front, by the first of some rows that spells it, and what stands behind it.
+pub fn modifier_of<'a>(rows: &[ModifierRow], bytes: &'a [u8]) -> Option<(Modifier, &'a [u8])>
+    ensures value { option_map (λ x. (x.0, x.1.now)) result ≡ modifier_among (map modifier_view rows.now) bytes.now }
+    ensures bound { IfSome result (λ x. length x.1.now ≤ length bytes.now) }
 {
-    let [b'_', inside @ ..] = bytes else {
-        return (None, bytes);
-    };
-    match width(inside) {
-        Some(found) => (Some(found.value), inside.split_at(found.length).1),
-        None => (None, bytes),
+    let mut rest = rows;
+    while let [row, others @ ..] = rest {
+        if let Some(inside) = strip(row.0.as_bytes(), bytes) {
+            if let Some(found) = ended(row.1, inside) {
+                return Some(found);
+            }
+        }
+        rest = others;
     }
+    None
 }
 
-/// The modifiers at the front, each at most once and in either order, and what stands behind them.
+/// The modifiers at the front, two at most, and what stands behind them.
 fn modifiers(bytes: &[u8]) -> (Modifiers, &[u8])
     ensures { (result.0, result.1.now) ≡ modifiers_at bytes.now }
 {
-    let (before, rest) = alignment(bytes);
-    let (width, rest) = widening(rest);
-    if before.is_some() {
-        let align = before;
-        return (Modifiers { align, width }, rest);
-    }
-    let (align, rest) = alignment(rest);
-    (Modifiers { align, width }, rest)
-}
-
-/// Whether a row takes these modifiers.
-fn allowed(set: ModifierSet, modifiers: Modifiers) -> bool
-    ensures { result ≡ allows set modifiers }
-{
-    match set {
-        ModifierSet::Plain => modifiers.align.is_none() && modifiers.width.is_none(),
-        ModifierSet::Align => modifiers.width.is_none(),
-        ModifierSet::Width => modifiers.align.is_none(),
-        ModifierSet::AlignAndWidth => true,
+    let rows = modifier_table();
+    let Some((first, rest)) = modifier_of(rows, bytes) else {
+        return (Modifiers::Plain, bytes);
+    };
+    match modifier_of(rows, rest) {
+        Some((second, rest)) => (Modifiers::Two(first, second), rest),
+        None => (Modifiers::One(first), rest),
     }
 }
 

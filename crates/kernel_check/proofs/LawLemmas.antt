@@ -1,5 +1,5 @@
 -- The laws of the check.
-use Rattle.std.proofs.Common.{◌≡◌, ℕ, Bool, true, false, ◌||◌, is_none, nat_le, List, [], ◌∷◌, Option, Some, None, unwrap_or, if◌then◌else◌, arith, refl, ap, subst}
+use Rattle.std.proofs.Common.{◌≡◌, ℕ, Bool, true, false, not, ◌||◌, is_none, nat_le, List, [], ◌∷◌, Option, Some, None, unwrap_or, if◌then◌else◌, arith, refl, ap, subst}
 use Rattle.std.specs.List.{All}
 use Rattle.std.proofs.lemmas.Bool.Decides.{nat_tests}
 use Rattle.std.proofs.lemmas.List.Elements.{All-nil, All-cons}
@@ -12,19 +12,21 @@ use Rattle.hsail_reader.specs.declared.module.Place.{Place}
 use Rattle.hsail_reader.specs.declared.module.Place.TheVariants as place
 use Rattle.hsail_reader.specs.declared.types.DataType.{DataType}
 use Rattle.hsail_reader.specs.declared.types.Register.{Register}
-use Rattle.hsail_reader.specs.declared.types.Segment.{Segment}
-use Rattle.hsail_reader.specs.declared.types.Segment.TheVariants as segment
+use Rattle.kernel_check.specs.declared.step.AddressForms.{AddressForms}
+use Rattle.hsail_reader.specs.declared.types.RegisterClass.{RegisterClass}
+use Rattle.hsail_reader.specs.declared.types.RegisterClass.TheVariants as class
 use Rattle.hsail_reader.specs.declared.types.Source.{Source}
 use Rattle.hsail_reader.specs.declared.types.Source.TheVariants as source
-use Rattle.kernel_check.specs.Causes.{instruction_fails, misses_label, misses_argument, names_unknown, is_bad, has_bad_address}
+use Rattle.kernel_check.specs.Causes.{instruction_fails, misses_label, misses_argument, names_unknown, is_bad_place, is_bad_form, has_bad_address}
 use Rattle.kernel_check.specs.Faults.{Checkpoint, first_fault, fault_or, least_cause, first_cause}
-use Rattle.kernel_check.specs.Laws.{IsFirst, IsEarliest, IsKept, IsKeptSource, IsKeptPlace, IsGlobal, IsArgument, IsReached, IsFaithfulOperand, IsFaithful}
-use Rattle.kernel_check.specs.Operands.{is_far, is_far_address, is_far_place, is_over, is_over_source, any_operand}
+use Rattle.kernel_check.specs.Laws.{IsFirst, IsEarliest, IsKept, IsKeptSource, IsPlace, IsReached, IsFaithfulOperand, IsFaithful}
+use Rattle.kernel_check.specs.Operands.{is_same_class, is_far, is_far_address, is_far_place, is_over, is_over_source, any_operand}
+use Rattle.kernel_check.specs.Steps.{forms_of}
 use Rattle.kernel_check.specs.declared.fault.Cause.{Cause}
 use Rattle.kernel_check.specs.declared.fault.Cause.TheVariants as cause
 use Rattle.kernel_check.specs.declared.fault.CheckFault.{CheckFault}
 use Rattle.kernel_check.specs.declared.layout.Placed.{Placed}
-use Rattle.kernel_check.proofs.SoundLemmas.{none_fails, no_fault, four}
+use Rattle.kernel_check.proofs.SoundLemmas.{none_fails, no_fault, four, second_false}
 
 -- where a fault is told, its item is the first that fails
 earliest_at : (line : ℕ) (c : Option Cause) (later : List Checkpoint) (f : CheckFault) → fault_or line c (first_fault later) ≡ Some f
@@ -58,10 +60,6 @@ all_pass (c ∷ later) e =
     let p = no_fault c.line c.cause (first_fault later) e in
     All-cons (λ (c : Checkpoint). c.cause ≡ None) c later p.0 (all_pass later p.1)
 
-second_false : (a b : Bool) → (a || b) ≡ false → b ≡ false
-second_false true b e = cc
-second_false false b e = e
-
 kept : (r : Register) → is_far r ≡ false → IsKept r
 kept r near = grind (arith, nat_tests)
 
@@ -69,14 +67,25 @@ kept_source : (kind : DataType) (s : Source) → is_over_source kind s ≡ false
 kept_source kind (source.Register r) near = kept r near
 kept_source kind (source.Constant c) near = tt
 
-kept_place : (p : Place) → is_far_place p ≡ false → IsKeptPlace p
-kept_place (place.Absolute n) near = tt
-kept_place (place.Relative r) near = kept r.register near
+first_false : (a b : Bool) → (a || b) ≡ false → a ≡ false
+first_false true b e = cc
+first_false false b e = refl
 
-global : (a : Address) → is_far_address a ≡ false → is_bad segment.Global a ≡ false → IsGlobal a
-global (address.Variable x) near good = cc
-global (address.Place p) near good = kept_place p near
-global (address.Indexed i) near good = cc
+holds : (b : Bool) → not b ≡ false → b ≡ true
+holds true e = refl
+holds false e = cc
+
+same_class : (a b : RegisterClass) → is_same_class a b ≡ true → b ≡ a
+same_class class.Control class.Control e = refl
+same_class class.Single class.Single e = refl
+same_class class.Double class.Double e = refl
+same_class _ _ e = cc
+
+placed : (base : Option RegisterClass) (p : Place) → is_far_place p ≡ false → is_bad_place base p ≡ false → IsPlace base p
+placed None p near good = cc
+placed (Some k) (place.Absolute n) near good = tt
+placed (Some k) (place.Relative r) near good =
+    (same_class k r.register.class (holds (is_same_class k r.register.class) good), kept r.register near)
 
 known : (o : Option Placed) → is_none o ≡ false → (p : Placed) × (o ≡ Some p)
 known None e = cc
@@ -87,14 +96,15 @@ found None e = cc
 found (Some n) e = refl
 
 module _ (arguments : List ℕ → Option Placed) (labels : List ℕ → Option ℕ) where
-  in_block : (a : Address) → names_unknown arguments a ≡ false → is_bad segment.Kernarg a ≡ false → IsArgument arguments a
-  in_block (address.Variable x) there good = known (arguments x) there
-  in_block (address.Place p) there good = cc
-  in_block (address.Indexed i) there good = cc
-
-  reached : (s : Segment) (a : Address) → is_far_address a ≡ false → names_unknown arguments a ≡ false → is_bad s a ≡ false → IsReached arguments s a
-  reached segment.Kernarg a near there good = in_block a there good
-  reached segment.Global a near there good = global a near good
+  reached : (forms : AddressForms) (a : Address) → is_far_address a ≡ false → names_unknown arguments a ≡ false
+      → is_bad_form forms a ≡ false → IsReached arguments forms a
+  reached forms (address.Variable x) near there good = (holds forms.variable good, known (arguments x) there)
+  reached forms (address.Place p) near there good = placed forms.base p near good
+  reached forms (address.Indexed i) near there good = (
+    holds forms.indexed (first_false (not forms.indexed) (is_bad_place forms.base i.place) good),
+    known (arguments i.variable) there,
+    placed forms.base i.place near (second_false (not forms.indexed) (is_bad_place forms.base i.place) good),
+  )
 
   -- an operand by which an instruction fails by no cause
   faithful_operand : (o : Operand) → misses_label labels o ≡ false → misses_argument arguments o ≡ false → is_over o ≡ false
@@ -102,7 +112,7 @@ module _ (arguments : List ℕ → Option Placed) (labels : List ℕ → Option 
   faithful_operand operand.Absent known there near good = tt
   faithful_operand (operand.Target t) known there near good = kept t.register near
   faithful_operand (operand.Source s) known there near good = kept_source s.kind s.source near
-  faithful_operand (operand.Address a) known there near good = reached a.segment a.address near there good
+  faithful_operand (operand.Address a) known there near good = reached (forms_of a.segment) a.address near there good
   faithful_operand (operand.Label x) known there near good = found (labels x) known
   faithful_operand (operand.Dimension n) known there near good = grind (arith, nat_tests)
 

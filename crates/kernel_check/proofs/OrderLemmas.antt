@@ -5,12 +5,12 @@ use Rattle.hsail_reader.specs.declared.module.Access.{Access}
 use Rattle.hsail_reader.specs.declared.module.Operand.{Operand}
 use Rattle.hsail_reader.specs.declared.module.Operand.TheVariants as operand
 use Rattle.hsail_reader.specs.declared.module.Operation.{Operation}
+use Rattle.hsail_reader.specs.declared.module.TypedSource.{TypedSource}
 use Rattle.hsail_reader.specs.declared.rows.Form.{Form}
 use Rattle.hsail_reader.specs.declared.rows.Form.TheVariants as form
 use Rattle.hsail_reader.specs.declared.types.BinaryOperation.{BinaryOperation}
 use Rattle.hsail_reader.specs.declared.types.BinaryOperation.TheVariants.{And, Or, Xor, ShiftLeft, ShiftRight, Compare}
 use Rattle.hsail_reader.specs.declared.types.DataType.{DataType}
-use Rattle.hsail_reader.specs.declared.types.DataType.TheVariants.{U32}
 use Rattle.hsail_reader.specs.declared.types.Register.{Register}
 use Rattle.hsail_reader.specs.declared.types.RegisterClass.{RegisterClass}
 use Rattle.hsail_reader.specs.declared.types.RegisterClass.TheVariants as class
@@ -22,30 +22,39 @@ use Rattle.hsail_reader.specs.declared.types.TernaryOperation.{TernaryOperation}
 use Rattle.hsail_reader.specs.declared.types.TernaryOperation.TheVariants.{MultiplyAdd, ConditionalMove}
 use Rattle.hsail_reader.specs.declared.types.UnaryOperation.{UnaryOperation}
 use Rattle.hsail_reader.specs.declared.types.UnaryOperation.TheVariants.{Move, Not, Convert}
-use Rattle.kernel_check.specs.Reads.{reads, sets, number_in, Is1, Is32, Is64, IsSource, AreSources, IsTarget, sources_of, KeepsOrder}
-use Rattle.kernel_check.specs.Steps.{step_of, form_step, slot_of, register_in, source1_of, source32_of, source64_of, source_in, unary_in, unary_by, binary1, binary32, binary64, binary_in, ternary_in, is_signed, load_from, load_at, store_at, target_in, read_in, as_unary, as_binary, as_ternary}
+use Rattle.kernel_check.specs.Reads.{Is1, Is32, Is64, IsSource, AreSources, IsTarget, KeepsOrder}
+use Rattle.kernel_check.specs.Steps.{reads, sets, number_in, sources_of, step_of, form_step, slot_of, register_in, source1_at, source1_of, source32_at, source32_of, source64_at, source64_of, source_in, unary_in, unary_by, binary1, binary32, binary64, binary_in, ternary_in, is_signed, load_from, load_at, store_at, target_in, read_in, as_unary, as_binary, as_ternary}
 use Rattle.kernel_check.specs.declared.layout.Placed.{Placed}
 use Rattle.kernel_check.specs.declared.step.Step.{Step}
 use Rattle.kernel_check.specs.declared.translate.Binary.{Binary}
 use Rattle.kernel_check.specs.declared.translate.Ternary.{Ternary}
 use Rattle.kernel_check.specs.declared.translate.Unary.{Unary}
 
-is1 : (s : Source) → Is1 (source1_of s) s
-is1 (source.Register r) = refl
-is1 (source.Constant c) = refl
+is1_at : (kind : DataType) (s : Source) → Is1 (source1_at kind s) kind s
+is1_at kind (source.Register r) = refl
+is1_at kind (source.Constant c) = refl
 
-is32 : (kind : DataType) (s : Source) → Is32 (source32_of kind s) s
-is32 kind (source.Register r) = refl
-is32 kind (source.Constant c) = (kind, refl)
+is1 : (t : TypedSource) → Is1 (source1_of t) t.kind t.source
+is1 t = is1_at t.kind t.source
 
-is64 : (s : Source) → Is64 (source64_of s) s
-is64 (source.Register r) = refl
-is64 (source.Constant c) = refl
+is32_at : (kind : DataType) (s : Source) → Is32 (source32_at kind s) kind s
+is32_at kind (source.Register r) = refl
+is32_at kind (source.Constant c) = refl
 
-is_source : (k : RegisterClass) (kind : DataType) (s : Source) → IsSource (source_in k kind s) s
-is_source class.Control kind s = is1 s
-is_source class.Single kind s = is32 kind s
-is_source class.Double kind s = is64 s
+is32 : (t : TypedSource) → Is32 (source32_of t) t.kind t.source
+is32 t = is32_at t.kind t.source
+
+is64_at : (kind : DataType) (s : Source) → Is64 (source64_at kind s) kind s
+is64_at kind (source.Register r) = refl
+is64_at kind (source.Constant c) = refl
+
+is64 : (t : TypedSource) → Is64 (source64_of t) t.kind t.source
+is64 t = is64_at t.kind t.source
+
+is_source : (k : RegisterClass) (t : TypedSource) → IsSource (source_in k t) t
+is_source class.Control t = is1 t
+is_source class.Single t = is32 t
+is_source class.Double t = is64 t
 
 same_number : (k : RegisterClass) (r : Register) → number_in (register_in k r) ≡ slot_of r
 same_number class.Control r = refl
@@ -53,28 +62,28 @@ same_number class.Single r = refl
 same_number class.Double r = refl
 
 -- a step sets this register and reads these sources
-abbrev Keeps : Step → Register → List Source → Type 0
+abbrev Keeps : Step → Register → List TypedSource → Type 0
 Keeps s r sources = IsTarget (sets s) r × AreSources (reads s) sources
 
-unary_keeps_in : (k : RegisterClass) (f : UnaryOperation) (kind : DataType) (r : Register) (s : Source)
-    → Keeps (unary_in k f kind (slot_of r) s) r (s ∷ [])
-unary_keeps_in class.Control Not kind r s = (refl, (is1 s, tt))
-unary_keeps_in class.Control Move kind r s = (refl, (is1 s, tt))
-unary_keeps_in class.Control (Convert to) kind r s = (refl, (is1 s, tt))
-unary_keeps_in class.Single Not kind r s = (refl, (is32 kind s, tt))
-unary_keeps_in class.Single Move kind r s = (refl, (is32 kind s, tt))
-unary_keeps_in class.Single (Convert to) kind r s = (refl, (is32 kind s, tt))
-unary_keeps_in class.Double Not kind r s = (refl, (is64 s, tt))
-unary_keeps_in class.Double Move kind r s = (refl, (is64 s, tt))
-unary_keeps_in class.Double (Convert to) kind r s = (refl, (is64 s, tt))
+unary_keeps_in : (k : RegisterClass) (f : UnaryOperation) (r : Register) (s : TypedSource)
+    → Keeps (unary_in k f (slot_of r) s) r (s ∷ [])
+unary_keeps_in class.Control Not r s = (refl, (is1 s, tt))
+unary_keeps_in class.Control Move r s = (refl, (is1 s, tt))
+unary_keeps_in class.Control (Convert to) r s = (refl, (is1 s, tt))
+unary_keeps_in class.Single Not r s = (refl, (is32 s, tt))
+unary_keeps_in class.Single Move r s = (refl, (is32 s, tt))
+unary_keeps_in class.Single (Convert to) r s = (refl, (is32 s, tt))
+unary_keeps_in class.Double Not r s = (refl, (is64 s, tt))
+unary_keeps_in class.Double Move r s = (refl, (is64 s, tt))
+unary_keeps_in class.Double (Convert to) r s = (refl, (is64 s, tt))
 
 unary_keeps : (f : UnaryOperation) (u : Unary) → Keeps (unary_by f u) u.target (u.source ∷ [])
-unary_keeps (Convert to) u = (same_number (type_class to) u.target, (is_source (type_class u.kind) u.kind u.source, tt))
-unary_keeps Move u = unary_keeps_in (type_class u.kind) Move u.kind u.target u.source
-unary_keeps Not u = unary_keeps_in (type_class u.kind) Not u.kind u.target u.source
+unary_keeps (Convert to) u = (same_number (type_class to) u.target, (is_source (type_class u.source.kind) u.source, tt))
+unary_keeps Move u = unary_keeps_in (type_class u.kind) Move u.target u.source
+unary_keeps Not u = unary_keeps_in (type_class u.kind) Not u.target u.source
 
 -- the operations of one bit
-bits_keep : (f : BinaryOperation) (kind : DataType) (r : Register) (left right : Source)
+bits_keep : (f : BinaryOperation) (kind : DataType) (r : Register) (left right : TypedSource)
     → Keeps (binary1 (record { operation = f; kind = kind; target = r; left = left; right = right })) r (left ∷ right ∷ [])
 bits_keep And kind r left right = (refl, (is1 left, (is1 right, tt)))
 bits_keep Or kind r left right = (refl, (is1 left, (is1 right, tt)))
@@ -82,45 +91,45 @@ bits_keep Xor kind r left right = (refl, (is1 left, (is1 right, tt)))
 bits_keep (Compare c) kind r left right = (refl, (is1 left, (is1 right, tt)))
 bits_keep _ kind r left right = (refl, (is1 left, tt))
 
-singles_keep : (f : BinaryOperation) (signed : Bool) (kind : DataType) (r : Register) (left right : Source)
-    → Keeps (binary32 f signed (slot_of r) (record { left = source32_of kind left; right = source32_of kind right })) r (left ∷ right ∷ [])
-singles_keep (Compare c) true kind r left right = (refl, (is32 kind left, (is32 kind right, tt)))
-singles_keep (Compare c) false kind r left right = (refl, (is32 kind left, (is32 kind right, tt)))
-singles_keep _ true kind r left right = (refl, (is32 kind left, (is32 kind right, tt)))
-singles_keep _ false kind r left right = (refl, (is32 kind left, (is32 kind right, tt)))
+singles_keep : (f : BinaryOperation) (signed : Bool) (r : Register) (left right : TypedSource)
+    → Keeps (binary32 f signed (slot_of r) (record { left = source32_of left; right = source32_of right })) r (left ∷ right ∷ [])
+singles_keep (Compare c) true r left right = (refl, (is32 left, (is32 right, tt)))
+singles_keep (Compare c) false r left right = (refl, (is32 left, (is32 right, tt)))
+singles_keep _ true r left right = (refl, (is32 left, (is32 right, tt)))
+singles_keep _ false r left right = (refl, (is32 left, (is32 right, tt)))
 
-doubles_keep : (f : BinaryOperation) (signed : Bool) (r : Register) (left right : Source)
+doubles_keep : (f : BinaryOperation) (signed : Bool) (r : Register) (left right : TypedSource)
     → Keeps (binary64 f signed (slot_of r) (record { left = source64_of left; right = source64_of right })
-    (record { value = source64_of left; count = source32_of U32 right })) r (left ∷ right ∷ [])
-doubles_keep ShiftLeft signed r left right = (refl, (is64 left, (is32 U32 right, tt)))
-doubles_keep ShiftRight true r left right = (refl, (is64 left, (is32 U32 right, tt)))
-doubles_keep ShiftRight false r left right = (refl, (is64 left, (is32 U32 right, tt)))
+    (record { value = source64_of left; count = source32_of right })) r (left ∷ right ∷ [])
+doubles_keep ShiftLeft signed r left right = (refl, (is64 left, (is32 right, tt)))
+doubles_keep ShiftRight true r left right = (refl, (is64 left, (is32 right, tt)))
+doubles_keep ShiftRight false r left right = (refl, (is64 left, (is32 right, tt)))
 doubles_keep _ true r left right = (refl, (is64 left, (is64 right, tt)))
 doubles_keep _ false r left right = (refl, (is64 left, (is64 right, tt)))
 
 binary_keeps : (k : RegisterClass) (b : Binary) → Keeps (binary_in k b) b.target (b.left ∷ b.right ∷ [])
 binary_keeps class.Control b = bits_keep b.operation b.kind b.target b.left b.right
-binary_keeps class.Single b = singles_keep b.operation (is_signed b.kind) b.kind b.target b.left b.right
+binary_keeps class.Single b = singles_keep b.operation (is_signed b.kind) b.target b.left b.right
 binary_keeps class.Double b = doubles_keep b.operation (is_signed b.kind) b.target b.left b.right
 
 ternary_keeps : (k : RegisterClass) (f : TernaryOperation) (t : Ternary) → Keeps (ternary_in k f t) t.target (t.first ∷ t.second ∷ t.third ∷ [])
 ternary_keeps class.Control MultiplyAdd t = (refl, (is1 t.first, tt))
 ternary_keeps class.Control ConditionalMove t = (refl, (is1 t.first, (is1 t.second, (is1 t.third, tt))))
-ternary_keeps class.Single MultiplyAdd t = (refl, (is32 t.kind t.first, (is32 t.kind t.second, (is32 t.kind t.third, tt))))
-ternary_keeps class.Single ConditionalMove t = (refl, (is1 t.first, (is32 t.kind t.second, (is32 t.kind t.third, tt))))
+ternary_keeps class.Single MultiplyAdd t = (refl, (is32 t.first, (is32 t.second, (is32 t.third, tt))))
+ternary_keeps class.Single ConditionalMove t = (refl, (is1 t.first, (is32 t.second, (is32 t.third, tt))))
 ternary_keeps class.Double MultiplyAdd t = (refl, (is64 t.first, (is64 t.second, (is64 t.third, tt))))
 ternary_keeps class.Double ConditionalMove t = (refl, (is1 t.first, (is64 t.second, (is64 t.third, tt))))
 
 load_keeps : (arguments : List ℕ → Option Placed) (s : Segment) (r : Register) (a : Access) → Keeps (load_from arguments s r a) r []
 load_keeps arguments segment.Kernarg r a = (same_number (type_class a.kind) r, tt)
-load_keeps arguments segment.Global r a = (same_number (type_class a.kind) r, tt)
+load_keeps arguments _ r a = (same_number (type_class a.kind) r, tt)
 
 load_at_keeps : (arguments : List ℕ → Option Placed) (r : Register) (o : Operand) → Keeps (load_at arguments r o) r []
 load_at_keeps arguments r (operand.Address a) = load_keeps arguments a.segment r a
 load_at_keeps arguments r _ = (tt, tt)
 
-store_at_keeps : (s : Source) (r : Register) (o : Operand) → Keeps (store_at s o) r (s ∷ [])
-store_at_keeps s r (operand.Address a) = (tt, (is_source (type_class a.kind) a.kind s, tt))
+store_at_keeps : (s : TypedSource) (r : Register) (o : Operand) → Keeps (store_at s o) r (s ∷ [])
+store_at_keeps s r (operand.Address a) = (tt, (is_source (type_class s.kind) s, tt))
 store_at_keeps s r _ = (tt, tt)
 
 form_keeps : (arguments : List ℕ → Option Placed) (labels : List ℕ → Option ℕ) (f : Form) (op : Operation)
@@ -130,9 +139,7 @@ form_keeps arguments labels (form.Binary f) op = binary_keeps (type_class op.kin
 form_keeps arguments labels (form.Ternary f) op = ternary_keeps (type_class op.kind) f (as_ternary f op)
 form_keeps arguments labels form.Load op = load_at_keeps arguments (target_in op.operands.first) op.operands.second
 form_keeps arguments labels form.Store op = store_at_keeps (read_in op.operands.first) (target_in op.operands.first) op.operands.second
-form_keeps arguments labels form.ConditionalBranch op = (tt, (is1 (read_in op.operands.first), tt))
-form_keeps arguments labels (form.Identify q) op = (same_number (type_class op.kind) (target_in op.operands.first), tt)
-form_keeps arguments labels _ op = (tt, tt)
+form_keeps arguments labels _ op = search (same_number, is_source, is1, is32, is64)
 
 pub keeps_order : (arguments : List ℕ → Option Placed) (labels : List ℕ → Option ℕ) (op : Operation)
     → KeepsOrder op (step_of arguments labels op)

@@ -1,8 +1,9 @@
 -- A kernel in which nothing fails is sound: its steps stay within its steps and its argument block.
-use Rattle.std.proofs.Common.{◌≡◌, ℕ, ◌+◌, ◌/◌, ◌≤◌, Bool, true, false, ◌||◌, cond, List, [], ◌∷◌, ◌++◌, length, Option, Some, None, is_none, unwrap_or, map, arith, refl, ap, sym, ◌∙◌, subst, lit≤}
+use Rattle.std.proofs.Common.{◌≡◌, ℕ, ⊎_elim, ◌+◌, ◌-◌, ◌*◌, ◌/◌, ◌%◌, ◌^◌, ◌<◌, ◌≤◌, Bool, true, false, not, ◌||◌, ◌==◌, nat_le, if◌then◌else◌, cond, List, [], ◌∷◌, ◌++◌, length, Option, Some, None, is_none, unwrap_or, map, arith, refl, ap, sym, ◌∙◌, subst, lit≤}
 use Rattle.std.specs.List.{All}
 use Rattle.std.specs.Str.{bytes_eq}
-use Rattle.std.proofs.lemmas.Bool.Decides.{nat_tests}
+use Rattle.std.proofs.lemmas.Bool.Decides.{eqb_tells, nat_tests}
+use Rattle.std.proofs.Math.Nat.{mod-le}
 use Rattle.std.proofs.lemmas.List.Elements.{All-nil, All-cons, All-append, All-map}
 use Rattle.std.proofs.lemmas.List.{length-map}
 use Rattle.hsail_reader.specs.Types.{type_bits, type_class}
@@ -16,25 +17,30 @@ use Rattle.hsail_reader.specs.declared.module.Access.{Access}
 use Rattle.hsail_reader.specs.declared.module.Operand.{Operand}
 use Rattle.hsail_reader.specs.declared.module.Operand.TheVariants as operand
 use Rattle.hsail_reader.specs.declared.module.Operation.{Operation}
+use Rattle.hsail_reader.specs.declared.module.TypedSource.{TypedSource}
 use Rattle.hsail_reader.specs.declared.rows.Form.{Form}
 use Rattle.hsail_reader.specs.declared.rows.Form.TheVariants as form
 use Rattle.hsail_reader.specs.declared.types.Register.{Register}
 use Rattle.hsail_reader.specs.declared.types.Alignment.{Alignment}
+use Rattle.hsail_reader.specs.declared.types.Constant.{Constant}
 use Rattle.hsail_reader.specs.declared.types.DataType.{DataType}
 use Rattle.hsail_reader.specs.declared.types.DataType.TheVariants as type
 use Rattle.hsail_reader.specs.declared.types.Segment.{Segment}
 use Rattle.hsail_reader.specs.declared.types.Segment.TheVariants as segment
 use Rattle.kernel_check.specs.Causes.{instruction_fails, differs, is_of_other_width, names_unknown, is_bad, has_wrong_type, misses_argument, has_bad_address}
 use Rattle.kernel_check.specs.Checks.{item_checks, steps_from, labels_from, lined, arguments_of, labels_of, program_of}
+use Rattle.kernel_check.specs.Constants.{deepest, is_in_range, constant_bits}
 use Rattle.kernel_check.specs.Faults.{first_fault, fault_or, least_cause}
 use Rattle.kernel_check.specs.Layout.{kind_bytes, is_wide, boundary_of, next_multiple, end_behind, placed_from, end_from, wide_at, wide_from}
 use Rattle.kernel_check.specs.Names.{Known, find}
-use Rattle.kernel_check.specs.Programs.{StaysWithin, IsSound}
-use Rattle.kernel_check.specs.Steps.{step_of, form_step, known_offset, offset_of, load_from, load_at, store_at, next_at, target_in, read_in, as_unary, as_binary, as_ternary, number_type, number_bytes, unary_in, unary_by, binary32, binary64, binary_in, ternary_in, slot_of, is_signed, pair32_of, pair64_of, shift64_of}
+use Rattle.kernel_check.specs.Operands.{any_operand, is_over, is_over_source}
+use Rattle.kernel_check.specs.Programs.{FitsIn, StaysWithin, IsSound}
+use Rattle.kernel_check.specs.Steps.{step_of, form_step, known_offset, offset_of, load_from, load_at, store_at, next_at, target_in, read_in, as_unary, as_binary, as_ternary, number_type, number_bytes, source32_at, source_in, source_of, unary_in, unary_by, binary32, binary64, binary_in, ternary_in, slot_of, is_signed, pair32_of, pair64_of, shift64_of}
 use Rattle.kernel_check.specs.declared.fault.Cause.{Cause}
 use Rattle.kernel_check.specs.declared.fault.Cause.TheVariants as cause
 use Rattle.kernel_check.specs.declared.fault.CheckFault.{CheckFault}
 use Rattle.kernel_check.specs.declared.layout.Placed.{Placed}
+use Rattle.kernel_check.specs.declared.step.AnySource.TheVariants as any
 use Rattle.kernel_check.specs.declared.step.LinedStep.{LinedStep}
 use Rattle.kernel_check.specs.declared.step.Pair32.{Pair32}
 use Rattle.kernel_check.specs.declared.step.Pair64.{Pair64}
@@ -47,6 +53,7 @@ use Rattle.hsail_reader.specs.declared.types.BinaryOperation.TheVariants.{Compar
 use Rattle.hsail_reader.specs.declared.types.RegisterClass.{RegisterClass}
 use Rattle.hsail_reader.specs.declared.types.RegisterClass.TheVariants as class
 use Rattle.hsail_reader.specs.declared.types.Source.{Source}
+use Rattle.hsail_reader.specs.declared.types.Source.TheVariants as source
 use Rattle.hsail_reader.specs.declared.types.TernaryOperation.{TernaryOperation}
 use Rattle.hsail_reader.specs.declared.types.TernaryOperation.TheVariants.{MultiplyAdd, ConditionalMove}
 use Rattle.hsail_reader.specs.declared.types.UnaryOperation.{UnaryOperation}
@@ -186,6 +193,51 @@ wide_within end (a ∷ args) =
     (wide_here end (end_from (end_behind end a) args) a (is_wide a.kind) refl (end_from_above (end_behind end a) args))
     (wide_within (end_behind end a) args)
 
+pub second_false : (a b : Bool) → (a || b) ≡ false → b ≡ false
+second_false true b e = cc
+second_false false b e = e
+
+holds_not : (b : Bool) → not b ≡ false → b ≡ true
+holds_not true e = refl
+holds_not false e = cc
+
+-- a number in a range of p numbers, or the one that stands for its negative, is below p
+below : (negative : Bool) (m p deep : ℕ) → 0 < p → (if negative then nat_le m deep else nat_le m (p - 1)) ≡ true
+    → (if negative then (if m == 0 then 0 else p - m) else m) < p
+below true m p deep some e =
+    ⊎_elim (λ w. rw w.0 some) (λ w. let less : p - m < p = omega (arith, some, w.1) in rw w.0 less) (eqb_tells m 0)
+below false m p deep some e = grind (arith, nat_tests)
+
+some_values : (kind : DataType) → 0 < 2 ^ type_bits kind
+some_values type.B1 = omega arith
+some_values _ = omega arith
+
+-- the bytes of a number in memory hold each value of its type
+bytes_hold : (kind : DataType) → 2 ^ type_bits kind ≤ 2 ^ (8 * number_bytes (number_type kind))
+bytes_hold type.B1 = omega arith
+bytes_hold _ = omega arith
+
+fits_constant : (kind : DataType) (c : Constant) → is_in_range kind c ≡ true
+    → constant_bits kind c % 2 ^ 32 < 2 ^ (8 * number_bytes (number_type kind))
+fits_constant kind c good =
+    let less = below c.negative c.magnitude (2 ^ type_bits kind) (deepest kind) (some_values kind) good in
+    let fewer : constant_bits kind c % 2 ^ 32 ≤ constant_bits kind c = mod-le (constant_bits kind c) (2 ^ 32) in
+    omega (arith, less, fewer, bytes_hold kind)
+
+fits32 : (kind : DataType) (s : Source) → is_over_source kind s ≡ false → FitsIn (number_type kind) (any.Single (source32_at kind s))
+fits32 kind (source.Register r) near = tt
+fits32 kind (source.Constant c) near = fits_constant kind c (holds_not (is_in_range kind c) near)
+
+fits_in : (k : RegisterClass) (t : TypedSource) → is_over_source t.kind t.source ≡ false → FitsIn (number_type t.kind) (source_in k t)
+fits_in class.Control t near = tt
+fits_in class.Single t near = fits32 t.kind t.source near
+fits_in class.Double t near = tt
+
+-- what is read of an operand that is not too large lies in its width
+fits_read : (o : Operand) → is_over o ≡ false → FitsIn (number_type (read_in o).kind) (source_of (read_in o))
+fits_read (operand.Source s) near = fits_in (type_class s.kind) s near
+fits_read _ near = tt
+
 module _ (arguments : List ℕ → Option Placed) (labels : List ℕ → Option ℕ) (count bytes : ℕ)
     (known_label : (x : List ℕ) (v : ℕ) → labels x ≡ Some v → v ≤ count)
     (known_argument : (x : List ℕ) (p : Placed) → arguments x ≡ Some p → p.offset + kind_bytes p.kind ≤ bytes) where
@@ -214,7 +266,7 @@ module _ (arguments : List ℕ → Option Placed) (labels : List ℕ → Option 
       let fits : offset_of arguments a.address + kind_bytes a.kind ≤ bytes = offset_within a.kind a.address same known good in
       let same_bytes : number_bytes (number_type a.kind) ≡ kind_bytes a.kind = number_bytes_are a.kind in
       omega arith
-  load_within d a segment.Global same known good = tt
+  load_within d a _ same known good = tt
 
   load_at_within : (d : Register) (o : Operand) → has_wrong_type arguments o ≡ false → misses_argument arguments o ≡ false
       → has_bad_address o ≡ false → StaysWithin count bytes (load_at arguments d o)
@@ -225,13 +277,13 @@ module _ (arguments : List ℕ → Option Placed) (labels : List ℕ → Option 
   load_at_within d (operand.Label x) same known good = tt
   load_at_within d (operand.Dimension n) same known good = tt
 
-  store_at_within : (s : Source) (o : Operand) → StaysWithin count bytes (store_at s o)
-  store_at_within s (operand.Address a) = tt
-  store_at_within s operand.Absent = tt
-  store_at_within s (operand.Target t) = tt
-  store_at_within s (operand.Source r) = tt
-  store_at_within s (operand.Label x) = tt
-  store_at_within s (operand.Dimension n) = tt
+  store_at_within : (s : TypedSource) (o : Operand) → FitsIn (number_type s.kind) (source_of s) → StaysWithin count bytes (store_at s o)
+  store_at_within s (operand.Address a) fits = fits
+  store_at_within s operand.Absent fits = tt
+  store_at_within s (operand.Target t) fits = tt
+  store_at_within s (operand.Source r) fits = tt
+  store_at_within s (operand.Label x) fits = tt
+  store_at_within s (operand.Dimension n) fits = tt
 
   next_at_within : (o : Operand) → next_at labels o ≤ count
   next_at_within (operand.Label x) = next_within x (labels x) refl
@@ -242,22 +294,23 @@ module _ (arguments : List ℕ → Option Placed) (labels : List ℕ → Option 
   next_at_within (operand.Dimension n) = omega arith
 
   -- steps that set a register lead nowhere
-  unary_within : (k : RegisterClass) (op : UnaryOperation) (kind : DataType) (target : ℕ) (s : Source)
-      → StaysWithin count bytes (unary_in k op kind target s)
-  unary_within class.Control Not kind target s = tt
-  unary_within class.Control Move kind target s = tt
-  unary_within class.Control (Convert to) kind target s = tt
-  unary_within class.Single Not kind target s = tt
-  unary_within class.Single Move kind target s = tt
-  unary_within class.Single (Convert to) kind target s = tt
-  unary_within class.Double Not kind target s = tt
-  unary_within class.Double Move kind target s = tt
-  unary_within class.Double (Convert to) kind target s = tt
+  unary_within : (k : RegisterClass) (op : UnaryOperation) (target : ℕ) (s : TypedSource)
+      → StaysWithin count bytes (unary_in k op target s)
+  unary_within class.Control Not target s = tt
+  unary_within class.Control Move target s = tt
+  unary_within class.Control (Convert to) target s = tt
+  unary_within class.Single Not target s = tt
+  unary_within class.Single Move target s = tt
+  unary_within class.Single (Convert to) target s = tt
+  unary_within class.Double Not target s = tt
+  unary_within class.Double Move target s = tt
+  unary_within class.Double (Convert to) target s = tt
 
-  unary_by_within : (op : UnaryOperation) (u : Unary) → StaysWithin count bytes (unary_by op u)
-  unary_by_within (Convert to) u = tt
-  unary_by_within Move u = unary_within (type_class u.kind) Move u.kind (slot_of u.target) u.source
-  unary_by_within Not u = unary_within (type_class u.kind) Not u.kind (slot_of u.target) u.source
+  unary_by_within : (op : UnaryOperation) (u : Unary) → FitsIn (number_type u.source.kind) (source_of u.source)
+      → StaysWithin count bytes (unary_by op u)
+  unary_by_within (Convert to) u fits = fits
+  unary_by_within Move u fits = unary_within (type_class u.kind) Move (slot_of u.target) u.source
+  unary_by_within Not u fits = unary_within (type_class u.kind) Not (slot_of u.target) u.source
 
   single_within : (op : BinaryOperation) (signed : Bool) (target : ℕ) (p : Pair32) → StaysWithin count bytes (binary32 op signed target p)
   single_within (Compare c) signed target p = tt
@@ -284,11 +337,13 @@ module _ (arguments : List ℕ → Option Placed) (labels : List ℕ → Option 
   form_within : (number : ℕ) (f : Form) (op : Operation) → ((c : Cause) → instruction_fails arguments labels number op c ≡ false)
       → StaysWithin count bytes (form_step arguments labels f op)
   form_within number (form.Unary u) op fine = unary_by_within u (as_unary u op)
+      (fits_read op.operands.second (four _ _ _ _ (second_false (nat_le 4096 number) (any_operand is_over op.operands) (fine cause.TooLarge))).1)
   form_within number (form.Binary b) op fine = binary_within (type_class op.kind) (as_binary b op)
   form_within number (form.Ternary t) op fine = ternary_within (type_class op.kind) t (as_ternary t op)
   form_within number form.Load op fine = load_at_within (target_in op.operands.first) op.operands.second
       (four _ _ _ _ (fine cause.WrongType)).1 (four _ _ _ _ (fine cause.UnknownArgument)).1 (four _ _ _ _ (fine cause.BadAddress)).1
   form_within number form.Store op fine = store_at_within (read_in op.operands.first) op.operands.second
+      (fits_read op.operands.first (four _ _ _ _ (second_false (nat_le 4096 number) (any_operand is_over op.operands) (fine cause.TooLarge))).0)
   form_within number form.Branch op fine = next_at_within op.operands.first
   form_within number form.ConditionalBranch op fine = next_at_within op.operands.second
   form_within number _ op fine = tt

@@ -3,7 +3,8 @@
 use Rattle.std.specs.Prelude.{ℕ, List, Bool, true, false, not, ◌||◌, ◌==◌, nat_lt, nat_le, Option, Some, None, is_some, is_none, length}
 use Rattle.kernel_check.specs.Layout.{end_behind}
 use Rattle.kernel_check.specs.Names.{Known, find}
-use Rattle.kernel_check.specs.Operands.{any_operand, is_wrong, is_over}
+use Rattle.kernel_check.specs.Operands.{any_operand, is_same_class, is_wrong, is_over}
+use Rattle.kernel_check.specs.Steps.{forms_of}
 use Rattle.kernel_check.specs.declared.fault.Cause.{Cause}
 use Rattle.kernel_check.specs.declared.fault.Cause.TheVariants.{UnknownLabel, DoubleName, WrongRegister, WrongType, UnknownArgument, TooLarge, BadAddress}
 use Rattle.kernel_check.specs.declared.layout.Placed.{Placed}
@@ -16,9 +17,9 @@ use Rattle.hsail_reader.specs.declared.module.Operand.TheVariants as operand
 use Rattle.hsail_reader.specs.declared.module.Operation.{Operation}
 use Rattle.hsail_reader.specs.declared.module.Place.{Place}
 use Rattle.hsail_reader.specs.declared.module.Place.TheVariants as place
+use Rattle.kernel_check.specs.declared.step.AddressForms.{AddressForms}
 use Rattle.hsail_reader.specs.declared.types.DataType.{DataType}
 use Rattle.hsail_reader.specs.declared.types.RegisterClass.{RegisterClass}
-use Rattle.hsail_reader.specs.declared.types.RegisterClass.TheVariants.{Control, Single, Double}
 use Rattle.hsail_reader.specs.declared.types.Segment.{Segment}
 use Rattle.hsail_reader.specs.declared.types.Segment.TheVariants as segment
 
@@ -51,22 +52,20 @@ abbrev pub misses_argument : (List ℕ → Option Placed) → Operand → Bool
 misses_argument arguments (operand.Address a) = names_unknown arguments a.address
 misses_argument arguments _ = false
 
--- global memory is reached by $d registers
-abbrev pub is_bad_class : RegisterClass → Bool
-is_bad_class Control = true
-is_bad_class Single = true
-is_bad_class Double = false
+-- a place that isn't counted from a register of the base's class; or any, where there is no base
+abbrev pub is_bad_place : Option RegisterClass → Place → Bool
+is_bad_place None p = true
+is_bad_place (Some class) (place.Absolute n) = false
+is_bad_place (Some class) (place.Relative r) = not (is_same_class class r.register.class)
 
-abbrev pub is_bad_place : Place → Bool
-is_bad_place (place.Absolute n) = false
-is_bad_place (place.Relative r) = is_bad_class r.register.class
+abbrev pub is_bad_form : AddressForms → Address → Bool
+is_bad_form forms (address.Variable x) = not forms.variable
+is_bad_form forms (address.Place p) = is_bad_place forms.base p
+is_bad_form forms (address.Indexed i) = not forms.indexed || is_bad_place forms.base i.place
 
--- arguments are read by name; global memory by [$d], [$d+n], [$d-n] and [n]
+-- an address that its segment doesn't have
 abbrev pub is_bad : Segment → Address → Bool
-is_bad segment.Kernarg (address.Variable x) = false
-is_bad segment.Kernarg _ = true
-is_bad segment.Global (address.Place p) = is_bad_place p
-is_bad segment.Global _ = true
+is_bad s a = is_bad_form (forms_of s) a
 
 abbrev pub has_bad_address : Operand → Bool
 has_bad_address (operand.Address a) = is_bad a.segment a.address

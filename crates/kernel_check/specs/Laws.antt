@@ -2,7 +2,7 @@
 use Rattle.std.specs.Prelude.{◌≡◌, ℕ, ◌<◌, ◌≤◌, List, [], ◌∷◌, ◌++◌, Bool, true, false, Option, Some, None}
 use Rattle.std.specs.List.{All}
 use Rattle.kernel_check.specs.Faults.{Checkpoint, fault_at}
-use Rattle.kernel_check.specs.Steps.{slot_of, next_of}
+use Rattle.kernel_check.specs.Steps.{forms_of, slot_of, next_of}
 use Rattle.kernel_check.specs.declared.fault.Cause.{Cause}
 use Rattle.kernel_check.specs.declared.fault.CheckFault.{CheckFault}
 use Rattle.kernel_check.specs.declared.layout.Placed.{Placed}
@@ -13,9 +13,9 @@ use Rattle.hsail_reader.specs.declared.module.Operand.TheVariants as operand
 use Rattle.hsail_reader.specs.declared.module.Operation.{Operation}
 use Rattle.hsail_reader.specs.declared.module.Place.{Place}
 use Rattle.hsail_reader.specs.declared.module.Place.TheVariants as place
+use Rattle.kernel_check.specs.declared.step.AddressForms.{AddressForms}
 use Rattle.hsail_reader.specs.declared.types.Register.{Register}
-use Rattle.hsail_reader.specs.declared.types.Segment.{Segment}
-use Rattle.hsail_reader.specs.declared.types.Segment.TheVariants as segment
+use Rattle.hsail_reader.specs.declared.types.RegisterClass.{RegisterClass}
 use Rattle.hsail_reader.specs.declared.types.Source.{Source}
 use Rattle.hsail_reader.specs.declared.types.Source.TheVariants as source
 
@@ -49,23 +49,22 @@ abbrev pub IsKeptSource : Source → Type 0
 IsKeptSource (source.Register r) = IsKept r
 IsKeptSource (source.Constant c) = Unit {0}
 
-abbrev pub IsKeptPlace : Place → Type 0
-IsKeptPlace (place.Absolute n) = Unit {0}
-IsKeptPlace (place.Relative r) = IsKept r.register
+-- a place that is a number alone, or is counted from a register of the base's class, whose number is kept
+abbrev pub IsPlace : Option RegisterClass → Place → Type 0
+IsPlace None p = ⊥
+IsPlace (Some class) (place.Absolute n) = Unit {0}
+IsPlace (Some class) (place.Relative r) = (r.register.class ≡ class) × IsKept r.register
 
--- an address of global memory has a place, whose register is kept
-abbrev pub IsGlobal : Address → Type 0
-IsGlobal (address.Place p) = IsKeptPlace p
-IsGlobal _ = ⊥
+-- a variable that is there
+abbrev pub IsDeclared : (List ℕ → Option Placed) → List ℕ → Type 0
+IsDeclared arguments x = (p : Placed) × (arguments x ≡ Some p)
 
--- an address of the argument block names an argument that is there
-abbrev pub IsArgument : (List ℕ → Option Placed) → Address → Type 0
-IsArgument arguments (address.Variable x) = (p : Placed) × (arguments x ≡ Some p)
-IsArgument arguments _ = ⊥
-
-abbrev pub IsReached : (List ℕ → Option Placed) → Segment → Address → Type 0
-IsReached arguments segment.Kernarg a = IsArgument arguments a
-IsReached arguments segment.Global a = IsGlobal a
+-- an address that its segment has: each variable is there, and each place is one of the segment's
+abbrev pub IsReached : (List ℕ → Option Placed) → AddressForms → Address → Type 0
+IsReached arguments forms (address.Variable x) = (forms.variable ≡ true) × IsDeclared arguments x
+IsReached arguments forms (address.Place p) = IsPlace forms.base p
+IsReached arguments forms (address.Indexed i) =
+    (forms.indexed ≡ true) × IsDeclared arguments i.variable × IsPlace forms.base i.place
 
 -- a label that is there
 abbrev pub IsThere : (List ℕ → Option ℕ) → List ℕ → Type 0
@@ -77,7 +76,7 @@ abbrev pub IsFaithfulOperand : (List ℕ → Option Placed) → (List ℕ → Op
 IsFaithfulOperand arguments labels operand.Absent = Unit {0}
 IsFaithfulOperand arguments labels (operand.Target t) = IsKept t.register
 IsFaithfulOperand arguments labels (operand.Source s) = IsKeptSource s.source
-IsFaithfulOperand arguments labels (operand.Address a) = IsReached arguments a.segment a.address
+IsFaithfulOperand arguments labels (operand.Address a) = IsReached arguments (forms_of a.segment) a.address
 IsFaithfulOperand arguments labels (operand.Label x) = IsThere labels x
 IsFaithfulOperand arguments labels (operand.Dimension n) = n ≤ 2
 

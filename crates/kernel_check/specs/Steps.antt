@@ -2,9 +2,10 @@
 -- number is below 64, each constant fits its place and each name stands for something, so the zeros below
 -- never come in; and no text spells an operation with a type that it has no row for, so neither do the moves
 -- that stand for those.
-use Rattle.std.specs.Prelude.{ℕ, ◌%◌, ◌^◌, List, Bool, true, false, ◌==◌, nat_lt, if◌then◌else◌, Option, Some, None, unwrap_or}
+use Rattle.std.specs.Prelude.{ℕ, ◌%◌, ◌^◌, List, [], ◌∷◌, Bool, true, false, ◌==◌, nat_lt, if◌then◌else◌, Option, Some, None, unwrap_or}
 use Rattle.kernel_check.specs.Constants.{constant_bits}
 use Rattle.kernel_check.specs.declared.layout.Placed.{Placed}
+use Rattle.kernel_check.specs.declared.step.AddressForms.{AddressForms}
 use Rattle.kernel_check.specs.declared.step.AnyRegister.{AnyRegister}
 use Rattle.kernel_check.specs.declared.step.AnyRegister.TheVariants as register
 use Rattle.kernel_check.specs.declared.step.AnySource.{AnySource}
@@ -40,6 +41,7 @@ use Rattle.hsail_reader.specs.declared.module.Access.{Access}
 use Rattle.hsail_reader.specs.declared.module.Operand.{Operand}
 use Rattle.hsail_reader.specs.declared.module.Operand.TheVariants as operand
 use Rattle.hsail_reader.specs.declared.module.Operation.{Operation}
+use Rattle.hsail_reader.specs.declared.module.TypedSource.{TypedSource}
 use Rattle.hsail_reader.specs.declared.rows.Form.{Form}
 use Rattle.hsail_reader.specs.declared.rows.Form.TheVariants as form
 use Rattle.hsail_reader.specs.declared.module.Place.{Place}
@@ -115,26 +117,41 @@ register_in class.Double r = register.Double (slot_of r)
 abbrev pub register_of : DataType → Register → AnyRegister
 register_of kind r = register_in (type_class kind) r
 
--- sources: registers, and constants at the type of their place
-abbrev pub source1_of : Source → Source1
-source1_of (source.Register r) = source1.Register (slot_of r)
-source1_of (source.Constant c) = source1.Constant (constant_bits B1 c == 1)
+-- sources: registers, and constants at their types
+abbrev pub source1_at : DataType → Source → Source1
+source1_at kind (source.Register r) = source1.Register (slot_of r)
+source1_at kind (source.Constant c) = source1.Constant (constant_bits kind c == 1)
 
-abbrev pub source32_of : DataType → Source → Source32
-source32_of kind (source.Register r) = source32.Register (slot_of r)
-source32_of kind (source.Constant c) = source32.Constant (constant_bits kind c % 2 ^ 32)
+abbrev pub source1_of : TypedSource → Source1
+source1_of t = source1_at t.kind t.source
 
-abbrev pub source64_of : Source → Source64
-source64_of (source.Register r) = source64.Register (slot_of r)
-source64_of (source.Constant c) = source64.Constant (constant_bits U64 c)
+abbrev pub source32_at : DataType → Source → Source32
+source32_at kind (source.Register r) = source32.Register (slot_of r)
+source32_at kind (source.Constant c) = source32.Constant (constant_bits kind c % 2 ^ 32)
 
-abbrev pub source_in : RegisterClass → DataType → Source → AnySource
-source_in class.Control kind s = any.Control (source1_of s)
-source_in class.Single kind s = any.Single (source32_of kind s)
-source_in class.Double kind s = any.Double (source64_of s)
+abbrev pub source32_of : TypedSource → Source32
+source32_of t = source32_at t.kind t.source
 
-abbrev pub source_of : DataType → Source → AnySource
-source_of kind s = source_in (type_class kind) kind s
+abbrev pub source64_at : DataType → Source → Source64
+source64_at kind (source.Register r) = source64.Register (slot_of r)
+source64_at kind (source.Constant c) = source64.Constant (constant_bits kind c)
+
+abbrev pub source64_of : TypedSource → Source64
+source64_of t = source64_at t.kind t.source
+
+abbrev pub source_in : RegisterClass → TypedSource → AnySource
+source_in class.Control t = any.Control (source1_of t)
+source_in class.Single t = any.Single (source32_of t)
+source_in class.Double t = any.Double (source64_of t)
+
+abbrev pub source_of : TypedSource → AnySource
+source_of t = source_in (type_class t.kind) t
+
+-- the addresses that a segment has (PRM, Address Expressions): [%x]; [n] and [r+n], for base registers r of a
+-- class; [%x][..], with one of these in the second brackets
+abbrev pub forms_of : Segment → AddressForms
+forms_of segment.Kernarg = record { variable = true; base = None; indexed = false }
+forms_of segment.Global = record { variable = false; base = Some class.Double; indexed = false }
 
 -- a place of global memory; what is taken away is added modulo 2^64
 abbrev pub pointer_of : Place → Pointer
@@ -170,9 +187,9 @@ abbrev pub target_in : Operand → Register
 target_in (operand.Target t) = t.register
 target_in _ = record { class = class.Control; number = 0 }
 
-abbrev pub read_in : Operand → Source
-read_in (operand.Source s) = s.source
-read_in _ = source.Constant (record { negative = false; magnitude = 0 })
+abbrev pub read_in : Operand → TypedSource
+read_in (operand.Source s) = s
+read_in _ = record { kind = B1; source = source.Constant (record { negative = false; magnitude = 0 }) }
 
 abbrev pub as_unary : UnaryOperation → Operation → Unary
 as_unary f op = record {
@@ -213,22 +230,22 @@ abbrev pub sets64 : ℕ → DoubleOperation → Step
 sets64 target op = step.Double (record { target = target; operation = op })
 
 -- mov and not by the class of their type
-abbrev pub unary_in : RegisterClass → UnaryOperation → DataType → ℕ → Source → Step
-unary_in class.Control Not kind target s = sets1 target (control.Not (source1_of s))
-unary_in class.Control _ kind target s = sets1 target (control.Move (source1_of s))
-unary_in class.Single Not kind target s = sets32 target (single.Not (source32_of kind s))
-unary_in class.Single _ kind target s = sets32 target (single.Move (source32_of kind s))
-unary_in class.Double Not kind target s = sets64 target (double.Not (source64_of s))
-unary_in class.Double _ kind target s = sets64 target (double.Move (source64_of s))
+abbrev pub unary_in : RegisterClass → UnaryOperation → ℕ → TypedSource → Step
+unary_in class.Control Not target s = sets1 target (control.Not (source1_of s))
+unary_in class.Control _ target s = sets1 target (control.Move (source1_of s))
+unary_in class.Single Not target s = sets32 target (single.Not (source32_of s))
+unary_in class.Single _ target s = sets32 target (single.Move (source32_of s))
+unary_in class.Double Not target s = sets64 target (double.Not (source64_of s))
+unary_in class.Double _ target s = sets64 target (double.Move (source64_of s))
 
 abbrev pub unary_by : UnaryOperation → Unary → Step
 unary_by (Convert to) u = step.Convert (record {
-  from = number_type u.kind;
+  from = number_type u.source.kind;
   to = number_type to;
   target = register_of to u.target;
-  source = source_of u.kind u.source;
+  source = source_of u.source;
 })
-unary_by op u = unary_in (type_class u.kind) op u.kind (slot_of u.target) u.source
+unary_by op u = unary_in (type_class u.kind) op (slot_of u.target) u.source
 
 abbrev pub unary_of : Unary → Step
 unary_of u = unary_by u.operation u
@@ -306,14 +323,14 @@ binary64 (Compare c) signed target p s = sets1 target (compare64 c signed p)
 binary64 op signed target p s = sets64 target (double_operation op signed p s)
 
 abbrev pub pair32_of : Binary → Pair32
-pair32_of b = record { left = source32_of b.kind b.left; right = source32_of b.kind b.right }
+pair32_of b = record { left = source32_of b.left; right = source32_of b.right }
 
 abbrev pub pair64_of : Binary → Pair64
 pair64_of b = record { left = source64_of b.left; right = source64_of b.right }
 
 -- the count of a shift has 32 bits
 abbrev pub shift64_of : Binary → Shift64
-shift64_of b = record { value = source64_of b.left; count = source32_of U32 b.right }
+shift64_of b = record { value = source64_of b.left; count = source32_of b.right }
 
 abbrev pub binary_in : RegisterClass → Binary → Step
 binary_in class.Control b = binary1 b
@@ -330,9 +347,9 @@ ternary_in class.Control MultiplyAdd t = sets1 (slot_of t.target) (control.Move 
 ternary_in class.Control ConditionalMove t = sets1 (slot_of t.target)
     (control.Choose (record { condition = source1_of t.first; one = source1_of t.second; zero = source1_of t.third }))
 ternary_in class.Single MultiplyAdd t = sets32 (slot_of t.target)
-    (single.MultiplyAdd (record { first = source32_of t.kind t.first; second = source32_of t.kind t.second; third = source32_of t.kind t.third }))
+    (single.MultiplyAdd (record { first = source32_of t.first; second = source32_of t.second; third = source32_of t.third }))
 ternary_in class.Single ConditionalMove t = sets32 (slot_of t.target)
-    (single.Choose (record { condition = source1_of t.first; one = source32_of t.kind t.second; zero = source32_of t.kind t.third }))
+    (single.Choose (record { condition = source1_of t.first; one = source32_of t.second; zero = source32_of t.third }))
 ternary_in class.Double MultiplyAdd t = sets64 (slot_of t.target)
     (double.MultiplyAdd (record { first = source64_of t.first; second = source64_of t.second; third = source64_of t.third }))
 ternary_in class.Double ConditionalMove t = sets64 (slot_of t.target)
@@ -359,14 +376,14 @@ abbrev pub load_at : (List ℕ → Option Placed) → Register → Operand → S
 load_at arguments d (operand.Address a) = load_from arguments a.segment d a
 load_at arguments d _ = step.Return
 
-abbrev pub store_of : Source → Access → Step
+abbrev pub store_of : TypedSource → Access → Step
 store_of s a = step.Store (record {
-  kind = number_type a.kind;
-  source = source_of a.kind s;
+  kind = number_type s.kind;
+  source = source_of s;
   pointer = pointer_in a.address;
 })
 
-abbrev pub store_at : Source → Operand → Step
+abbrev pub store_at : TypedSource → Operand → Step
 store_at s (operand.Address a) = store_of s a
 store_at s _ = step.Return
 
@@ -398,3 +415,112 @@ form_step arguments labels (form.Identify q) op = step.Identify (record {
 -- the step that an instruction comes to, by what the kernel's names stand for
 abbrev pub step_of : (List ℕ → Option Placed) → (List ℕ → Option ℕ) → Operation → Step
 step_of arguments labels op = form_step arguments labels op.form op
+
+-- ---- what a step reads and sets
+
+abbrev pub two1 : Source1 → Source1 → List AnySource
+two1 left right = any.Control left ∷ any.Control right ∷ []
+
+abbrev pub two32 : Source32 → Source32 → List AnySource
+two32 left right = any.Single left ∷ any.Single right ∷ []
+
+abbrev pub two64 : Source64 → Source64 → List AnySource
+two64 left right = any.Double left ∷ any.Double right ∷ []
+
+-- what the operations of one bit read, in order
+abbrev pub control_reads : ControlOperation → List AnySource
+control_reads (control.Move s) = any.Control s ∷ []
+control_reads (control.Not s) = any.Control s ∷ []
+control_reads (control.And p) = two1 p.left p.right
+control_reads (control.Or p) = two1 p.left p.right
+control_reads (control.Xor p) = two1 p.left p.right
+control_reads (control.Choose c) = any.Control c.condition ∷ two1 c.one c.zero
+control_reads (control.Compare c) = two1 c.left c.right
+control_reads (control.CompareUnsigned32 c) = two32 c.left c.right
+control_reads (control.CompareSigned32 c) = two32 c.left c.right
+control_reads (control.CompareUnsigned64 c) = two64 c.left c.right
+control_reads (control.CompareSigned64 c) = two64 c.left c.right
+
+-- what those of 32 bits read
+abbrev pub single_reads : SingleOperation → List AnySource
+single_reads (single.Move s) = any.Single s ∷ []
+single_reads (single.Not s) = any.Single s ∷ []
+single_reads (single.MultiplyAdd t) = any.Single t.first ∷ two32 t.second t.third
+single_reads (single.Choose c) = any.Control c.condition ∷ two32 c.one c.zero
+single_reads (single.Add p) = two32 p.left p.right
+single_reads (single.Subtract p) = two32 p.left p.right
+single_reads (single.Multiply p) = two32 p.left p.right
+single_reads (single.DivideUnsigned p) = two32 p.left p.right
+single_reads (single.DivideSigned p) = two32 p.left p.right
+single_reads (single.RemainderUnsigned p) = two32 p.left p.right
+single_reads (single.RemainderSigned p) = two32 p.left p.right
+single_reads (single.LeastUnsigned p) = two32 p.left p.right
+single_reads (single.LeastSigned p) = two32 p.left p.right
+single_reads (single.GreatestUnsigned p) = two32 p.left p.right
+single_reads (single.GreatestSigned p) = two32 p.left p.right
+single_reads (single.And p) = two32 p.left p.right
+single_reads (single.Or p) = two32 p.left p.right
+single_reads (single.Xor p) = two32 p.left p.right
+single_reads (single.ShiftLeft p) = two32 p.left p.right
+single_reads (single.ShiftRightUnsigned p) = two32 p.left p.right
+single_reads (single.ShiftRightSigned p) = two32 p.left p.right
+
+-- what those of 64 bits read
+abbrev pub double_reads : DoubleOperation → List AnySource
+double_reads (double.Move s) = any.Double s ∷ []
+double_reads (double.Not s) = any.Double s ∷ []
+double_reads (double.MultiplyAdd t) = any.Double t.first ∷ two64 t.second t.third
+double_reads (double.Choose c) = any.Control c.condition ∷ two64 c.one c.zero
+double_reads (double.Add p) = two64 p.left p.right
+double_reads (double.Subtract p) = two64 p.left p.right
+double_reads (double.Multiply p) = two64 p.left p.right
+double_reads (double.DivideUnsigned p) = two64 p.left p.right
+double_reads (double.DivideSigned p) = two64 p.left p.right
+double_reads (double.RemainderUnsigned p) = two64 p.left p.right
+double_reads (double.RemainderSigned p) = two64 p.left p.right
+double_reads (double.LeastUnsigned p) = two64 p.left p.right
+double_reads (double.LeastSigned p) = two64 p.left p.right
+double_reads (double.GreatestUnsigned p) = two64 p.left p.right
+double_reads (double.GreatestSigned p) = two64 p.left p.right
+double_reads (double.And p) = two64 p.left p.right
+double_reads (double.Or p) = two64 p.left p.right
+double_reads (double.Xor p) = two64 p.left p.right
+double_reads (double.ShiftLeft s) = any.Double s.value ∷ any.Single s.count ∷ []
+double_reads (double.ShiftRightUnsigned s) = any.Double s.value ∷ any.Single s.count ∷ []
+double_reads (double.ShiftRightSigned s) = any.Double s.value ∷ any.Single s.count ∷ []
+
+-- the sources that a step reads, in order
+abbrev pub reads : Step → List AnySource
+reads (step.Control s) = control_reads s.operation
+reads (step.Single s) = single_reads s.operation
+reads (step.Double s) = double_reads s.operation
+reads (step.Convert c) = c.source ∷ []
+reads (step.Store s) = s.source ∷ []
+reads (step.ConditionalBranch b) = any.Control b.condition ∷ []
+reads _ = []
+
+abbrev pub number_in : AnyRegister → ℕ
+number_in (register.Control n) = n
+number_in (register.Single n) = n
+number_in (register.Double n) = n
+
+-- the number of the register that a step sets
+abbrev pub sets : Step → Option ℕ
+sets (step.Control s) = Some s.target
+sets (step.Single s) = Some s.target
+sets (step.Double s) = Some s.target
+sets (step.Convert c) = Some (number_in c.target)
+sets (step.Argument a) = Some (number_in a.target)
+sets (step.Load l) = Some (number_in l.target)
+sets (step.Identify i) = Some (number_in i.target)
+sets _ = None
+
+-- the sources of an instruction, in the order of the text
+abbrev pub sources_of : Form → Operation → List TypedSource
+sources_of (form.Unary f) op = read_in op.operands.second ∷ []
+sources_of (form.Binary f) op = read_in op.operands.second ∷ read_in op.operands.third ∷ []
+sources_of (form.Ternary f) op =
+    read_in op.operands.second ∷ read_in op.operands.third ∷ read_in op.operands.fourth ∷ []
+sources_of form.Store op = read_in op.operands.first ∷ []
+sources_of form.ConditionalBranch op = read_in op.operands.first ∷ []
+sources_of _ op = []

@@ -10,7 +10,8 @@ ghost use Rattle.kernel_check.specs.Operands.{any_operand, is_over};
 use crate::fault::Cause;
 use crate::layout::{Placed, end};
 use crate::names::Names;
-use crate::operands::{any_over, any_wrong};
+use crate::operands::{any_over, any_wrong, same_class};
+use crate::translate::forms;
 use hsail_reader::{
     Address, Argument, DataType, Operand, Operands, Operation, Place, RegisterClass, Segment,
 };
@@ -129,28 +130,26 @@ fn too_large(number: usize, operands: &Operands) -> bool
     number >= MAX_INSTRUCTIONS || any_over(operands)
 }
 
-/// Whether a place in brackets is none of global memory.
-fn bad_place(place: Place) -> bool
-    ensures { result ≡ is_bad_place place }
+/// Whether a place isn't counted from a register of the base's class; or any, where there is no base.
+fn bad_place(base: Option<RegisterClass>, place: Place) -> bool
+    ensures { result ≡ is_bad_place base place }
 {
-    match place {
-        Place::Absolute(_) => false,
-        Place::Relative(relative) => match relative.register.class {
-            RegisterClass::Control | RegisterClass::Single => true,
-            RegisterClass::Double => false,
-        },
+    match (base, place) {
+        (None, _) => true,
+        (Some(_), Place::Absolute(_)) => false,
+        (Some(class), Place::Relative(relative)) => !same_class(class, relative.register.class),
     }
 }
 
-/// Whether a segment doesn't have this form of address.
+/// Whether a segment doesn't have this address.
 fn bad_in_brackets(segment: Segment, address: &Address) -> bool
     ensures { result ≡ is_bad segment address.now }
 {
-    match (segment, address) {
-        (Segment::Kernarg, Address::Variable(_)) => false,
-        (Segment::Kernarg, _) => true,
-        (Segment::Global, Address::Place(place)) => bad_place(*place),
-        (Segment::Global, _) => true,
+    let forms = forms(segment);
+    match address {
+        Address::Variable(_) => !forms.variable,
+        Address::Place(place) => bad_place(forms.base, *place),
+        Address::Indexed(indexed) => !forms.indexed || bad_place(forms.base, indexed.place),
     }
 }
 

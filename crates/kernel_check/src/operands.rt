@@ -13,7 +13,7 @@ const MAX_REGISTER: u64 = 63;
 const MAX_DIMENSION: u64 = 2;
 
 /// Whether two classes are one.
-fn same_class(left: RegisterClass, right: RegisterClass) -> bool
+pub fn same_class(left: RegisterClass, right: RegisterClass) -> bool
     ensures { result ≡ is_same_class left right }
 {
     matches!(

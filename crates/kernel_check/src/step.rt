@@ -3,7 +3,7 @@
 
 ghost use Rattle.std.specs.Prelude.{◌≡◌, ◌<◌};
 
-use hsail_reader::{Comparison, Query};
+use hsail_reader::{Comparison, Query, RegisterClass};
 use std::marker::Model;
 
 /// The number of a register within its class: 0 to 63 (PRM, Registers). A contract sees the number.
@@ -336,6 +336,17 @@ pub struct Pointer {
     /// The `$d` register of an address of global memory.
     pub base: Option<Slot>,
     pub offset: u64,
+}
+
+/// Which addresses a segment has (PRM, Address Expressions).
+#[derive(Clone, Copy, Debug, PartialEq, Eq)]
+pub struct AddressForms {
+    /// `[%x]`
+    pub variable: bool,
+    /// `[n]`, `[r]`, `[r+n]` and `[r-n]`, for registers r of this class
+    pub base: Option<RegisterClass>,
+    /// `[%x][..]`, with one of these in the second brackets
+    pub indexed: bool,
 }
 
 /// `ld_kernarg_T target, [%p]`, with the bytes that stand before the argument in its block.

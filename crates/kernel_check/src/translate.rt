@@ -2,7 +2,7 @@
 
 ghost use Rattle.std.specs.Prelude.{◌≡◌};
 ghost use Rattle.kernel_check.specs.Names.{find};
-ghost use Rattle.kernel_check.specs.Steps.{number_type, is_signed, slot_of, register_of, source1_of, source32_of, source64_of, source_of, pointer_of, pointer_in, offset_of, dimension_of, next_of, unary_in, unary_of, control_operation, single_operation, double_operation, compare32, compare64, pair32_of, pair64_of, shift64_of, binary1, binary32, binary64, binary_of, ternary_in, ternary_of, load_from, load_at, store_of, store_at, dimension_in, next_at, target_in, read_in, as_unary, as_binary, as_ternary, step_of, sets1, sets32, sets64};
+ghost use Rattle.kernel_check.specs.Steps.{forms_of, number_type, is_signed, slot_of, register_of, source1_of, source32_of, source64_of, source_of, pointer_of, pointer_in, offset_of, dimension_of, next_of, unary_in, unary_of, control_operation, single_operation, double_operation, compare32, compare64, pair32_of, pair64_of, shift64_of, binary1, binary32, binary64, binary_of, ternary_in, ternary_of, load_from, load_at, store_of, store_at, dimension_in, next_at, target_in, read_in, as_unary, as_binary, as_ternary, step_of, sets1, sets32, sets64};
 ghost use Rattle.hsail_reader.specs.Types.{type_class};
 ghost use Rattle.hsail_reader.specs.declared.types.TernaryOperation.TheVariants.{MultiplyAdd, ConditionalMove};
 
@@ -10,15 +10,15 @@ use crate::constants::bits;
 use crate::layout::Placed;
 use crate::names::Names;
 use crate::step::{
-    AnyRegister, AnySource, ArgumentStep, BranchStep, Choice1, Choice32, Choice64, Compare1,
-    Compare32, Compare64, ControlOperation, ControlStep, ConvertStep, Dimension, DoubleOperation,
-    DoubleStep, IdentifyStep, LoadStep, NumberType, Pair1, Pair32, Pair64, Pointer, Shift64,
-    SingleOperation, SingleStep, Slot, Source1, Source32, Source64, Step, StoreStep, Triple32,
-    Triple64,
+    AddressForms, AnyRegister, AnySource, ArgumentStep, BranchStep, Choice1, Choice32, Choice64,
+    Compare1, Compare32, Compare64, ControlOperation, ControlStep, ConvertStep, Dimension,
+    DoubleOperation, DoubleStep, IdentifyStep, LoadStep, NumberType, Pair1, Pair32, Pair64,
+    Pointer, Shift64, SingleOperation, SingleStep, Slot, Source1, Source32, Source64, Step,
+    StoreStep, Triple32, Triple64,
 };
 use hsail_reader::{
     Access, Address, BinaryOperation, Comparison, Constant, DataType, Form, Operand, Operation,
-    Place, Register, RegisterClass, Segment, Source, TernaryOperation, UnaryOperation,
+    Place, Register, RegisterClass, Segment, Source, TernaryOperation, TypedSource, UnaryOperation,
 };
 
 /// An operation `d, a`.
@@ -27,7 +27,7 @@ pub struct Unary {
     pub operation: UnaryOperation,
     pub kind: DataType,
     pub target: Register,
-    pub source: Source,
+    pub source: TypedSource,
 }
 
 /// An operation `d, a, b`.
@@ -36,8 +36,8 @@ pub struct Binary {
     pub operation: BinaryOperation,
     pub kind: DataType,
     pub target: Register,
-    pub left: Source,
-    pub right: Source,
+    pub left: TypedSource,
+    pub right: TypedSource,
 }
 
 /// An operation `d, a, b, c`.
@@ -46,9 +46,9 @@ pub struct Ternary {
     pub operation: TernaryOperation,
     pub kind: DataType,
     pub target: Register,
-    pub first: Source,
-    pub second: Source,
-    pub third: Source,
+    pub first: TypedSource,
+    pub second: TypedSource,
+    pub third: TypedSource,
 }
 
 /// The register that an operand is.
@@ -64,16 +64,19 @@ fn target_in(operand: &Operand) -> Register
     }
 }
 
-/// The source that an operand is.
-fn read_in(operand: &Operand) -> Source
+/// The source that an operand is, at its type.
+fn read_in(operand: &Operand) -> TypedSource
     ensures { result ≡ read_in operand.now }
 {
     match operand {
-        Operand::Source(typed) => typed.source,
-        _ => Source::Constant(Constant {
-            negative: false,
-            magnitude: 0,
-        }),
+        Operand::Source(typed) => *typed,
+        _ => TypedSource {
+            kind: DataType::B1,
+            source: Source::Constant(Constant {
+                negative: false,
+                magnitude: 0,
+            }),
+        },
     }
 }
 
@@ -163,43 +166,63 @@ fn any_register(kind: DataType, register: Register) -> AnyRegister
 }
 
 /// A source of one bit.
-fn source1(source: Source) -> Source1
-    ensures { result ≡ source1_of source }
+fn source1(typed: TypedSource) -> Source1
+    ensures { result ≡ source1_of typed }
 {
-    match source {
+    match typed.source {
         Source::Register(register) => Source1::Register(slot(register)),
-        Source::Constant(constant) => Source1::Constant(bits(DataType::B1, constant) == 1),
+        Source::Constant(constant) => Source1::Constant(bits(typed.kind, constant) == 1),
     }
 }
 
 /// A source of 8, 16 or 32 bits.
-fn source32(kind: DataType, source: Source) -> Source32
-    ensures { result ≡ source32_of kind source }
+fn source32(typed: TypedSource) -> Source32
+    ensures { result ≡ source32_of typed }
 {
-    match source {
+    match typed.source {
         Source::Register(register) => Source32::Register(slot(register)),
-        Source::Constant(constant) => Source32::Constant((bits(kind, constant) % (1 << 32)) as u32),
+        Source::Constant(constant) => {
+            Source32::Constant((bits(typed.kind, constant) % (1 << 32)) as u32)
+        }
     }
 }
 
 /// A source of 64 bits.
-fn source64(source: Source) -> Source64
-    ensures { result ≡ source64_of source }
+fn source64(typed: TypedSource) -> Source64
+    ensures { result ≡ source64_of typed }
 {
-    match source {
+    match typed.source {
         Source::Register(register) => Source64::Register(slot(register)),
-        Source::Constant(constant) => Source64::Constant(bits(DataType::U64, constant)),
+        Source::Constant(constant) => Source64::Constant(bits(typed.kind, constant)),
     }
 }
 
-/// A source at the type of its place.
-fn any_source(kind: DataType, source: Source) -> AnySource
-    ensures { result ≡ source_of kind source }
+/// A source by the class of its type.
+fn any_source(typed: TypedSource) -> AnySource
+    ensures { result ≡ source_of typed }
 {
-    match kind.class() {
-        RegisterClass::Control => AnySource::Control(source1(source)),
-        RegisterClass::Single => AnySource::Single(source32(kind, source)),
-        RegisterClass::Double => AnySource::Double(source64(source)),
+    match typed.kind.class() {
+        RegisterClass::Control => AnySource::Control(source1(typed)),
+        RegisterClass::Single => AnySource::Single(source32(typed)),
+        RegisterClass::Double => AnySource::Double(source64(typed)),
+    }
+}
+
+/// The addresses that a segment has.
+pub fn forms(segment: Segment) -> AddressForms
+    ensures { result ≡ forms_of segment }
+{
+    match segment {
+        Segment::Kernarg => AddressForms {
+            variable: true,
+            base: None,
+            indexed: false,
+        },
+        Segment::Global => AddressForms {
+            variable: false,
+            base: Some(RegisterClass::Double),
+            indexed: false,
+        },
     }
 }
 
@@ -285,8 +308,8 @@ fn sets64(target: Slot, operation: DoubleOperation) -> Step
 }
 
 /// `mov_T` and `not_T`, by the class of T.
-fn moved(operation: UnaryOperation, kind: DataType, target: Slot, source: Source) -> Step
-    ensures { result ≡ unary_in (type_class kind) operation kind target source }
+fn moved(operation: UnaryOperation, kind: DataType, target: Slot, source: TypedSource) -> Step
+    ensures { result ≡ unary_in (type_class kind) operation target source }
 {
     match (kind.class(), operation) {
         (RegisterClass::Control, UnaryOperation::Not) => {
@@ -294,9 +317,9 @@ fn moved(operation: UnaryOperation, kind: DataType, target: Slot, source: Source
         }
         (RegisterClass::Control, _) => sets1(target, ControlOperation::Move(source1(source))),
         (RegisterClass::Single, UnaryOperation::Not) => {
-            sets32(target, SingleOperation::Not(source32(kind, source)))
+            sets32(target, SingleOperation::Not(source32(source)))
         }
-        (RegisterClass::Single, _) => sets32(target, SingleOperation::Move(source32(kind, source))),
+        (RegisterClass::Single, _) => sets32(target, SingleOperation::Move(source32(source))),
         (RegisterClass::Double, UnaryOperation::Not) => {
             sets64(target, DoubleOperation::Not(source64(source)))
         }
@@ -309,10 +332,10 @@ fn unary_step(unary: &Unary) -> Step
 {
     match unary.operation {
         UnaryOperation::Convert(to) => Step::Convert(ConvertStep {
-            from: number_type(unary.kind),
+            from: number_type(unary.source.kind),
             to: number_type(to),
             target: any_register(to, unary.target),
-            source: any_source(unary.kind, unary.source),
+            source: any_source(unary.source),
         }),
         operation => moved(operation, unary.kind, slot(unary.target), unary.source),
     }
@@ -466,8 +489,8 @@ fn pair32(binary: &Binary) -> Pair32
     ensures { result ≡ pair32_of binary.now }
 {
     Pair32 {
-        left: source32(binary.kind, binary.left),
-        right: source32(binary.kind, binary.right),
+        left: source32(binary.left),
+        right: source32(binary.right),
     }
 }
 
@@ -487,7 +510,7 @@ fn shift64(binary: &Binary) -> Shift64
 {
     Shift64 {
         value: source64(binary.left),
-        count: source32(DataType::U32, binary.right),
+        count: source32(binary.right),
     }
 }
 
@@ -511,15 +534,14 @@ fn multiply_add_step(ternary: &Ternary) -> Step
     ensures { result ≡ ternary_in (type_class ternary.now.kind) MultiplyAdd ternary.now }
 {
     let target = slot(ternary.target);
-    let kind = ternary.kind;
-    match kind.class() {
+    match ternary.kind.class() {
         RegisterClass::Control => sets1(target, ControlOperation::Move(source1(ternary.first))),
         RegisterClass::Single => sets32(
             target,
             SingleOperation::MultiplyAdd(Triple32 {
-                first: source32(kind, ternary.first),
-                second: source32(kind, ternary.second),
-                third: source32(kind, ternary.third),
+                first: source32(ternary.first),
+                second: source32(ternary.second),
+                third: source32(ternary.third),
             }),
         ),
         RegisterClass::Double => sets64(
@@ -538,9 +560,8 @@ fn choose_step(ternary: &Ternary) -> Step
     ensures { result ≡ ternary_in (type_class ternary.now.kind) ConditionalMove ternary.now }
 {
     let target = slot(ternary.target);
-    let kind = ternary.kind;
     let condition = source1(ternary.first);
-    match kind.class() {
+    match ternary.kind.class() {
         RegisterClass::Control => sets1(
             target,
             ControlOperation::Choose(Choice1 {
@@ -553,8 +574,8 @@ fn choose_step(ternary: &Ternary) -> Step
             target,
             SingleOperation::Choose(Choice32 {
                 condition,
-                one: source32(kind, ternary.second),
-                zero: source32(kind, ternary.third),
+                one: source32(ternary.second),
+                zero: source32(ternary.third),
             }),
         ),
         RegisterClass::Double => sets64(
@@ -605,17 +626,17 @@ fn load_at(arguments: &Names<'_, Placed>, target: Register, address: &Operand) -
     }
 }
 
-fn store_step(source: Source, access: &Access) -> Step
+fn store_step(source: TypedSource, access: &Access) -> Step
     ensures { result ≡ store_of source access.now }
 {
     Step::Store(StoreStep {
-        kind: number_type(access.kind),
-        source: any_source(access.kind, source),
+        kind: number_type(source.kind),
+        source: any_source(source),
         pointer: pointer_in_brackets(&access.address),
     })
 }
 
-fn store_at(source: Source, address: &Operand) -> Step
+fn store_at(source: TypedSource, address: &Operand) -> Step
     ensures { result ≡ store_at source address.now }
 {
     match address {

@@ -3,8 +3,8 @@
 use crate::sample::{inc, module_of};
 use hsail_reader::{
     Access, Address, Alignment, Argument, BinaryOperation, Cause, DataType, Form, Indexed, Item,
-    Kernel, Module, Operand, Operation, Place, Profile, ReadError, ReadFault, Relative, Rounding,
-    Segment, Source, UnaryOperation, Width,
+    Kernel, Modifier, Modifiers, Module, Operand, Operation, Place, Profile, ReadError, ReadFault,
+    Relative, Rounding, Segment, Source, UnaryOperation, Width,
 };
 use std::alloc::{AllocError, Global};
 use std::process::Abort;
@@ -197,8 +197,10 @@ fn check_access(rt: &impl Abort, access: &Access) -> Result<(), Fail> {
 }
 
 fn check_load(rt: &impl Abort, operation: &Operation) -> Result<(), Fail> {
-    assert_eq!(rt; operation.modifiers.align, Some(16));
-    assert_eq!(rt; operation.modifiers.width, Some(Width::All));
+    assert!(rt; matches!(
+        operation.modifiers,
+        Modifiers::Two(Modifier::Width(Width::All), Modifier::Align(16))
+    ));
     match &operation.operands.second {
         Operand::Address(access) => check_access(rt, access),
         _ => Err(Fail::from("an address")),
