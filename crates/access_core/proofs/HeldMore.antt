@@ -1,20 +1,11 @@
 -- What packets in flight hold stays as it was at their launch, whatever entry comes behind.
-use Rattle.std.proofs.Common.{◌≡◌, ◌<◌, List, [], ◌∷◌, ◌++◌, refl, ◌∙◌, Bool, true, false, Some, arith}
-use Rattle.std.specs.Prelude.{All}
+use Rattle.std.proofs.Common.{◌≡◌, ◌<◌, List, [], ◌∷◌, ◌++◌, refl, ◌∙◌, Bool, true, false, Some, arith, All}
 use Rattle.std.proofs.lemmas.Bool.{and_from, eq-eqb}
 use Rattle.std.proofs.lemmas.List.Elements.{All-weaker}
-use Rattle.core_model.specs.declared.entry.Entry.{Entry}
-use Rattle.core_model.specs.declared.flight.InFlight.{InFlight}
-use Rattle.core_model.specs.History.{Start}
-use Rattle.core_model.specs.Queues.{next_id}
-use Rattle.core_model.specs.Flight.{flight, flight_after, is_packet, launched_by}
 use Rattle.core_model.proofs.Flying.{all-after, flying-legal}
 use Rattle.core_model.proofs.Holding.{held_from-kept, held_from-launch, held_from-none, owner-more}
-use Rattle.core_model.specs.Holds.{is_launch}
-use Rattle.core_model.specs.Owed.{owed, enters}
-use Rattle.core_model.specs.Legal.{IsLegal}
-use Rattle.access_core.specs.inner.Held.{IsHeld}
 use Rattle.core_model.proofs.Launches.{launched_by-is, was_launched, IsNext-from_owed, AreBelowNext-legal}
+use Rattle.access_core.proofs.Terms.{Entry, InFlight, IsHeld, IsLegal, Start, enters, flight, flight_after, is_launch, is_packet, launched_by, next_id, owed}
 
 -- ---- one entry more
 

@@ -1,27 +1,12 @@
 -- What is decided is what is due, by what is cached.
-use Rattle.std.proofs.Common.{◌≡◌, refl, ◌∙◌, true, false, Some, None, [], length, rules}
-use Rattle.std.specs.Prelude.{nat_lt, ◌||◌, ◌==◌, map}
-use Rattle.aql_packet.specs.Reading.{barrier_bit}
-use Rattle.policy.specs.Policy.{numbered}
-use Rattle.packet_processor.specs.declared.places.Place.{Place}
-use Rattle.core_model.specs.declared.event.Event.TheVariants.{Take}
-use Rattle.core_model.specs.declared.outcome.Outcome.TheVariants as outcome
-use Rattle.core_model.specs.declared.outcome.Taken.TheVariants.{Launched, Denied, Waiting}
-use Rattle.core_model.specs.declared.refusal.Refusal.TheVariants as refusal
-use Rattle.core_model.specs.LaunchRules.{may_start}
-use Rattle.core_model.specs.Owed.{answers, enters, refuses, error_at}
+use Rattle.std.proofs.Common.{◌≡◌, refl, ◌∙◌, true, false, Some, None, [], length, rules, ap, subst, nat_lt, ◌||◌, ◌==◌, map, option_map}
 use Rattle.packet_processor.proofs.QueueingLemmas.{launching-waits, launching-goes}
-use Rattle.std.proofs.Common.{ap}
-use Rattle.std.specs.Prelude.{option_map}
-use Rattle.access_core.specs.inner.CachedQueue.{cached_opening}
-use Rattle.std.proofs.Common.{subst}
-use Rattle.core_model.specs.History.{History}
-use Rattle.access_core.specs.inner.Deciding.{TakesNext, MayHold}
-use Rattle.access_core.specs.inner.LiesInRegions.{lies_in_regions}
-use Rattle.core_model.specs.Memory.{region_lengths}
-use Rattle.core_model.specs.Queues.{owner}
 use Rattle.access_core.proofs.Calls.{due-by}
 use Rattle.access_core.proofs.TakeLemmas.{owner-kept, room-launched, may-hold, take-unknown, take-known, within-launched, takes-next}
+use Rattle.access_core.proofs.Terms.{Denied, History, Launched, MayHold, Place, Take, TakesNext, Waiting, answers, barrier_bit, cached_opening, enters}
+use Rattle.access_core.proofs.Terms.{error_at, lies_in_regions, may_start, numbered, owner, refuses, region_lengths}
+use Rattle.core_model.specs.declared.outcome.Outcome.TheVariants as outcome
+use Rattle.core_model.specs.declared.refusal.Refusal.TheVariants as refusal
 use Rattle.access_core.proofs.access.AccessCore.may_take.Goals as goal
 
 pub returns-in-None-clause-why : goal.returns-in-None-clause-why
