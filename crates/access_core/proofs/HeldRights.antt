@@ -1,12 +1,11 @@
 -- Tests of rights that packets hold, taken right by right or packet by packet.
-use Rattle.std.proofs.Common.{arith, ◌≡◌, List, [], ◌∷◌, refl, sym, ◌∙◌, ap, Bool, true, false, Option, Some, None, All, ◌&&◌, ◌||◌, ◌==◌}
+use Rattle.std.proofs.Common.{arith, ◌≡◌, List, [], ◌∷◌, refl, sym, ◌∙◌, ap, Bool, false, Option, Some, None, All, ◌&&◌, ◌||◌, ◌==◌}
 use Rattle.std.proofs.lemmas.List.Elements.{All-head, All-tail}
 use Rattle.std.specs.List.{list_any}
 use Rattle.policy.specs.Object.{same_object}
 use Rattle.access_core.specs.inner.Held.{as_rights}
 use Rattle.access_core.proofs.Terms.{ClientId, Entry, Held, InFlight, IsHeld, Ledger, Object, Opening, Packet, PacketId, QueueId, Right, Rights, Start}
 use Rattle.access_core.proofs.Terms.{all_rights, has, held_at_launch, holds, holds_by, holds_one_of, is_holder, is_owned, is_packet, owner, packet_holds}
-use Rattle.policy.specs.declared.rights.Right.TheVariants as right
 
 -- ---- tests of lists
 

@@ -3,7 +3,7 @@ use Rattle.std.proofs.Common.{◌≡◌, List, ◌∙◌, ap, true, Ok, map, fil
 use Rattle.std.specs.List.{list_any}
 use Rattle.core_model.specs.Queries.{replied}
 use Rattle.access_core.proofs.Terms.{ClientId, History, Inside, IsCached, Object, Rights, Rules, all_objects, all_rights, declares_client, history_of, listing}
-use Rattle.access_core.proofs.Terms.{rights_that, rules_of, start_of}
+use Rattle.access_core.proofs.Terms.{rights_that, start_of}
 use Rattle.grants.specs.Rules as rules_kept
 use Rattle.grants.specs.Ledger as ledger
 use Rattle.core_model.specs.declared.answer.Answer.TheVariants as answer

@@ -1,5 +1,5 @@
 -- What is kept of a core in which nothing has happened.
-use Rattle.std.proofs.Common.{◌≡◌, ℕ, ◌≤◌, [], ◌∙◌, Bool, true, false, None, arith, refl, sym, ◌-◌, slice_get, nat_lt, if◌then◌else◌}
+use Rattle.std.proofs.Common.{◌≡◌, ℕ, ◌≤◌, [], ◌∙◌, Bool, true, false, None, arith, refl, ◌-◌, slice_get, nat_lt, if◌then◌else◌}
 use Rattle.std.proofs.lemmas.List.Elements.{All-nil}
 use Rattle.std.proofs.lemmas.Bool.Decides.{nat_tests}
 use Rattle.regions.proofs.Laws.{lengths_of-zeros, byte_at-zeros}

@@ -1,6 +1,5 @@
 -- Lists of queues: one more, or one changed.
-use Rattle.std.proofs.Common.{◌≡◌, ℕ, zero, suc, ◌-◌, ◌<◌, ◌≤◌, length, length-append, arith, List, [], ◌∷◌, ◌++◌, refl, Bool, true, false, Option, Some, None}
-use Rattle.std.proofs.Common.{slice_get, nat_lt, if◌then◌else◌}
+use Rattle.std.proofs.Common.{◌≡◌, ℕ, zero, suc, ◌-◌, ◌<◌, ◌≤◌, length, length-append, arith, List, [], ◌∷◌, ◌++◌, refl, Option, Some, None, slice_get}
 use Rattle.std.proofs.lemmas.List.{length-map}
 use Rattle.access_core.proofs.Terms.{Inside, IsCached, QUEUES, Queue, numbered, openings, start_of}
 

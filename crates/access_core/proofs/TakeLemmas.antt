@@ -1,9 +1,9 @@
 -- What is owed to a packet that is handed over, by what is kept.
 use Rattle.std.proofs.Common.{◌≡◌, ℕ, ◌<◌, ◌≤◌, ◌^◌, List, [], ◌∷◌, ◌++◌, length, refl, sym, ◌∙◌, ap, Bool, true, false, Option, Some, None, arith, ◌+◌}
-use Rattle.std.proofs.Common.{length-append, subst, nat_lt, nat_le, All, not, ◌||◌, ◌&&◌, ◌==◌, map, option_map, if◌then◌else◌}
-use Rattle.std.specs.List.{list_all, list_any}
+use Rattle.std.proofs.Common.{length-append, subst, nat_lt, All, ◌||◌, ◌==◌, map, option_map, if◌then◌else◌}
+use Rattle.std.specs.List.{list_all}
 use Rattle.std.proofs.lemmas.List.Sums.{count_by-le-length}
-use Rattle.std.proofs.lemmas.Bool.{and_parts, leb-false, lt-ltb}
+use Rattle.std.proofs.lemmas.Bool.{and_parts, lt-ltb}
 use Rattle.std.proofs.lemmas.List.Elements.{All-push, All-weaker}
 use Rattle.std.proofs.lemmas.List.{length-map}
 use Rattle.queue_error.specs.declared.rule.Rule.{Rule}
@@ -18,15 +18,13 @@ use Rattle.access_core.specs.inner.QueueChanges.{with_launched}
 use Rattle.access_core.proofs.CachedMore.{QueuesAfter, none-launched}
 use Rattle.access_core.proofs.QueueAt.{flight-launched, flight-unlaunched, map-map, denied, launched, queue_at-denied, queue_at-launched}
 use Rattle.access_core.proofs.ChangedQueue.{length-changed, openings-changed, queues-changed, sound-at, sound-changed}
-use Rattle.access_core.proofs.Terms.{CanFail, ClientId, Denied, Effect, Entry, Event, Facts, Held, History, InFlight, Inside, IsCached, IsSound, Launched}
-use Rattle.access_core.proofs.Terms.{MayHold, Opening, Outcome, Packet, PacketId, Place, Queue, QueueError, QueueId, QueueView, SLOTS, Start, Take, TakesNext}
-use Rattle.access_core.proofs.Terms.{as_held, as_launched, barrier_bit, cached, cached_opening, decided, decoded, entry_of, error_at, errors, facts_of}
-use Rattle.access_core.proofs.Terms.{first_failing, flight, flight_of, hands_over, held_at_launch, history_of, is_barrier, is_met, is_stopped, is_taken}
-use Rattle.access_core.proofs.Terms.{lacks_room, launched_by, lies_in_regions, lies_whole, memory_needs, names_known_function, needs, numbered, numbered-map}
-use Rattle.access_core.proofs.Terms.{owner, place_of, queue_at, refuse_if, refuse_unless, refuses, region_lengths, start_of, with_denied, with_entry}
-use Rattle.access_core.proofs.Terms.{with_queue, with_some}
+use Rattle.access_core.proofs.Terms.{IsInPlace, CanFail, ClientId, Denied, Effect, Entry, Event, Facts, Held, History, InFlight, Inside, IsCached, IsSound}
+use Rattle.access_core.proofs.Terms.{Launched, MayHold, Opening, Outcome, Packet, PacketId, Place, Queue, QueueError, QueueId, QueueView, SLOTS, Start, Take}
+use Rattle.access_core.proofs.Terms.{TakesNext, as_held, as_launched, barrier_bit, cached, cached_opening, decided, decoded, entry_of, error_at, errors}
+use Rattle.access_core.proofs.Terms.{facts_of, first_failing, flight, flight_of, hands_over, held_at_launch, history_of, is_met, is_stopped, lacks_room}
+use Rattle.access_core.proofs.Terms.{launched_by, lies_in_regions, lies_whole, memory_needs, needs, numbered, numbered-map, owner, place_of, queue_at}
+use Rattle.access_core.proofs.Terms.{refuse_if, refuse_unless, refuses, region_lengths, start_of, with_denied, with_entry, with_queue, with_some}
 use Rattle.queue_error.specs.declared.rule.Rule.TheVariants as rule
-use Rattle.core_model.specs.declared.outcome.Cause.TheVariants as cause
 use Rattle.core_model.specs.declared.refusal.Refusal.TheVariants as refusal
 use Rattle.core_model.specs.declared.outcome.Outcome.TheVariants as outcome
 
@@ -173,6 +171,10 @@ is-open a kept queue opening owned = either (numbered a.queues.items queue.0) re
         let next : q.next ≡ next_id (start_of a) a.audit.items queue = ap (λ (v : QueueView). v.next) view in
         let few : next_id (start_of a) a.audit.items queue ≤ length a.audit.items = next_id-le (start_of a) a.audit.items queue in
         record { q = q; found = is; view = view; sound = sound-at a.queues.items queue.0 q kept.sound is; small = omega (arith, kept.room, kept.few, next, few) }
+
+-- the queue of a packet in its place is open
+pub open-of : (a : Inside) (kept : IsCached a) (old : History) → history_of a ≡ old → (queue : QueueId) (id : PacketId) (place : Place) → IsInPlace old queue id place → IsOpen a queue
+open-of a kept old seen_as queue id place found = is-open a kept queue found.opening (ap (λ h. owner h.start h.entries queue) seen_as ∙ found.owner_is)
 
 -- A queue that takes its next packet has no error, and a slot free.
 pub record CanTake (a : Inside) (queue : QueueId) : Type 0 where

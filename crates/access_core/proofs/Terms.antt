@@ -22,11 +22,11 @@ pub use Rattle.core_model.specs.Flight.{progress_after, seen_with}
 pub use Rattle.core_model.specs.Grants.{in_force, in_force_after}
 pub use Rattle.core_model.specs.History.{History, Start}
 pub use Rattle.core_model.specs.Holds.{Held, as_held, held_at_launch, holder, holds_one_of, is_launch, is_owned, is_up_to, least}
-pub use Rattle.core_model.specs.LaunchRules.{Facts, first_failing, is_barrier, is_met, is_taken, lies_whole, may_start, names_known_function}
+pub use Rattle.core_model.specs.LaunchRules.{Facts, first_failing, is_barrier, is_met, lies_whole, may_start}
 pub use Rattle.core_model.specs.Legal.{AreReplies, IsLegal, IsServed, Meets, MeetsOrLacks, RepliesOrLacks, as_reply, due, entry_of, lacks_room, with_entry}
 pub use Rattle.core_model.specs.Legal.{within_room}
 pub use Rattle.core_model.specs.Memory.{byte_after, memory_at, memory_from, region_lengths, signals, signals_after}
-pub use Rattle.core_model.specs.Needs.{argument, bytes_at, completion, function_needs, function_of, memory_needs, needs, range_need, result_range}
+pub use Rattle.core_model.specs.Needs.{completion, function_of, memory_needs, needs}
 pub use Rattle.core_model.specs.Owed.{Owed, answers, completed, decided, enters, error_at, facts_of, for_packet, old_if_asked, owed, owed_finish, owed_group}
 pub use Rattle.core_model.specs.Owed.{owed_poll, refuse_if, refuse_unless, refuses, release_of}
 pub use Rattle.core_model.specs.Queries.{Replying, all_objects, listing}

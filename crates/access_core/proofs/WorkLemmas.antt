@@ -1,11 +1,10 @@
 -- Packets in flight and their completion: what an entry changes beside them, and how many are left.
 use Rattle.std.proofs.Common.{◌≡◌, ℕ, ◌+◌, ◌-◌, ◌<◌, ◌≤◌, List, [], ◌∷◌, ◌++◌, length, refl, sym, subst, ◌∙◌, ap, Bool, true, false, Option, Some, None, arith}
-use Rattle.std.proofs.Common.{pos, get_or, length-append, ℤ, filter, find, fold, nat_lt, not, slice_set, ◌==◌, if◌then◌else◌, Ok, Err, ◌&&◌, option_map, All}
-use Rattle.std.proofs.Common.{map}
+use Rattle.std.proofs.Common.{get_or, length-append, ℤ, filter, find, fold, nat_lt, not, slice_set, ◌==◌, if◌then◌else◌, Ok, Err, ◌&&◌, option_map, map}
 use Rattle.std.specs.Option.{ok_or}
 use Rattle.std.proofs.lemmas.Bool.{and_parts, eqb-true, le-ltb}
 use Rattle.std.proofs.lemmas.List.{length-map}
-use Rattle.std.proofs.lemmas.List.Elements.{All-filter, All-head, All-tail, All-map}
+use Rattle.std.proofs.lemmas.List.Elements.{All-filter, All-map}
 use Rattle.signals.specs.declared.operation.SignalOp.{SignalOp}
 use Rattle.signals.specs.Values.{after}
 use Rattle.aql_packet.specs.declared.ids.SignalHandle.{SignalHandle}
@@ -22,10 +21,10 @@ use Rattle.access_core.proofs.ChangedQueue.{freed-at}
 use Rattle.access_core.proofs.TakeLemmas.{IsOpen, owner-kept, queues-after, view-kept}
 use Rattle.access_core.proofs.Terms.{CanFail, Effect, Event, Finish, History, InFlight, Inside, IsCached, IsInPlace, IsSound, Outcome, Owed, Packet, PacketId}
 use Rattle.access_core.proofs.Terms.{Place, Poll, Progress, Queue, QueueError, QueueId, QueueView, RefusedAt, applied, byte_after, cached, cached_opening}
-use Rattle.access_core.proofs.Terms.{completed, completion, completion_of, due, enters, entry_of, error_at, error_of, finish_owed, flight, flight_after}
+use Rattle.access_core.proofs.Terms.{completed, completion, completion_of, due, enters, entry_of, error_at, finish_owed, flight, flight_after}
 use Rattle.access_core.proofs.Terms.{flight_after_effect, for_packet, freed_by, history_of, in_flight, is_at, is_packet, lacks_room, lies_in_regions, numbered}
-use Rattle.access_core.proofs.Terms.{owed, owner, place_of, progress, queue_at, refuses, region_lengths, signals, signals_after, start_of, stops, value_of}
-use Rattle.access_core.proofs.Terms.{with_advance, with_error, with_failure, with_progress, with_queue, with_release, without}
+use Rattle.access_core.proofs.Terms.{owed, owner, place_of, progress, queue_at, refuses, region_lengths, signals, signals_after, start_of, value_of}
+use Rattle.access_core.proofs.Terms.{with_advance, with_failure, with_progress, with_queue, with_release, without}
 use Rattle.core_model.specs.declared.entry.Effect.TheVariants as effect
 use Rattle.core_model.specs.declared.refusal.Refusal.TheVariants as refusal
 use Rattle.core_model.specs.declared.outcome.Outcome.TheVariants as outcome

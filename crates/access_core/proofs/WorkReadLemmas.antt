@@ -1,26 +1,15 @@
 -- Memory that is read and written, as the history has it.
-use Rattle.std.proofs.Common.{◌≡◌, ℕ, ◌+◌, ◌-◌, ◌<◌, ◌≤◌, ◌^◌, List, [], ◌∷◌, ◌++◌, length, refl, sym, ◌∙◌, ap, subst, Bool, true, false, Some, None, arith}
-use Rattle.std.proofs.Common.{◌≢◌, ◌==◌, ◌&&◌, ◌%◌, slice_get, slice_index, nat_le, nat_lt, if◌then◌else◌}
-use Rattle.std.specs.List.{list_all}
-use Rattle.std.proofs.lemmas.List.Folds.{list_all-append}
-use Rattle.std.proofs.lemmas.Bool.{and_parts, lt-ltb}
+use Rattle.std.proofs.Common.{◌≡◌, ℕ, ◌+◌, ◌-◌, ◌<◌, ◌≤◌, ◌^◌, List, length, refl, sym, ◌∙◌, ap, subst, true, false, Some, arith, ◌≢◌, ◌==◌, slice_get}
+use Rattle.std.proofs.Common.{slice_index, if◌then◌else◌}
+use Rattle.std.proofs.lemmas.Bool.{lt-ltb}
 use Rattle.std.proofs.lemmas.List.{same_lists}
 use Rattle.std.proofs.lemmas.List.FromFn.{length-map-range_with_len, get_or-map-range_with_len}
 use Rattle.std.proofs.lemmas.Option.{slice_get-get_or, get_or_from_slice_get}
-use Rattle.policy.specs.declared.rights.Right.TheVariants.{Read, Write}
 use Rattle.regions.proofs.Laws.{IsWithin-from_test, length-region_bytes, length-bytes_from, slice_get-bytes_from}
 use Rattle.regions.proofs.Lookups.{region_length-is}
-use Rattle.aql_packet.specs.declared.packet.AgentDispatch.{AgentDispatch}
-use Rattle.core_model.specs.declared.need.Range.{Range}
-use Rattle.core_model.specs.declared.need.Need.{Need}
-use Rattle.core_model.specs.declared.need.AgentFunction.TheVariants.{Fill, Copy, Add64}
-use Rattle.core_model.specs.declared.need.TheConstants.{FILL, COPY, ADD64}
-use Rattle.access_core.proofs.Terms.{History, Inside, IsCached, IsChanged, IsMemory, IsWithin, IsWritten, Right, argument, byte_at, bytes_at, bytes_from}
-use Rattle.access_core.proofs.Terms.{covers, function_needs, function_of, history_of, is_placed, is_within, lengths_of, lies_in_region, lies_in_regions}
-use Rattle.access_core.proofs.Terms.{lies_whole, memory_at, memory_from, offset_of, range_need, region_bytes, region_lengths, region_of, result_range, start_of}
-use Rattle.access_core.proofs.Terms.{write_of}
-use Rattle.aql_packet.specs.declared.packet.Packet.TheVariants as packet
-use Rattle.core_model.specs.declared.need.Subject.TheVariants as subject
+use Rattle.access_core.proofs.Terms.{History, Inside, IsCached, IsChanged, IsMemory, IsWithin, IsWritten, byte_at, bytes_from, covers, history_of, is_placed}
+use Rattle.access_core.proofs.Terms.{is_within, lengths_of, lies_in_region, memory_at, memory_from, offset_of, region_bytes, region_lengths, region_of}
+use Rattle.access_core.proofs.Terms.{start_of, write_of}
 
 -- each address of a range that lies whole in a region lies in it
 lies-within : (regions : List (List ℕ)) (address size k : ℕ) → IsMemory regions → IsWithin regions address size → k < size → lies_in_region (lengths_of regions) (address + k) ≡ true
@@ -64,47 +53,3 @@ written-changed old address bytes new some written = λ x byte before.
     inside : (x byte : ℕ) → byte_at old x ≡ Some byte → (if covers address (length bytes) x then slice_get bytes (x - address) else byte_at old x)
         ≡ Some (if covers address (length bytes) x then slice_index bytes (x - address) else byte)
     inside x byte before = grind (arith, slice_get-get_or bytes (x - address) 0)
-
-lie-first : (lengths : List ℕ) (xs ys : List Need) → list_all (λ need. lies_whole lengths need.subject) (xs ++ ys) ≡ true → list_all (λ need. lies_whole lengths need.subject) xs ≡ true
-lie-first lengths xs ys lies = (and_parts _ _ (sym (list_all-append (λ need. lies_whole lengths need.subject) xs ys) ∙ lies)).0
-
-lie-second : (lengths : List ℕ) (xs ys : List Need) → list_all (λ need. lies_whole lengths need.subject) (xs ++ ys) ≡ true → list_all (λ need. lies_whole lengths need.subject) ys ≡ true
-lie-second lengths xs ys lies = (and_parts _ _ (sym (list_all-append (λ need. lies_whole lengths need.subject) xs ys) ∙ lies)).1
-
--- a range that is needed, and lies whole in a region, has its place
-placed-needed : (lengths : List ℕ) (right : Right) (range : Range) → list_all (λ need. lies_whole lengths need.subject) (range_need right range) ≡ true → is_placed lengths range.address.0 range.size ≡ true
-placed-needed lengths right range lies = by_test (range.size == 0) refl lies
-  where
-    by_test : (b : Bool) → (range.size == 0) ≡ b → list_all {X = Need} (λ need. lies_whole lengths need.subject) (if b then [] else record { subject = subject.Range range; right = right } ∷ []) ≡ true → is_placed lengths range.address.0 range.size ≡ true
-    by_test true is lies = rw is refl
-    by_test false is lies = rw is (and_parts _ _ lies).0
-
-module _ (lengths : List ℕ) (dispatch : AgentDispatch) (reaches : lies_in_regions lengths (packet.Agent dispatch) ≡ true) where
-  of_function : list_all (λ need. lies_whole lengths need.subject) (function_needs (function_of dispatch)) ≡ true
-  of_function = lie-first lengths (function_needs (function_of dispatch)) (range_need Write (result_range dispatch)) reaches
-
-  -- what a fill writes has its place
-  pub fill-placed : (target : Range) (byte : ℕ) → function_of dispatch ≡ Some (Fill target byte) → is_placed lengths target.address.0 target.size ≡ true
-  fill-placed target byte is = placed-needed lengths Write target (rw is at of_function)
-
-  -- what a copy reads and writes has its place
-  pub source-placed : (source target : Range) → function_of dispatch ≡ Some (Copy source target) → is_placed lengths source.address.0 source.size ≡ true
-  source-placed source target is = placed-needed lengths Read source (lie-first lengths (range_need Read source) (range_need Write target) (rw is at of_function))
-
-  pub target-placed : (source target : Range) → function_of dispatch ≡ Some (Copy source target) → is_placed lengths target.address.0 target.size ≡ true
-  target-placed source target is = placed-needed lengths Write target (lie-second lengths (range_need Read source) (range_need Write target) (rw is at of_function))
-
-  -- a copy's two ranges are as long as each other
-  copy-sizes : (source target : Range) → function_of dispatch ≡ Some (Copy source target) → source.size ≡ target.size
-  copy-sizes source target is = grind arith
-
-  pub copy-placed : (source target : Range) → function_of dispatch ≡ Some (Copy source target) → is_placed lengths target.address.0 source.size ≡ true
-  copy-placed source target is = rw (copy-sizes source target is) (target-placed source target is)
-
-  -- the number that is added to has its place
-  pub number-placed : (number : Range) (addend : ℕ) → function_of dispatch ≡ Some (Add64 number addend) → is_placed lengths number.address.0 number.size ≡ true
-  number-placed number addend is = placed-needed lengths Write number (lie-second lengths (range_need Read number) (range_need Write number) (rw is at of_function))
-
-  -- and so has the result
-  pub result-placed : is_placed lengths dispatch.return_address.0 (result_range dispatch).size ≡ true
-  result-placed = placed-needed lengths Write (result_range dispatch) (lie-second lengths (function_needs (function_of dispatch)) (range_need Write (result_range dispatch)) reaches)

@@ -1,11 +1,11 @@
 -- What is kept moves along with the failure, which always finds room: a packet leaves flight for its entry.
-use Rattle.std.proofs.Common.{arith, ◌≡◌, ◌++◌, refl, true, false, Bool, [], ◌∷◌, ◌==◌, if◌then◌else◌}
+use Rattle.std.proofs.Common.{arith, ◌++◌, refl, [], ◌∷◌}
 use Rattle.queue_error.specs.declared.rule.Rule.TheVariants.{B1}
 use Rattle.core_model.specs.declared.outcome.Polled.TheVariants.{Failed}
 use Rattle.access_core.proofs.HeldAfter.{grants-released}
 use Rattle.access_core.proofs.CachedMore.{IsCached-more, has_place, memory-still}
 use Rattle.access_core.proofs.QueueAt.{flight-released}
-use Rattle.access_core.proofs.TakeLemmas.{is-open}
+use Rattle.access_core.proofs.TakeLemmas.{is-open, open-of}
 use Rattle.access_core.proofs.WorkLemmas.{failure-releases, can-fail, freed-below, place-inside, queues-released, sound-failed}
 use Rattle.access_core.proofs.Terms.{PacketId, Poll, QueueId, QueueView, error_at, start_of, with_failure, without}
 use Rattle.core_model.specs.declared.entry.Effect.TheVariants as effect
@@ -24,8 +24,8 @@ fail_packet-requires c =
 pub overflow_sub-self : goal.overflow_sub-self
 overflow_sub-self c =
     let a = c.self.inside in
-    let found = place-inside a _ c.self.view_is c.args.queue c.args.packet c.args.place c.requires.found in
-    let below = freed-below a c.self.invariant c.args.queue c.args.packet (is-open a c.self.invariant c.args.queue found.opening found.owner_is) in
+    let at = open-of a c.self.invariant _ c.self.view_is c.args.queue c.args.packet c.args.place c.requires.found in
+    let below = freed-below a c.self.invariant c.args.queue c.args.packet at in
     rw c.fail_packet.ensures.freed below
 
 pub enter-requires : goal.enter-requires

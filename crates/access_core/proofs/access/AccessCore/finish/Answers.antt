@@ -1,26 +1,25 @@
 -- What is kept moves along with the completion, which always finds room: a packet leaves flight for its entry.
-use Rattle.std.proofs.Common.{arith, ◌≡◌, refl, true, false, Bool, if◌then◌else◌}
+use Rattle.std.proofs.Common.{arith, refl}
 use Rattle.access_core.proofs.HeldAfter.{grants-released}
 use Rattle.access_core.proofs.CachedMore.{IsCached-more, has_place, memory-still}
 use Rattle.access_core.proofs.QueueAt.{flight-released}
-use Rattle.access_core.proofs.TakeLemmas.{is-open}
-use Rattle.access_core.proofs.WorkLemmas.{finish-releases, freed-below, memory-completed, finish-due, place-inside, queues-released, sound-released}
-use Rattle.access_core.proofs.Terms.{Finish, PacketId, QueueView, completion, completion_of, start_of, with_release, without}
+use Rattle.access_core.proofs.TakeLemmas.{open-of}
+use Rattle.access_core.proofs.WorkLemmas.{finish-releases, freed-below, memory-completed, finish-due, queues-released, sound-released}
+use Rattle.access_core.proofs.Terms.{Finish, completion, completion_of, start_of, with_release, without}
 use Rattle.core_model.specs.declared.outcome.Outcome.TheVariants as outcome
 use Rattle.access_core.proofs.access.AccessCore.finish.Goals as goal
 
 pub release-requires : goal.release-requires
 release-requires c =
     let a = c.self.inside in
-    let found = place-inside a _ c.self.view_is c.args.queue c.args.packet c.in_ok-place.place c.in_ok-place.ensures.found in
-    let at = is-open a c.self.invariant c.args.queue found.opening found.owner_is in
+    let at = open-of a c.self.invariant _ c.self.view_is c.args.queue c.args.packet c.in_ok-place.place c.in_ok-place.ensures.found in
     (at.q, at.found)
 
 pub overflow_sub-self : goal.overflow_sub-self
 overflow_sub-self c =
     let a = c.self.inside in
-    let found = place-inside a _ c.self.view_is c.args.queue c.args.packet c.in_ok-place.place c.in_ok-place.ensures.found in
-    let below = freed-below a c.self.invariant c.args.queue c.args.packet (is-open a c.self.invariant c.args.queue found.opening found.owner_is) in
+    let at = open-of a c.self.invariant _ c.self.view_is c.args.queue c.args.packet c.in_ok-place.place c.in_ok-place.ensures.found in
+    let below = freed-below a c.self.invariant c.args.queue c.args.packet at in
     rw c.release.ensures.freed below
 
 pub enter-requires : goal.enter-requires
@@ -32,8 +31,7 @@ invariant_of-self c =
     let a = c.self.inside in
     let p = c.in_ok-place.place.packet in
     let is = finish-releases a.signals c.args.queue c.args.packet p in
-    let found = place-inside a _ c.self.view_is c.args.queue c.args.packet c.in_ok-place.place c.in_ok-place.ensures.found in
-    let at = is-open a c.self.invariant c.args.queue found.opening found.owner_is in
+    let at = open-of a c.self.invariant _ c.self.view_is c.args.queue c.args.packet c.in_ok-place.place c.in_ok-place.ensures.found in
     IsCached-more a _ (Finish c.args.queue c.args.packet) outcome.Accepted (completion_of a.signals c.args.queue c.args.packet p) c.self.invariant
     (record {
       same = (refl, refl);

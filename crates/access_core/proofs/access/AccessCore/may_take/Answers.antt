@@ -41,8 +41,7 @@ returns-then-is_full_for_launch-clause-why c =
     let some : numbered c.self.inside.queues.items c.args.queue.0 ≡ Some c.in-Some.kept.now = cc c.in-Some.ensures in
     let down : (nat_lt 0 (length c.in-Some.kept.now.errors.items) || c.in-Some.kept.now.stopped) ≡ false = cc in
     let next : (c.args.packet.0 == c.in-Some.kept.now.next) ≡ true = search rules in
-    let told : may_start (map (λ (p : Place). p.packet) c.as_slice-2.result.now) c.header.result.barrier ≡ None = launching-goes _ c.in-Go.ensures in
-    let waits : may_start (map (λ (p : Place). p.packet) c.in-Some.kept.now.places) (barrier_bit c.args.bytes.now) ≡ None = cc (told, c.as_slice-2.ensures, c.header.ensures) in
+    let waits : may_start (map (λ (p : Place). p.packet) c.in-Some.kept.now.places) (barrier_bit c.args.bytes.now) ≡ None = cc (launching-goes _ c.in-Go.ensures, c.as_slice-2.ensures, c.header.ensures) in
     due-by c.self.inside _ c.self.view_is (Take c.args.queue c.args.packet c.args.bytes.now) (enters (outcome.Taken Launched) []) (take-known c.self.inside c.self.invariant _ _ _ _ some ∙ (rw (down, next, waits, c.in-Launch.ensures.1) refl)) ∙ (rw (room-launched _ c.args.queue c.args.packet _ _ c.in-Launch.ensures.0, ← c.is_full_for_launch.ensures, c.if-is_full_for_launch.true) refl)
 
 pub returns-then-is_full-clause-why : goal.returns-then-is_full-clause-why
@@ -50,8 +49,7 @@ returns-then-is_full-clause-why c =
     let some : numbered c.self.inside.queues.items c.args.queue.0 ≡ Some c.in-Some.kept.now = cc c.in-Some.ensures in
     let down : (nat_lt 0 (length c.in-Some.kept.now.errors.items) || c.in-Some.kept.now.stopped) ≡ false = cc in
     let next : (c.args.packet.0 == c.in-Some.kept.now.next) ≡ true = search rules in
-    let told : may_start (map (λ (p : Place). p.packet) c.as_slice-2.result.now) c.header.result.barrier ≡ None = launching-goes _ c.in-Go.ensures in
-    let waits : may_start (map (λ (p : Place). p.packet) c.in-Some.kept.now.places) (barrier_bit c.args.bytes.now) ≡ None = cc (told, c.as_slice-2.ensures, c.header.ensures) in
+    let waits : may_start (map (λ (p : Place). p.packet) c.in-Some.kept.now.places) (barrier_bit c.args.bytes.now) ≡ None = cc (launching-goes _ c.in-Go.ensures, c.as_slice-2.ensures, c.header.ensures) in
     due-by c.self.inside _ c.self.view_is (Take c.args.queue c.args.packet c.args.bytes.now) (enters (outcome.Taken (Denied (error_at c.args.queue c.args.packet.0 c.in-Deny.rule))) []) (take-known c.self.inside c.self.invariant _ _ _ _ some ∙ (rw (down, next, waits, c.in-Deny.ensures) refl)) ∙ (rw (← c.is_full.ensures, c.if-is_full.true) refl)
 
 pub returns-else-is_full_for_launch-clause-may : goal.returns-else-is_full_for_launch-clause-may
@@ -59,8 +57,7 @@ returns-else-is_full_for_launch-clause-may c =
     let some : numbered c.self.inside.queues.items c.args.queue.0 ≡ Some c.in-Some.kept.now = cc c.in-Some.ensures in
     let down : (nat_lt 0 (length c.in-Some.kept.now.errors.items) || c.in-Some.kept.now.stopped) ≡ false = cc in
     let next : (c.args.packet.0 == c.in-Some.kept.now.next) ≡ true = search rules in
-    let told : may_start (map (λ (p : Place). p.packet) c.as_slice-2.result.now) c.header.result.barrier ≡ None = launching-goes _ c.in-Go.ensures in
-    let waits : may_start (map (λ (p : Place). p.packet) c.in-Some.kept.now.places) (barrier_bit c.args.bytes.now) ≡ None = cc (told, c.as_slice-2.ensures, c.header.ensures) in (
+    let waits : may_start (map (λ (p : Place). p.packet) c.in-Some.kept.now.places) (barrier_bit c.args.bytes.now) ≡ None = cc (launching-goes _ c.in-Go.ensures, c.as_slice-2.ensures, c.header.ensures) in (
       due-by c.self.inside _ c.self.view_is (Take c.args.queue c.args.packet c.args.bytes.now) (enters (outcome.Taken Launched) []) (take-known c.self.inside c.self.invariant _ _ _ _ some ∙ (rw (down, next, waits, c.in-Launch.ensures.1) refl)) ∙ (rw (room-launched _ c.args.queue c.args.packet _ _ c.in-Launch.ensures.0, ← c.is_full_for_launch.ensures, c.if-is_full_for_launch.false) refl),
       c.in-Launch.ensures.0,
       subst (λ (h : History). lies_in_regions (region_lengths h.start) c.in-Launch.packet ≡ true) c.self.view_is (within-launched c.self.inside c.in-Some.kept.now c.args.bytes.now c.in-Launch.packet c.self.invariant c.in-Launch.ensures.0 c.in-Launch.ensures.1),
@@ -74,8 +71,7 @@ returns-else-is_full-clause-may c =
     let some : numbered c.self.inside.queues.items c.args.queue.0 ≡ Some c.in-Some.kept.now = cc c.in-Some.ensures in
     let down : (nat_lt 0 (length c.in-Some.kept.now.errors.items) || c.in-Some.kept.now.stopped) ≡ false = cc in
     let next : (c.args.packet.0 == c.in-Some.kept.now.next) ≡ true = search rules in
-    let told : may_start (map (λ (p : Place). p.packet) c.as_slice-2.result.now) c.header.result.barrier ≡ None = launching-goes _ c.in-Go.ensures in
-    let waits : may_start (map (λ (p : Place). p.packet) c.in-Some.kept.now.places) (barrier_bit c.args.bytes.now) ≡ None = cc (told, c.as_slice-2.ensures, c.header.ensures) in (
+    let waits : may_start (map (λ (p : Place). p.packet) c.in-Some.kept.now.places) (barrier_bit c.args.bytes.now) ≡ None = cc (launching-goes _ c.in-Go.ensures, c.as_slice-2.ensures, c.header.ensures) in (
       due-by c.self.inside _ c.self.view_is (Take c.args.queue c.args.packet c.args.bytes.now) (enters (outcome.Taken (Denied (error_at c.args.queue c.args.packet.0 c.in-Deny.rule))) []) (take-known c.self.inside c.self.invariant _ _ _ _ some ∙ (rw (down, next, waits, c.in-Deny.ensures) refl)) ∙ (rw (← c.is_full.ensures, c.if-is_full.false) refl),
       subst (λ (h : History). TakesNext h c.args.queue) c.self.view_is (takes-next c.self.inside c.self.invariant _ _ _ some down waits),
     )

@@ -5,7 +5,7 @@ use Rattle.access_core.proofs.HeldAfter.{grants-still}
 use Rattle.access_core.proofs.CachedMore.{IsCached-more}
 use Rattle.access_core.proofs.QueueAt.{flight-advanced}
 use Rattle.access_core.proofs.RunLemmas.{agent-writes, one_group, run-advances, run-due, pieces-inside}
-use Rattle.access_core.proofs.TakeLemmas.{is-open}
+use Rattle.access_core.proofs.TakeLemmas.{is-open, open-of}
 use Rattle.access_core.proofs.WorkLemmas.{place-inside, queues-advanced}
 use Rattle.access_core.proofs.Terms.{Effect, IsChanged, IsNextGroup, RunNext, agent_writes, start_of}
 use Rattle.core_model.specs.declared.outcome.Outcome.TheVariants as outcome
@@ -25,8 +25,7 @@ pub advance-requires : goal.advance-requires
 advance-requires c =
     let a = c.self.inside in
     let next : IsNextGroup c.args.self.now c.args.queue c.args.packet c.in-Some.group = subst (λ o. IfSome o (IsNextGroup c.args.self.now c.args.queue c.args.packet)) c.in-Some.is c.in_ok-group.ensures.group in
-    let found = place-inside a _ c.self.view_is c.args.queue c.args.packet next.place next.in_place in
-    let at = is-open a c.self.invariant c.args.queue found.opening found.owner_is in
+    let at = open-of a c.self.invariant _ c.self.view_is c.args.queue c.args.packet next.place next.in_place in
     (at.q, at.found)
 
 pub invariant_of-self : goal.invariant_of-self

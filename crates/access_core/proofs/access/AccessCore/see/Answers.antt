@@ -4,7 +4,7 @@ use Rattle.access_core.proofs.HeldAfter.{grants-still}
 use Rattle.access_core.proofs.CachedMore.{IsCached-more, memory-still}
 use Rattle.access_core.proofs.PollLemmas.{seen_further, sight-advances}
 use Rattle.access_core.proofs.QueueAt.{flight-advanced}
-use Rattle.access_core.proofs.TakeLemmas.{is-open}
+use Rattle.access_core.proofs.TakeLemmas.{is-open, open-of}
 use Rattle.access_core.proofs.WorkLemmas.{place-inside, queues-advanced}
 use Rattle.access_core.proofs.Terms.{Poll, sight, start_of}
 use Rattle.core_model.specs.declared.outcome.Outcome.TheVariants as outcome
@@ -13,8 +13,7 @@ use Rattle.access_core.proofs.access.AccessCore.see.Goals as goal
 pub advance-requires : goal.advance-requires
 advance-requires c =
     let a = c.self.inside in
-    let found = place-inside a _ c.self.view_is c.args.queue c.args.packet c.args.place c.requires.found in
-    let at = is-open a c.self.invariant c.args.queue found.opening found.owner_is in
+    let at = open-of a c.self.invariant _ c.self.view_is c.args.queue c.args.packet c.args.place c.requires.found in
     (at.q, at.found)
 
 pub invariant_of-self : goal.invariant_of-self
