@@ -56,7 +56,8 @@ module _ (qs : List Queue) (n : QueueId) (change : Queue → Queue) (q : Queue) 
   place = numbered-place qs n.0 q found
 
   pub openings-changed : cached_opening (change q) ≡ cached_opening q → map cached_opening (with_queue qs n change) ≡ map cached_opening qs
-  openings-changed same = rw with_queue-is (map-set_same cached_opening qs (n.0 - 1) (change q) q (same ∙ ap cached_opening (sym (get_or_from_slice_get qs (n.0 - 1) q q place.1))))
+  openings-changed same =
+      rw with_queue-is (map-set_same cached_opening qs (n.0 - 1) (change q) q (same ∙ ap cached_opening (sym (get_or_from_slice_get qs (n.0 - 1) q q place.1))))
 
   pub length-changed : length (with_queue qs n change) ≡ length qs
   length-changed = rw with_queue-is (length-set qs (n.0 - 1) (change q))

@@ -40,7 +40,8 @@ module _ (a : Inside) (kept : IsCached a) (client : ClientId) (on : Object) (rig
 
   grant-owed : Ok tt ≡ grant_due a.grants client on rights → owed (start_of a) a.audit.items (Grant client on rights) ≡ enters outcome.Accepted []
   unfolding owed
-  grant-owed due = let is : Ok tt ≡ due_of (declares_client a.policy client) (declares a.policy on) (allows a.policy client on rights) = due ∙ due-is in grind arith
+  grant-owed due =
+      let is : Ok tt ≡ due_of (declares_client a.policy client) (declares a.policy on) (allows a.policy client on rights) = due ∙ due-is in grind arith
 
   -- so it is due its entry, where there is room
   pub grant-due : (old : History) → history_of a ≡ old → Ok tt ≡ grant_due a.grants client on rights → (full : Bool) → is_full old ≡ full → due old (Grant client on rights) ≡ (if full then refuses refusal.AuditFull else enters outcome.Accepted [])

@@ -129,7 +129,8 @@ module _ (start : Start) (es : List Entry) (event : Event) (told : Outcome) (eff
         queue_at-more start es event told effects m (flight start es) flight-advanced ∙ is.views m (queue_at start es m) _
         ∙ (λ i. record (queue_at start es m) { places = map (λ f. comes f i) (flight_of start es m) }) ∙ either (q.0 == m.0)
       where
-        comes : (f : InFlight) → further m event told (place_of start es m f) ≡ (if q.0 == m.0 then with_progress id so_far (place_of start es m f) else place_of start es m f)
+        comes : (f : InFlight) → further m event told (place_of start es m f)
+            ≡ (if q.0 == m.0 then with_progress id so_far (place_of start es m f) else place_of start es m f)
         comes f =
             let turned : (id.0 == f.id.0) ≡ (f.id.0 == id.0) = grind arith in
             (λ i. record { id = f.id; packet = f.packet; progress = is.progress m f.id (progress start es m f.id) i })
@@ -146,7 +147,8 @@ module _ (start : Start) (es : List Entry) (event : Event) (told : Outcome) (eff
             at true false same this = refl
             at false c same this = refl
 
-        either : (b : Bool) → record (queue_at start es m) { places = map (λ f. if b then with_progress id so_far (place_of start es m f) else place_of start es m f) (flight_of start es m) }
+        either : (b : Bool)
+            → record (queue_at start es m) { places = map (λ f. if b then with_progress id so_far (place_of start es m f) else place_of start es m f) (flight_of start es m) }
             ≡ (if b then advanced id so_far (queue_at start es m) else queue_at start es m)
         either true = λ i. record (queue_at start es m) { places = sym (map-map (with_progress id so_far) (place_of start es m) (flight_of start es m)) i }
         either false = refl
@@ -156,7 +158,8 @@ module _ (start : Start) (es : List Entry) (event : Event) (told : Outcome) (eff
     flight-released = flight-unlaunched start es event told effects is.launches ∙ is.releases (flight start es)
 
     pub queue_at-released : (m : QueueId)
-        → queue_at start (with_entry es event told effects) m ≡ after m event told (queue_at start es m) (if q.0 == m.0 then without id (queue_at start es m).places else (queue_at start es m).places)
+        → queue_at start (with_entry es event told effects) m
+        ≡ after m event told (queue_at start es m) (if q.0 == m.0 then without id (queue_at start es m).places else (queue_at start es m).places)
     queue_at-released m =
         queue_at-more start es event told effects m _ flight-released
         ∙ ap (after m event told (queue_at start es m)) (still is.progress m _ ∙ released-in id.0 (place_of start es m) q.0 m.0 (flight start es) (λ f. refl))
@@ -166,9 +169,11 @@ module _ (start : Start) (es : List Entry) (q : QueueId) (id : PacketId) (bytes 
   pub queue_at-denied : (rule : Rule) (m : QueueId) → queue_at start (with_entry es (Take q id bytes) (outcome.Taken (Denied (error_at q id.0 rule))) []) m
       ≡ (if q.0 == m.0 then denied (error_at q id.0 rule) (queue_at start es m) else queue_at start es m)
   queue_at-denied rule m =
-      queue_at-more start es (Take q id bytes) (outcome.Taken (Denied (error_at q id.0 rule))) [] m (flight start es) (flight-unlaunched start es _ _ [] refl) ∙ either (q.0 == m.0) (queue_at start es m)
+      queue_at-more start es (Take q id bytes) (outcome.Taken (Denied (error_at q id.0 rule))) [] m (flight start es) (flight-unlaunched start es _ _ [] refl)
+      ∙ either (q.0 == m.0) (queue_at start es m)
     where
-      either : (b : Bool) (v : QueueView) → record v { next = (if b then v.next + 1 else v.next); errors = (if b then v.errors ++ error_at q id.0 rule ∷ [] else v.errors) }
+      either : (b : Bool) (v : QueueView)
+          → record v { next = (if b then v.next + 1 else v.next); errors = (if b then v.errors ++ error_at q id.0 rule ∷ [] else v.errors) }
           ≡ (if b then denied (error_at q id.0 rule) v else v)
       either b v = grind arith
 
@@ -182,7 +187,8 @@ module _ (start : Start) (es : List Entry) (q : QueueId) (id : PacketId) (bytes 
 
     -- its id is above those of the queue's other packets in flight, which stay as they are
     older : (m : QueueId) (fs : List InFlight) → All (λ (place : Place). place.id.0 < id.0) (map (place_of start es m) fs)
-        → map (λ f. record { id = f.id; packet = f.packet; progress = (if id.0 == f.id.0 then at_launch else progress start es m f.id) }) fs ≡ map (place_of start es m) fs
+        → map (λ f. record { id = f.id; packet = f.packet; progress = (if id.0 == f.id.0 then at_launch else progress start es m f.id) }) fs
+        ≡ map (place_of start es m) fs
     older m [] below = refl
     older m (f ∷ fs) below =
         let less : f.id.0 < id.0 = All-head (λ (place : Place). place.id.0 < id.0) (place_of start es m f) (map (place_of start es m) fs) below in
@@ -191,10 +197,12 @@ module _ (start : Start) (es : List Entry) (q : QueueId) (id : PacketId) (bytes 
         λ i. record { id = f.id; packet = f.packet; progress = (if other i then at_launch else progress start es m f.id) } ∷ rest i
 
     pub queue_at-launched : All (λ (place : Place). place.id.0 < id.0) (queue_at start es q).places → (m : QueueId)
-        → queue_at start (with_entry es (Take q id bytes) (outcome.Taken Launched) []) m ≡ (if q.0 == m.0 then launched id p (queue_at start es m) else queue_at start es m)
+        → queue_at start (with_entry es (Take q id bytes) (outcome.Taken Launched) []) m
+        ≡ (if q.0 == m.0 then launched id p (queue_at start es m) else queue_at start es m)
     queue_at-launched below m =
         queue_at-more start es (Take q id bytes) (outcome.Taken Launched) [] m _ flight-launched
-        ∙ ap (after m (Take q id bytes) (outcome.Taken Launched) (queue_at start es m)) (ap (map (comes (q.0 == m.0))) (filter-append (of_queue m.0) (flight start es) (new ∷ []))
+        ∙ ap (after m (Take q id bytes) (outcome.Taken Launched) (queue_at start es m))
+        (ap (map (comes (q.0 == m.0))) (filter-append (of_queue m.0) (flight start es) (new ∷ []))
         ∙ map-append (comes (q.0 == m.0)) (flight_of start es m) (filter (of_queue m.0) (new ∷ []))) ∙ either (q.0 == m.0) refl
       where
         comes : Bool → InFlight → Place
@@ -206,9 +214,11 @@ module _ (start : Start) (es : List Entry) (q : QueueId) (id : PacketId) (bytes 
             } ≡ (if b then launched id p (queue_at start es m) else queue_at start es m)
         either true same =
             let itself : (id.0 == id.0) ≡ true = eq-eqb id.0 id.0 refl in
-            let all = subst (λ k. All (λ (place : Place). place.id.0 < id.0) (queue_at start es k).places) (ap (λ n. record { 0 = n }) (eqb-true _ _ same)) below in
+            let all = subst (λ k. All (λ (place : Place). place.id.0 < id.0) (queue_at start es k).places)
+            (ap (λ n. record { 0 = n }) (eqb-true _ _ same)) below in
             λ i. record (queue_at start es m) {
               next = next_id start es m + 1;
-              places = older m (flight_of start es m) all i ++ record { id = id; packet = p; progress = (if itself i then at_launch else progress start es m id) } ∷ [];
+              places = older m (flight_of start es m) all i
+                  ++ record { id = id; packet = p; progress = (if itself i then at_launch else progress start es m id) } ∷ [];
             }
         either false same = λ i. record (queue_at start es m) { places = append-nil (map (place_of start es m) (flight_of start es m)) i }

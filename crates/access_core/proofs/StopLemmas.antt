@@ -120,7 +120,8 @@ module _ (a : Inside) (kept : IsCached a) (queue : QueueId) where
       subst (λ g. GrantsAfter a g (Stop queue) outcome.Accepted []) (sym same)
       (grants-still a kept (Stop queue) outcome.Accepted [] refl (λ client on right b. refl) (flight-unlaunched (start_of a) a.audit.items (Stop queue) outcome.Accepted [] refl))
   grants-stopped (Some id) new released same =
-      grants-released a kept (Stop queue) outcome.Accepted (effect.Release queue id ∷ []) refl (λ client on right b. refl) new queue id (flight-released (start_of a) a.audit.items _ _ _ queue id (is_release queue id)) released
+      grants-released a kept (Stop queue) outcome.Accepted (effect.Release queue id ∷ []) refl (λ client on right b. refl) new queue id
+      (flight-released (start_of a) a.audit.items _ _ _ queue id (is_release queue id)) released
 
   -- a stop is due its entry where a barrier packet leaves flight for it, or the audit has room
   pub may-stop : (q : Queue) (barrier : Option PacketId) (none : Bool) (old : History) → history_of a ≡ old → numbered a.queues.items queue.0 ≡ Some q → q.stopped ≡ false

@@ -173,7 +173,8 @@ is-open a kept queue opening owned = either (numbered a.queues.items queue.0) re
         record { q = q; found = is; view = view; sound = sound-at a.queues.items queue.0 q kept.sound is; small = omega (arith, kept.room, kept.few, next, few) }
 
 -- the queue of a packet in its place is open
-pub open-of : (a : Inside) (kept : IsCached a) (old : History) → history_of a ≡ old → (queue : QueueId) (id : PacketId) (place : Place) → IsInPlace old queue id place → IsOpen a queue
+pub open-of : (a : Inside) (kept : IsCached a) (old : History) → history_of a ≡ old → (queue : QueueId) (id : PacketId) (place : Place)
+    → IsInPlace old queue id place → IsOpen a queue
 open-of a kept old seen_as queue id place found = is-open a kept queue found.opening (ap (λ h. owner h.start h.entries queue) seen_as ∙ found.owner_is)
 
 -- A queue that takes its next packet has no error, and a slot free.

@@ -134,7 +134,8 @@ module _ (a : Inside) (kept : IsCached a) (queue : QueueId) (id : PacketId) wher
       → ((m : QueueId) (v : QueueView) → after_entry m event told v (if queue.0 == m.0 then without id v.places else v.places) ≡ (if queue.0 == m.0 then view v else v))
       → QueuesAfter a (with_queue a.queues.items queue change) (a.flying - freed_by (Some id) a.queues.items queue) event told effects
   queues-released event told effects is none at change view same sound alike pick =
-      queues-after a kept queue at change view _ event told effects none same sound alike (λ m. queue_at-released (start_of a) a.audit.items event told effects queue id is m ∙ pick m (queue_at (start_of a) a.audit.items m))
+      queues-after a kept queue at change view _ event told effects none same sound alike
+      (λ m. queue_at-released (start_of a) a.audit.items event told effects queue id is m ∙ pick m (queue_at (start_of a) a.audit.items m))
       (flying-released at ∙ ap length (sym (flight-released (start_of a) a.audit.items event told effects queue id is))) (none-launched _ _ is.launches (start_of a))
 
 -- a queue whose packet left flight is sound

@@ -36,7 +36,8 @@ invariant_of-self c =
     (record {
       same = (refl, refl);
       audit = rw c.complete-effects.ensures.effects at c.enter.ensures;
-      grants = grants-released a c.self.invariant _ _ _ refl (λ client on right b. refl) _ c.args.queue c.args.packet (flight-released (start_of a) a.audit.items _ _ _ c.args.queue c.args.packet is) c.release-2.ensures;
+      grants = grants-released a c.self.invariant _ _ _ refl (λ client on right b. refl) _ c.args.queue c.args.packet
+          (flight-released (start_of a) a.audit.items _ _ _ c.args.queue c.args.packet is) c.release-2.ensures;
       memory = memory-still a.memory _ (λ x byte. memory-completed a.signals (completion p) c.args.queue c.args.packet x byte);
       values = rw c.complete-effects.ensures.effects at c.complete-effects.ensures.values;
       queues = rw (c.release.ensures.queues, c.release.ensures.freed) (queues-released a c.self.invariant c.args.queue c.args.packet _ _ _ is refl at (with_release c.args.packet) (λ v. record v { places = without c.args.packet v.places })
