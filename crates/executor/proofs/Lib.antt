@@ -4,3 +4,8 @@ pub mod RunLemmas
 pub mod OnlyRuns
 mod ValueLemmas
 mod GroupLemmas
+mod TurnLemmas
+pub mod HeldWrites
+mod ViewLemmas
+mod GroupEnds
+mod ReadBytes

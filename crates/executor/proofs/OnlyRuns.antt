@@ -3,7 +3,7 @@ use Rattle.std.proofs.Common.{◌≡◌, ℕ, suc, ◌+◌, ◌-◌, ◌<◌, �
 use Rattle.std.specs.Prelude.{slice_get, All}
 use Rattle.std.specs.List.{AllPairs}
 use Rattle.std.proofs.lemmas.Bool.{cases_lt}
-use Rattle.std.proofs.lemmas.List.Elements.{All-head, All-tail}
+use Rattle.std.proofs.lemmas.List.Elements.{All-head, All-tail, All-nil, All-cons}
 use Rattle.std.proofs.lemmas.Option.{slice_get-get_or, none-some}
 use Rattle.executor.specs.declared.run.Run.{Run}
 use Rattle.executor.specs.Written.{all_laid, end_of, AreRuns}
@@ -113,3 +113,26 @@ pub only_runs : (at : ℕ → Option ℕ) (xs ys : List Run) → AreRuns at xs �
 only_runs at xs ys p q =
     same_runs xs ys (record { filled = p.filled; apart = p.apart }) (record { filled = q.filled; apart = q.apart })
     (λ z. ap (λ f. f z) p.exact ∙ sym (ap (λ f. f z) q.exact))
+
+-- what holds where a map has a byte holds at each address of its runs
+module _ (Q : ℕ → Type 0) where
+  abbrev Holds : Run → Type 0
+  Holds run = (0 < length run.bytes) × ((x : ℕ) → run.address ≤ x → x < end_of run → Q x)
+
+  covered : (runs : List Run) → Apart runs → ((x byte : ℕ) → all_laid runs x ≡ Some byte → Q x) → All Holds runs
+  covered [] apart each = All-nil Holds
+  covered (run ∷ runs) apart each =
+      All-cons Holds run runs (
+        has_bytes run runs apart,
+        λ x p q.
+            each x (get_or run.bytes (x - run.address) 0) (byte_in run runs x p q ∙ slice_get-get_or run.bytes (x - run.address) 0 (omega arith)),
+      )
+      (covered runs (rest_apart run runs apart) (λ x byte is. by_end x byte is (cases_lt (end_of run) x)))
+    where
+      by_end : (x byte : ℕ) → all_laid runs x ≡ Some byte → (end_of run < x) ⊎ (x ≤ end_of run) → Q x
+      by_end x byte is (inl p) = each x byte (laid_past (all_laid runs) run.address run.bytes x (omega arith) ∙ is)
+      by_end x byte is (inr p) = absurd (none-some byte (sym (none_up_to (end_of run) x runs (later_above run runs apart) p) ∙ is))
+
+  pub each_covered : (at : ℕ → Option ℕ) (runs : List Run) → AreRuns at runs → ((x byte : ℕ) → at x ≡ Some byte → Q x) → All Holds runs
+  each_covered at runs are each =
+      covered runs (record { filled = are.filled; apart = are.apart }) (λ x byte is. each x byte (sym (ap (λ f. f x) are.exact) ∙ is))

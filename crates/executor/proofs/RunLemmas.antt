@@ -12,7 +12,8 @@ use Rattle.std.proofs.lemmas.Bool.{cases_lt, lt-ltb, le-ltb}
 use Rattle.std.proofs.lemmas.Bool.Decides.{nat_tests}
 use Rattle.executor.specs.declared.run.Run.{Run}
 use Rattle.executor.specs.Written.{laid, all_laid, end_of, nothing, in_blocks, byte_at, region_byte, AreRuns}
-use Rattle.executor.specs.Told.{noted, adjoins_last, Ascends, Follows, Told, Agrees, Gathers}
+use Rattle.executor.specs.Told.{noted, adjoins_last, Ascends, Follows, Told, Agrees, Gathers, runs_below, runs_of, with_byte}
+use Rattle.executor.proofs.OnlyRuns.{only_runs}
 use Rattle.executor.proofs.Maps.{laid_inside, laid_below, laid_past, laid_same, laid_twice, by_range, get_read, get_past, at_known, at_unknown, IsSize, size_region}
 
 -- a run of one byte, and a run with one more
@@ -217,6 +218,31 @@ told_runs at limit runs told none =
     within x (inl p) = up_to at limit x p
     within x (inr p) = from_on at limit x p ∙ sym (none x p)
 
+-- a map has one list of runs below a limit
+pub told_cut : (at : ℕ → Option ℕ) (limit : ℕ) (runs : List Run) → Told at limit runs → AreRuns (λ x. if nat_lt x limit then at x else None) runs
+told_cut at limit runs told = record {
+  filled = all_filled limit runs told.ascends;
+  apart = pairs_apart limit runs told.ascends;
+  exact = λ i. λ x. told.exact x i;
+}
+
+told_only : (at : ℕ → Option ℕ) (limit : ℕ) (runs others : List Run) → Told at limit runs → Told at limit others → runs ≡ others
+told_only at limit runs others one other =
+    only_runs (λ x. if nat_lt x limit then at x else None) runs others (told_cut at limit runs one) (told_cut at limit others other)
+
+told_nothing : (at : ℕ → Option ℕ) → Told at 0 []
+told_nothing at = record { ascends = tt; exact = λ x. sym (from_on at 0 x (omega arith)) }
+
+pub told_below : (at : ℕ → Option ℕ) (limit : ℕ) → Told at limit (runs_below at limit)
+unfolding runs_below
+told_below at zero = told_nothing at
+told_below at (suc limit) = one_more (at limit) refl (told_below at limit)
+  where
+    one_more : (o : Option ℕ) → at limit ≡ o → Told at limit (runs_below at limit) → Told at (suc limit) (with_byte (runs_below at limit) limit o)
+    one_more None is told =
+        told_skipped at limit (suc limit) (runs_below at limit) (omega arith) (λ x p q. let e : x ≡ limit = omega arith in ap at e ∙ is) told
+    one_more (Some byte) is told = told_at at (limit + 1) (suc limit) (noted (runs_below at limit) limit byte) (omega arith) (told_noted at limit byte (runs_below at limit) is told)
+
 pub gathers_all : (regions : List (List (List Page))) (index : ℕ) (runs : List Run) → length regions ≤ 2 ^ 32 → length regions ≤ index → index ≤ 2 ^ 32
     → Gathers 0 (2 ^ 64) (byte_at regions) (index * 2 ^ 32) [] runs → AreRuns (byte_at regions) runs
 gathers_all regions index runs few done below gathered =
@@ -224,3 +250,13 @@ gathers_all regions index runs few done below gathered =
     let agrees : Agrees (byte_at regions) 0 (2 ^ 64) (byte_at regions) = λ x p. let e : 0 + x ≡ x = omega arith in ap (byte_at regions) e in
     told_runs (byte_at regions) (0 + index * 2 ^ 32) runs (gathered (byte_at regions) start agrees)
     (λ x p. at_unknown region_byte (2 ^ 32) size_region regions x (get_past regions (x / 2 ^ 32) (omega arith)))
+
+pub gathers_value : (regions : List (List (List Page))) (index : ℕ) (runs : List Run) → length regions ≤ index → index ≤ 2 ^ 32
+    → Gathers 0 (2 ^ 64) (byte_at regions) (index * 2 ^ 32) [] runs → runs ≡ runs_of (byte_at regions)
+gathers_value regions index runs done below gathered =
+    let agrees : Agrees (byte_at regions) 0 (2 ^ 64) (byte_at regions) = λ x p. let e : 0 + x ≡ x = omega arith in ap (byte_at regions) e in
+    told_only (byte_at regions) (2 ^ 64) runs (runs_of (byte_at regions))
+    (told_skipped (byte_at regions) (0 + index * 2 ^ 32) (2 ^ 64) runs (omega arith)
+    (λ x p q. at_unknown region_byte (2 ^ 32) size_region regions x (get_past regions (x / 2 ^ 32) (omega arith)))
+    (gathered (byte_at regions) (told_nothing (byte_at regions)) agrees))
+    (told_below (byte_at regions) (2 ^ 64))

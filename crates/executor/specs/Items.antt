@@ -1,5 +1,6 @@
 -- A work-item as it begins, what surrounds it, and what a group's memory has.
-use Rattle.std.specs.Prelude.{ℕ, List, Option, replicate}
+use Rattle.std.specs.Prelude.{ℕ, List, Option, map, replicate}
+use Rattle.policy.specs.declared.rights.Rights.{Rights}
 use Rattle.executor.specs.Registers.{cleared}
 use Rattle.executor.specs.Written.{byte_at, nothing}
 use Rattle.executor.specs.declared.item.Around.{Around}
@@ -24,11 +25,20 @@ contents m = record { group = m.group.items; written = byte_at m.written }
 abbrev pub blank : ℕ → Contents
 blank size = record { group = replicate size 0; written = nothing }
 
+-- a region that a packet holds, as it is lent: its number, the rights that are held, and its bytes (own)
+pub record LentRegion : Type 0 where
+  pub number : ℕ
+  pub rights : Rights
+  pub bytes : List ℕ
+
+abbrev pub lent_region : HeldRegion → LentRegion
+lent_region region = record { number = region.handle.0; rights = region.rights; bytes = region.bytes.now }
+
 -- what an item can see and not change: the argument block, the regions that the packet holds, and its place
 pub record Surroundings : Type 0 where
   pub arguments : List ℕ
-  pub view : List HeldRegion
+  pub view : List LentRegion
   pub location : Location
 
 abbrev pub surroundings : Around → Surroundings
-surroundings a = record { arguments = a.arguments.now; view = a.view.now; location = a.location }
+surroundings a = record { arguments = a.arguments.now; view = map lent_region a.view.now; location = a.location }

@@ -12,3 +12,5 @@ pub mod Meaning
 pub mod Turns
 pub mod Group
 pub mod Runs
+pub mod Results
+pub mod Laws

@@ -1,12 +1,13 @@
 -- What running a work-group answers (own).
-use Rattle.std.specs.Prelude.{◌≡◌, ℕ, zero, suc, ◌^◌, ◌≤◌, ◌<◌, List, ◌∷◌, length}
+use Rattle.std.specs.Prelude.{◌≡◌, ℕ, zero, suc, ◌^◌, ◌≤◌, ◌<◌, List, ◌∷◌, length, map}
 use Rattle.executor.specs.Group.{Standing, ready, ended, Status, running, done, faulted, Leads, beginning}
-use Rattle.executor.specs.Items.{Contents, Surroundings, blank, fresh}
+use Rattle.executor.specs.Items.{Contents, LentRegion, Surroundings, blank, fresh, lent_region}
 use Rattle.executor.specs.Locations.{id_of, count_of, groups_of, current_of}
 use Rattle.executor.specs.Written.{AreRuns}
 use Rattle.executor.specs.declared.dispatch.Dispatch.{Dispatch}
 use Rattle.executor.specs.declared.fault.RunFault.{RunFault}
 use Rattle.executor.specs.declared.fault.RunFault.TheVariants as fault
+use Rattle.executor.specs.declared.location.Extent.{Extent}
 use Rattle.executor.specs.declared.location.Location.{Location}
 use Rattle.executor.specs.declared.run.Run.{Run}
 use Rattle.executor.specs.declared.view.HeldRegion.{HeldRegion}
@@ -31,22 +32,45 @@ pub record IsRunnable (p : Program) (d : Dispatch) (group : ℕ) : Type 0 where
   pub segment : group_bytes_of p ≤ d.group_segment_size
   pub segment_limit : d.group_segment_size ≤ 65536
 
+-- one work-group of a kernel, with all that it is given to run on
+pub record GroupInput : Type 0 where
+  pub program : Program
+  pub group_size : Extent
+  pub grid_size : Extent
+  pub group_segment_size : ℕ
+  -- the bytes of the argument block
+  pub arguments : List ℕ
+  -- the regions that the packet holds
+  pub view : List LentRegion
+  -- its number among the work-groups, with x fastest
+  pub group : ℕ
+
+abbrev pub input_of : Program → Dispatch → ℕ → List HeldRegion → GroupInput
+input_of p d group view = record {
+  program = p;
+  group_size = d.group_size;
+  grid_size = d.grid_size;
+  group_segment_size = d.group_segment_size;
+  arguments = d.arguments.now;
+  view = map lent_region view;
+  group = group;
+}
+
 -- where the first item of a work-group stands; groups are numbered with x fastest
-abbrev pub location_of : Dispatch → ℕ → Location
-location_of d group =
-    let id = id_of (groups_of d.grid_size d.group_size) group in
+abbrev pub location_of : Extent → Extent → ℕ → Location
+location_of group_size grid_size group =
+    let id = id_of (groups_of grid_size group_size) group in
     record {
       item = record { x = 0; y = 0; z = 0 };
       group = id;
-      group_size = d.group_size;
-      current_size = current_of d.grid_size d.group_size id;
-      grid_size = d.grid_size;
+      group_size = group_size;
+      current_size = current_of grid_size group_size id;
+      grid_size = grid_size;
     }
 
 -- what surrounds the items of a work-group
-abbrev pub surroundings_of : Dispatch → ℕ → List HeldRegion → Surroundings
-surroundings_of d group view =
-    record { arguments = d.arguments.now; view = view; location = location_of d group }
+abbrev pub surroundings_of : GroupInput → Surroundings
+surroundings_of i = record { arguments = i.arguments; view = i.view; location = location_of i.group_size i.grid_size i.group }
 
 -- so many items that have ended, and others behind them
 abbrev pub after : ℕ → List Standing → List Standing
@@ -74,5 +98,5 @@ Fails a p from fault.OutOfMemory = Unit {0}
 Fails a p from (fault.Fault f) = Leads a p from (faulted f.item f.line f.rule)
 
 -- a group as it begins
-abbrev pub begun : Dispatch → Surroundings → Status
-begun d a = beginning (count_of a.location.current_size) (blank d.group_segment_size)
+abbrev pub begun : GroupInput → Status
+begun i = beginning (count_of (surroundings_of i).location.current_size) (blank i.group_segment_size)

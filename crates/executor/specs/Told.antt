@@ -1,5 +1,5 @@
 -- How runs are gathered: by ascending address, one byte after another. All of it is this project's own.
-use Rattle.std.specs.Prelude.{◌≡◌, ℕ, ◌+◌, ◌<◌, ◌≤◌, ◌==◌, nat_lt, if◌then◌else◌, Bool, false, List, [], ◌∷◌, ◌++◌, length, Option, None}
+use Rattle.std.specs.Prelude.{◌≡◌, ℕ, zero, suc, ◌^◌, ◌+◌, ◌<◌, ◌≤◌, ◌==◌, nat_lt, if◌then◌else◌, Bool, false, List, [], ◌∷◌, ◌++◌, length, Option, Some, None}
 use Rattle.executor.specs.declared.run.Run.{Run}
 use Rattle.executor.specs.Written.{end_of, all_laid}
 
@@ -11,6 +11,20 @@ noted (run ∷ []) address byte =
     then record { address = run.address; bytes = run.bytes ++ byte ∷ [] } ∷ []
     else run ∷ record { address = address; bytes = byte ∷ [] } ∷ []
 noted (run ∷ (next ∷ rest)) address byte = run ∷ noted (next ∷ rest) address byte
+
+-- runs with the byte of an address behind them, if it has one
+abbrev pub with_byte : List Run → ℕ → Option ℕ → List Run
+with_byte runs address None = runs
+with_byte runs address (Some byte) = noted runs address byte
+
+-- the maximal runs of a map below a limit, ascending
+unfoldable pub runs_below : (ℕ → Option ℕ) → ℕ → List Run
+runs_below at zero = []
+runs_below at (suc limit) = with_byte (runs_below at limit) limit (at limit)
+
+-- the maximal runs of a map from address to byte, ascending
+abbrev pub runs_of : (ℕ → Option ℕ) → List Run
+runs_of at = runs_below at (2 ^ 64)
 
 -- whether an address adjoins the last of some runs
 abbrev pub adjoins_last : List Run → ℕ → Bool

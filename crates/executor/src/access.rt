@@ -1,7 +1,8 @@
 //! Accesses to the memory that is lent, and to what is written over it.
-ghost use Rattle.std.specs.Prelude.{◌≡◌, ◌+◌, ◌/◌, ◌==◌, ◌≤◌, ◌^◌, None, Some, Ok, Err, find, IfOk, IfErr, OnOk, MatchResult, length};
+ghost use Rattle.std.specs.Prelude.{◌≡◌, ◌+◌, ◌/◌, ◌==◌, ◌≤◌, ◌^◌, None, Some, Ok, Err, find, IfOk, IfErr, OnOk, MatchResult, length, map, option_map};
 ghost use Rattle.std.specs.Option.{option_copied};
-ghost use Rattle.executor.specs.Accesses.{region_of, broken, lent, loaded, stored};
+ghost use Rattle.executor.specs.Accesses.{covers_address, region_of, broken, lent, loaded, stored};
+ghost use Rattle.executor.specs.Items.{lent_region};
 ghost use Rattle.executor.specs.Outcomes.{StoreFails};
 ghost use Rattle.executor.specs.Written.{byte_at};
 
@@ -22,10 +23,19 @@ pub enum StoreError {
 /// The held region that an address lies in.
 #[inline(always)]
 fn region_of<'v>(view: &'v [HeldRegion<'v>], address: u64) -> Option<&'v HeldRegion<'v>>
-    ensures { option_copied result ≡ region_of view.now address }
+    ensures { option_map lent_region (option_copied result) ≡ region_of (map lent_region view.now) address }
 {
-    view.iter()
-        .find(|region| region.handle.0 as u64 == address >> 32)
+    find_region(view, address)
+}
+
+/// The held region that an address lies in, among those that are lent.
+#[inline(always)]
+fn find_region<'v>(view: &'v [HeldRegion<'v>], address: u64) -> Option<&'v HeldRegion<'v>>
+    ensures { option_copied result ≡ find (λ region. covers_address (lent_region region) address) view.now }
+{
+    view.iter().find(|region| {
+        region.handle.0 as u64 == address >> 32 && address % (1 << 32) < region.bytes.len() as u64
+    })
 }
 
 /// The bytes that are lent for an access of a size, or the rule that it breaks first.
@@ -37,11 +47,11 @@ fn access<'v>(
     size: usize,
 ) -> Result<&'v [u8], Rule>
     requires { size ≤ 8 }
-    ensures allowed { IfOk result (λ bytes. broken view.now right address size ≡ None) }
-    ensures bytes { IfOk result (λ bytes. bytes.now ≡ lent view.now address size) }
+    ensures allowed { IfOk result (λ bytes. broken (map lent_region view.now) right address size ≡ None) }
+    ensures bytes { IfOk result (λ bytes. bytes.now ≡ lent (map lent_region view.now) address size) }
     ensures size { IfOk result (λ bytes. length bytes.now ≡ size) }
     ensures end { IfOk result (λ bytes. address + size ≤ 2 ^ 64) }
-    ensures refused { IfErr result (λ rule. broken view.now right address size ≡ Some rule) }
+    ensures refused { IfErr result (λ rule. broken (map lent_region view.now) right address size ≡ Some rule) }
 {
     let Some(region) = region_of(view, address) else {
         return Err(Rule::A1);
@@ -66,7 +76,7 @@ pub fn load(
 ) -> Result<u64, Rule>
     requires some { 1 ≤ size }
     requires few { size ≤ 8 }
-    ensures { result ≡ loaded view.now (byte_at written.now) address size }
+    ensures { result ≡ loaded (map lent_region view.now) (byte_at written.now) address size }
 {
     match access(view, Right::Read, address, size) {
         Err(rule) => Err(rule),
@@ -91,8 +101,8 @@ pub fn store(
     value: u64,
 ) -> Result<(), StoreError>
     requires { size ≤ 8 }
-    ensures ok { OnOk result (stored view.now (byte_at written.old) address size value ≡ Ok (byte_at written.new)) }
-    ensures err { IfErr result (StoreFails (stored view.now (byte_at written.old) address size value)) }
+    ensures ok { OnOk result (stored (map lent_region view.now) (byte_at written.old) address size value ≡ Ok (byte_at written.new)) }
+    ensures err { IfErr result (StoreFails (stored (map lent_region view.now) (byte_at written.old) address size value)) }
 {
     match access(view, Right::Write, address, size) {
         Err(rule) => Err(StoreError::Broke(rule)),

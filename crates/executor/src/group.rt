@@ -3,7 +3,8 @@ ghost use Rattle.std.specs.Prelude.{◌≡◌, ◌<◌, ◌≤◌, IfOk, IfErr, 
 ghost use Rattle.executor.specs.Group.{beginning, done, Leads};
 ghost use Rattle.executor.specs.Items.{blank, contents, surroundings};
 ghost use Rattle.executor.specs.Locations.{count_of, current_along, current_of, groups_along, groups_of};
-ghost use Rattle.executor.specs.Runs.{HasSizes, IsRunnable, location_of, surroundings_of, begun, Finishes, Fails};
+ghost use Rattle.executor.specs.Runs.{HasSizes, IsRunnable, Fails, input_of, location_of};
+ghost use Rattle.executor.specs.Results.{FinishesAs, FailsAs};
 ghost use Rattle.kernel_check.specs.Programs.{Program as ProgramValue};
 
 use crate::dispatch::Dispatch;
@@ -107,7 +108,7 @@ fn current_of(grid: &Extent, size: &Extent, id: &Extent) -> Extent
 /// Where the first item of a work-group stands.
 fn location_of(dispatch: &Dispatch<'_>, group: u32) -> Location
     requires { HasSizes dispatch.now }
-    ensures value { result ≡ location_of dispatch.now group }
+    ensures value { result ≡ location_of dispatch.now.group_size dispatch.now.grid_size group }
     ensures x { result.current_size.x ≤ dispatch.now.group_size.x }
     ensures y { result.current_size.y ≤ dispatch.now.group_size.y }
     ensures z { result.current_size.z ≤ dispatch.now.group_size.z }
@@ -128,7 +129,8 @@ fn count_of(current: &Extent, size: &Extent) -> u32
     requires y { current.now.y ≤ size.now.y }
     requires z { current.now.z ≤ size.now.z }
     requires few { count_of size.now ≤ 1024 }
-    ensures { result ≡ count_of current.now }
+    ensures value { result ≡ count_of current.now }
+    ensures few { result ≤ 1024 }
 {
     (current.x as u64 * current.y as u64 * current.z as u64) as u32
 }
@@ -142,8 +144,8 @@ fn run_program(
     view: &[HeldRegion<'_>],
 ) -> Result<Sequence<Run>, RunFault>
     requires { IsRunnable program.now dispatch.now group }
-    ensures ok { IfOk result (Finishes (surroundings_of dispatch.now group view.now) program.now (begun dispatch.now (surroundings_of dispatch.now group view.now))) }
-    ensures err { IfErr result (Fails (surroundings_of dispatch.now group view.now) program.now (begun dispatch.now (surroundings_of dispatch.now group view.now))) }
+    ensures ok { IfOk result (FinishesAs (input_of program.now dispatch.now group view.now)) }
+    ensures err { IfErr result (FailsAs (input_of program.now dispatch.now group view.now)) }
 {
     let location = location_of(dispatch, group);
     let count = count_of(&location.current_size, &dispatch.group_size);
@@ -173,9 +175,9 @@ pub fn run_group(
     requires kernel { dispatch.now.kernel < length checked.now }
     requires runnable { (p : ProgramValue) → slice_get checked.now dispatch.now.kernel ≡ Some p → IsRunnable p dispatch.now group }
     ensures ok { (p : ProgramValue) → slice_get checked.now dispatch.now.kernel ≡ Some p
-        → IfOk result (Finishes (surroundings_of dispatch.now group view.now) p (begun dispatch.now (surroundings_of dispatch.now group view.now))) }
+        → IfOk result (FinishesAs (input_of p dispatch.now group view.now)) }
     ensures err { (p : ProgramValue) → slice_get checked.now dispatch.now.kernel ≡ Some p
-        → IfErr result (Fails (surroundings_of dispatch.now group view.now) p (begun dispatch.now (surroundings_of dispatch.now group view.now))) }
+        → IfErr result (FailsAs (input_of p dispatch.now group view.now)) }
 {
     run_program(
         alloc,

@@ -1,7 +1,7 @@
 //! What a work-group has written.
 ghost use Rattle.std.specs.Prelude.{◌≡◌, ◌+◌, ◌%◌, ◌^◌, ◌<◌, ◌≤◌, ℕ, List, false, None, [], OnOk, OnErr, IfOk, length, max};
 ghost use Rattle.executor.specs.Written.{byte_at, covers, laid, seen, AreRuns};
-ghost use Rattle.executor.specs.Told.{Gathers};
+ghost use Rattle.executor.specs.Told.{Gathers, runs_of};
 
 use crate::region::WrittenRegion;
 use crate::run::Run;
@@ -85,6 +85,7 @@ impl WrittenBytes {
     pub fn runs(&self, alloc: Global) -> Result<Sequence<Run>, AllocError>
         ensures runs { IfOk result (λ runs. AreRuns (byte_at self.now) runs) }
         ensures only { IfOk result (λ runs. (others : List Run) → AreRuns (byte_at self.now) others → others ≡ runs) }
+        ensures value { IfOk result (λ runs. runs ≡ runs_of (byte_at self.now)) }
     {
         let mut runs = Vec::new(alloc);
         for index in 0..self.regions.len() {

@@ -1,8 +1,8 @@
 use Rattle.std.proofs.Common.{◌≡◌, ◌+◌, ◌*◌, ◌^◌, length, get_or, ap, ◌∙◌, sym, subst, [], arith}
 use Rattle.executor.specs.Written.{byte_at, region_byte, AreRuns}
-use Rattle.executor.specs.Told.{Told, Gathers}
+use Rattle.executor.specs.Told.{Told, Gathers, runs_of}
 use Rattle.executor.proofs.Maps.{size_region}
-use Rattle.executor.proofs.RunLemmas.{gathers_all, gathers_block}
+use Rattle.executor.proofs.RunLemmas.{gathers_all, gathers_block, gathers_value}
 use Rattle.executor.proofs.OnlyRuns.{only_runs}
 use Rattle.executor.proofs.written.WrittenBytes.runs.Goals as goal
 use Rattle.executor.proofs.written.WrittenBytes.runs.Goals.{After-from_vec}
@@ -29,3 +29,9 @@ returns-clause-runs c = gathered c
 
 pub returns-clause-only : goal.returns-clause-only
 returns-clause-only c = λ others are. only_runs (byte_at c.args.self.now) others c.from_vec.result are (gathered c)
+
+pub returns-clause-value : goal.returns-clause-value
+returns-clause-value c =
+    subst (λ rs. rs ≡ runs_of (byte_at c.args.self.now)) (sym c.from_vec.ensures)
+    (gathers_value c.args.self.now c.loop-index.index c.loop-index.runs.items
+    (omega (arith, ap length c.self.view_is)) (omega (arith, c.self.invariant)) c.loop-index.invariant)

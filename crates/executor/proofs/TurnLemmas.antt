@@ -1,0 +1,135 @@
+-- A group takes a bounded number of turns, and so comes to one end.
+use Rattle.std.proofs.Common.{◌≡◌, ℕ, zero, suc, ◌+◌, ◌-◌, ◌*◌, ◌<◌, ◌≤◌, List, [], ◌∷◌, replicate, slice_index, arith, refl, sym, ap, ◌∙◌, subst, Bool, true, false, Option, Some, None, inl, inr, ◌⊎◌}
+use Rattle.std.specs.Prelude.{◌==◌, slice_get, if◌then◌else◌}
+use Rattle.std.proofs.lemmas.Bool.{cases_lt}
+use Rattle.std.proofs.lemmas.Bool.Decides.{nat_tests}
+use Rattle.executor.specs.Group.{Standing, ready, ended, Advance, stepped, settled, failed, around_item, taken, behind_ended, advance, Status, running, done, faulted, followed, follow, LeadsIn, Leads, beginning}
+use Rattle.executor.specs.Items.{Contents, Surroundings, fresh}
+use Rattle.executor.specs.Meaning.{Act, goes_on, ends, broke, act, turn, turn_at}
+use Rattle.executor.specs.Results.{after_turns, most_turns}
+use Rattle.executor.specs.declared.item.Item.{Item}
+use Rattle.kernel_check.specs.Programs.{Program}
+use Rattle.kernel_check.specs.declared.step.Step.{Step}
+use Rattle.queue_error.specs.declared.rule.Rule.TheVariants.{A5}
+
+-- a status from which none follows
+abbrev pub IsOver : Status → Type 0
+IsOver (running items m) = ⊥
+IsOver (done m) = Unit {0}
+IsOver (faulted item line rule) = Unit {0}
+
+-- as many turns as items have left
+abbrev left : List Standing → ℕ
+left [] = 0
+left (ended ∷ rest) = left rest
+left (ready i executed ∷ rest) = 65537 - executed + left rest
+
+-- that none executed more than it may
+abbrev Few : List Standing → Type 0
+Few [] = Unit {0}
+Few (ended ∷ rest) = Few rest
+Few (ready i executed ∷ rest) = (executed ≤ 65536) × Few rest
+
+-- that fewer turns are left
+abbrev Less : List Standing → Advance → Type 0
+Less before (stepped items m) = Few items × (left items < left before)
+Less before settled = Unit {0}
+Less before (failed item line rule) = Unit {0}
+
+taken_less : (n line executed : ℕ) (i : Item) (rest : List Standing) (act : Act) → executed < 65536 → Few rest → Less (ready i executed ∷ rest) (taken n line executed rest act)
+taken_less n line executed i rest (goes_on now m) some few = ((omega arith, few), omega arith)
+taken_less n line executed i rest (ends m) some few = (few, omega arith)
+taken_less n line executed i rest (broke rule) some few = tt
+
+module _ (a : Surroundings) (p : Program) where
+  turn_less : (n : ℕ) (i : Item) (executed : ℕ) (rest : List Standing) (m : Contents) → executed ≤ 65536 → Few rest
+      → Less (ready i executed ∷ rest) (taken n (slice_index p.lines i.next) executed rest (turn (around_item a n) p.steps i executed m))
+  turn_less n i executed rest m within few = by_step (slice_get p.steps i.next)
+    where
+      line : ℕ
+      line = slice_index p.lines i.next
+
+      by_test : (b : Bool) (x : Act) → (executed == 65536) ≡ b → Less (ready i executed ∷ rest) (taken n line executed rest (if b then broke A5 else x))
+      by_test true x is = tt
+      by_test false x is = let some : executed < 65536 = grind (arith, nat_tests) in taken_less n line executed i rest x some few
+
+      by_step : (o : Option Step) → Less (ready i executed ∷ rest) (taken n line executed rest (turn_at (around_item a n) i executed m o))
+      by_step None = (few, omega arith)
+      by_step (Some s) = by_test (executed == 65536) (act (around_item a n) i m s) refl
+
+  behind_less : (rest : List Standing) (next : Advance) → Less rest next → Less (ended ∷ rest) (behind_ended next)
+  behind_less rest (stepped items m) less = less
+  behind_less rest settled less = tt
+  behind_less rest (failed item line rule) less = tt
+
+  advance_less : (items : List Standing) (n : ℕ) (m : Contents) → Few items → Less items (advance a p n items m)
+  advance_less [] n m few = tt
+  advance_less (ended ∷ rest) n m few = behind_less rest (advance a p (n + 1) rest m) (advance_less rest (n + 1) m few)
+  advance_less (ready i executed ∷ rest) n m few = turn_less n i executed rest m few.0 few.1
+
+  -- ---- turns
+
+  in_turns : (n : ℕ) (from to : Status) → LeadsIn a p n from to → after_turns a p n from ≡ to
+  in_turns zero from to leads = leads
+  in_turns (suc n) from to leads = in_turns n (follow a p from) to leads
+
+  over_stays : (n : ℕ) (s : Status) → IsOver s → after_turns a p n s ≡ s
+  over_stays zero s over = refl
+  over_stays (suc n) (running items m) over = absurd over
+  over_stays (suc n) (done m) over = over_stays n (done m) over
+  over_stays (suc n) (faulted item line rule) over = over_stays n (faulted item line rule) over
+
+  more_turns : (n k : ℕ) (from : Status) → after_turns a p (n + k) from ≡ after_turns a p k (after_turns a p n from)
+  more_turns zero k from = let e : 0 + k ≡ k = omega arith in ap (λ j. after_turns a p j from) e
+  more_turns (suc n) k from =
+      let e : suc n + k ≡ suc (n + k) = omega arith in
+      ap (λ j. after_turns a p j from) e ∙ more_turns n k (follow a p from)
+
+  -- as many turns as are left, and one more, are enough
+  over_within : (n : ℕ) (items : List Standing) (m : Contents) → Few items → left items < n → IsOver (after_turns a p n (running items m))
+  over_within zero items m few within = absurd (omega arith)
+  over_within (suc n) items m few within = by_advance (advance a p 0 items m) (advance_less items 0 m few) (over_within n)
+    where
+      by_advance : (next : Advance) → Less items next → ((others : List Standing) (later : Contents) → Few others → left others < n → IsOver (after_turns a p n (running others later)))
+          → IsOver (after_turns a p n (followed m next))
+      by_advance (stepped after now) less rest = rest after now less.0 (let fewer : left after < left items = less.1 in omega arith)
+      by_advance settled less rest = subst IsOver (sym (over_stays n (done m) tt)) tt
+      by_advance (failed item line rule) less rest = subst IsOver (sym (over_stays n (faulted item line rule) tt)) tt
+
+  fresh_few : (count : ℕ) → Few (replicate count (ready fresh 0))
+  fresh_few zero = tt
+  fresh_few (suc count) = (omega arith, fresh_few count)
+
+  fresh_left : (count : ℕ) → left (replicate count (ready fresh 0)) ≡ count * 65537
+  fresh_left zero = refl
+  fresh_left (suc count) = let rest = fresh_left count in omega arith
+
+  enough : (count : ℕ) → count ≤ 1024 → count * 65537 < most_turns
+  unfolding most_turns
+  enough count few = omega arith
+
+  -- where a group comes to an end, that is where it stands after the most turns
+  pub one_end : (count : ℕ) (first : Contents) (to : Status) → count ≤ 1024 → IsOver to → Leads a p (beginning count first) to → after_turns a p most_turns (beginning count first) ≡ to
+  one_end count first to few over leads = by_order (cases_lt most_turns leads.0)
+    where
+      from : Status
+      from = beginning count first
+
+      ended_there : IsOver (after_turns a p most_turns from)
+      ended_there =
+          let all = fresh_left count in
+          let most = enough count few in
+          over_within most_turns (replicate count (ready fresh 0)) first (fresh_few count) (omega arith)
+
+      reached : after_turns a p leads.0 from ≡ to
+      reached = in_turns leads.0 from to leads.1
+
+      by_order : (most_turns < leads.0) ⊎ (leads.0 ≤ most_turns) → after_turns a p most_turns from ≡ to
+      by_order (inl longer) =
+          let split : leads.0 ≡ most_turns + (leads.0 - most_turns) = omega arith in
+          sym (over_stays (leads.0 - most_turns) (after_turns a p most_turns from) ended_there)
+          ∙ (sym (more_turns most_turns (leads.0 - most_turns) from) ∙ (sym (ap (λ n. after_turns a p n from) split) ∙ reached))
+      by_order (inr shorter) =
+          let split : most_turns ≡ leads.0 + (most_turns - leads.0) = omega arith in
+          ap (λ n. after_turns a p n from) split
+          ∙ (more_turns leads.0 (most_turns - leads.0) from ∙ (ap (after_turns a p (most_turns - leads.0)) reached ∙ over_stays (most_turns - leads.0) to over))
