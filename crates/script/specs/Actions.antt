@@ -1,5 +1,5 @@
 -- Requests made of a world in turn, up to the first that is refused.
-use Rattle.std.specs.Prelude.{ℕ, ◌≡◌, ⊤, tt, Result, Ok, Err}
+use Rattle.std.specs.Prelude.{ℕ, ◌≡◌, Bool, true, false, ⊤, Result, Ok, Err}
 use Rattle.aql_packet.specs.declared.ids.PacketId.{PacketId}
 use Rattle.aql_packet.specs.declared.ids.QueueId.{QueueId}
 use Rattle.ring_core.specs.declared.access.Access.{Access}
@@ -21,7 +21,7 @@ abbrev pub returns : {X : Type 0} → X → Action X
 returns x old result new = (result ≡ Ok x) × (new ≡ old)
 
 -- a request is made, and its answer is the value
-abbrev pub asks : Request → Action Answer
+unfoldable pub asks : Request → Action Answer
 asks request old reply new = IsServed old request reply new
 
 -- behind a value something further is done; behind a refusal nothing
@@ -33,6 +33,11 @@ goes_on next (Err why) mid result new = (result ≡ Err why) × (new ≡ mid)
 abbrev pub and_then : {X Y : Type 0} → Action X → (X → Action Y) → Action Y
 and_then {X = X} first next old result new =
     (reached : Result X Refusal) × (mid : Joined) × first old reached mid × goes_on next reached mid result new
+
+-- the first where the test holds, else the second
+abbrev pub if_else : {X : Type 0} → Bool → Action X → Action X → Action X
+if_else true first second old result new = first old result new
+if_else false first second old result new = second old result new
 
 -- ---- steps
 

@@ -1,5 +1,5 @@
 -- What each line of a script asks of a world, and what it is answered, row by row (own).
-use Rattle.std.specs.Prelude.{ℕ, zero, suc, ◌+◌, Bool, true, false, List, [], ◌∷◌, drop, replicate, slice_index, slice_set, Option, Some, None, ⊤, tt, if◌then◌else◌}
+use Rattle.std.specs.Prelude.{ℕ, zero, suc, ◌+◌, Bool, true, false, List, [], ◌∷◌, drop, replicate, slice_index, slice_set, Option, Some, None, ⊤, if◌then◌else◌}
 use Rattle.aql_packet.specs.declared.ids.PacketId.{PacketId}
 use Rattle.aql_packet.specs.declared.ids.QueueId.{QueueId}
 use Rattle.core_model.specs.declared.outcome.Taken.TheVariants as taken
@@ -23,7 +23,7 @@ use Rattle.script.specs.declared.command.Form.TheVariants as form
 use Rattle.script.specs.declared.command.LineAnswer.{LineAnswer}
 use Rattle.script.specs.declared.command.LineAnswer.TheVariants as line
 use Rattle.script.specs.declared.command.Shown.{Shown}
-use Rattle.script.specs.Actions.{Action, and_then, asks, makes, number_read, packet_read, reads, returns, step}
+use Rattle.script.specs.Actions.{Action, and_then, asks, if_else, makes, number_read, packet_read, reads, returns, step}
 
 -- ---- one request
 
@@ -49,6 +49,10 @@ form_of (request.Step queue step) = form_of_access step.access
 form_of (request.Call call) = form_of_call call
 form_of _ = form.Plain
 
+-- the request, and its answer told so
+abbrev pub ask : Request → Action LineAnswer
+ask request = and_then (asks request) (λ answer. returns (line.Answered (form_of request) answer))
+
 -- ---- publish, submit
 
 -- s3 for each body word in turn, from a place on
@@ -66,7 +70,7 @@ stores queue producer ticket words =
 -- where the read index shows room for the ticket, the packet is stored
 abbrev pub publish_room : QueueId → ℕ → PacketId → List ℕ → ℕ → Action LineAnswer
 publish_room queue producer ticket words index old result new =
-    (if shows_room (slots_of old queue) ticket.0 (Some index) then stores queue producer ticket words else returns (line.Busy ticket index)) old result new
+    if_else (shows_room (slots_of old queue) ticket.0 (Some index)) (stores queue producer ticket words) (returns (line.Busy ticket index)) old result new
 
 -- s2, and where it saw room s3 seven times, s4
 abbrev pub publish_where : QueueId → ℕ → PacketId → List ℕ → Action LineAnswer
@@ -76,7 +80,7 @@ publish_where queue producer ticket words =
 -- a packet of type INVALID makes no request
 abbrev pub publish : QueueId → ℕ → PacketId → List ℕ → Action LineAnswer
 publish queue producer ticket words =
-    if is_invalid (slice_index words 0) then returns (line.NotPublishable ticket) else publish_where queue producer ticket words
+    if_else (is_invalid (slice_index words 0)) (returns (line.NotPublishable ticket)) (publish_where queue producer ticket words)
 
 -- s1, and what it read is the ticket
 abbrev pub submit : QueueId → ℕ → List ℕ → Action LineAnswer
@@ -96,8 +100,8 @@ shown_as packet words = record { packet = packet; words = words }
 -- where the header's type isn't INVALID, s6 seven times
 abbrev pub shows : QueueId → PacketId → ℕ → Action (Option Shown)
 shows queue packet header =
-    if is_invalid header then returns None
-    else and_then (collects queue 1 7 (header ∷ replicate 7 0)) (λ words. returns (Some (shown_as packet words)))
+    if_else (is_invalid header) (returns None)
+    (and_then (collects queue 1 7 (header ∷ replicate 7 0)) (λ words. returns (Some (shown_as packet words))))
 
 -- s5, s6 seven times
 abbrev pub peek : QueueId → Action (Option Shown)
@@ -107,9 +111,15 @@ abbrev pub shown_or_empty : Option Shown → LineAnswer
 shown_or_empty None = line.Empty
 shown_or_empty (Some shown) = line.Shown shown
 
+abbrev pub peek_line : QueueId → Action LineAnswer
+peek_line queue = and_then (peek queue) (λ shown. returns (shown_or_empty shown))
+
 -- s7, s8
 abbrev pub retire : QueueId → Action Answer
 retire queue = and_then (makes queue 0 ClearHeader) (λ cleared. asks (step queue 0 RaiseReadIndex))
+
+abbrev pub retire_line : QueueId → Action LineAnswer
+retire_line queue = and_then (retire queue) (λ answer. returns (line.Answered form.Raised answer))
 
 -- the packet that was handed over leaves its ring: it was launched or denied
 abbrev pub leaves_ring : Answer → Bool
@@ -119,8 +129,8 @@ leaves_ring _ = false
 
 abbrev pub retire_decided : QueueId → Answer → Action LineAnswer
 retire_decided queue answer =
-    if leaves_ring answer then and_then (retire queue) (λ raised. returns (line.Answered form.Plain answer))
-    else returns (line.Answered form.Plain answer)
+    if_else (leaves_ring answer) (and_then (retire queue) (λ raised. returns (line.Answered form.Plain answer)))
+    (returns (line.Answered form.Plain answer))
 
 -- unless it is empty, take; if launched or denied, retire
 abbrev pub serve_shown : QueueId → Option Shown → Action LineAnswer
@@ -133,10 +143,10 @@ serve queue = and_then (peek queue) (λ shown. serve_shown queue shown)
 -- ---- any line
 
 -- what a line does (own)
-abbrev pub does : Command → Action LineAnswer
-does (command.Ask request) = and_then (asks request) (λ answer. returns (line.Answered (form_of request) answer))
+unfoldable pub does : Command → Action LineAnswer
+does (command.Ask request) = ask request
 does (command.Publish queue producer ticket words) = publish queue producer ticket words
 does (command.Submit queue producer words) = submit queue producer words
-does (command.Peek queue) = and_then (peek queue) (λ shown. returns (shown_or_empty shown))
-does (command.Retire queue) = and_then (retire queue) (λ answer. returns (line.Answered form.Raised answer))
+does (command.Peek queue) = peek_line queue
+does (command.Retire queue) = retire_line queue
 does (command.Serve queue) = serve queue

@@ -52,7 +52,7 @@ abbrev pub ServedAtMostOne : {S : Type 0} → Law S → S → S → Type 0
 ServedAtMostOne law old new = (new ≡ old) ⊎ ((command : Command) × (told : Told) × law.serves old command told new)
 
 -- a world: each line does what its row says, and names are those of the policy that it was opened over
-abbrev pub worlds : Law Joined
+unfoldable pub worlds : Law Joined
 worlds = record { serves = λ old command told new. does command old told new; names = λ world. world.core.start.policy }
 
 -- what a line's service left: its reply behind what was written, or all as it was where the line has no form

@@ -32,6 +32,7 @@ fn serve(
 }
 
 /// Does what a line asks, and puts its reply behind the others; false where the line has no form.
+#[tactic(auto, unfolding(crate::specs::Runs::worlds))]
 pub fn answer(
     alloc: Global,
     world: &mut World,

@@ -3,7 +3,7 @@
 ghost use Rattle.std.specs.Prelude.{◌≡◌, ◌∷◌, [], drop, replicate};
 ghost use Rattle.ring_core.specs.Tickets.{shows_room};
 ghost use Rattle.script.specs.Actions.{asks, makes, number_read, packet_read, reads, step};
-ghost use Rattle.script.specs.Expansions.{collects, does, form_of, form_of_access, form_of_call, leaves_ring, peek, publish, publish_room, publish_where, gives_old, retire, retire_decided, serve, serve_shown, shown_or_empty, shows, stores, stores_body, submit};
+ghost use Rattle.script.specs.Expansions.{ask, collects, does, form_of, form_of_access, form_of_call, leaves_ring, peek, publish, publish_room, publish_where, gives_old, peek_line, retire, retire_decided, retire_line, serve, serve_shown, shown_or_empty, shows, stores, stores_body, submit};
 
 use crate::command::{Command, Form, LineAnswer, LineReply, Shown};
 use aql_packet::{PacketId, QueueId};
@@ -102,17 +102,20 @@ fn leaves_ring(answer: &Answer) -> bool
     }
 }
 
+// A request is made.
+#[tactic(auto, unfolding(crate::specs::Actions::asks))]
+fn request(alloc: Global, world: &mut World, asked: Request) -> Reply
+    ensures { asks asked world.old result world.new }
+{
+    world.serve(alloc, asked)
+}
+
 // A seat of a queue's ring makes a step.
 fn ask_step(alloc: Global, world: &mut World, queue: QueueId, seat: u64, access: Access) -> Reply
     ensures { asks (step queue seat access) world.old result world.new }
 {
-    world.serve(
-        alloc,
-        Request::Step {
-            queue,
-            step: Step { seat, access },
-        },
-    )
+    let step = Step { seat, access };
+    request(alloc, world, Request::Step { queue, step })
 }
 
 // A seat of a queue's ring makes a step that reads a number.
@@ -338,7 +341,7 @@ fn serve_shown(
     match shown {
         None => Ok(LineAnswer::Empty),
         Some(_) => {
-            let answer = world.serve(alloc, Request::Take { queue })?;
+            let answer = request(alloc, world, Request::Take { queue })?;
             retire_decided(alloc, world, queue, answer)
         }
     }
@@ -353,20 +356,38 @@ fn serve(alloc: Global, world: &mut World, queue: QueueId) -> LineReply
 }
 
 // One request is made.
-fn ask(alloc: Global, world: &mut World, request: Request) -> LineReply
-    ensures { does (Command.Ask request) world.old result world.new }
+fn ask(alloc: Global, world: &mut World, asked: Request) -> LineReply
+    ensures { ask asked world.old result world.new }
 {
-    let form = form_of(&request);
-    let answer = world.serve(alloc, request)?;
+    let form = form_of(&asked);
+    let answer = request(alloc, world, asked)?;
+    Ok(LineAnswer::Answered { form, answer })
+}
+
+// A queue's processor collects the packet at the read index.
+fn peek_line(alloc: Global, world: &mut World, queue: QueueId) -> LineReply
+    ensures { peek_line queue world.old result world.new }
+{
+    let shown = peek(alloc, world, queue)?;
+    Ok(shown_or_empty(shown))
+}
+
+// A queue's processor retires the packet at the read index.
+fn retire_line(alloc: Global, world: &mut World, queue: QueueId) -> LineReply
+    ensures { retire_line queue world.old result world.new }
+{
+    let form = Form::Raised;
+    let answer = retire(alloc, world, queue)?;
     Ok(LineAnswer::Answered { form, answer })
 }
 
 /// Does what a line asks: makes its requests in turn, up to the first that is refused.
+#[tactic(auto, unfolding(crate::specs::Expansions::does))]
 pub fn perform(alloc: Global, world: &mut World, command: Command) -> LineReply
     ensures { does command world.old result world.new }
 {
     match command {
-        Command::Ask(request) => ask(alloc, world, request),
+        Command::Ask(asked) => ask(alloc, world, asked),
         Command::Publish {
             queue,
             producer,
@@ -378,11 +399,8 @@ pub fn perform(alloc: Global, world: &mut World, command: Command) -> LineReply
             producer,
             words,
         } => submit(alloc, world, queue, producer, &words),
-        Command::Peek { queue } => Ok(shown_or_empty(peek(alloc, world, queue)?)),
-        Command::Retire { queue } => Ok(LineAnswer::Answered {
-            form: Form::Raised,
-            answer: retire(alloc, world, queue)?,
-        }),
+        Command::Peek { queue } => peek_line(alloc, world, queue),
+        Command::Retire { queue } => retire_line(alloc, world, queue),
         Command::Serve { queue } => serve(alloc, world, queue),
     }
 }
