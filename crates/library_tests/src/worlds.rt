@@ -51,10 +51,12 @@ fn is_wanted(reply: &Reply, wanted: Wanted) -> bool {
             packet.0 == id && *word == wanted
         }
         (
-            Ok(Answer::Taken {
-                packet,
-                taken: Taken::Launched,
-            }),
+            Ok(
+                Answer::Taken {
+                    packet,
+                    taken: Taken::Launched,
+                },
+            ),
             Wanted::Launched(id),
         ) => packet.0 == id,
         (Err(Refusal::NotAStep), Wanted::NotAStep) => true,

@@ -9,3 +9,4 @@ pub mod Writing
 pub mod Blocks
 pub mod Joining
 pub mod Acting
+pub mod Reaching

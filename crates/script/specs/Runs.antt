@@ -2,9 +2,11 @@
 use Rattle.std.specs.Prelude.{ℕ, ◌≡◌, ◌==◌, ◌⊎◌, Bool, true, false, List, [], ◌∷◌, ◌++◌, Option, Some, None, Result, if◌then◌else◌}
 use Rattle.policy.specs.Policy.{Declared}
 use Rattle.world.specs.declared.reply.Refusal.{Refusal}
+use Rattle.world.specs.declared.request.Request.{Request}
+use Rattle.world.specs.Dues.{AreReplies, Reply}
 use Rattle.world.specs.States.{Joined}
 use Rattle.script.specs.declared.command.Command.{Command}
-use Rattle.script.specs.declared.command.Told.{Told}
+use Rattle.script.specs.declared.command.LineAnswer.{LineAnswer}
 use Rattle.script.specs.declared.lines.Line.{Line}
 use Rattle.script.specs.declared.lines.Line.TheVariants as line
 use Rattle.script.specs.Words.{kept}
@@ -63,3 +65,7 @@ Served law old new line before after false = (line_of (law.names old) line ≡ N
 -- a service that wants memory: nothing is written, and a command was served at most
 abbrev pub Wanted : {S : Type 0} → Law S → S → S → List ℕ → List ℕ → Type 0
 Wanted law old new before after = (after ≡ before) × ServedAtMostOne law old new
+
+-- some requests, served in turn, lead from one world to the other
+abbrev pub Reaches : Joined → Joined → Type 0
+Reaches old new = (requests : List Request) × (replies : List Reply) × AreReplies old requests replies new

@@ -30,7 +30,7 @@ abbrev pub text_of_bytes : List ℕ → List ℕ
 text_of_bytes bytes = flat_map text_of_byte bytes
 
 -- a packet's word, as its eight bytes: the lowest first (PSA, Architected Queuing Language)
-abbrev pub text_of_word : ℕ → List ℕ
+unfoldable pub text_of_word : ℕ → List ℕ
 text_of_word word = text_of_bytes (little_bytes 8 word)
 
 -- a list has an item

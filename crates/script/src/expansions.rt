@@ -313,12 +313,7 @@ fn retire(alloc: Global, world: &mut World, queue: QueueId) -> Reply
 }
 
 // A queue's processor retires a packet that was handed over, if it was launched or denied.
-fn retire_decided(
-    alloc: Global,
-    world: &mut World,
-    queue: QueueId,
-    answer: Answer,
-) -> LineReply
+fn retire_decided(alloc: Global, world: &mut World, queue: QueueId, answer: Answer) -> LineReply
     ensures { retire_decided queue answer world.old result world.new }
 {
     let form = Form::Plain;
@@ -330,12 +325,7 @@ fn retire_decided(
 }
 
 // A queue's processor hands over the packet that it has collected, if there is one, and retires it.
-fn serve_shown(
-    alloc: Global,
-    world: &mut World,
-    queue: QueueId,
-    shown: Option<Shown>,
-) -> LineReply
+fn serve_shown(alloc: Global, world: &mut World, queue: QueueId, shown: Option<Shown>) -> LineReply
     ensures { serve_shown queue shown world.old result world.new }
 {
     match shown {

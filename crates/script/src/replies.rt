@@ -248,12 +248,7 @@ fn write_word_line(out: &mut String, word: u64) -> Result<(), AllocError>
 }
 
 // Writes an answer of the world.
-fn write_made(
-    out: &mut String,
-    policy: &Policy,
-    form: Form,
-    made: &Made,
-) -> Result<(), AllocError>
+fn write_made(out: &mut String, policy: &Policy, form: Form, made: &Made) -> Result<(), AllocError>
     ensures { OnOk result (string_bytes out.new ≡ string_bytes out.old ++ text_of_made policy.now form made.now) }
 {
     match made {

@@ -22,11 +22,7 @@ pub struct Session {
 }
 
 // Serves the line that ends here.
-fn end_line(
-    alloc: Global,
-    world: &mut World,
-    session: &mut Session,
-) -> Result<(), ScriptFault>
+fn end_line(alloc: Global, world: &mut World, session: &mut Session) -> Result<(), ScriptFault>
     requires { session.old.number + 1 < 2 ^ 64 }
     ensures { MatchResult result
         (λ _. EndedLine worlds world.old world.new session.old session.new)
@@ -81,11 +77,7 @@ pub fn take_bytes(
 }
 
 /// Takes the end of the script: a line that is begun ends there.
-pub fn take_end(
-    alloc: Global,
-    world: &mut World,
-    session: &mut Session,
-) -> Result<(), ScriptFault>
+pub fn take_end(alloc: Global, world: &mut World, session: &mut Session) -> Result<(), ScriptFault>
     requires { session.old.number + 1 < 2 ^ 64 }
     ensures { MatchResult result
         (λ _. Ended worlds world.old world.new session.old session.new)

@@ -58,6 +58,7 @@ pub fn write_bytes(out: &mut String, bytes: &[u8]) -> Result<(), AllocError>
 }
 
 /// Writes a packet's word, as its eight bytes: the lowest first (PSA, Architected Queuing Language).
+#[tactic(auto, unfolding(crate::specs::Texts::text_of_word))]
 pub fn write_word(out: &mut String, word: u64) -> Result<(), AllocError>
     ensures { OnOk result (string_bytes out.new ≡ string_bytes out.old ++ text_of_word word) }
 {
