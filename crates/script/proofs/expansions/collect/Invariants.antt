@@ -1,5 +1,5 @@
 -- What is left of the body, collected from here, is the body collected from the first word.
-use Rattle.std.proofs.Common.{ℕ, ◌≤◌, ◌-◌, ◌∷◌, [], List, replicate, Result}
+use Rattle.std.proofs.Common.{ℕ, ◌≤◌, ◌-◌, ◌∷◌, List, replicate, Result}
 use Rattle.world.specs.declared.reply.Refusal.{Refusal}
 use Rattle.world.specs.States.{Joined}
 use Rattle.script.specs.Expansions.{collects}

@@ -1,5 +1,5 @@
 -- What is left of the body, stored from here, is the body stored from the first word.
-use Rattle.std.proofs.Common.{ℕ, ◌≤◌, drop, Result}
+use Rattle.std.proofs.Common.{◌≤◌, drop, Result}
 use Rattle.std.specs.Prelude.{⊤}
 use Rattle.world.specs.declared.reply.Refusal.{Refusal}
 use Rattle.world.specs.States.{Joined}

@@ -5,5 +5,5 @@ use Rattle.script.specs.Sessions.{Took}
 use Rattle.script.proofs.session.take_bytes.Given as goal
 
 abbrev pub invariant-loop-byte : goal.invariant-loop-byte
-invariant-loop-byte g l =
+invariant-loop-byte l =
     Took worlds l.initial.world l.world l.initial.session l.session (take l.byte-index l.bytes)
