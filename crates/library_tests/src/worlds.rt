@@ -192,7 +192,7 @@ fn are_wanted(replies: &[Reply], wanted: &[Wanted]) -> bool {
     all
 }
 
-fn rows(alloc: Global) -> Result<Rows, AllocError> {
+fn gap_rows(alloc: Global) -> Result<Rows, AllocError> {
     let mut rows = Rows::new(alloc);
     rows.open()?;
     rows.gap()?;
@@ -208,7 +208,7 @@ fn answers(alloc: Global, world: &mut World, rows: Rows) -> Result<bool, AllocEr
 
 // (a test that owns a world is dear to prove, so it hands it on at once)
 fn answers_rows(alloc: Global, mut world: World) -> Result<bool, AllocError> {
-    let rows = rows(alloc)?;
+    let rows = gap_rows(alloc)?;
     answers(alloc, &mut world, rows)
 }
 
