@@ -30,3 +30,5 @@ mod sample;
 mod values;
 #[cfg(test)]
 mod walk;
+#[cfg(test)]
+mod worlds;

@@ -1,4 +1,4 @@
--- Lines and the commands that they stand for, row by row (own).
+-- Lines and the requests that they stand for, row by row (own).
 use Rattle.std.specs.Prelude.{ℕ, Bool, false, ◌==◌, nat_lt, ℤ, List, [], ◌∷◌, length, codes, Option, Some, None, option_map, option_and_then, bytes_eq, if◌then◌else◌}
 use Rattle.aql_packet.specs.declared.ids.ClientId.{ClientId}
 use Rattle.aql_packet.specs.declared.ids.QueueId.{QueueId}
@@ -13,18 +13,21 @@ use Rattle.policy.specs.declared.rights.Rights.{Rights}
 use Rattle.policy.specs.Policy.{Declared, number_in, names_of}
 use Rattle.signals.specs.declared.operation.SignalOp.{SignalOp}
 use Rattle.signals.specs.declared.operation.SignalOp.TheVariants as op
-use Rattle.core_model.specs.declared.event.Event.{Event}
-use Rattle.core_model.specs.declared.event.Event.TheVariants as event
 use Rattle.core_model.specs.declared.event.Query.{Query}
 use Rattle.core_model.specs.declared.event.Query.TheVariants as query
-use Rattle.core_model.specs.declared.event.Request.TheVariants as request
+use Rattle.ring_core.specs.declared.access.Access.{Access}
+use Rattle.ring_core.specs.declared.access.Access.TheVariants.{Reserve, LoadReadIndex, StoreBody, StoreHeader, LoadHeader, LoadBody, ClearHeader, RaiseReadIndex}
+use Rattle.world.specs.declared.request.Call.{Call}
+use Rattle.world.specs.declared.request.Call.TheVariants as call
+use Rattle.world.specs.declared.request.Request.TheVariants as request
 use Rattle.script.specs.declared.command.Command.{Command}
 use Rattle.script.specs.declared.command.Command.TheVariants as command
 use Rattle.script.specs.declared.lines.Line.{Line}
 use Rattle.script.specs.declared.lines.Line.TheVariants as line
 use Rattle.script.specs.declared.verbs.Verb.{Verb}
 use Rattle.script.specs.declared.verbs.Verb.TheVariants as verb
-use Rattle.script.specs.Words.{Word, words, no_words, one_word, two_words, three_words, four_words, five_words, decimal_word, signed_word, address_word, bytes_word, packet_word, rights_word, kind_word, condition_word}
+use Rattle.script.specs.Actions.{step}
+use Rattle.script.specs.Words.{Word, words, no_words, one_word, two_words, three_words, four_words, five_words, decimal_word, signed_word, address_word, bytes_word, eight_bytes, packet_word, rights_word, kind_word, condition_word}
 
 -- the client of a name; a name that isn't there is number 0
 abbrev pub client_in : Declared → Word → ClientId
@@ -44,12 +47,18 @@ agent_in policy name = record { 0 = number_in (names_of policy kind.Agent) name 
 abbrev pub signal_in : Declared → Word → SignalHandle
 signal_in policy name = record { 0 = number_in (names_of policy kind.Signal) name }
 
--- events and queries as commands
-abbrev pub calls : Event → Command
-calls event = command.Core (request.Event event)
+-- lines of one request: a call, a query, a step of a producer, a step of the processor, which has seat 0
+abbrev pub calls : Call → Command
+calls call = command.Ask (request.Call call)
 
 abbrev pub asks : Query → Command
-asks query = command.Core (request.Query query)
+asks query = command.Ask (request.Query query)
+
+abbrev pub steps : ℕ → ℕ → Access → Command
+steps queue seat access = command.Ask (step (record { 0 = queue }) seat access)
+
+abbrev pub processes : Access → QueueId → Command
+processes access queue = command.Ask (step queue 0 access)
 
 -- `C KIND NAME R,R`
 abbrev pub rights_on : Declared → List Word → Option (ClientId × Object × Rights)
@@ -58,16 +67,16 @@ rights_on policy words = option_and_then (λ w. option_and_then (λ kind. option
 
 -- `grant C KIND NAME R,R`
 abbrev pub grant_row : Declared → List Word → Option Command
-grant_row policy words = option_map (λ row. calls (event.Grant row.0 row.1 row.2)) (rights_on policy words)
+grant_row policy words = option_map (λ row. calls (call.Grant row.0 row.1 row.2)) (rights_on policy words)
 
 -- `revoke C KIND NAME R,R`
 abbrev pub revoke_row : Declared → List Word → Option Command
-revoke_row policy words = option_map (λ row. calls (event.Revoke row.0 row.1 row.2)) (rights_on policy words)
+revoke_row policy words = option_map (λ row. calls (call.Revoke row.0 row.1 row.2)) (rights_on policy words)
 
 -- `queue C AGENT SIZE PRODUCERS`
 abbrev pub queue_row : Declared → List Word → Option Command
 queue_row policy words = option_and_then (λ w. option_and_then (λ size. option_map (λ producers.
-    command.OpenQueue (client_in policy w.0) (agent_in policy w.1) size producers) (decimal_word w.3)) (decimal_word w.2)) (four_words words)
+    command.Ask (request.OpenQueue (client_in policy w.0) (agent_in policy w.1) size producers)) (decimal_word w.3)) (decimal_word w.2)) (four_words words)
 
 -- `Q`
 abbrev pub queue_of : List Word → Option QueueId
@@ -78,15 +87,44 @@ abbrev pub packet_of_queue : List Word → Option (QueueId × PacketId)
 packet_of_queue words = option_and_then (λ w. option_and_then (λ queue. option_map (λ packet.
     (record { 0 = queue }, record { 0 = packet })) (decimal_word w.1)) (decimal_word w.0)) (two_words words)
 
+-- `reserve Q P`: s1
+abbrev pub reserve_row : List Word → Option Command
+reserve_row words = option_and_then (λ w. option_and_then (λ queue. option_map (λ producer.
+    steps queue producer Reserve) (decimal_word w.1)) (decimal_word w.0)) (two_words words)
+
+-- `room Q P T`: s2
+abbrev pub room_row : List Word → Option Command
+room_row words = option_and_then (λ w. option_and_then (λ queue. option_and_then (λ producer. option_map (λ ticket.
+    steps queue producer (LoadReadIndex (record { 0 = ticket }))) (decimal_word w.2)) (decimal_word w.1)) (decimal_word w.0)) (three_words words)
+
+-- s4 for word 0, and s3 for any other
+abbrev pub store_of : ℕ → ℕ → ℕ → Access
+store_of ticket place word = if place == 0 then StoreHeader (record { 0 = ticket }) word else StoreBody (record { 0 = ticket }) place word
+
+-- `word Q P T K H`: s3, or s4 for K = 0
+abbrev pub word_row : List Word → Option Command
+word_row words = option_and_then (λ w. option_and_then (λ queue. option_and_then (λ producer. option_and_then (λ ticket. option_and_then (λ place. option_map (λ word.
+    steps queue producer (store_of ticket place word)) (eight_bytes w.4)) (decimal_word w.3)) (decimal_word w.2)) (decimal_word w.1)) (decimal_word w.0)) (five_words words)
+
+-- `part Q K`: s6
+abbrev pub part_row : List Word → Option Command
+part_row words = option_and_then (λ w. option_and_then (λ queue. option_map (λ place.
+    steps queue 0 (LoadBody place)) (decimal_word w.1)) (decimal_word w.0)) (two_words words)
+
+-- `publish Q P T H`
+abbrev pub publish_row : List Word → Option Command
+publish_row words = option_and_then (λ w. option_and_then (λ queue. option_and_then (λ producer. option_and_then (λ ticket. option_map (λ packet.
+    command.Publish (record { 0 = queue }) producer (record { 0 = ticket }) packet) (packet_word w.3)) (decimal_word w.2)) (decimal_word w.1)) (decimal_word w.0)) (four_words words)
+
 -- `submit Q P H`
 abbrev pub submit_row : List Word → Option Command
-submit_row words = option_and_then (λ w. option_and_then (λ queue. option_and_then (λ producer. option_map (λ bytes.
-    command.Submit (record { 0 = queue }) producer bytes) (packet_word w.2)) (decimal_word w.1)) (decimal_word w.0)) (three_words words)
+submit_row words = option_and_then (λ w. option_and_then (λ queue. option_and_then (λ producer. option_map (λ packet.
+    command.Submit (record { 0 = queue }) producer packet) (packet_word w.2)) (decimal_word w.1)) (decimal_word w.0)) (three_words words)
 
 -- `write C ADDR H`
 abbrev pub write_row : Declared → List Word → Option Command
 write_row policy words = option_and_then (λ w. option_and_then (λ address. option_map (λ bytes.
-    calls (event.HostWrite (client_in policy w.0) (record { 0 = address }) bytes)) (bytes_word w.2)) (address_word w.1)) (three_words words)
+    calls (call.HostWrite (client_in policy w.0) (record { 0 = address }) bytes)) (bytes_word w.2)) (address_word w.1)) (three_words words)
 
 -- `read C ADDR N`
 abbrev pub read_row : Declared → List Word → Option Command
@@ -108,12 +146,12 @@ operation_of word value =
 -- `C NAME OP V`
 abbrev pub plain_operation : Declared → List Word → Option Command
 plain_operation policy words = option_and_then (λ w. option_and_then (λ value. option_map (λ operation.
-    calls (event.ChangeSignal (client_in policy w.0) (signal_in policy w.1) operation)) (operation_of w.2 value)) (signed_word w.3)) (four_words words)
+    calls (call.ChangeSignal (client_in policy w.0) (signal_in policy w.1) operation)) (operation_of w.2 value)) (signed_word w.3)) (four_words words)
 
 -- `C NAME cas V V`
 abbrev pub cas_operation : Declared → List Word → Option Command
 cas_operation policy words = option_and_then (λ w. if bytes_eq w.2 (codes "cas") then option_and_then (λ expected. option_map (λ value.
-    calls (event.ChangeSignal (client_in policy w.0) (signal_in policy w.1) (op.Cas expected value))) (signed_word w.4)) (signed_word w.3) else None) (five_words words)
+    calls (call.ChangeSignal (client_in policy w.0) (signal_in policy w.1) (op.Cas expected value))) (signed_word w.4)) (signed_word w.3) else None) (five_words words)
 
 -- the first of two answers, if there is one
 abbrev pub either_of : {X : Type 0} → Option X → Option X → Option X
@@ -154,6 +192,29 @@ client_verb_of word =
     else if bytes_eq word (codes "audit") then Some verb.Audit
     else None
 
+-- the verb of a word, among those and those of single steps on a ring
+abbrev pub step_verb_of : Word → Option Verb
+step_verb_of word =
+    if bytes_eq word (codes "reserve") then Some verb.Reserve
+    else if bytes_eq word (codes "room") then Some verb.Room
+    else if bytes_eq word (codes "word") then Some verb.Word
+    else if bytes_eq word (codes "look") then Some verb.Look
+    else if bytes_eq word (codes "part") then Some verb.Part
+    else if bytes_eq word (codes "clear") then Some verb.Clear
+    else if bytes_eq word (codes "advance") then Some verb.Advance
+    else client_verb_of word
+
+-- the verb of a word, among those and those of packets of a ring
+abbrev pub ring_verb_of : Word → Option Verb
+ring_verb_of word =
+    if bytes_eq word (codes "submit") then Some verb.Submit
+    else if bytes_eq word (codes "serve") then Some verb.Serve
+    else if bytes_eq word (codes "publish") then Some verb.Publish
+    else if bytes_eq word (codes "peek") then Some verb.Peek
+    else if bytes_eq word (codes "take") then Some verb.Take
+    else if bytes_eq word (codes "retire") then Some verb.Retire
+    else step_verb_of word
+
 -- the verb of a word
 abbrev pub verb_of : Word → Option Verb
 verb_of word =
@@ -161,24 +222,33 @@ verb_of word =
     else if bytes_eq word (codes "revoke") then Some verb.Revoke
     else if bytes_eq word (codes "queue") then Some verb.Queue
     else if bytes_eq word (codes "stop") then Some verb.Stop
-    else if bytes_eq word (codes "submit") then Some verb.Submit
-    else if bytes_eq word (codes "serve") then Some verb.Serve
     else if bytes_eq word (codes "run") then Some verb.Run
     else if bytes_eq word (codes "poll") then Some verb.Poll
     else if bytes_eq word (codes "finish") then Some verb.Finish
-    else client_verb_of word
+    else ring_verb_of word
 
 -- the row of a verb
 abbrev pub command_of : Declared → Verb → List Word → Option Command
 command_of policy verb.Grant words = grant_row policy words
 command_of policy verb.Revoke words = revoke_row policy words
 command_of policy verb.Queue words = queue_row policy words
-command_of policy verb.Stop words = option_map (λ queue. calls (event.Stop queue)) (queue_of words)
+command_of policy verb.Stop words = option_map (λ queue. calls (call.Stop queue)) (queue_of words)
+command_of policy verb.Reserve words = reserve_row words
+command_of policy verb.Room words = room_row words
+command_of policy verb.Word words = word_row words
+command_of policy verb.Publish words = publish_row words
 command_of policy verb.Submit words = submit_row words
+command_of policy verb.Look words = option_map (processes LoadHeader) (queue_of words)
+command_of policy verb.Part words = part_row words
+command_of policy verb.Peek words = option_map (λ queue. command.Peek queue) (queue_of words)
+command_of policy verb.Take words = option_map (λ queue. command.Ask (request.Take queue)) (queue_of words)
+command_of policy verb.Clear words = option_map (processes ClearHeader) (queue_of words)
+command_of policy verb.Advance words = option_map (processes RaiseReadIndex) (queue_of words)
+command_of policy verb.Retire words = option_map (λ queue. command.Retire queue) (queue_of words)
 command_of policy verb.Serve words = option_map (λ queue. command.Serve queue) (queue_of words)
-command_of policy verb.Run words = option_map (λ row. calls (event.RunNext row.0 row.1)) (packet_of_queue words)
-command_of policy verb.Poll words = option_map (λ row. calls (event.Poll row.0 row.1)) (packet_of_queue words)
-command_of policy verb.Finish words = option_map (λ row. calls (event.Finish row.0 row.1)) (packet_of_queue words)
+command_of policy verb.Run words = option_map (λ row. calls (call.RunNext row.0 row.1)) (packet_of_queue words)
+command_of policy verb.Poll words = option_map (λ row. calls (call.Poll row.0 row.1)) (packet_of_queue words)
+command_of policy verb.Finish words = option_map (λ row. calls (call.Finish row.0 row.1)) (packet_of_queue words)
 command_of policy verb.Write words = write_row policy words
 command_of policy verb.Read words = read_row policy words
 command_of policy verb.Signal words = signal_row policy words
@@ -207,6 +277,8 @@ line_of policy bytes =
 
 -- the verb's row needs no memory to be read
 abbrev pub IsPlain : Verb → Type 0
+IsPlain verb.Word = ⊥
+IsPlain verb.Publish = ⊥
 IsPlain verb.Submit = ⊥
 IsPlain verb.Write = ⊥
 IsPlain _ = Unit {0}

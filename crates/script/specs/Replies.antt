@@ -1,5 +1,5 @@
 -- Replies as texts, row by row (own). Each line of a reply ends with a line feed.
-use Rattle.std.specs.Prelude.{ℕ, Bool, List, [], ◌++◌, length, flat_map, codes, decimal, Result, Ok, Err, if◌then◌else◌}
+use Rattle.std.specs.Prelude.{ℕ, ◌+◌, Bool, true, false, List, [], ◌++◌, length, flat_map, codes, decimal, Result, Ok, Err, if◌then◌else◌}
 use Rattle.std.specs.Option.{option_map_or}
 use Rattle.std.specs.Fmt.{signed_decimal}
 use Rattle.aql_packet.specs.declared.ids.PacketId.{PacketId}
@@ -25,9 +25,17 @@ use Rattle.core_model.specs.declared.outcome.Outcome.{Outcome}
 use Rattle.core_model.specs.declared.outcome.Outcome.TheVariants as outcome
 use Rattle.core_model.specs.declared.answer.Answer.{Answer}
 use Rattle.core_model.specs.declared.answer.Answer.TheVariants as answer
-use Rattle.script.specs.declared.command.Told.{Told}
-use Rattle.script.specs.declared.command.Told.TheVariants as told
-use Rattle.script.specs.Texts.{text_of_bytes, text_of_rights}
+use Rattle.ring_core.specs.declared.access.Seen.{Seen}
+use Rattle.ring_core.specs.declared.access.Seen.TheVariants as seen
+use Rattle.world.specs.declared.reply.Answer.{Answer as Made}
+use Rattle.world.specs.declared.reply.Answer.TheVariants as made
+use Rattle.world.specs.declared.reply.Refusal.{Refusal as Why}
+use Rattle.world.specs.declared.reply.Refusal.TheVariants as why
+use Rattle.script.specs.declared.command.Form.{Form}
+use Rattle.script.specs.declared.command.Form.TheVariants as form
+use Rattle.script.specs.declared.command.LineAnswer.{LineAnswer}
+use Rattle.script.specs.declared.command.LineAnswer.TheVariants as line
+use Rattle.script.specs.Texts.{text_of_bytes, text_of_rights, text_of_word}
 use Rattle.script.specs.Entries.{text_of_audit}
 
 -- a refusal's number and name
@@ -123,17 +131,54 @@ text_of_answer policy old (answer.Listing all) = text_of_listing policy all
 text_of_answer policy old (answer.Errors all) = text_of_errors all
 text_of_answer policy old (answer.Audit all) = text_of_audit policy all
 
--- a reply of the core
-abbrev pub text_of_reply : Declared → Bool → Result Answer Refusal → List ℕ
-text_of_reply policy old (Ok answer) = text_of_answer policy old answer
-text_of_reply policy old (Err refusal) = text_of_refusal refusal ++ codes "\n"
+-- ---- what the world answers
 
--- what a command is told
-abbrev pub text_of_told : Declared → Bool → Told → List ℕ
-text_of_told policy old (told.Core reply) = text_of_reply policy old reply
-text_of_told policy old (told.Published packet) = codes "published " ++ decimal packet.0 ++ codes "\n"
-text_of_told policy old (told.Busy ticket read) = codes "busy ticket " ++ decimal ticket.0 ++ codes " read " ++ decimal read ++ codes "\n"
-text_of_told policy old (told.NotPublishable ticket) = codes "not publishable " ++ decimal ticket.0 ++ codes "\n"
-text_of_told policy old told.NotAStep = codes "refused 14 NotAStep\n"
-text_of_told policy old told.Empty = codes "empty\n"
-text_of_told policy old (told.Taken packet taken) = text_of_taken packet taken ++ codes "\n"
+-- the old value of a signal is told
+abbrev pub tells_old : Form → Bool
+tells_old form.Old = true
+tells_old _ = false
+
+-- a number that a step read; of a read index that was raised, the one after it
+abbrev pub text_of_number : Form → ℕ → List ℕ
+text_of_number form.Ticket number = codes "ticket " ++ decimal number
+text_of_number form.Word number = codes "word " ++ text_of_word number
+text_of_number form.Raised number = codes "read " ++ decimal (number + 1)
+text_of_number _ number = codes "read " ++ decimal number
+
+-- what a step read
+abbrev pub text_of_seen : Form → Seen → List ℕ
+text_of_seen form (seen.Read number) = text_of_number form number
+text_of_seen form seen.Stored = codes "ok"
+
+-- an answer of the world
+abbrev pub text_of_made : Declared → Form → Made → List ℕ
+text_of_made policy form (made.Step seen) = text_of_seen form seen ++ codes "\n"
+text_of_made policy form (made.Header packet word) = codes "word " ++ text_of_word word ++ codes "\n"
+text_of_made policy form (made.Taken packet taken) = text_of_taken packet taken ++ codes "\n"
+text_of_made policy form (made.Core answer) = text_of_answer policy (tells_old form) answer
+
+-- the words of a packet, as its bytes
+abbrev pub text_of_words : List ℕ → List ℕ
+text_of_words words = flat_map text_of_word words
+
+-- why a request was refused
+abbrev pub text_of_why : Why → List ℕ
+text_of_why (why.Core refusal) = text_of_refusal refusal
+text_of_why why.NotAStep = codes "refused 14 NotAStep"
+text_of_why why.Spent = codes "refused 15 Spent"
+
+-- ---- what a line is told
+
+-- what a line is answered
+abbrev pub text_of_line_answer : Declared → LineAnswer → List ℕ
+text_of_line_answer policy (line.Answered form answer) = text_of_made policy form answer
+text_of_line_answer policy (line.Published packet) = codes "published " ++ decimal packet.0 ++ codes "\n"
+text_of_line_answer policy (line.Busy ticket read) = codes "busy ticket " ++ decimal ticket.0 ++ codes " read " ++ decimal read ++ codes "\n"
+text_of_line_answer policy (line.NotPublishable ticket) = codes "not publishable " ++ decimal ticket.0 ++ codes "\n"
+text_of_line_answer policy (line.Shown shown) = codes "shown " ++ decimal shown.packet.0 ++ codes " " ++ text_of_words shown.words ++ codes "\n"
+text_of_line_answer policy line.Empty = codes "empty\n"
+
+-- the reply to a line
+abbrev pub text_of_line : Declared → Result LineAnswer Why → List ℕ
+text_of_line policy (Ok answer) = text_of_line_answer policy answer
+text_of_line policy (Err why) = text_of_why why ++ codes "\n"

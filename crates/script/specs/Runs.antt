@@ -1,35 +1,18 @@
--- What a broker owes to the lines of a script.
-use Rattle.std.specs.Prelude.{ℕ, ◌≡◌, ◌==◌, ◌⊎◌, Bool, true, false, List, [], ◌∷◌, ◌++◌, Option, Some, None, if◌then◌else◌}
+-- What is owed to the lines of a script.
+use Rattle.std.specs.Prelude.{ℕ, ◌≡◌, ◌==◌, ◌⊎◌, Bool, true, false, List, [], ◌∷◌, ◌++◌, Option, Some, None, Result, if◌then◌else◌}
 use Rattle.policy.specs.Policy.{Declared}
-use Rattle.signals.specs.declared.operation.SignalOp.{SignalOp}
-use Rattle.signals.specs.declared.operation.SignalOp.TheVariants as op
-use Rattle.core_model.specs.declared.event.Event.{Event}
-use Rattle.core_model.specs.declared.event.Event.TheVariants as event
-use Rattle.core_model.specs.declared.event.Request.TheVariants as request
+use Rattle.world.specs.declared.reply.Refusal.{Refusal}
+use Rattle.world.specs.declared.request.Request.{Request}
+use Rattle.world.specs.Dues.{AreReplies, Reply}
+use Rattle.world.specs.States.{Joined}
 use Rattle.script.specs.declared.command.Command.{Command}
-use Rattle.script.specs.declared.command.Command.TheVariants as command
-use Rattle.script.specs.declared.command.Told.{Told}
+use Rattle.script.specs.declared.command.LineAnswer.{LineAnswer}
 use Rattle.script.specs.declared.lines.Line.{Line}
 use Rattle.script.specs.declared.lines.Line.TheVariants as line
 use Rattle.script.specs.Words.{kept}
 use Rattle.script.specs.Lines.{line_of}
-use Rattle.script.specs.Replies.{text_of_told}
-
--- the operation's old value is told
-abbrev pub gives_old : SignalOp → Bool
-gives_old (op.Exchange value) = true
-gives_old (op.Cas expected value) = true
-gives_old _ = false
-
--- the event is told the old value of a signal
-abbrev pub event_gives_old : Event → Bool
-event_gives_old (event.ChangeSignal client signal operation) = gives_old operation
-event_gives_old _ = false
-
--- the command is told the old value of a signal
-abbrev pub tells_old : Command → Bool
-tells_old (command.Core (request.Event event)) = event_gives_old event
-tells_old _ = false
+use Rattle.script.specs.Replies.{text_of_line}
+use Rattle.script.specs.Expansions.{does}
 
 -- lines of bytes that come behind the begin of a line: a line ends at a line feed, or at the end if it has a byte
 unfoldable pub lines_from : List ℕ → List ℕ → List (List ℕ)
@@ -40,7 +23,11 @@ lines_from line (byte ∷ bytes) = if byte == 10 then line ∷ lines_from [] byt
 abbrev pub lines_of : List ℕ → List (List ℕ)
 lines_of bytes = lines_from [] bytes
 
--- a broker, by what it may tell to a command and by its names
+-- the reply to a line that asks something
+abbrev pub Told : Type 0
+Told = Result LineAnswer Refusal
+
+-- who serves lines, by what may be told to a command and by the policy whose names lines go by
 pub record Law (S : Type 0) : Type 1 where
   pub serves : S → Command → Told → S → Type 0
   pub names : S → Declared
@@ -50,7 +37,7 @@ abbrev pub RepliedAs : {S : Type 0} → Law S → S → Option Line → List ℕ
 RepliedAs law old None reply new = ⊥
 RepliedAs law old (Some line.Quiet) reply new = (reply ≡ []) × (new ≡ old)
 RepliedAs law old (Some (line.Asks command)) reply new =
-    (told : Told) × law.serves old command told new × (reply ≡ text_of_told (law.names new) (tells_old command) told)
+    (told : Told) × law.serves old command told new × (reply ≡ text_of_line (law.names new) told)
 
 -- what is replied to a line
 abbrev pub Replied : {S : Type 0} → Law S → S → List ℕ → List ℕ → S → Type 0
@@ -62,19 +49,23 @@ Runs law old [] text new = (text ≡ []) × (new ≡ old)
 Runs law old (line ∷ lines) text new =
     (mid : _) × (first : List ℕ) × (rest : List ℕ) × Replied law old line first mid × Runs law mid lines rest new × (text ≡ first ++ rest)
 
--- a broker is as before, or has served one command more
+-- all is as before, or one command more was served
 abbrev pub ServedAtMostOne : {S : Type 0} → Law S → S → S → Type 0
 ServedAtMostOne law old new = (new ≡ old) ⊎ ((command : Command) × (told : Told) × law.serves old command told new)
 
--- a law from its parts
-abbrev pub law_of : {S : Type 0} → (S → Command → Told → S → Type 0) → (S → Declared) → Law S
-law_of serves names = record { serves = serves; names = names }
+-- a world: each line does what its row says, and names are those of the policy that it was opened over
+unfoldable pub worlds : Law Joined
+worlds = record { serves = λ old command told new. does command old told new; names = λ world. world.core.start.policy }
 
 -- what a line's service left: its reply behind what was written, or all as it was where the line has no form
 abbrev pub Served : {S : Type 0} → Law S → S → S → List ℕ → List ℕ → List ℕ → Bool → Type 0
 Served law old new line before after true = (reply : List ℕ) × Replied law old line reply new × (after ≡ before ++ reply)
 Served law old new line before after false = (line_of (law.names old) line ≡ None) × (new ≡ old) × (after ≡ before)
 
--- a service that wants memory: nothing is written, and the broker has served a command at most
+-- a service that wants memory: nothing is written, and a command was served at most
 abbrev pub Wanted : {S : Type 0} → Law S → S → S → List ℕ → List ℕ → Type 0
 Wanted law old new before after = (after ≡ before) × ServedAtMostOne law old new
+
+-- some requests, served in turn, lead from one world to the other
+abbrev pub Reaches : Joined → Joined → Type 0
+Reaches old new = (requests : List Request) × (replies : List Reply) × AreReplies old requests replies new

@@ -1,6 +1,7 @@
 -- Numbers, bytes, names and lists as replies write them (own).
 use Rattle.std.specs.Prelude.{ℕ, zero, suc, ◌+◌, ◌/◌, ◌%◌, nat_lt, Bool, true, false, List, [], ◌∷◌, ◌++◌, map, filter, flat_map, codes, if◌then◌else◌}
 use Rattle.std.specs.Option.{option_map_or}
+use Rattle.byteorder.specs.Endian.{little_bytes}
 use Rattle.aql_packet.specs.declared.ids.ClientId.{ClientId}
 use Rattle.policy.specs.declared.rights.Rights.{Rights}
 use Rattle.policy.specs.Rights.{has, all_rights}
@@ -27,6 +28,10 @@ text_of_byte byte = hex_digit (byte / 16) ∷ hex_digit (byte % 16) ∷ []
 -- bytes in order
 abbrev pub text_of_bytes : List ℕ → List ℕ
 text_of_bytes bytes = flat_map text_of_byte bytes
+
+-- a packet's word, as its eight bytes: the lowest first (PSA, Architected Queuing Language)
+unfoldable pub text_of_word : ℕ → List ℕ
+text_of_word word = text_of_bytes (little_bytes 8 word)
 
 -- a list has an item
 abbrev pub has_items : {X : Type 0} → List X → Bool

@@ -1,6 +1,7 @@
 -- Words of a line, and what single words stand for (own).
-use Rattle.std.specs.Prelude.{ℕ, ◌+◌, ◌-◌, ◌*◌, ◌^◌, nat_lt, nat_le, ◌==◌, ℤ, pos, neg_ℤ, Bool, true, false, ◌&&◌, ◌||◌, List, [], ◌∷◌, ◌++◌, length, codes, Option, Some, None, option_map, option_and_then, bytes_eq, bit_or, if◌then◌else◌}
+use Rattle.std.specs.Prelude.{ℕ, ◌+◌, ◌-◌, ◌*◌, ◌^◌, nat_lt, nat_le, ◌==◌, ℤ, pos, neg_ℤ, Bool, true, false, ◌&&◌, ◌||◌, List, [], ◌∷◌, ◌++◌, length, drop, codes, Option, Some, None, option_map, option_and_then, bytes_eq, bit_or, if◌then◌else◌}
 use denote.Ref.{Bor}
+use Rattle.byteorder.specs.Endian.{little_number}
 use Rattle.policy.specs.declared.rights.Right.{Right}
 use Rattle.policy.specs.declared.rights.Right.TheVariants.{Use, Read, Write, Wait, Change, Launch}
 use Rattle.policy.specs.declared.rights.Rights.{Rights}
@@ -112,9 +113,23 @@ bytes_word [] = Some []
 bytes_word (high ∷ []) = None
 bytes_word (high ∷ low ∷ word) = option_and_then (λ byte. option_map (λ bytes. byte ∷ bytes) (bytes_word word)) (byte_of high low)
 
--- a packet: 64 bytes
+-- the word in the eight bytes from a place on, the lowest byte first (PSA, Architected Queuing Language)
+abbrev pub word_at : List ℕ → ℕ → ℕ
+word_at bytes place = little_number 8 (drop place bytes)
+
+-- a packet's word: eight bytes
+abbrev pub eight_bytes : Word → Option ℕ
+eight_bytes word = option_and_then (λ bytes. if length bytes == 8 then Some (word_at bytes 0) else None) (bytes_word word)
+
+-- the words of a packet's 64 bytes
+abbrev pub words_of : List ℕ → List ℕ
+words_of bytes =
+    word_at bytes 0 ∷ word_at bytes 8 ∷ word_at bytes 16 ∷ word_at bytes 24 ∷ word_at bytes 32 ∷ word_at bytes 40 ∷ word_at bytes 48
+    ∷ word_at bytes 56 ∷ []
+
+-- a packet: its eight words, of 64 bytes
 abbrev pub packet_word : Word → Option (List ℕ)
-packet_word word = option_and_then (λ bytes. if length bytes == 64 then Some bytes else None) (bytes_word word)
+packet_word word = option_and_then (λ bytes. if length bytes == 64 then Some (words_of bytes) else None) (bytes_word word)
 
 -- what stands between commas, of bytes that come behind the begin of an item
 unfoldable pub items_from : Word → List ℕ → List Word

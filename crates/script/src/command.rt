@@ -1,71 +1,78 @@
-//! What the lines of a script ask, what they are told, and who tells it.
+//! What the lines of a script ask of a world, and what they are answered.
 
-use aql_packet::{AgentHandle, ClientId, PacketId, QueueId};
-use core_model::{Reply, Request, Taken};
-use policy::Policy;
-use std::alloc::Global;
+use aql_packet::{PacketId, QueueId};
+use world::{Answer, Refusal, Request};
 
-/// What a line of a script asks.
+/// What a line of a script asks: one request, or several in turn.
 #[derive(Drop)]
 pub enum Command {
-    /// A call of the core, other than to open a queue or to hand over a packet.
-    Core(Request),
-    /// A client opens a queue of `size` slots for `producers` producers on an agent.
-    OpenQueue {
-        client: ClientId,
-        agent: AgentHandle,
-        size: u64,
-        producers: u64,
+    /// One request.
+    Ask(Request),
+    /// A producer of a queue publishes a packet, its words in order, under a ticket of its own.
+    Publish {
+        queue: QueueId,
+        producer: u64,
+        ticket: PacketId,
+        words: [u64; 8],
     },
-    /// A producer of a queue puts a packet into it.
+    /// A producer of a queue reserves a ticket, and publishes a packet under it.
     Submit {
         queue: QueueId,
         producer: u64,
-        bytes: [u8; 64],
+        words: [u64; 8],
     },
-    /// The packet processor hands over the next packet of a queue.
+    /// A queue's processor collects the packet at the read index.
+    Peek {
+        queue: QueueId,
+    },
+    /// A queue's processor retires the packet that it has handed over.
+    Retire {
+        queue: QueueId,
+    },
+    /// A queue's processor collects the next packet, hands it over, and retires it once it is launched or denied.
     Serve {
         queue: QueueId,
     },
 }
 
-/// What a command is told.
+/// How the answer to a request is told.
+#[derive(Clone, Copy)]
+pub enum Form {
+    /// As it is: a number that was read is the read index.
+    Plain,
+    /// The number that was read is a ticket.
+    Ticket,
+    /// The number that was read is a packet's word.
+    Word,
+    /// The number that was read is the read index before it was raised.
+    Raised,
+    /// The signal's old value is told.
+    Old,
+}
+
+/// A packet that a queue's processor has collected, with its id.
+#[derive(Clone, Copy)]
+pub struct Shown {
+    pub packet: PacketId,
+    pub words: [u64; 8],
+}
+
+/// What a line is answered that isn't refused.
 #[derive(Drop)]
-pub enum Told {
-    /// What the core replied.
-    Core(Reply),
+pub enum LineAnswer {
+    /// What the world answered to a request.
+    Answered { form: Form, answer: Answer },
     /// The packet was published under this id.
     Published(PacketId),
-    /// The slot of this ticket is still taken: so the read index said.
+    /// The slot of this ticket is still taken: so the read index says.
     Busy { ticket: PacketId, read: u64 },
     /// A packet of type INVALID can't be published under this ticket.
     NotPublishable(PacketId),
-    /// The queue has no such producer, or the step isn't allowed there.
-    NotAStep,
-    /// The queue shows no packet.
+    /// The packet at the read index.
+    Shown(Shown),
+    /// No packet is published at the read index.
     Empty,
-    /// What became of the packet that was handed over.
-    Taken { packet: PacketId, taken: Taken },
 }
 
-/// Who serves the commands of a script.
-pub trait Broker {
-    ghost use Rattle.policy.specs.Policy.{Declared};
-    ghost use Rattle.script.specs.declared.command.Command.{Command};
-    ghost use Rattle.script.specs.declared.command.Told.{Told};
-    ghost use Rattle.std.specs.Prelude.{◌≡◌};
-
-    // The policy whose names lines and replies go by.
-    ghost names: { Self → Declared };
-
-    // What may be told to a command, and what the broker is then.
-    ghost serves: { Self → Command → Told → Self → Type 0 };
-
-    /// The policy whose names lines and replies go by.
-    fn policy(&self) -> &Policy
-        ensures { result.now ≡ names self.now };
-
-    /// Serves a command. Want of memory is told like any other refusal.
-    fn serve(&mut self, alloc: Global, command: Command) -> Told
-        ensures { serves self.old command result self.new };
-}
+/// The reply to a line.
+pub type LineReply = Result<LineAnswer, Refusal>;

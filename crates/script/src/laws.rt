@@ -2,9 +2,16 @@
 
 ghost use Rattle.std.specs.Prelude.{◌≡◌, ℕ, List, Some, true};
 ghost use Rattle.std.specs.List.{list_all};
-ghost use Rattle.script.specs.Runs.{lines_of};
+ghost use Rattle.policy.specs.Policy.{Declared};
+ghost use Rattle.world.specs.Headline.{Headline, begun};
+ghost use Rattle.world.specs.States.{Joined};
+ghost use Rattle.script.specs.declared.command.Command.{Command};
+ghost use Rattle.script.specs.Expansions.{does};
+ghost use Rattle.script.specs.Runs.{Reaches, Runs, Told, lines_of, worlds};
 ghost use Rattle.script.specs.Splitting.{digits_of, ended, is_line, joined, sum_of_digits};
 ghost use Rattle.script.specs.Words.{address_word, decimal_word};
+
+use world::the_headline;
 
 /// The lines of a text, each with a line feed behind it, are the text, with a line feed behind a last line that has
 /// none; and no line has a line feed in it.
@@ -18,3 +25,13 @@ pub fn numbers_are_sums_of_their_digits()
     ensures decimal { (word : List ℕ) (number : ℕ) → decimal_word word ≡ Some number → number ≡ sum_of_digits 10 (digits_of word) }
     ensures address { (word : List ℕ) (number : ℕ) → address_word word ≡ Some number → number ≡ sum_of_digits 16 (digits_of word) }
 {}
+
+/// What a line does is some requests to the world, served in turn; so after any script, over a world that was just
+/// opened, the headline holds.
+pub fn scripts_are_requests()
+    ensures line { (asked : Command) (old : Joined) (told : Told) (new : Joined) → does asked old told new → Reaches old new }
+    ensures headline { (policy : Declared) (capacity : ℕ) (lines : List (List ℕ)) (text : List ℕ) (world : Joined) →
+        Runs worlds (begun policy capacity) lines text world → Headline world }
+{
+    the_headline();
+}

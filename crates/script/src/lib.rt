@@ -1,4 +1,4 @@
-//! Scripts: lines to commands, what they are told to text, and the engine that runs a script.
+//! Scripts: lines to requests of a world, replies to text, and the engine that runs a script.
 
 // The check tries its tactics on what is left of each proof.
 #![tactic(auto)]
@@ -7,6 +7,7 @@ mod answers;
 mod command;
 mod engine;
 mod entries;
+mod expansions;
 mod fault;
 mod laws;
 mod lines;
@@ -19,9 +20,12 @@ mod verbs;
 mod words;
 
 pub use answers::Answers;
-pub use command::{Broker, Command, Told};
+pub use command::{Command, Form, LineAnswer, LineReply, Shown};
+pub use expansions::perform;
 pub use fault::ScriptFault;
-pub use laws::{lines_give_their_text_back, numbers_are_sums_of_their_digits};
+pub use laws::{
+    lines_give_their_text_back, numbers_are_sums_of_their_digits, scripts_are_requests,
+};
 pub use lines::{Line, read_line};
-pub use replies::write_told;
+pub use replies::write_line;
 pub use run::{run_noting, run_script};

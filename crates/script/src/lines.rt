@@ -1,24 +1,31 @@
-//! Lines to commands: a function for each row of the forms.
+//! Lines to requests: a function for each row of the forms.
 
 ghost use Rattle.std.specs.Prelude.{◌≡◌, IfOk, option_map};
 ghost use Rattle.script.specs.Words.{words};
-ghost use Rattle.script.specs.Lines.{client_in, object_in, agent_in, signal_in, rights_on, grant_row, revoke_row, queue_row, queue_of, packet_of_queue, submit_row, write_row, read_row, operation_of, plain_operation, cas_operation, signal_row, load_row, test_row, list_row, audit_row, command_of, line_of, asked_by, is_comment, IsPlain};
+ghost use Rattle.script.specs.Lines.{client_in, object_in, agent_in, signal_in, rights_on, grant_row, revoke_row, queue_row, queue_of, packet_of_queue, steps, processes, reserve_row, room_row, store_of, word_row, part_row, publish_row, submit_row, write_row, read_row, operation_of, plain_operation, cas_operation, signal_row, load_row, test_row, list_row, audit_row, command_of, line_of, asked_by, is_comment, IsPlain};
 
 use crate::command::Command;
-use crate::numbers::{address, bytes, condition, decimal, kind, packet, rights, signed};
+use crate::numbers::{
+    address, bytes, condition, decimal, kind, packet, packet_word, rights, signed,
+};
 use crate::verbs::{Verb, verb_named};
 use crate::words::{
     five_words, four_words, is_word, no_words, one_word, split_word, three_words, two_words,
 };
 use aql_packet::{AgentHandle, ClientId, PacketId, QueueId, SignalHandle};
-use core_model::{Event, Query, Request};
+use core_model::Query;
 use policy::{Kind, Object, Policy, Rights};
+use ring_core::{Access, Step};
 use sequences::Sequence;
 use signals::SignalOp;
 use std::alloc::{AllocError, Global};
+use world::{Call, Request};
 
 /// The most bytes that a line has.
 pub const LONGEST_LINE: usize = 16_384;
+
+// The seat of a queue's processor.
+const PROCESSOR: u64 = 0;
 
 /// What a line stands for.
 #[derive(Drop)]
@@ -63,18 +70,35 @@ fn signal(policy: &Policy, name: &[u8]) -> SignalHandle
     }
 }
 
-// An event as a command.
-fn calls(event: Event) -> Command
-    ensures { result ≡ Command.Core (Request.Event event) }
+// A call as a command.
+fn calls(call: Call) -> Command
+    ensures { result ≡ Command.Ask (Request.Call call) }
 {
-    Command::Core(Request::Event(event))
+    Command::Ask(Request::Call(call))
 }
 
 // A query as a command.
 fn asks(query: Query) -> Command
-    ensures { result ≡ Command.Core (Request.Query query) }
+    ensures { result ≡ Command.Ask (Request.Query query) }
 {
-    Command::Core(Request::Query(query))
+    Command::Ask(Request::Query(query))
+}
+
+// A step of a seat on a queue's ring as a command.
+fn steps(queue: u64, seat: u64, access: Access) -> Command
+    ensures { result ≡ steps queue seat access }
+{
+    Command::Ask(Request::Step {
+        queue: QueueId(queue),
+        step: Step { seat, access },
+    })
+}
+
+// A step of a queue's processor as a command.
+fn processes(access: Access, queue: QueueId) -> Command
+    ensures { result ≡ processes access queue }
+{
+    steps(queue.0, PROCESSOR, access)
 }
 
 // `C KIND NAME R,R`
@@ -92,7 +116,7 @@ fn grant(policy: &Policy, line: &[u8]) -> Option<Command>
     ensures { result ≡ grant_row policy.now (words line.now) }
 {
     let (client, object, rights) = rights_on(policy, line)?;
-    Some(calls(Event::Grant {
+    Some(calls(Call::Grant {
         client,
         object,
         rights,
@@ -104,7 +128,7 @@ fn revoke(policy: &Policy, line: &[u8]) -> Option<Command>
     ensures { result ≡ revoke_row policy.now (words line.now) }
 {
     let (client, object, rights) = rights_on(policy, line)?;
-    Some(calls(Event::Revoke {
+    Some(calls(Call::Revoke {
         client,
         object,
         rights,
@@ -118,12 +142,12 @@ fn queue(policy: &Policy, line: &[u8]) -> Option<Command>
     let (owner, on, size, producers) = four_words(line)?;
     let size = decimal(size)?;
     let producers = decimal(producers)?;
-    Some(Command::OpenQueue {
+    Some(Command::Ask(Request::OpenQueue {
         client: client(policy, owner),
         agent: agent(policy, on),
         size,
         producers,
-    })
+    }))
 }
 
 // `Q`
@@ -143,11 +167,48 @@ fn packet_id(line: &[u8]) -> Option<(QueueId, PacketId)>
     Some((QueueId(queue), PacketId(packet)))
 }
 
-// `submit Q P H`
-fn submit(alloc: Global, line: &[u8]) -> Result<Option<Command>, AllocError>
-    ensures { IfOk result (λ read. read ≡ submit_row (words line.now)) }
+// `reserve Q P`
+fn reserve(line: &[u8]) -> Option<Command>
+    ensures { result ≡ reserve_row (words line.now) }
 {
-    let Some((queue, producer, bytes)) = three_words(line) else {
+    let (queue, producer) = two_words(line)?;
+    let queue = decimal(queue)?;
+    let producer = decimal(producer)?;
+    Some(steps(queue, producer, Access::Reserve))
+}
+
+// `room Q P T`
+fn room(line: &[u8]) -> Option<Command>
+    ensures { result ≡ room_row (words line.now) }
+{
+    let (queue, producer, ticket) = three_words(line)?;
+    let queue = decimal(queue)?;
+    let producer = decimal(producer)?;
+    let ticket = PacketId(decimal(ticket)?);
+    Some(steps(queue, producer, Access::LoadReadIndex { ticket }))
+}
+
+// The store of a word of a packet: of the header, or of a word of its body.
+fn store_of(ticket: u64, place: u64, word: u64) -> Access
+    ensures { result ≡ store_of ticket place word }
+{
+    let ticket = PacketId(ticket);
+    if place == 0 {
+        Access::StoreHeader { ticket, word }
+    } else {
+        Access::StoreBody {
+            ticket,
+            place,
+            word,
+        }
+    }
+}
+
+// `word Q P T K H`
+fn word(alloc: Global, line: &[u8]) -> Result<Option<Command>, AllocError>
+    ensures { IfOk result (λ read. read ≡ word_row (words line.now)) }
+{
+    let Some((queue, producer, ticket, place, digits)) = five_words(line) else {
         return Ok(None);
     };
     let Some(queue) = decimal(queue) else {
@@ -156,13 +217,75 @@ fn submit(alloc: Global, line: &[u8]) -> Result<Option<Command>, AllocError>
     let Some(producer) = decimal(producer) else {
         return Ok(None);
     };
-    let Some(bytes) = packet(alloc, bytes)? else {
+    let Some(ticket) = decimal(ticket) else {
+        return Ok(None);
+    };
+    let Some(place) = decimal(place) else {
+        return Ok(None);
+    };
+    let Some(word) = packet_word(alloc, digits)? else {
+        return Ok(None);
+    };
+    Ok(Some(steps(queue, producer, store_of(ticket, place, word))))
+}
+
+// `part Q K`
+fn part(line: &[u8]) -> Option<Command>
+    ensures { result ≡ part_row (words line.now) }
+{
+    let (queue, place) = two_words(line)?;
+    let queue = decimal(queue)?;
+    let place = decimal(place)?;
+    Some(steps(queue, PROCESSOR, Access::LoadBody { place }))
+}
+
+// `publish Q P T H`
+fn publish(alloc: Global, line: &[u8]) -> Result<Option<Command>, AllocError>
+    ensures { IfOk result (λ read. read ≡ publish_row (words line.now)) }
+{
+    let Some((queue, producer, ticket, digits)) = four_words(line) else {
+        return Ok(None);
+    };
+    let Some(queue) = decimal(queue) else {
+        return Ok(None);
+    };
+    let Some(producer) = decimal(producer) else {
+        return Ok(None);
+    };
+    let Some(ticket) = decimal(ticket) else {
+        return Ok(None);
+    };
+    let Some(words) = packet(alloc, digits)? else {
+        return Ok(None);
+    };
+    Ok(Some(Command::Publish {
+        queue: QueueId(queue),
+        producer,
+        ticket: PacketId(ticket),
+        words,
+    }))
+}
+
+// `submit Q P H`
+fn submit(alloc: Global, line: &[u8]) -> Result<Option<Command>, AllocError>
+    ensures { IfOk result (λ read. read ≡ submit_row (words line.now)) }
+{
+    let Some((queue, producer, digits)) = three_words(line) else {
+        return Ok(None);
+    };
+    let Some(queue) = decimal(queue) else {
+        return Ok(None);
+    };
+    let Some(producer) = decimal(producer) else {
+        return Ok(None);
+    };
+    let Some(words) = packet(alloc, digits)? else {
         return Ok(None);
     };
     Ok(Some(Command::Submit {
         queue: QueueId(queue),
         producer,
-        bytes,
+        words,
     }))
 }
 
@@ -179,7 +302,7 @@ fn write(alloc: Global, policy: &Policy, line: &[u8]) -> Result<Option<Command>,
     let Some(bytes) = bytes(alloc, digits)? else {
         return Ok(None);
     };
-    Ok(Some(calls(Event::HostWrite {
+    Ok(Some(calls(Call::HostWrite {
         client: client(policy, writer),
         address,
         bytes: Sequence::from_vec(bytes),
@@ -230,7 +353,7 @@ fn plain_operation(policy: &Policy, line: &[u8]) -> Option<Command>
     let (changer, name, word, value) = four_words(line)?;
     let value = signed(value)?;
     let operation = operation(word, value)?;
-    Some(calls(Event::ChangeSignal {
+    Some(calls(Call::ChangeSignal {
         client: client(policy, changer),
         signal: signal(policy, name),
         operation,
@@ -247,7 +370,7 @@ fn cas_operation(policy: &Policy, line: &[u8]) -> Option<Command>
     }
     let expected = signed(expected)?;
     let value = signed(value)?;
-    Some(calls(Event::ChangeSignal {
+    Some(calls(Call::ChangeSignal {
         client: client(policy, changer),
         signal: signal(policy, name),
         operation: SignalOp::Cas { expected, value },
@@ -319,23 +442,38 @@ fn plain_command(policy: &Policy, verb: Verb, line: &[u8]) -> Option<Command>
         Verb::Grant => grant(policy, line),
         Verb::Revoke => revoke(policy, line),
         Verb::Queue => queue(policy, line),
-        Verb::Stop => Some(calls(Event::Stop {
+        Verb::Stop => Some(calls(Call::Stop {
             queue: queue_id(line)?,
         })),
+        Verb::Reserve => reserve(line),
+        Verb::Room => room(line),
+        Verb::Look => Some(processes(Access::LoadHeader, queue_id(line)?)),
+        Verb::Part => part(line),
+        Verb::Peek => Some(Command::Peek {
+            queue: queue_id(line)?,
+        }),
+        Verb::Take => Some(Command::Ask(Request::Take {
+            queue: queue_id(line)?,
+        })),
+        Verb::Clear => Some(processes(Access::ClearHeader, queue_id(line)?)),
+        Verb::Advance => Some(processes(Access::RaiseReadIndex, queue_id(line)?)),
+        Verb::Retire => Some(Command::Retire {
+            queue: queue_id(line)?,
+        }),
         Verb::Serve => Some(Command::Serve {
             queue: queue_id(line)?,
         }),
         Verb::Run => {
             let (queue, packet) = packet_id(line)?;
-            Some(calls(Event::RunNext { queue, packet }))
+            Some(calls(Call::RunNext { queue, packet }))
         }
         Verb::Poll => {
             let (queue, packet) = packet_id(line)?;
-            Some(calls(Event::Poll { queue, packet }))
+            Some(calls(Call::Poll { queue, packet }))
         }
         Verb::Finish => {
             let (queue, packet) = packet_id(line)?;
-            Some(calls(Event::Finish { queue, packet }))
+            Some(calls(Call::Finish { queue, packet }))
         }
         Verb::Read => read(policy, line),
         Verb::Signal => change(policy, line),
@@ -346,7 +484,7 @@ fn plain_command(policy: &Policy, verb: Verb, line: &[u8]) -> Option<Command>
             queue: queue_id(line)?,
         })),
         Verb::Audit => audit(line),
-        Verb::Submit | Verb::Write => None,
+        Verb::Word | Verb::Publish | Verb::Submit | Verb::Write => None,
     }
 }
 
@@ -360,6 +498,8 @@ fn command(
     ensures { IfOk result (λ read. read ≡ command_of policy.now verb (words line.now)) }
 {
     match verb {
+        Verb::Word => word(alloc, line),
+        Verb::Publish => publish(alloc, line),
         Verb::Submit => submit(alloc, line),
         Verb::Write => write(alloc, policy, line),
         _ => Ok(plain_command(policy, verb, line)),

@@ -1,11 +1,12 @@
 //! Numbers, bytes, rights and kinds that single words stand for.
 
-ghost use Rattle.std.specs.Prelude.{◌≡◌, ◌∷◌, [], ◌<◌, IfOk, IfSome, option_map, length};
-ghost use Rattle.script.specs.Words.{digit_of, with_digit, number_from, decimal_word, negative, positive, signed_word, address_word, byte_of, bytes_word, packet_word, items_from, items_behind, right_of, with_right, rights_with, rights_word, kind_word, condition_word};
+ghost use Rattle.std.specs.Prelude.{◌≡◌, ◌∷◌, [], ◌+◌, ◌<◌, ◌≤◌, IfOk, IfSome, option_map, length};
+ghost use Rattle.script.specs.Words.{digit_of, with_digit, number_from, decimal_word, negative, positive, signed_word, address_word, byte_of, bytes_word, word_at, eight_bytes, words_of, packet_word, items_from, items_behind, right_of, with_right, rights_with, rights_word, kind_word, condition_word};
 
 use crate::words::is_word;
 use aql_packet::Address;
 use bitflags::Flags;
+use byteorder::{ByteOrder, LittleEndian};
 use policy::{Kind, Right, Rights};
 use signals::Condition;
 use std::alloc::{AllocError, Global};
@@ -131,8 +132,46 @@ pub fn bytes(alloc: Global, word: &[u8]) -> Result<Option<Vec<u8>>, AllocError>
     Ok(Some(read))
 }
 
-/// A packet's bytes.
-pub fn packet(alloc: Global, word: &[u8]) -> Result<Option<[u8; 64]>, AllocError>
+// The word in the eight bytes from a place on, the lowest byte first (PSA, Architected Queuing Language).
+fn word_at(bytes: &[u8], place: usize) -> u64
+    requires { place + 8 ≤ length bytes.now }
+    ensures { result ≡ word_at bytes.now place }
+{
+    LittleEndian::read_u64(bytes.split_at(place).1)
+}
+
+/// A packet's word: eight bytes.
+pub fn packet_word(alloc: Global, word: &[u8]) -> Result<Option<u64>, AllocError>
+    ensures { IfOk result (λ read. read ≡ eight_bytes word.now) }
+{
+    let Some(bytes) = bytes(alloc, word)? else {
+        return Ok(None);
+    };
+    if bytes.len() != 8 {
+        return Ok(None);
+    }
+    Ok(Some(word_at(bytes.as_slice(), 0)))
+}
+
+// The words of a packet's 64 bytes.
+fn words_of(bytes: &[u8]) -> [u64; 8]
+    requires { length bytes.now ≡ 64 }
+    ensures { result ≡ words_of bytes.now }
+{
+    [
+        word_at(bytes, 0),
+        word_at(bytes, 8),
+        word_at(bytes, 16),
+        word_at(bytes, 24),
+        word_at(bytes, 32),
+        word_at(bytes, 40),
+        word_at(bytes, 48),
+        word_at(bytes, 56),
+    ]
+}
+
+/// A packet: its eight words, of 64 bytes.
+pub fn packet(alloc: Global, word: &[u8]) -> Result<Option<[u64; 8]>, AllocError>
     ensures { IfOk result (λ read. read ≡ packet_word word.now) }
 {
     let Some(bytes) = bytes(alloc, word)? else {
@@ -141,9 +180,7 @@ pub fn packet(alloc: Global, word: &[u8]) -> Result<Option<[u8; 64]>, AllocError
     if bytes.len() != 64 {
         return Ok(None);
     }
-    let mut packet = [0; 64];
-    packet.copy_from_slice(bytes.as_slice());
-    Ok(Some(packet))
+    Ok(Some(words_of(bytes.as_slice())))
 }
 
 // The right of a name.

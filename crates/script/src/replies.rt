@@ -1,17 +1,19 @@
 //! Replies as text.
 
-ghost use Rattle.std.specs.Prelude.{◌≡◌, ◌++◌, OnOk, length, flat_map, codes, string_bytes};
-ghost use Rattle.script.specs.Replies.{name_of_refusal, details_of_refusal, text_of_refusal, text_of_name, text_of_cause, text_of_taken, text_of_worked, text_of_polled, text_of_outcome, text_of_listed, text_of_listing, line_of_error, text_of_errors, text_of_answer, text_of_reply, text_of_told};
-ghost use Rattle.script.specs.Texts.{text_of_bytes};
+ghost use Rattle.std.specs.Prelude.{◌≡◌, ◌++◌, OnOk, length, flat_map, codes, decimal, string_bytes};
+ghost use Rattle.script.specs.Replies.{name_of_refusal, details_of_refusal, text_of_refusal, text_of_name, text_of_cause, text_of_taken, text_of_worked, text_of_polled, text_of_outcome, text_of_listed, text_of_listing, line_of_error, text_of_errors, text_of_answer, tells_old, text_of_number, text_of_seen, text_of_made, text_of_words, text_of_why, text_of_line_answer, text_of_line};
+ghost use Rattle.script.specs.Texts.{text_of_bytes, text_of_word};
 
-use crate::command::Told;
+use crate::command::{Form, LineAnswer, LineReply, Shown};
 use crate::entries::write_audit;
-use crate::texts::{write_bytes, write_rights};
+use crate::texts::{write_bytes, write_rights, write_word};
 use aql_packet::PacketId;
 use core_model::{Answer, Cause, Outcome, Polled, Refusal, Taken, Worked};
 use policy::{Object, Policy, Rights};
 use queue_error::QueueError;
+use ring_core::Seen;
 use std::alloc::AllocError;
+use world::{Answer as Made, Refusal as Why};
 
 // A refusal's number and name.
 fn refusal_name(refusal: &Refusal) -> &'static str
@@ -198,29 +200,127 @@ fn write_answer(
     }
 }
 
-/// Writes what a command is told, each line with its line feed; `old` says whether the command is
-/// told the old value of a signal.
-pub fn write_told(
-    out: &mut String,
-    policy: &Policy,
-    old: bool,
-    told: &Told,
-) -> Result<(), AllocError>
-    ensures { OnOk result (string_bytes out.new ≡ string_bytes out.old ++ text_of_told policy.now old told.now) }
+// Whether the old value of a signal is told.
+fn tells_old(form: Form) -> bool
+    ensures { result ≡ tells_old form }
 {
-    match told {
-        Told::Core(Ok(answer)) => write_answer(out, policy, old, answer),
-        Told::Core(Err(refusal)) => {
-            write_refusal(out, refusal)?;
+    match form {
+        Form::Old => true,
+        _ => false,
+    }
+}
+
+// Writes a number that a step read.
+fn write_number(out: &mut String, form: Form, number: u64) -> Result<(), AllocError>
+    ensures { OnOk result (string_bytes out.new ≡ string_bytes out.old ++ text_of_number form number) }
+{
+    match form {
+        Form::Ticket => write!(out, "ticket {number}"),
+        Form::Word => {
+            out.push_str("word ")?;
+            write_word(out, number)
+        }
+        Form::Raised => {
+            let raised = u128::from(number) + 1;
+            write!(out, "read {raised}")
+        }
+        _ => write!(out, "read {number}"),
+    }
+}
+
+// Writes what a step read.
+fn write_seen(out: &mut String, form: Form, seen: Seen) -> Result<(), AllocError>
+    ensures { OnOk result (string_bytes out.new ≡ string_bytes out.old ++ text_of_seen form seen) }
+{
+    match seen {
+        Seen::Read(number) => write_number(out, form, number),
+        Seen::Stored => out.push_str("ok"),
+    }
+}
+
+// Writes a line with a packet's word.
+fn write_word_line(out: &mut String, word: u64) -> Result<(), AllocError>
+    ensures { OnOk result (string_bytes out.new ≡ string_bytes out.old ++ (codes "word " ++ text_of_word word ++ codes "\n")) }
+{
+    out.push_str("word ")?;
+    write_word(out, word)?;
+    out.push_str("\n")
+}
+
+// Writes an answer of the world.
+fn write_made(out: &mut String, policy: &Policy, form: Form, made: &Made) -> Result<(), AllocError>
+    ensures { OnOk result (string_bytes out.new ≡ string_bytes out.old ++ text_of_made policy.now form made.now) }
+{
+    match made {
+        Made::Step(seen) => {
+            write_seen(out, form, *seen)?;
             out.push_str("\n")
         }
-        Told::Published(packet) => writeln!(out, "published {}", packet.0),
-        Told::Busy { ticket, read } => writeln!(out, "busy ticket {} read {read}", ticket.0),
-        Told::NotPublishable(ticket) => writeln!(out, "not publishable {}", ticket.0),
-        Told::NotAStep => out.push_str("refused 14 NotAStep\n"),
-        Told::Empty => out.push_str("empty\n"),
-        Told::Taken { packet, taken } => {
+        Made::Header { word, .. } => write_word_line(out, *word),
+        Made::Taken { packet, taken } => {
             write_taken(out, *packet, taken)?;
+            out.push_str("\n")
+        }
+        Made::Core(answer) => write_answer(out, policy, tells_old(form), answer),
+    }
+}
+
+// Writes a packet's words, as its bytes.
+fn write_words(out: &mut String, words: &[u64]) -> Result<(), AllocError>
+    ensures { OnOk result (string_bytes out.new ≡ string_bytes out.old ++ text_of_words words.now) }
+{
+    for word in words {
+        write_word(out, *word)?;
+    }
+    Ok(())
+}
+
+// Writes a packet that was collected.
+fn write_shown(out: &mut String, shown: &Shown) -> Result<(), AllocError>
+    ensures { OnOk result (string_bytes out.new ≡ string_bytes out.old ++ (codes "shown " ++ decimal shown.now.packet.0 ++ codes " " ++ text_of_words shown.now.words ++ codes "\n")) }
+{
+    write!(out, "shown {} ", shown.packet.0)?;
+    write_words(out, &shown.words)?;
+    out.push_str("\n")
+}
+
+// Writes why a request was refused.
+fn write_why(out: &mut String, why: &Why) -> Result<(), AllocError>
+    ensures { OnOk result (string_bytes out.new ≡ string_bytes out.old ++ text_of_why why.now) }
+{
+    match why {
+        Why::Core(refusal) => write_refusal(out, refusal),
+        Why::NotAStep => out.push_str("refused 14 NotAStep"),
+        Why::Spent => out.push_str("refused 15 Spent"),
+    }
+}
+
+// Writes what a line is answered.
+fn write_line_answer(
+    out: &mut String,
+    policy: &Policy,
+    answer: &LineAnswer,
+) -> Result<(), AllocError>
+    ensures { OnOk result (string_bytes out.new ≡ string_bytes out.old ++ text_of_line_answer policy.now answer.now) }
+{
+    match answer {
+        LineAnswer::Answered { form, answer } => write_made(out, policy, *form, answer),
+        LineAnswer::Published(packet) => writeln!(out, "published {}", packet.0),
+        LineAnswer::Busy { ticket, read } => writeln!(out, "busy ticket {} read {read}", ticket.0),
+        LineAnswer::NotPublishable(ticket) => writeln!(out, "not publishable {}", ticket.0),
+        LineAnswer::Shown(shown) => write_shown(out, shown),
+        LineAnswer::Empty => out.push_str("empty\n"),
+    }
+}
+
+/// Writes the reply to a line: each line of it with its line feed.
+pub fn write_line(out: &mut String, policy: &Policy, reply: &LineReply) -> Result<(), AllocError>
+    ensures { OnOk result (string_bytes out.new ≡ string_bytes out.old ++ text_of_line policy.now reply.now) }
+{
+    match reply {
+        Ok(answer) => write_line_answer(out, policy, answer),
+        Err(why) => {
+            write_why(out, why)?;
             out.push_str("\n")
         }
     }

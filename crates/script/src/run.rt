@@ -3,16 +3,16 @@
 ghost use Rattle.std.specs.Prelude.{◌≡◌, [], IfErr, OnErr, OnOk, string_bytes};
 ghost use Rattle.std.specs.Io.KnownBytes.{Appends};
 ghost use Rattle.script.specs.Answers.{none_yet, AppendsBeginning, IsCaused, write_failing};
-ghost use Rattle.script.specs.Runs.{law_of};
+ghost use Rattle.script.specs.Runs.{worlds};
 ghost use Rattle.script.specs.Scripts.{RunsScript};
 ghost use Rattle.script.specs.declared.fault.ScriptFault.TheVariants.{Write};
 
 use crate::answers::{Answers, flush_once, read_once, write_through};
-use crate::command::Broker;
 use crate::fault::ScriptFault;
 use crate::session::{Session, take_bytes, take_end};
 use std::alloc::Global;
 use std::io;
+use world::World;
 
 // The most reads of a run (own).
 const MOST_READS: u64 = 1 << 40;
@@ -43,15 +43,15 @@ fn hand_over<W: io::Write>(
 
 /// Runs a script as `run_script` does, and notes what the reader and the writer answered. It tells `Read` only
 /// where the reader failed or 2^40 reads were made, and `Write` only where the writer failed.
-pub fn run_noting<R: io::Read, W: io::Write, B: Broker>(
+pub fn run_noting<R: io::Read, W: io::Write>(
     alloc: Global,
     reader: &mut R,
     writer: &mut W,
-    broker: &mut B,
+    world: &mut World,
     answers: &mut Answers,
 ) -> Result<(), ScriptFault>
     requires { answers.old ≡ none_yet }
-    ensures outcome { RunsScript (law_of B.serves B.names) broker.old broker.new (W.contents writer.old) (W.contents writer.new)
+    ensures outcome { RunsScript worlds world.old world.new (W.contents writer.old) (W.contents writer.new)
         (R.remaining reader.old) (R.remaining reader.new) result }
     ensures caused { IfErr result (IsCaused answers.new) }
 {
@@ -66,31 +66,31 @@ pub fn run_noting<R: io::Read, W: io::Write, B: Broker>(
             continue;
         };
         if count == 0 {
-            let ended = take_end(alloc, broker, &mut session);
+            let ended = take_end(alloc, world, &mut session);
             hand_over(writer, &mut session.out, answers)?;
             return ended;
         }
-        let taken = take_bytes(alloc, broker, &mut session, &block[..count]);
+        let taken = take_bytes(alloc, world, &mut session, &block[..count]);
         hand_over(writer, &mut session.out, answers)?;
         taken?;
     }
     Err(ScriptFault::Read)
 }
 
-/// Runs a script: reads its lines, has each served in turn, and writes the replies. Whatever the reader and the
-/// writer are, the broker is one that serving some lines in turn leads to, and the writer gained just the replies
-/// that the broker's law owes to them; where the reader tells its bytes, those are the lines of its bytes. After
+/// Runs a script: reads its lines, does what each asks in turn, and writes the replies. Whatever the reader and the
+/// writer are, the world is one that doing some lines in turn leads to, and the writer gained just the replies
+/// that are owed to them; where the reader tells its bytes, those are the lines of its bytes. After
 /// `Write` the writer gained a beginning of the replies; after another fault, all replies of the lines before it.
 /// A run makes at most 2^40 reads.
-pub fn run_script<R: io::Read, W: io::Write, B: Broker>(
+pub fn run_script<R: io::Read, W: io::Write>(
     alloc: Global,
     reader: &mut R,
     writer: &mut W,
-    broker: &mut B,
+    world: &mut World,
 ) -> Result<(), ScriptFault>
-    ensures { RunsScript (law_of B.serves B.names) broker.old broker.new (W.contents writer.old) (W.contents writer.new)
+    ensures { RunsScript worlds world.old world.new (W.contents writer.old) (W.contents writer.new)
         (R.remaining reader.old) (R.remaining reader.new) result }
 {
     let mut answers = Answers::none();
-    run_noting(alloc, reader, writer, broker, &mut answers)
+    run_noting(alloc, reader, writer, world, &mut answers)
 }

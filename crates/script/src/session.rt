@@ -1,14 +1,14 @@
 //! A script in the course of its run: bytes are taken as they come, and each line that ends is served.
 
 ghost use Rattle.std.specs.Prelude.{◌≡◌, ◌∷◌, [], ◌+◌, ◌<◌, ◌^◌, MatchResult, length, slice_index};
-ghost use Rattle.script.specs.Runs.{law_of};
+ghost use Rattle.script.specs.Runs.{worlds};
 ghost use Rattle.script.specs.Sessions.{Took, Failed, Ended, EndedLine, FailedLine, with_further, at_end};
 
-use crate::command::Broker;
 use crate::engine::answer;
 use crate::fault::ScriptFault;
 use crate::lines::LONGEST_LINE;
 use std::alloc::Global;
+use world::World;
 
 /// What a run keeps between bytes.
 #[derive(Drop)]
@@ -22,17 +22,13 @@ pub struct Session {
 }
 
 // Serves the line that ends here.
-fn end_line<B: Broker>(
-    alloc: Global,
-    broker: &mut B,
-    session: &mut Session,
-) -> Result<(), ScriptFault>
+fn end_line(alloc: Global, world: &mut World, session: &mut Session) -> Result<(), ScriptFault>
     requires { session.old.number + 1 < 2 ^ 64 }
     ensures { MatchResult result
-        (λ _. EndedLine (law_of B.serves B.names) broker.old broker.new session.old session.new)
-        (FailedLine (law_of B.serves B.names) broker.old broker.new session.old session.new) }
+        (λ _. EndedLine worlds world.old world.new session.old session.new)
+        (FailedLine worlds world.old world.new session.old session.new) }
 {
-    if !answer(alloc, broker, session.line.as_slice(), &mut session.out)? {
+    if !answer(alloc, world, session.line.as_slice(), &mut session.out)? {
         return Err(ScriptFault::BadLine(session.number));
     }
     session.line.clear();
@@ -41,19 +37,19 @@ fn end_line<B: Broker>(
 }
 
 // Takes a byte of the script.
-fn take_byte<B: Broker>(
+fn take_byte(
     alloc: Global,
-    broker: &mut B,
+    world: &mut World,
     session: &mut Session,
     byte: u8,
 ) -> Result<(), ScriptFault>
     requires { session.old.number + 1 < 2 ^ 64 }
     ensures { MatchResult result
-        (λ _. Took (law_of B.serves B.names) broker.old broker.new session.old session.new (byte ∷ []))
-        (Failed (law_of B.serves B.names) broker.old broker.new session.old session.new (with_further session.old (byte ∷ []))) }
+        (λ _. Took worlds world.old world.new session.old session.new (byte ∷ []))
+        (Failed worlds world.old world.new session.old session.new (with_further session.old (byte ∷ []))) }
 {
     if byte == b'\n' {
-        return end_line(alloc, broker, session);
+        return end_line(alloc, world, session);
     }
     if session.line.len() >= LONGEST_LINE {
         return Err(ScriptFault::BadLine(session.number));
@@ -63,36 +59,32 @@ fn take_byte<B: Broker>(
 }
 
 /// Takes further bytes of the script.
-pub fn take_bytes<B: Broker>(
+pub fn take_bytes(
     alloc: Global,
-    broker: &mut B,
+    world: &mut World,
     session: &mut Session,
     bytes: &[u8],
 ) -> Result<(), ScriptFault>
     requires { session.old.number + length bytes.now < 2 ^ 64 }
     ensures { MatchResult result
-        (λ _. Took (law_of B.serves B.names) broker.old broker.new session.old session.new bytes.now)
-        (Failed (law_of B.serves B.names) broker.old broker.new session.old session.new (with_further session.old bytes.now)) }
+        (λ _. Took worlds world.old world.new session.old session.new bytes.now)
+        (Failed worlds world.old world.new session.old session.new (with_further session.old bytes.now)) }
 {
     for byte in bytes {
-        take_byte(alloc, broker, session, *byte)?;
+        take_byte(alloc, world, session, *byte)?;
     }
     Ok(())
 }
 
 /// Takes the end of the script: a line that is begun ends there.
-pub fn take_end<B: Broker>(
-    alloc: Global,
-    broker: &mut B,
-    session: &mut Session,
-) -> Result<(), ScriptFault>
+pub fn take_end(alloc: Global, world: &mut World, session: &mut Session) -> Result<(), ScriptFault>
     requires { session.old.number + 1 < 2 ^ 64 }
     ensures { MatchResult result
-        (λ _. Ended (law_of B.serves B.names) broker.old broker.new session.old session.new)
-        (Failed (law_of B.serves B.names) broker.old broker.new session.old session.new (at_end session.old)) }
+        (λ _. Ended worlds world.old world.new session.old session.new)
+        (Failed worlds world.old world.new session.old session.new (at_end session.old)) }
 {
     if session.line.is_empty() {
         return Ok(());
     }
-    end_line(alloc, broker, session)
+    end_line(alloc, world, session)
 }

@@ -1,9 +1,10 @@
 //! Numbers, bytes, names and lists as replies write them.
 
 ghost use Rattle.std.specs.Prelude.{◌≡◌, ◌++◌, ◌<◌, ◌∷◌, [], OnOk, string_bytes, map, filter, take, length};
-ghost use Rattle.script.specs.Texts.{hex_digit, hex_digits, text_of_address, text_of_byte, text_of_bytes, text_of_rights, text_of_client, with_commas, comma_if, has_items, names_of_rights};
+ghost use Rattle.script.specs.Texts.{hex_digit, hex_digits, text_of_address, text_of_byte, text_of_bytes, text_of_word, text_of_rights, text_of_client, with_commas, comma_if, has_items, names_of_rights};
 
 use aql_packet::{Address, ClientId};
+use byteorder::{ByteOrder, LittleEndian};
 use policy::{Policy, Right, Rights};
 use std::alloc::AllocError;
 
@@ -54,6 +55,16 @@ pub fn write_bytes(out: &mut String, bytes: &[u8]) -> Result<(), AllocError>
         write_byte(out, *byte)?;
     }
     Ok(())
+}
+
+/// Writes a packet's word, as its eight bytes: the lowest first (PSA, Architected Queuing Language).
+#[tactic(auto, unfolding(crate::specs::Texts::text_of_word))]
+pub fn write_word(out: &mut String, word: u64) -> Result<(), AllocError>
+    ensures { OnOk result (string_bytes out.new ≡ string_bytes out.old ++ text_of_word word) }
+{
+    let mut bytes = [0; 8];
+    LittleEndian::write_u64(&mut bytes, word);
+    write_bytes(out, &bytes)
 }
 
 /// Writes an item of a list with commas; `behind` says whether another stands before it.

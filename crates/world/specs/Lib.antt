@@ -1,7 +1,3 @@
-pub mod Rings
-pub mod Serving
-pub mod Opening
-pub mod Steps
 pub mod States
 pub mod Bytes
 pub mod Calls

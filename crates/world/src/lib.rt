@@ -5,12 +5,10 @@
 #![tactic(auto)]
 
 mod bytes;
-pub mod joined;
 mod laws;
 mod queue_ring;
 mod reply;
 mod request;
-mod ring;
 mod rings;
 mod serving;
 mod world;
@@ -18,5 +16,4 @@ mod world;
 pub use laws::{refusals_change_nothing, the_headline};
 pub use reply::{Answer, Refusal, Reply};
 pub use request::{Call, Request};
-pub use ring::Ring;
 pub use world::World;

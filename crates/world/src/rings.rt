@@ -12,8 +12,8 @@ use aql_packet::QueueId;
 use core_model::Taken;
 use ring_core::Step;
 
-// A queue's ring, if it was opened.
-fn ring_at(rings: &Vec<QueueRing>, queue: QueueId) -> Option<&QueueRing>
+/// A queue's ring, if it was opened.
+pub(crate) fn ring_at(rings: &Vec<QueueRing>, queue: QueueId) -> Option<&QueueRing>
     ensures { option_copied result ≡ numbered rings.now.items queue.0 }
 {
     if queue.0 == 0 {

@@ -1,13 +1,13 @@
 -- The lines that ended in what was read are done, and no reply waits.
 use Rattle.std.proofs.Common.{◌≡◌, ◌+◌, ◌*◌, ◌≤◌, ◌^◌, []}
-use Rattle.script.specs.Runs.{law_of}
+use Rattle.script.specs.Runs.{worlds}
 use Rattle.script.specs.Sessions.{pending}
 use Rattle.script.proofs.Blocks.{Going}
 use Rattle.script.proofs.run.run_noting.Given as goal
 
 abbrev pub invariant-loop : goal.invariant-loop
 invariant-loop g l =
-    Going (law_of g.B.Broker.serves g.B.Broker.names) l.initial.broker l.broker (g.W.Write.contents l.initial.writer) (g.W.Write.contents l.writer)
+    Going worlds l.initial.world l.world (g.W.Write.contents l.initial.writer) (g.W.Write.contents l.writer)
     (g.R.Read.remaining l.initial.reader) (g.R.Read.remaining l.reader) l.session
     × (pending l.session ≡ [])
     × (l.session.number ≤ 4096 * l.counter + 1)

@@ -1,19 +1,19 @@
 use Rattle.std.proofs.Common.{refl, arith}
 use Rattle.std.proofs.lemmas.Result.{MatchResult-weaker}
-use Rattle.script.specs.Runs.{law_of}
+use Rattle.script.specs.Runs.{worlds}
 use Rattle.script.proofs.Running.{took_line, took_byte, failed_line, failed_long}
 use Rattle.script.proofs.session.take_byte.Goals as goal
 
 pub returns-then-byte-eq10 : goal.returns-then-byte-eq10
-returns-then-byte-eq10 g c =
+returns-then-byte-eq10 c =
     MatchResult-weaker c.end_line.result c.end_line.ensures
-    (λ _. took_line (law_of g.B.Broker.serves g.B.Broker.names) _ _ _ _ _ c.if-byte-eq10.true)
-    (λ fault. failed_line (law_of g.B.Broker.serves g.B.Broker.names) _ _ _ _ _ fault c.if-byte-eq10.true)
+    (λ _. took_line worlds _ _ _ _ _ c.if-byte-eq10.true)
+    (λ fault. failed_line worlds _ _ _ _ _ fault c.if-byte-eq10.true)
 
 pub returns-then-len-ge-LONGEST_LINE : goal.returns-then-len-ge-LONGEST_LINE
-returns-then-len-ge-LONGEST_LINE g c =
-    failed_long (law_of g.B.Broker.serves g.B.Broker.names) _ _ _ _ c.if-byte-eq10.false (omega (arith, c.args.session.now.line.ok.0)) refl
+returns-then-len-ge-LONGEST_LINE c =
+    failed_long worlds _ _ _ _ c.if-byte-eq10.false (omega (arith, c.args.session.now.line.ok.0)) refl
 
 pub returns : goal.returns
-returns g c =
-    took_byte (law_of g.B.Broker.serves g.B.Broker.names) _ _ _ _ c.if-byte-eq10.false c.in_ok-push.ensures.items refl refl
+returns c =
+    took_byte worlds _ _ _ _ c.if-byte-eq10.false c.in_ok-push.ensures.items refl refl

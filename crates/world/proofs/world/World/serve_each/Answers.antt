@@ -2,7 +2,7 @@
 use Rattle.std.proofs.Common.{◌≡◌, ◌+◌, ◌++◌, ◌∷◌, [], List, length, length-append, arith, subst, sym}
 use Rattle.world.specs.Dues.{AreReplies, Reply}
 use Rattle.world.proofs.Replies.{AreReplies-more}
-use Rattle.world.proofs.joined.World.serve_each.Goals as goal
+use Rattle.world.proofs.world.World.serve_each.Goals as goal
 
 pub loop-request-preserved : goal.loop-request-preserved
 loop-request-preserved c = (

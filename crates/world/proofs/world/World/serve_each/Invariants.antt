@@ -1,7 +1,7 @@
 -- The requests so far were served, and there is room for the replies to the others.
 use Rattle.std.proofs.Common.{◌+◌, ◌≤◌, length}
 use Rattle.world.specs.Dues.{AreReplies}
-use Rattle.world.proofs.joined.World.serve_each.Given as goal
+use Rattle.world.proofs.world.World.serve_each.Given as goal
 
 abbrev pub invariant-loop-request : goal.invariant-loop-request
 invariant-loop-request l =

@@ -5,7 +5,7 @@ use Rattle.world.specs.Dues.{IsServed}
 use Rattle.world.proofs.Kept.{served_kept}
 use Rattle.world.proofs.Obeyed.{World, obeyed_served}
 use Rattle.world.proofs.Deciding.{obeyed_decided}
-use Rattle.world.proofs.joined.World.serve.Goals as goal
+use Rattle.world.proofs.world.World.serve.Goals as goal
 
 pub invariant_of-self : goal.invariant_of-self
 invariant_of-self c = (

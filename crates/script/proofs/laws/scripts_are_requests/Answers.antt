@@ -1,0 +1,11 @@
+use Rattle.world.specs.Headline.{begun}
+use Rattle.script.proofs.Reaching.{line_reaches, runs_reach}
+use Rattle.script.proofs.laws.scripts_are_requests.Goals as goal
+
+pub returns-clause-line : goal.returns-clause-line
+returns-clause-line c = λ asked old told new done. line_reaches asked old told new done
+
+pub returns-clause-headline : goal.returns-clause-headline
+returns-clause-headline c = λ policy capacity lines text world ran.
+    let reached = runs_reach (begun policy capacity) world lines text ran in
+    c.the_headline.ensures policy capacity reached.0 reached.1 world reached.2
