@@ -25,6 +25,10 @@ pub enum Fault {
     Kernel,
     /// What the items of a kernel stored is not what they have to store.
     OtherSum,
+    /// A script did not end well.
+    Script,
+    /// A script's replies are not those that are wanted.
+    OtherReplies,
 }
 
 /// How often a producer looks for room, and the processor for a packet, before it gives up.
@@ -41,6 +45,8 @@ impl Fault {
             Fault::Refused => "a ring refused what it was asked",
             Fault::Kernel => "a kernel was refused, or did not end",
             Fault::OtherSum => "what the items stored does not add up",
+            Fault::Script => "a script did not end well",
+            Fault::OtherReplies => "the replies to a script are not those that are wanted",
         }
     }
 }

@@ -1,6 +1,7 @@
-//! The program that measures. `bench ring PACKETS` measures the ring over atomics, `bench kernels ITEMS`
-//! the executor of kernels, `bench all PACKETS ITEMS` both. Its figures go to standard error, and standard
-//! output says what is the same in every run.
+//! The program that measures. `bench ring PACKETS` measures the ring over atomics, `bench script PACKETS`
+//! the broker from a script's text to its replies, `bench kernels ITEMS` the executor of kernels, and
+//! `bench all PACKETS ITEMS` all three. Its figures go to standard error, and standard output says what is
+//! the same in every run.
 #![tactic(auto)]
 
 mod fault;
@@ -9,13 +10,14 @@ mod lane;
 mod mark;
 mod report;
 mod ring_speed;
+mod script_speed;
 
 use clap::builder::ValueParser;
 use clap::error::ErrorKind;
 use clap::{Arg, ArgAction, ArgMatches, Command, Error};
 use fault::Fault;
 use kernel_speed::MOST_ITEMS;
-use report::{measure_kernels, measure_ring};
+use report::{measure_kernels, measure_ring, measure_script};
 use std::alloc::{AllocError, Global};
 use std::process::ExitCode;
 use std::thread::Threads;

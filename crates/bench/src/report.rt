@@ -3,6 +3,7 @@
 use crate::fault::Fault;
 use crate::kernel_speed::{Taken, count, store};
 use crate::ring_speed::{many_threads, one_thread};
+use crate::script_speed::{LINES, serve};
 use std::thread::Threads;
 use std::time::{Clock, Duration};
 
@@ -109,5 +110,26 @@ pub fn measure_kernels<R: Print + Eprint + Clock + AllocGlobal>(
     eprintln!(rt; "counting: {counting} million steps a second")?;
     println!(rt; "storing: {items} items, and what they stored adds up")?;
     eprintln!(rt; "storing: {storing} million steps a second")?;
+    Ok(())
+}
+
+// Lines a second, where so many packets took so long.
+fn lines_a_second(packets: u64, time: Duration) -> u128 {
+    u128::from(packets) * u128::from(LINES) * 1_000_000_000 / time.as_nanos().max(1)
+}
+
+/// Measures a script that submits, serves, runs and finishes so many packets.
+pub fn measure_script<R: Print + Eprint + Clock + AllocGlobal>(
+    rt: &R,
+    packets: u64,
+    runs: u64,
+) -> Result<(), Fault> {
+    let mut least = serve(rt, rt.alloc(), packets)?;
+    for _ in 1..runs {
+        least = least.min(serve(rt, rt.alloc(), packets)?);
+    }
+    let lines = lines_a_second(packets, least);
+    println!(rt; "script: {packets} packets, each reply as wanted")?;
+    eprintln!(rt; "script: {lines} lines a second")?;
     Ok(())
 }
