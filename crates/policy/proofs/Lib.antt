@@ -5,3 +5,5 @@ pub mod CoverLemmas
 pub mod ValueLemmas
 pub mod FileLemmas
 pub mod LimitLemmas
+pub mod CheckLemmas
+pub mod FirstFaults

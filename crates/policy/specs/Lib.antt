@@ -13,3 +13,4 @@ pub mod Limits
 pub mod Inside
 pub mod Format
 pub mod Choice
+pub mod Checks

@@ -6,6 +6,7 @@
 mod coverage;
 mod fault;
 mod kernel_source;
+mod laws;
 mod object;
 mod policy;
 mod read;
@@ -16,6 +17,7 @@ mod table;
 pub use coverage::rows_allow;
 pub use fault::{Cause, PolicyFault, ReadPolicyError, Section};
 pub use kernel_source::KernelSource;
+pub use laws::faults_are_first;
 pub use object::{Kind, Object};
 pub use policy::Policy;
 pub use read::read_policy;

@@ -1,0 +1,181 @@
+-- The checks of a policy file, each by itself, in the order in which their faults are told: the file's keys and its
+-- version, then array by array and row by row; in a row its keys, their values in order, and its names (own).
+use Rattle.std.specs.Prelude.{ℕ, ◌+◌, ◌^◌, ◌==◌, nat_le, codes, List, [], ◌∷◌, ◌++◌, length, map, sum, Option, Some, None, option_map, option_and_then, Result, Ok, Err}
+use Rattle.std.specs.List.{list_any, list_all}
+use Rattle.std.specs.Str.{bytes_eq}
+use Rattle.toml.specs.Data.{Data, Members, get_member, as_table}
+use Rattle.policy.specs.declared.fault.Cause.{Cause}
+use Rattle.policy.specs.declared.fault.Cause.TheVariants.{BadValue, DoubleName, UnknownName, TooMany}
+use Rattle.policy.specs.declared.fault.PolicyFault.{PolicyFault}
+use Rattle.policy.specs.declared.fault.Section.{Section}
+use Rattle.policy.specs.declared.fault.Section.TheVariants as section
+use Rattle.policy.specs.declared.object.Kind.{Kind}
+use Rattle.policy.specs.declared.object.Kind.TheVariants as kind
+use Rattle.policy.specs.Names.{Name, number_in}
+use Rattle.policy.specs.SectionNames.{name_of_section}
+use Rattle.policy.specs.Reading.{or_fault, unless, fault_of_file, fault_in}
+use Rattle.policy.specs.Format.{a_name, a_length, a_choice, a_kind, some_rights, an_entry, a_text, items_in, keys_in, only, key, takes, region_length, initial_value, subject_of, target_of, is_table, is_version, client_keys, agent_keys, region_keys, signal_keys, kernel_keys, allow_keys, file_keys}
+
+-- the first fault of some
+abbrev pub first_of : {E : Type 0} → List (Option E) → Option E
+first_of [] = None
+first_of (None ∷ later) = first_of later
+first_of (Some fault ∷ later) = Some fault
+
+-- the fault of a check
+abbrev pub fault_of : {A E : Type 0} → Result A E → Option E
+fault_of (Ok value) = None
+fault_of (Err fault) = Some fault
+
+-- ---- what rows say of themselves, each by itself
+
+-- what each of some rows says, those left out that don't say it
+abbrev pub put_before : {X : Type 0} → Option X → List X → List X
+put_before None xs = xs
+put_before (Some x) xs = x ∷ xs
+
+abbrev pub said_by : {X : Type 0} → (Members → Option X) → List Data → List X
+said_by says [] = []
+said_by says (d ∷ ds) = put_before (option_and_then says (as_table d)) (said_by says ds)
+
+-- what a row says at a key
+abbrev pub says : {X : Type 0} → Name → (Data → Option X) → Members → Option X
+says name read row = option_and_then read (get_member name row)
+
+abbrev pub row_name : Members → Option Name
+row_name = says (codes "name") a_name
+
+abbrev pub row_length : Members → Option ℕ
+row_length = says (codes "length") a_length
+
+-- the rows of an array, if there is one
+abbrev pub rows_of : Option (List Data) → List Data
+rows_of None = []
+rows_of (Some ds) = ds
+
+abbrev pub rows_at : Section → Members → List Data
+rows_at at file = rows_of (option_and_then items_in (get_member (name_of_section at) file))
+
+-- the names that the rows of an array give themselves
+abbrev pub names_at : Section → Members → List Name
+names_at at file = said_by row_name (rows_at at file)
+
+-- the array of a kind's objects
+abbrev pub section_of : Kind → Section
+section_of kind.Agent = section.Agent
+section_of kind.Region = section.Region
+section_of kind.Signal = section.Signal
+section_of kind.Kernel = section.Kernel
+
+-- ---- rows
+
+-- an earlier row has the name already
+abbrev pub double_name : List Name → Option Name → Option Cause
+double_name above None = None
+double_name above (Some name) = fault_of (unless (number_in above name == 0) DoubleName)
+
+-- a row with a name of its own, below rows of these names: its keys, its name, the rest of it, and its name again
+abbrev pub named_checks : List Name → (Members → List (Option Cause)) → List Name → Members → List (Option Cause)
+named_checks known rest above row =
+    fault_of (only known row) ∷ fault_of (key (codes "name") a_name row) ∷ rest row ++ double_name above (row_name row) ∷ []
+
+abbrev pub client_rest : Members → List (Option Cause)
+client_rest row = []
+
+abbrev pub agent_rest : Members → List (Option Cause)
+agent_rest row = fault_of (takes row) ∷ []
+
+abbrev pub region_rest : Members → List (Option Cause)
+region_rest row = fault_of (region_length row) ∷ []
+
+abbrev pub signal_rest : Members → List (Option Cause)
+signal_rest row = fault_of (initial_value row) ∷ []
+
+abbrev pub kernel_rest : Members → List (Option Cause)
+kernel_rest row = fault_of (key (codes "entry") an_entry row) ∷ fault_of (key (codes "text") a_text row) ∷ []
+
+-- the rights of an allow row are those of its kind
+abbrev pub rights_check : Option Kind → Members → Option Cause
+rights_check None row = None
+rights_check (Some on) row = fault_of (key (codes "rights") (some_rights on) row)
+
+-- its client is declared
+abbrev pub client_check : List Name → Option (Option Name) → Option Cause
+client_check clients None = None
+client_check clients (Some client) = fault_of (or_fault UnknownName (subject_of clients client))
+
+-- its object is declared, among those of its kind
+abbrev pub object_check : (Kind → List Name) → Option Kind → Option (Option Name) → Option Cause
+object_check objects None object = None
+object_check objects (Some on) None = None
+object_check objects (Some on) (Some object) = fault_of (or_fault UnknownName (target_of on (objects on) object))
+
+-- an allow row: its keys, each in turn, and then the names
+abbrev pub allow_checks : List Name → (Kind → List Name) → Members → List (Option Cause)
+allow_checks clients objects row =
+    fault_of (only allow_keys row)
+    ∷ fault_of (key (codes "client") a_choice row)
+    ∷ fault_of (key (codes "kind") a_kind row)
+    ∷ fault_of (key (codes "object") a_choice row)
+    ∷ rights_check (says (codes "kind") a_kind row) row
+    ∷ client_check clients (says (codes "client") a_choice row)
+    ∷ object_check objects (says (codes "kind") a_kind row) (says (codes "object") a_choice row)
+    ∷ []
+
+-- ---- arrays
+
+abbrev pub row_checks : (Members → List (Option Cause)) → Option Members → List (Option Cause)
+row_checks checks None = Some BadValue ∷ []
+row_checks checks (Some row) = checks row
+
+-- rows, by the rows above each
+abbrev pub rows_checks : Section → (List Data → Members → List (Option Cause)) → List Data → List Data → List (Option PolicyFault)
+rows_checks at checks above [] = []
+rows_checks at checks above (d ∷ ds) =
+    map (option_map (fault_in at (length above + 1))) (row_checks (checks above) (as_table d)) ++ rows_checks at checks (above ++ d ∷ []) ds
+
+-- an array: that it is one of tables, that it isn't too long, and its rows
+abbrev pub tables_checks : Section → ℕ → (List Data → Members → List (Option Cause)) → Option (List Data) → List (Option PolicyFault)
+tables_checks at limit checks None = Some (fault_in at 0 BadValue) ∷ []
+tables_checks at limit checks (Some ds) =
+    fault_of (unless (list_all is_table ds) (fault_in at 0 BadValue))
+    ∷ fault_of (unless (nat_le (length ds) limit) (fault_in at 0 TooMany))
+    ∷ rows_checks at checks [] ds
+
+-- the same at a key
+abbrev pub member_checks : Section → ℕ → (List Data → Members → List (Option Cause)) → Option Data → List (Option PolicyFault)
+member_checks at limit checks None = []
+member_checks at limit checks (Some d) = tables_checks at limit checks (items_in d)
+
+abbrev pub array_checks : Section → ℕ → (List Data → Members → List (Option Cause)) → Members → List (Option PolicyFault)
+array_checks at limit checks file = member_checks at limit checks (get_member (name_of_section at) file)
+
+abbrev pub named_array_checks : Section → ℕ → List Name → (Members → List (Option Cause)) → Members → List (Option PolicyFault)
+named_array_checks at limit known rest = array_checks at limit (λ above. named_checks known rest (said_by row_name above))
+
+-- the regions together have at most 2^26 bytes
+abbrev pub sum_check : Members → Option PolicyFault
+sum_check file =
+    fault_of (unless (nat_le (sum (said_by row_length (rows_at section.Region file))) (2 ^ 26)) (fault_in section.Region 0 TooMany))
+
+-- ---- the file
+
+abbrev pub head_checks : Members → List (Option PolicyFault)
+head_checks file =
+    fault_of (unless (list_all (λ k. list_any (bytes_eq k) file_keys) (keys_in file)) (fault_of_file BadValue))
+    ∷ fault_of (unless (is_version (get_member (codes "version") file)) (fault_of_file BadValue))
+    ∷ []
+
+abbrev pub object_checks : Members → List (Option PolicyFault)
+object_checks file =
+    named_array_checks section.Client 64 client_keys client_rest file
+    ++ (named_array_checks section.Agent 16 agent_keys agent_rest file
+    ++ ((named_array_checks section.Region 64 region_keys region_rest file ++ sum_check file ∷ [])
+    ++ (named_array_checks section.Signal 1024 signal_keys signal_rest file
+    ++ named_array_checks section.Kernel 64 kernel_keys kernel_rest file)))
+
+-- all checks of a file
+abbrev pub file_checks : Members → List (Option PolicyFault)
+file_checks file =
+    head_checks file ++ (object_checks file
+    ++ array_checks section.Allow 4096 (λ above. allow_checks (names_at section.Client file) (λ on. names_at (section_of on) file)) file)
