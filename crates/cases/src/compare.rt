@@ -229,6 +229,11 @@ fn first_difference<'a>(wanted: &'a [Line], came: &'a str, end: usize) -> Option
     })
 }
 
+// Whether an answer tells of a text without a fault.
+fn ends_well(came: &str) -> bool {
+    came.lines().last() == Some("ok")
+}
+
 // Whether a row wants no more than that a text is accepted, and it is: `ok` is for one without a fault, `reads` for
 // a kernel's text that is one of a module, whatever is wrong with it.
 fn is_accepted(case: &Case<'_>, came: &str) -> bool {
@@ -237,8 +242,8 @@ fn is_accepted(case: &Case<'_>, came: &str) -> bool {
         _ => "",
     };
     match wants {
-        "ok" => came.lines().last() == Some("ok"),
-        "reads" => !came.starts_with("read "),
+        "ok" => ends_well(came),
+        "reads" => ends_well(came) || came.starts_with("check "),
         _ => false,
     }
 }

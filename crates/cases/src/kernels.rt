@@ -23,10 +23,10 @@ fn push_layout(whole: &mut String, program: &Program) -> Result<(), AllocError> 
 }
 
 // A kernel's steps, a line each, with the line that each stands on in the text.
-fn push_steps(alloc: Global, whole: &mut String, program: &Program) -> Result<(), AllocError> {
+fn push_steps(whole: &mut String, program: &Program) -> Result<(), AllocError> {
     for (step, line) in program.steps().iter().zip(program.lines()) {
         write!(whole, "{line} ")?;
-        push_step(alloc, whole, step)?;
+        push_step(whole, step)?;
         whole.push_str("\n")?;
     }
     Ok(())
@@ -38,7 +38,7 @@ fn kernels_of(alloc: Global, checked: &Checked) -> Result<String, AllocError> {
     for index in 0..checked.count() {
         let program = checked.kernel(index);
         push_layout(&mut whole, program)?;
-        push_steps(alloc, &mut whole, program)?;
+        push_steps(&mut whole, program)?;
     }
     whole.push_str("ok\n")?;
     Ok(whole)

@@ -9,7 +9,7 @@ use kernel_check::{
     Pair1, Pair32, Pair64, Pointer, Shift64, SingleOperation, Slot, Source1, Source32, Source64,
     Step, StoreStep, Triple32, Triple64,
 };
-use std::alloc::{AllocError, Global};
+use std::alloc::AllocError;
 
 fn type_name(kind: NumberType) -> &'static str {
     match kind {
@@ -47,113 +47,114 @@ fn query_name(query: Query) -> &'static str {
     }
 }
 
-fn named(alloc: Global, class: &str, slot: Slot) -> Result<String, AllocError> {
+fn push_slot(line: &mut String, class: &str, slot: Slot) -> Result<(), AllocError> {
     let number = slot.index();
-    format!(in alloc; "${class}{number}")
+    write!(line, "${class}{number}")
 }
 
-fn register(alloc: Global, register: AnyRegister) -> Result<String, AllocError> {
+fn push_register(line: &mut String, register: AnyRegister) -> Result<(), AllocError> {
     match register {
-        AnyRegister::Control(slot) => named(alloc, "c", slot),
-        AnyRegister::Single(slot) => named(alloc, "s", slot),
-        AnyRegister::Double(slot) => named(alloc, "d", slot),
+        AnyRegister::Control(slot) => push_slot(line, "c", slot),
+        AnyRegister::Single(slot) => push_slot(line, "s", slot),
+        AnyRegister::Double(slot) => push_slot(line, "d", slot),
     }
 }
 
-fn source1(alloc: Global, source: Source1) -> Result<String, AllocError> {
+fn push_source1(line: &mut String, source: Source1) -> Result<(), AllocError> {
     match source {
-        Source1::Register(slot) => named(alloc, "c", slot),
-        Source1::Constant(bit) => String::from_str(alloc, if bit { "1" } else { "0" }),
+        Source1::Register(slot) => push_slot(line, "c", slot),
+        Source1::Constant(bit) => line.push_str(if bit { "1" } else { "0" }),
     }
 }
 
-fn source32(alloc: Global, source: Source32) -> Result<String, AllocError> {
+fn push_source32(line: &mut String, source: Source32) -> Result<(), AllocError> {
     match source {
-        Source32::Register(slot) => named(alloc, "s", slot),
-        Source32::Constant(bits) => format!(in alloc; "{bits}"),
+        Source32::Register(slot) => push_slot(line, "s", slot),
+        Source32::Constant(bits) => write!(line, "{bits}"),
     }
 }
 
-fn source64(alloc: Global, source: Source64) -> Result<String, AllocError> {
+fn push_source64(line: &mut String, source: Source64) -> Result<(), AllocError> {
     match source {
-        Source64::Register(slot) => named(alloc, "d", slot),
-        Source64::Constant(bits) => format!(in alloc; "{bits}"),
+        Source64::Register(slot) => push_slot(line, "d", slot),
+        Source64::Constant(bits) => write!(line, "{bits}"),
     }
 }
 
-fn source(alloc: Global, source: AnySource) -> Result<String, AllocError> {
+fn push_source(line: &mut String, source: AnySource) -> Result<(), AllocError> {
     match source {
-        AnySource::Control(source) => source1(alloc, source),
-        AnySource::Single(source) => source32(alloc, source),
-        AnySource::Double(source) => source64(alloc, source),
+        AnySource::Control(source) => push_source1(line, source),
+        AnySource::Single(source) => push_source32(line, source),
+        AnySource::Double(source) => push_source64(line, source),
     }
 }
 
-fn two(alloc: Global, first: &str, second: &str) -> Result<String, AllocError> {
-    format!(in alloc; "{first}, {second}")
+fn push_comma(line: &mut String) -> Result<(), AllocError> {
+    line.push_str(", ")
 }
 
-fn three(alloc: Global, first: &str, second: &str, third: &str) -> Result<String, AllocError> {
-    format!(in alloc; "{first}, {second}, {third}")
+fn push_pair1(line: &mut String, pair: &Pair1) -> Result<(), AllocError> {
+    push_source1(line, pair.left)?;
+    push_comma(line)?;
+    push_source1(line, pair.right)
 }
 
-fn pair1(alloc: Global, pair: &Pair1) -> Result<String, AllocError> {
-    let left = source1(alloc, pair.left)?;
-    let right = source1(alloc, pair.right)?;
-    two(alloc, &left, &right)
+fn push_choice1(line: &mut String, choice: &Choice1) -> Result<(), AllocError> {
+    push_source1(line, choice.condition)?;
+    push_comma(line)?;
+    push_source1(line, choice.one)?;
+    push_comma(line)?;
+    push_source1(line, choice.zero)
 }
 
-fn choice1(alloc: Global, choice: &Choice1) -> Result<String, AllocError> {
-    let condition = source1(alloc, choice.condition)?;
-    let one = source1(alloc, choice.one)?;
-    let zero = source1(alloc, choice.zero)?;
-    three(alloc, &condition, &one, &zero)
+fn push_pair32(line: &mut String, pair: &Pair32) -> Result<(), AllocError> {
+    push_source32(line, pair.left)?;
+    push_comma(line)?;
+    push_source32(line, pair.right)
 }
 
-fn pair32(alloc: Global, pair: &Pair32) -> Result<String, AllocError> {
-    let left = source32(alloc, pair.left)?;
-    let right = source32(alloc, pair.right)?;
-    two(alloc, &left, &right)
+fn push_choice32(line: &mut String, choice: &Choice32) -> Result<(), AllocError> {
+    push_source1(line, choice.condition)?;
+    push_comma(line)?;
+    push_source32(line, choice.one)?;
+    push_comma(line)?;
+    push_source32(line, choice.zero)
 }
 
-fn choice32(alloc: Global, choice: &Choice32) -> Result<String, AllocError> {
-    let condition = source1(alloc, choice.condition)?;
-    let one = source32(alloc, choice.one)?;
-    let zero = source32(alloc, choice.zero)?;
-    three(alloc, &condition, &one, &zero)
+fn push_pair64(line: &mut String, pair: &Pair64) -> Result<(), AllocError> {
+    push_source64(line, pair.left)?;
+    push_comma(line)?;
+    push_source64(line, pair.right)
 }
 
-fn pair64(alloc: Global, pair: &Pair64) -> Result<String, AllocError> {
-    let left = source64(alloc, pair.left)?;
-    let right = source64(alloc, pair.right)?;
-    two(alloc, &left, &right)
+fn push_choice64(line: &mut String, choice: &Choice64) -> Result<(), AllocError> {
+    push_source1(line, choice.condition)?;
+    push_comma(line)?;
+    push_source64(line, choice.one)?;
+    push_comma(line)?;
+    push_source64(line, choice.zero)
 }
 
-fn choice64(alloc: Global, choice: &Choice64) -> Result<String, AllocError> {
-    let condition = source1(alloc, choice.condition)?;
-    let one = source64(alloc, choice.one)?;
-    let zero = source64(alloc, choice.zero)?;
-    three(alloc, &condition, &one, &zero)
+fn push_triple32(line: &mut String, triple: &Triple32) -> Result<(), AllocError> {
+    push_source32(line, triple.first)?;
+    push_comma(line)?;
+    push_source32(line, triple.second)?;
+    push_comma(line)?;
+    push_source32(line, triple.third)
 }
 
-fn triple32(alloc: Global, triple: &Triple32) -> Result<String, AllocError> {
-    let first = source32(alloc, triple.first)?;
-    let second = source32(alloc, triple.second)?;
-    let third = source32(alloc, triple.third)?;
-    three(alloc, &first, &second, &third)
+fn push_triple64(line: &mut String, triple: &Triple64) -> Result<(), AllocError> {
+    push_source64(line, triple.first)?;
+    push_comma(line)?;
+    push_source64(line, triple.second)?;
+    push_comma(line)?;
+    push_source64(line, triple.third)
 }
 
-fn triple64(alloc: Global, triple: &Triple64) -> Result<String, AllocError> {
-    let first = source64(alloc, triple.first)?;
-    let second = source64(alloc, triple.second)?;
-    let third = source64(alloc, triple.third)?;
-    three(alloc, &first, &second, &third)
-}
-
-fn shift64(alloc: Global, shift: &Shift64) -> Result<String, AllocError> {
-    let value = source64(alloc, shift.value)?;
-    let count = source32(alloc, shift.count)?;
-    two(alloc, &value, &count)
+fn push_shift64(line: &mut String, shift: &Shift64) -> Result<(), AllocError> {
+    push_source64(line, shift.value)?;
+    push_comma(line)?;
+    push_source32(line, shift.count)
 }
 
 fn control_name(operation: &ControlOperation) -> &'static str {
@@ -184,31 +185,33 @@ fn compared_type(operation: &ControlOperation) -> Option<&'static str> {
     }
 }
 
-fn control_sources(alloc: Global, operation: &ControlOperation) -> Result<String, AllocError> {
+fn push_control_sources(line: &mut String, operation: &ControlOperation) -> Result<(), AllocError> {
     match operation {
-        ControlOperation::Move(source) | ControlOperation::Not(source) => source1(alloc, *source),
+        ControlOperation::Move(source) | ControlOperation::Not(source) => push_source1(
+            line, *source,
+        ),
         ControlOperation::And(pair) | ControlOperation::Or(pair) | ControlOperation::Xor(pair) => {
-            pair1(alloc, pair)
+            push_pair1(line, pair)
         }
-        ControlOperation::Choose(choice) => choice1(alloc, choice),
-        ControlOperation::Compare(compare) => pair1(
-            alloc,
+        ControlOperation::Choose(choice) => push_choice1(line, choice),
+        ControlOperation::Compare(compare) => push_pair1(
+            line,
             &Pair1 {
                 left: compare.left,
                 right: compare.right,
             },
         ),
         ControlOperation::CompareUnsigned32(compare) | ControlOperation::CompareSigned32(compare) =>
-            pair32(
-                alloc,
+            push_pair32(
+                line,
                 &Pair32 {
                     left: compare.left,
                     right: compare.right,
                 },
             ),
         ControlOperation::CompareUnsigned64(compare) | ControlOperation::CompareSigned64(compare) =>
-            pair64(
-                alloc,
+            push_pair64(
+                line,
                 &Pair64 {
                     left: compare.left,
                     right: compare.right,
@@ -217,18 +220,31 @@ fn control_sources(alloc: Global, operation: &ControlOperation) -> Result<String
     }
 }
 
-fn control(
-    alloc: Global,
+// The beginning of a step that computes: its word and its target.
+fn push_target(line: &mut String, word: &str, class: &str, target: Slot) -> Result<(), AllocError> {
+    line.push_str(word)?;
+    line.push_str(" ")?;
+    push_slot(line, class, target)?;
+    push_comma(line)
+}
+
+// The word of an operation on bits, with the type of what is compared, if it is a comparison.
+fn push_control_word(line: &mut String, operation: &ControlOperation) -> Result<(), AllocError> {
+    let word = control_name(operation);
+    match compared_type(operation) {
+        Some(kind) => write!(line, "cmp_{word}_b1_{kind}"),
+        None => line.push_str(word),
+    }
+}
+
+fn push_control(
+    line: &mut String,
     target: Slot,
     operation: &ControlOperation,
-) -> Result<String, AllocError> {
-    let word = control_name(operation);
-    let target = named(alloc, "c", target)?;
-    let sources = control_sources(alloc, operation)?;
-    match compared_type(operation) {
-        Some(kind) => format!(in alloc; "cmp_{word}_b1_{kind} {target}, {sources}"),
-        None => format!(in alloc; "{word} {target}, {sources}"),
-    }
+) -> Result<(), AllocError> {
+    push_control_word(line, operation)?;
+    push_target(line, "", "c", target)?;
+    push_control_sources(line, operation)
 }
 
 fn single_name(operation: &SingleOperation) -> &'static str {
@@ -257,11 +273,13 @@ fn single_name(operation: &SingleOperation) -> &'static str {
     }
 }
 
-fn single_sources(alloc: Global, operation: &SingleOperation) -> Result<String, AllocError> {
+fn push_single_sources(line: &mut String, operation: &SingleOperation) -> Result<(), AllocError> {
     match operation {
-        SingleOperation::Move(source) | SingleOperation::Not(source) => source32(alloc, *source),
-        SingleOperation::MultiplyAdd(triple) => triple32(alloc, triple),
-        SingleOperation::Choose(choice) => choice32(alloc, choice),
+        SingleOperation::Move(source) | SingleOperation::Not(source) => push_source32(
+            line, *source,
+        ),
+        SingleOperation::MultiplyAdd(triple) => push_triple32(line, triple),
+        SingleOperation::Choose(choice) => push_choice32(line, choice),
         SingleOperation::Add(pair)
         | SingleOperation::Subtract(pair)
         | SingleOperation::Multiply(pair)
@@ -278,15 +296,17 @@ fn single_sources(alloc: Global, operation: &SingleOperation) -> Result<String, 
         | SingleOperation::Xor(pair)
         | SingleOperation::ShiftLeft(pair)
         | SingleOperation::ShiftRightUnsigned(pair)
-        | SingleOperation::ShiftRightSigned(pair) => pair32(alloc, pair),
+        | SingleOperation::ShiftRightSigned(pair) => push_pair32(line, pair),
     }
 }
 
-fn single(alloc: Global, target: Slot, operation: &SingleOperation) -> Result<String, AllocError> {
-    let word = single_name(operation);
-    let target = named(alloc, "s", target)?;
-    let sources = single_sources(alloc, operation)?;
-    format!(in alloc; "{word} {target}, {sources}")
+fn push_single(
+    line: &mut String,
+    target: Slot,
+    operation: &SingleOperation,
+) -> Result<(), AllocError> {
+    push_target(line, single_name(operation), "s", target)?;
+    push_single_sources(line, operation)
 }
 
 fn double_name(operation: &DoubleOperation) -> &'static str {
@@ -315,14 +335,16 @@ fn double_name(operation: &DoubleOperation) -> &'static str {
     }
 }
 
-fn double_sources(alloc: Global, operation: &DoubleOperation) -> Result<String, AllocError> {
+fn push_double_sources(line: &mut String, operation: &DoubleOperation) -> Result<(), AllocError> {
     match operation {
-        DoubleOperation::Move(source) | DoubleOperation::Not(source) => source64(alloc, *source),
-        DoubleOperation::MultiplyAdd(triple) => triple64(alloc, triple),
-        DoubleOperation::Choose(choice) => choice64(alloc, choice),
+        DoubleOperation::Move(source) | DoubleOperation::Not(source) => push_source64(
+            line, *source,
+        ),
+        DoubleOperation::MultiplyAdd(triple) => push_triple64(line, triple),
+        DoubleOperation::Choose(choice) => push_choice64(line, choice),
         DoubleOperation::ShiftLeft(shift)
         | DoubleOperation::ShiftRightUnsigned(shift)
-        | DoubleOperation::ShiftRightSigned(shift) => shift64(alloc, shift),
+        | DoubleOperation::ShiftRightSigned(shift) => push_shift64(line, shift),
         DoubleOperation::Add(pair)
         | DoubleOperation::Subtract(pair)
         | DoubleOperation::Multiply(pair)
@@ -336,61 +358,68 @@ fn double_sources(alloc: Global, operation: &DoubleOperation) -> Result<String, 
         | DoubleOperation::GreatestSigned(pair)
         | DoubleOperation::And(pair)
         | DoubleOperation::Or(pair)
-        | DoubleOperation::Xor(pair) => pair64(alloc, pair),
+        | DoubleOperation::Xor(pair) => push_pair64(line, pair),
     }
 }
 
-fn double(alloc: Global, target: Slot, operation: &DoubleOperation) -> Result<String, AllocError> {
-    let word = double_name(operation);
-    let target = named(alloc, "d", target)?;
-    let sources = double_sources(alloc, operation)?;
-    format!(in alloc; "{word} {target}, {sources}")
+fn push_double(
+    line: &mut String,
+    target: Slot,
+    operation: &DoubleOperation,
+) -> Result<(), AllocError> {
+    push_target(line, double_name(operation), "d", target)?;
+    push_double_sources(line, operation)
 }
 
-fn convert(alloc: Global, step: &ConvertStep) -> Result<String, AllocError> {
+fn push_conversion(line: &mut String, step: &ConvertStep) -> Result<(), AllocError> {
     let from = type_name(step.from);
     let to = type_name(step.to);
-    let target = register(alloc, step.target)?;
-    let source = source(alloc, step.source)?;
-    format!(in alloc; "cvt_{to}_{from} {target}, {source}")
+    write!(line, "cvt_{to}_{from} ")?;
+    push_register(line, step.target)?;
+    push_comma(line)?;
+    push_source(line, step.source)
 }
 
-fn pointer(alloc: Global, pointer: Pointer) -> Result<String, AllocError> {
+fn push_pointer(line: &mut String, pointer: Pointer) -> Result<(), AllocError> {
     let offset = pointer.offset;
     match pointer.base {
-        None => format!(in alloc; "[{offset}]"),
+        None => write!(line, "[{offset}]"),
         Some(slot) => {
-            let base = named(alloc, "d", slot)?;
-            format!(in alloc; "[{base}+{offset}]")
+            let base = slot.index();
+            write!(line, "[$d{base}+{offset}]")
         }
     }
 }
 
-fn argument(alloc: Global, step: &ArgumentStep) -> Result<String, AllocError> {
+fn push_argument(line: &mut String, step: &ArgumentStep) -> Result<(), AllocError> {
     let kind = type_name(step.kind);
-    let target = register(alloc, step.target)?;
     let offset = step.offset;
-    format!(in alloc; "ld_kernarg_{kind} {target}, [{offset}]")
+    write!(line, "ld_kernarg_{kind} ")?;
+    push_register(line, step.target)?;
+    write!(line, ", [{offset}]")
 }
 
-fn load(alloc: Global, step: &LoadStep) -> Result<String, AllocError> {
+fn push_load(line: &mut String, step: &LoadStep) -> Result<(), AllocError> {
     let kind = type_name(step.kind);
-    let target = register(alloc, step.target)?;
-    let place = pointer(alloc, step.pointer)?;
-    format!(in alloc; "ld_global_{kind} {target}, {place}")
+    write!(line, "ld_global_{kind} ")?;
+    push_register(line, step.target)?;
+    push_comma(line)?;
+    push_pointer(line, step.pointer)
 }
 
-fn store(alloc: Global, step: &StoreStep) -> Result<String, AllocError> {
+fn push_store(line: &mut String, step: &StoreStep) -> Result<(), AllocError> {
     let kind = type_name(step.kind);
-    let source = source(alloc, step.source)?;
-    let place = pointer(alloc, step.pointer)?;
-    format!(in alloc; "st_global_{kind} {source}, {place}")
+    write!(line, "st_global_{kind} ")?;
+    push_source(line, step.source)?;
+    push_comma(line)?;
+    push_pointer(line, step.pointer)
 }
 
-fn conditional_branch(alloc: Global, step: &BranchStep) -> Result<String, AllocError> {
-    let condition = source1(alloc, step.condition)?;
+fn push_conditional_branch(line: &mut String, step: &BranchStep) -> Result<(), AllocError> {
     let next = step.next;
-    format!(in alloc; "cbr_b1 {condition}, {next}")
+    line.push_str("cbr_b1 ")?;
+    push_source1(line, step.condition)?;
+    write!(line, ", {next}")
 }
 
 fn width_name(target: AnyRegister) -> &'static str {
@@ -400,35 +429,36 @@ fn width_name(target: AnyRegister) -> &'static str {
     }
 }
 
-fn query(alloc: Global, step: &IdentifyStep) -> Result<String, AllocError> {
-    let word = query_name(step.query);
-    let kind = width_name(step.target);
-    let target = register(alloc, step.target)?;
-    let dimension = match step.dimension {
-        Dimension::X => 0,
-        Dimension::Y => 1,
-        Dimension::Z => 2,
-    };
-    format!(in alloc; "{word}_{kind} {target}, {dimension}")
-}
-
-fn text_of(alloc: Global, step: &Step) -> Result<String, AllocError> {
-    match step {
-        Step::Control(step) => control(alloc, step.target, &step.operation),
-        Step::Single(step) => single(alloc, step.target, &step.operation),
-        Step::Double(step) => double(alloc, step.target, &step.operation),
-        Step::Convert(step) => convert(alloc, step),
-        Step::Argument(step) => argument(alloc, step),
-        Step::Load(step) => load(alloc, step),
-        Step::Store(step) => store(alloc, step),
-        Step::Branch(next) => format!(in alloc; "br {next}"),
-        Step::ConditionalBranch(step) => conditional_branch(alloc, step),
-        Step::Return => String::from_str(alloc, "ret"),
-        Step::Identify(step) => query(alloc, step),
+fn dimension_name(dimension: Dimension) -> &'static str {
+    match dimension {
+        Dimension::X => "0",
+        Dimension::Y => "1",
+        Dimension::Z => "2",
     }
 }
 
+fn push_query(line: &mut String, step: &IdentifyStep) -> Result<(), AllocError> {
+    let word = query_name(step.query);
+    let kind = width_name(step.target);
+    write!(line, "{word}_{kind} ")?;
+    push_register(line, step.target)?;
+    push_comma(line)?;
+    line.push_str(dimension_name(step.dimension))
+}
+
 /// Adds a step's line, without its end.
-pub fn push_step(alloc: Global, whole: &mut String, step: &Step) -> Result<(), AllocError> {
-    whole.push_str(text_of(alloc, step)?.as_str())
+pub fn push_step(line: &mut String, step: &Step) -> Result<(), AllocError> {
+    match step {
+        Step::Control(step) => push_control(line, step.target, &step.operation),
+        Step::Single(step) => push_single(line, step.target, &step.operation),
+        Step::Double(step) => push_double(line, step.target, &step.operation),
+        Step::Convert(step) => push_conversion(line, step),
+        Step::Argument(step) => push_argument(line, step),
+        Step::Load(step) => push_load(line, step),
+        Step::Store(step) => push_store(line, step),
+        Step::Branch(next) => write!(line, "br {next}"),
+        Step::ConditionalBranch(step) => push_conditional_branch(line, step),
+        Step::Return => line.push_str("ret"),
+        Step::Identify(step) => push_query(line, step),
+    }
 }

@@ -1,12 +1,9 @@
 //! Packets handed to the core itself. The calls of the core stand in functions of their own without contracts, so
 //! that the proofs of the tests don't carry what each call is owed.
 
-use crate::sample::{SAMPLE, read};
+use crate::sample::{SAMPLE, fill, read};
 use access_core::{AccessCore, OpenFault};
-use aql_packet::{
-    Address, AgentDispatch, AgentHandle, ClientId, Header, Packet, PacketId, QueueId, RegionHandle,
-    Scope, SignalHandle, encode,
-};
+use aql_packet::{AgentHandle, ClientId, PacketId, QueueId, RegionHandle, SignalHandle};
 use bitflags::Flags;
 use core_model::{Answer, Event, Outcome, Query, Refusal, Reply, Request, Taken, Worked};
 use policy::{Object, Policy, Rights};
@@ -24,21 +21,6 @@ const BUF: RegionHandle = RegionHandle(1);
 const DONE: SignalHandle = SignalHandle(1);
 
 const QUEUE: QueueId = QueueId(1);
-
-/// FILL of 4 bytes 5a at the start of `buf`, then `done`.
-fn fill() -> [u8; 64] {
-    encode(&Packet::Agent(AgentDispatch {
-        header: Header {
-            barrier: false,
-            acquire: Scope::System,
-            release: Scope::System,
-        },
-        function: 0x8000,
-        return_address: Address(0),
-        arguments: [0x1_0000_0000, 4, 0x5a, 0],
-        completion_signal: DONE,
-    }))
-}
 
 fn open(alloc: Global, policy: Policy) -> Result<AccessCore, OpenFault> {
     AccessCore::open(alloc, policy, 100)

@@ -7,6 +7,8 @@
 #[cfg(test)]
 mod access;
 #[cfg(test)]
+mod command_lines;
+#[cfg(test)]
 mod errors;
 #[cfg(test)]
 mod files;

@@ -248,6 +248,34 @@ fn modifiers_and_addresses_are_kept(rt: HostRuntime) -> Result<(), Fail> {
     )
 }
 
+/// Each type, and how many bits its values have.
+const BITS: [(DataType, u32); 13] = [
+    (DataType::B1, 1),
+    (DataType::B8, 8),
+    (DataType::U8, 8),
+    (DataType::S8, 8),
+    (DataType::B16, 16),
+    (DataType::U16, 16),
+    (DataType::S16, 16),
+    (DataType::B32, 32),
+    (DataType::U32, 32),
+    (DataType::S32, 32),
+    (DataType::B64, 64),
+    (DataType::U64, 64),
+    (DataType::S64, 64),
+];
+
+fn check_bits(rt: &impl Abort, rows: &[(DataType, u32)]) {
+    for (kind, bits) in rows {
+        assert_eq!(rt; kind.bits(), *bits);
+    }
+}
+
+#[test]
+fn types_have_their_bits(rt: HostRuntime) {
+    check_bits(&rt, &BITS);
+}
+
 fn check_told(rt: &(impl Abort + AllocGlobal), error: ReadError, wanted: &str) -> Result<(), Fail> {
     let told = format!(in rt.alloc(); "{error}")?;
     assert_eq!(rt; told.as_str(), wanted);
@@ -286,13 +314,18 @@ fn faults_are_told_by_line_column_and_number(rt: HostRuntime) -> Result<(), Fail
     Ok(())
 }
 
+/// Whether a text is refused for a fault of its own, and not for want of memory.
+fn has_fault(alloc: Global, text: &[u8]) -> bool {
+    matches!(module_of(alloc, text), Err(ReadError::Fault(_)))
+}
+
 fn check_beginning(
     rt: &(impl Abort + AllocGlobal),
     text: &[u8],
     length: usize,
 ) -> Result<(), Fail> {
     let front = text.get(..length).ok_or("a beginning")?;
-    assert!(rt; module_of(rt.alloc(), front).is_err(), "{length} bytes");
+    assert!(rt; has_fault(rt.alloc(), front), "{length} bytes");
     Ok(())
 }
 

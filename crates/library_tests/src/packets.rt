@@ -1,19 +1,12 @@
 //! Packets read and written, and each change of one bit of one.
 
+use crate::sample::{bytes_of, fill, fill_with};
 use aql_packet::{
     Address, AgentDispatch, Barrier, CodecRule, Header, KernelDispatch, KernelObject, Packet,
     RawHeader, Scope, SignalHandle, decode, encode, header_in_first_word, header_of, one_spelling,
     reading_is_layout,
 };
-use byteorder::{BigEndian, ByteOrder};
 use std::test::*;
-
-// The bytes of eight words that are written in the order of the bytes.
-fn bytes_of(words: [u64; 8]) -> [u8; 64] {
-    let mut bytes = [0; 64];
-    BigEndian::write_u64_into(&words, &mut bytes);
-    bytes
-}
 
 const FIRST_WORD: u64 = 0x0214_0100_0200_0100;
 
@@ -26,20 +19,6 @@ fn kernel_with(first: u64) -> [u8; 64] {
         0,
         0x0100_0000_0000_0000,
         0x0000_0000_0200_0000,
-        0,
-        0x0100_0000_0000_0000,
-    ])
-}
-
-// An agent dispatch that fills four bytes, with another first word.
-fn fill_with(first: u64) -> [u8; 64] {
-    bytes_of([
-        first,
-        0,
-        0x0000_0000_0100_0000,
-        0x0400_0000_0000_0000,
-        0x5a00_0000_0000_0000,
-        0,
         0,
         0x0100_0000_0000_0000,
     ])
@@ -93,7 +72,7 @@ fn a_dispatch_of_no_dimensions_is_read(rt: HostRuntime) {
 
 #[test]
 fn an_agent_dispatch_is_read_and_written(rt: HostRuntime) {
-    let bytes = fill_with(0x0414_0080_0000_0000);
+    let bytes = fill();
     let packet = Packet::Agent(AgentDispatch {
         header: SYSTEM,
         function: 0x8000,
@@ -177,7 +156,7 @@ fn the_first_rule_that_fails_is_answered(rt: HostRuntime) {
 
 #[test]
 fn each_change_of_one_bit_is_judged(rt: HostRuntime) {
-    let fill = fill_with(0x0414_0080_0000_0000);
+    let fill = fill();
     let mut judged = [0u32; 4];
     for place in 0..64 {
         for bit in [1, 2, 4, 8, 16, 32, 64, 128] {

@@ -1,5 +1,6 @@
-//! The sample policy, and what its readers are called by.
+//! The sample policy, a packet for it, and what its readers are called by.
 
+use byteorder::{BigEndian, ByteOrder};
 use hsail_reader::{Module, ReadError, read_module};
 use policy::{Policy, ReadPolicyError, read_policy};
 use std::alloc::Global;
@@ -99,4 +100,30 @@ pub fn read(alloc: Global, text: &[u8]) -> Result<Policy, ReadPolicyError> {
 /// Reads a kernel's text; it has no contract for the same reason.
 pub fn module_of(alloc: Global, text: &[u8]) -> Result<Module, ReadError> {
     read_module(alloc, text)
+}
+
+/// The bytes of eight words that are written in the order of the bytes.
+pub fn bytes_of(words: [u64; 8]) -> [u8; 64] {
+    let mut bytes = [0; 64];
+    BigEndian::write_u64_into(&words, &mut bytes);
+    bytes
+}
+
+/// FILL of 4 bytes 5a at the start of `buf`, then `done`, with another first word.
+pub fn fill_with(first: u64) -> [u8; 64] {
+    bytes_of([
+        first,
+        0,
+        0x0000_0000_0100_0000,
+        0x0400_0000_0000_0000,
+        0x5a00_0000_0000_0000,
+        0,
+        0,
+        0x0100_0000_0000_0000,
+    ])
+}
+
+/// FILL of 4 bytes 5a at the start of `buf`, then `done`.
+pub fn fill() -> [u8; 64] {
+    fill_with(0x0414_0080_0000_0000)
 }
