@@ -1,2 +1,5 @@
 pub mod KernelTexts
 pub mod Statuses
+pub mod Failures
+pub mod Kernels
+pub mod Commands

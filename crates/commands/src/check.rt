@@ -1,75 +1,87 @@
 //! The command that checks a policy.
 
-use crate::kernels::{KernelError, check_kernels};
+ghost use Rattle.std.specs.Prelude.{OnOk};
+ghost use Rattle.std.specs.Io.KnownBytes.{Appends};
+ghost use Rattle.commands.specs.Commands.{JudgesPolicy, PassesPolicy, text_of_count, text_of_counts, TellsCounts, ChecksPolicy};
+
+use crate::failure::{Failure, name_failure};
+use crate::kernels::check_kernels;
 use crate::status::Status;
-use policy::{Kind, Policy, ReadPolicyError, read_policy};
+use policy::{Kind, Policy, read_policy};
 use std::alloc::Global;
 use std::io;
 
+// Writes a line with the name of an array and how many rows it has.
+fn write_count<W: io::Write>(out: &mut W, name: &str, count: usize) -> io::Result<()>
+    ensures { OnOk result (Appends (W.contents out.old) (W.contents out.new) (text_of_count name.now count)) }
+{
+    writeln!(out, "{name} {count}")
+}
+
 // Writes how many rows each array of a policy has, a line an array, and then `ok`.
-fn write_counts<W: io::Write>(policy: &Policy, out: &mut W) -> io::Result<()> {
-    let clients = policy.client_count();
-    let agents = policy.object_count(Kind::Agent);
-    let regions = policy.object_count(Kind::Region);
-    let signals = policy.object_count(Kind::Signal);
-    let kernels = policy.object_count(Kind::Kernel);
-    let allows = policy.allow_rows().len();
-    writeln!(out, "clients {clients}")?;
-    writeln!(out, "agents {agents}")?;
-    writeln!(out, "regions {regions}")?;
-    writeln!(out, "signals {signals}")?;
-    writeln!(out, "kernels {kernels}")?;
-    writeln!(out, "allows {allows}")?;
-    writeln!(out, "ok")?;
+fn write_rows<W: io::Write>(policy: &Policy, out: &mut W) -> io::Result<()>
+    ensures { OnOk result (Appends (W.contents out.old) (W.contents out.new) (text_of_counts policy.now)) }
+{
+    write_count(out, "clients", policy.client_count())?;
+    write_count(out, "agents", policy.object_count(Kind::Agent))?;
+    write_count(out, "regions", policy.object_count(Kind::Region))?;
+    write_count(out, "signals", policy.object_count(Kind::Signal))?;
+    write_count(out, "kernels", policy.object_count(Kind::Kernel))?;
+    write_count(out, "allows", policy.allow_rows().len())?;
+    writeln!(out, "ok")
+}
+
+// Writes them, and has the writer pass them on.
+fn write_counts<W: io::Write>(policy: &Policy, out: &mut W) -> io::Result<()>
+    ensures { OnOk result (Appends (W.contents out.old) (W.contents out.new) (text_of_counts policy.now)) }
+{
+    write_rows(policy, out)?;
     out.flush()
 }
 
-/// The status where a fault was named, and failed where it couldn't be.
-pub(crate) fn told(written: io::Result<()>, status: Status) -> Status {
-    match written {
-        Ok(()) => status,
-        Err(_) => Status::Failed,
-    }
-}
-
-// Done where the counts were written; else the failure is told.
-fn counted<E: io::Write>(written: io::Result<()>, err: &mut E) -> Status {
-    match written {
+// Counts the rows of a policy on `out`.
+fn count_rows<O: io::Write, E: io::Write>(policy: &Policy, out: &mut O, err: &mut E) -> Status
+    ensures { TellsCounts policy.now (O.contents out.old) (O.contents out.new) (E.contents err.old) (E.contents err.new) result }
+{
+    match write_counts(policy, out) {
         Ok(()) => Status::Done,
-        Err(_) => told(writeln!(err, "write fault"), Status::Failed),
+        Err(_) => name_failure(Failure::Write, err),
     }
 }
 
-// Names on `err` why a policy was refused.
-pub(crate) fn refuse<E: io::Write>(why: ReadPolicyError, err: &mut E) -> Status {
-    match why {
-        ReadPolicyError::Fault(fault) => told(writeln!(err, "policy: {fault}"), Status::Refused),
-        ReadPolicyError::OutOfMemory => told(writeln!(err, "no memory"), Status::Failed),
+// The policy itself, where its kernels are let pass.
+fn checked(alloc: Global, policy: Policy) -> Result<Policy, Failure>
+    ensures { PassesPolicy policy result }
+{
+    match check_kernels(alloc, &policy) {
+        Ok(()) => Ok(policy),
+        Err(why) => Err(Failure::of_kernels(why)),
     }
 }
 
-// Names on `err` why a policy's kernels were refused.
-pub(crate) fn refuse_kernels<E: io::Write>(why: KernelError, err: &mut E) -> Status {
-    match why {
-        KernelError::Fault(fault) => told(writeln!(err, "{fault}"), Status::Refused),
-        KernelError::OutOfMemory => told(writeln!(err, "no memory"), Status::Failed),
+/// Reads the text of a policy, and checks its kernels in order.
+pub(crate) fn judge(alloc: Global, text: &[u8]) -> Result<Policy, Failure>
+    ensures { JudgesPolicy text.now result }
+{
+    match read_policy(alloc, text) {
+        Ok(policy) => checked(alloc, policy),
+        Err(why) => Err(Failure::of_reading(why)),
     }
 }
 
 /// Checks the text of a policy, and then its kernels in order. A good one is counted on `out`; the
 /// first fault of another is named on `err`: as `policy: 4 UnknownName allow 7`, with the array and
-/// the row that it lies in, or as `kernel 1: check 3 line 4`.
+/// the row that it lies in, or as `kernel 1: check 3 line 4`; nothing stands on `out` then.
 pub fn check_policy<O: io::Write, E: io::Write>(
     alloc: Global,
     text: &[u8],
     out: &mut O,
     err: &mut E,
-) -> Status {
-    match read_policy(alloc, text) {
-        Ok(policy) => match check_kernels(alloc, &policy) {
-            Ok(()) => counted(write_counts(&policy, out), err),
-            Err(why) => refuse_kernels(why, err),
-        },
-        Err(why) => refuse(why, err),
+) -> Status
+    ensures { ChecksPolicy text.now (O.contents out.old) (O.contents out.new) (E.contents err.old) (E.contents err.new) result }
+{
+    match judge(alloc, text) {
+        Ok(policy) => count_rows(&policy, out, err),
+        Err(why) => name_failure(why, err),
     }
 }

@@ -1,9 +1,14 @@
 //! The kernels of a policy are read and checked.
 
+ghost use Rattle.std.specs.Prelude.{◌≡◌, IfOk, IfErr};
+ghost use Rattle.kernel_check.specs.Checks.{checking};
+ghost use Rattle.commands.specs.declared.kernels.KernelError.TheVariants.{OutOfMemory};
+ghost use Rattle.commands.specs.Kernels.{cause_of, cause_of_check, JudgesKernel, JudgesKernels};
+
 use aql_packet::KernelObject;
-use hsail_reader::{ReadError, ReadFault, read_module};
-use kernel_check::{CheckError, CheckFault, Checked, check};
-use policy::{KernelSource, Kind, Policy};
+use hsail_reader::{Module, ReadError, ReadFault, read_module};
+use kernel_check::{CheckError, CheckFault, check};
+use policy::{Kind, Policy};
 use std::alloc::Global;
 use std::fmt;
 
@@ -60,33 +65,53 @@ pub enum KernelError {
     Fault(KernelFault),
 }
 
-// Reads and checks a kernel.
-fn checked(alloc: Global, number: u32, source: &KernelSource) -> Result<Checked, KernelError> {
-    let refused = |cause| {
-        KernelError::Fault(KernelFault {
+// What is wrong with a kernel's text, if anything is.
+#[tactic(auto, unfolding(crate::specs::Kernels::cause_of))]
+fn cause_in(alloc: Global, text: &[u8]) -> Result<Option<KernelCause>, KernelError>
+    ensures cause { IfOk result (λ cause. cause ≡ cause_of text.now) }
+    ensures memory { IfErr result (λ error. error ≡ OutOfMemory) }
+{
+    match read_module(alloc, text) {
+        Ok(module) => cause_in_module(alloc, &module),
+        Err(ReadError::OutOfMemory) => Err(KernelError::OutOfMemory),
+        Err(ReadError::Fault(fault)) => Ok(Some(KernelCause::Read(fault))),
+    }
+}
+
+// What is wrong with a module, if anything is.
+fn cause_in_module(alloc: Global, source: &Module) -> Result<Option<KernelCause>, KernelError>
+    ensures cause { IfOk result (λ cause. cause ≡ cause_of_check (checking source.now)) }
+    ensures memory { IfErr result (λ error. error ≡ OutOfMemory) }
+{
+    match check(alloc, source) {
+        Ok(_) => Ok(None),
+        Err(CheckError::OutOfMemory) => Err(KernelError::OutOfMemory),
+        Err(CheckError::Fault(fault)) => Ok(Some(KernelCause::Check(fault))),
+    }
+}
+
+// Reads and checks the kernel of a number, if there is one.
+fn check_kernel(alloc: Global, policy: &Policy, number: u32) -> Result<(), KernelError>
+    ensures { JudgesKernel policy.now.kernels number result }
+{
+    let Some(source) = policy.kernel_source(KernelObject(u64::from(number))) else {
+        return Ok(());
+    };
+    match cause_in(alloc, source.text().as_bytes())? {
+        None => Ok(()),
+        Some(cause) => Err(KernelError::Fault(KernelFault {
             kernel: number,
             cause,
-        })
-    };
-    let module = match read_module(alloc, source.text().as_bytes()) {
-        Ok(module) => module,
-        Err(ReadError::OutOfMemory) => return Err(KernelError::OutOfMemory),
-        Err(ReadError::Fault(fault)) => return Err(refused(KernelCause::Read(fault))),
-    };
-    match check(alloc, &module) {
-        Ok(checked) => Ok(checked),
-        Err(CheckError::OutOfMemory) => Err(KernelError::OutOfMemory),
-        Err(CheckError::Fault(fault)) => Err(refused(KernelCause::Check(fault))),
+        })),
     }
 }
 
 /// Reads and checks each kernel of a policy, in order, and tells the first that is refused.
-pub fn check_kernels(alloc: Global, policy: &Policy) -> Result<(), KernelError> {
-    for before in 0..policy.object_count(Kind::Kernel) {
-        let number = before as u32 + 1;
-        if let Some(source) = policy.kernel_source(KernelObject(u64::from(number))) {
-            checked(alloc, number, source)?;
-        }
+pub fn check_kernels(alloc: Global, policy: &Policy) -> Result<(), KernelError>
+    ensures { JudgesKernels policy.now.kernels result }
+{
+    'kernels: for before in 0..policy.object_count(Kind::Kernel) {
+        check_kernel(alloc, policy, before as u32 + 1)?;
     }
     Ok(())
 }

@@ -4,11 +4,13 @@
 #![tactic(auto)]
 
 mod check;
+mod failure;
 mod kernels;
 mod run;
 mod status;
 
 pub use check::check_policy;
+pub use failure::Failure;
 pub use kernels::{KernelCause, KernelError, KernelFault, check_kernels};
 pub use run::run_policy;
 pub use status::Status;

@@ -1,74 +1,78 @@
 //! The command that runs a script over a policy.
 
-use crate::check::{refuse, refuse_kernels, told};
-use crate::kernels::check_kernels;
+ghost use Rattle.commands.specs.Commands.{OpensWorld, RunsOver, RunsFrom, TellsEnd, RunsUnder, RunsPolicy, streams};
+
+use crate::check::judge;
+use crate::failure::{Failure, name_failure};
 use crate::status::Status;
 use access_core::OpenFault;
-use policy::{Policy, read_policy};
+use policy::Policy;
 use script::{ScriptFault, run_script};
 use std::alloc::Global;
 use std::io;
 use world::World;
 
 // Tells on `err` why a script's run ended early, if it did.
-fn ended<E: io::Write>(run: Result<(), ScriptFault>, err: &mut E) -> Status {
-    match run {
+fn tell_end<E: io::Write>(ended: Result<(), ScriptFault>, err: &mut E) -> Status
+    ensures { TellsEnd ended (E.contents err.old) (E.contents err.new) result }
+{
+    match ended {
         Ok(()) => Status::Done,
-        Err(ScriptFault::BadLine(number)) => {
-            told(writeln!(err, "line {number}: bad request"), Status::Refused)
-        }
-        Err(ScriptFault::OutOfMemory) => told(writeln!(err, "no memory"), Status::Failed),
-        Err(ScriptFault::Read) => told(writeln!(err, "read fault"), Status::Failed),
-        Err(ScriptFault::Write) => told(writeln!(err, "write fault"), Status::Failed),
+        Err(why) => name_failure(Failure::of_script(why), err),
     }
 }
 
-// The three calls below have no contract, so that the proofs of their callers don't carry what is promised of
-// scripts and worlds.
+// The two calls below say in a word what is promised of worlds and scripts, so that the proofs of their callers
+// don't carry it.
 
-// Opens the core under a policy.
-fn opened(alloc: Global, policy: Policy, places: usize) -> Result<World, OpenFault> {
+// Opens a world under a policy.
+fn open_world(alloc: Global, policy: Policy, places: usize) -> Result<World, OpenFault>
+    ensures { OpensWorld policy places result }
+{
     World::open(alloc, policy, places)
 }
 
 // Runs a script.
-fn script_run<R: io::Read, O: io::Write>(
+#[tactic(auto, unfolding(crate::specs::Commands::RunsOver))]
+fn run_through<R: io::Read, O: io::Write>(
     alloc: Global,
     world: &mut World,
     script: &mut R,
     out: &mut O,
-) -> Result<(), ScriptFault> {
+) -> Result<(), ScriptFault>
+    ensures { RunsOver world.old world.new (R.remaining script.old) (R.remaining script.new) (O.contents out.old) (O.contents out.new) result }
+{
     run_script(alloc, script, out, world)
 }
 
 // Runs a script over a world, and lets the world go.
-fn run_through<R: io::Read, O: io::Write>(
+fn run_in<R: io::Read, O: io::Write>(
     alloc: Global,
-    mut world: World,
+    world: World,
     script: &mut R,
     out: &mut O,
-) -> Result<(), ScriptFault> {
-    script_run(alloc, &mut world, script, out)
+) -> Result<(), ScriptFault>
+    ensures { RunsFrom world (R.remaining script.old) (R.remaining script.new) (O.contents out.old) (O.contents out.new) result }
+{
+    let mut world = world;
+    run_through(alloc, &mut world, script, out)
 }
 
 // Runs a script over a policy that was read.
-fn run_over<R: io::Read, O: io::Write, E: io::Write>(
+fn run_under<R: io::Read, O: io::Write, E: io::Write>(
     alloc: Global,
     policy: Policy,
     places: usize,
     script: &mut R,
     out: &mut O,
     err: &mut E,
-) -> Status {
-    match opened(alloc, policy, places) {
-        Ok(world) => ended(run_through(alloc, world, script, out), err),
-        Err(OpenFault::OutOfMemory) => told(writeln!(err, "no memory"), Status::Failed),
-        Err(OpenFault::BadCapacity) => {
-            told(
-                writeln!(err, "audit: 1 to 1048576 entries"),
-                Status::Refused,
-            )
-        }
+) -> Status
+    ensures { RunsUnder policy places (streams (R.remaining script.old) (O.contents out.old) (E.contents err.old))
+        (streams (R.remaining script.new) (O.contents out.new) (E.contents err.new)) result }
+{
+    match open_world(alloc, policy, places) {
+        Ok(world) => tell_end(run_in(alloc, world, script, out), err),
+        Err(why) => name_failure(Failure::of_opening(why), err),
     }
 }
 
@@ -82,12 +86,12 @@ pub fn run_policy<R: io::Read, O: io::Write, E: io::Write>(
     script: &mut R,
     out: &mut O,
     err: &mut E,
-) -> Status {
-    match read_policy(alloc, text) {
-        Ok(policy) => match check_kernels(alloc, &policy) {
-            Ok(()) => run_over(alloc, policy, places, script, out, err),
-            Err(why) => refuse_kernels(why, err),
-        },
-        Err(why) => refuse(why, err),
+) -> Status
+    ensures { RunsPolicy text.now places (streams (R.remaining script.old) (O.contents out.old) (E.contents err.old))
+        (streams (R.remaining script.new) (O.contents out.new) (E.contents err.new)) result }
+{
+    match judge(alloc, text) {
+        Ok(policy) => run_under(alloc, policy, places, script, out, err),
+        Err(why) => name_failure(why, err),
     }
 }

@@ -1,0 +1,132 @@
+-- What the commands come to (own).
+use Rattle.std.specs.Prelude.{ℕ, ◌≡◌, ◌⊎◌, List, [], ◌∷◌, ◌++◌, codes, length, Option, Result, Ok, Err, ⊤}
+use Rattle.std.specs.Fmt.{decimal}
+use Rattle.std.specs.Io.KnownBytes.{Appends}
+use Rattle.policy.specs.Format.{Declares, HasFault}
+use Rattle.policy.specs.Policy.{Declared}
+use Rattle.access_core.specs.declared.access.OpenFault.{OpenFault}
+use Rattle.access_core.specs.Opening.{Opens}
+use Rattle.script.specs.declared.fault.ScriptFault.{ScriptFault}
+use Rattle.script.specs.Runs.{law_of}
+use Rattle.script.specs.Scripts.{RunsScript}
+use Rattle.world.specs.Opening.{core_opened}
+use Rattle.world.specs.Serving.{Ringed, Serves}
+use Rattle.commands.specs.declared.failure.Failure.{Failure}
+use Rattle.commands.specs.declared.failure.Failure.TheVariants.{OutOfMemory, Policy, Kernel, Capacity, Line, Read, Write}
+use Rattle.commands.specs.declared.status.Status.{Status}
+use Rattle.commands.specs.declared.status.Status.TheVariants.{Done}
+use Rattle.commands.specs.Failures.{NamesFailure, failure_of_opening, failure_of_script}
+use Rattle.commands.specs.Kernels.{ArePassed, IsFirstRefused}
+
+-- what the reading of a policy and the check of its kernels come to: the policy, all of whose kernels pass; its first
+-- fault; or that of its first kernel with one
+abbrev pub JudgesPolicy : List ℕ → Result Declared Failure → Type 0
+JudgesPolicy text (Ok policy) = Declares text policy × ArePassed policy.kernels
+JudgesPolicy text (Err OutOfMemory) = ⊤
+JudgesPolicy text (Err (Policy fault)) = HasFault text fault
+JudgesPolicy text (Err (Kernel fault)) = (policy : Declared) × Declares text policy × IsFirstRefused policy.kernels fault
+JudgesPolicy text (Err Capacity) = ⊥
+JudgesPolicy text (Err (Line number)) = ⊥
+JudgesPolicy text (Err Read) = ⊥
+JudgesPolicy text (Err Write) = ⊥
+
+-- the policy itself, where its kernels are let pass, and else the failure
+abbrev pub PassesPolicy : Declared → Result Declared Failure → Type 0
+PassesPolicy policy (Ok same) = (same ≡ policy) × ArePassed policy.kernels
+PassesPolicy policy (Err OutOfMemory) = ⊤
+PassesPolicy policy (Err (Kernel fault)) = IsFirstRefused policy.kernels fault
+PassesPolicy policy (Err (Policy fault)) = ⊥
+PassesPolicy policy (Err Capacity) = ⊥
+PassesPolicy policy (Err (Line number)) = ⊥
+PassesPolicy policy (Err Read) = ⊥
+PassesPolicy policy (Err Write) = ⊥
+
+-- ---- `check`
+
+-- a line with the name of an array and how many rows it has
+abbrev pub text_of_count : List ℕ → ℕ → List ℕ
+text_of_count name count = name ++ codes " " ++ decimal count ++ 10 ∷ []
+
+-- a line for each array, and `ok`
+abbrev pub text_of_counts : Declared → List ℕ
+text_of_counts policy =
+    text_of_count (codes "clients") (length policy.clients) ++ text_of_count (codes "agents") (length policy.agents)
+    ++ text_of_count (codes "regions") (length policy.regions) ++ text_of_count (codes "signals") (length policy.signals)
+    ++ text_of_count (codes "kernels") (length policy.kernels) ++ text_of_count (codes "allows") (length policy.allows)
+    ++ codes "ok\n"
+
+-- the counts are written and nothing else, or the writer failed
+abbrev pub TellsCounts : Declared → (out counted err named : Option (List ℕ)) → Status → Type 0
+TellsCounts policy out counted err named status =
+    (Appends out counted (text_of_counts policy) × (named ≡ err) × (status ≡ Done)) ⊎ NamesFailure Write err named status
+
+-- the counts of a good policy are told, or the failure of another
+abbrev pub TellsVerdict : Result Declared Failure → (out counted err named : Option (List ℕ)) → Status → Type 0
+TellsVerdict (Ok policy) out counted err named status = TellsCounts policy out counted err named status
+TellsVerdict (Err failure) out counted err named status = (counted ≡ out) × NamesFailure failure err named status
+
+-- a policy is judged, and its counts or its failure told: the bytes of both writers before and after
+abbrev pub ChecksPolicy : List ℕ → (out counted err named : Option (List ℕ)) → Status → Type 0
+ChecksPolicy text out counted err named status =
+    (verdict : Result Declared Failure) × JudgesPolicy text verdict × TellsVerdict verdict out counted err named status
+
+-- ---- `run`
+
+-- the bytes of a run's reader and writers, where they are known: what the script still has, the replies, and the faults
+pub record Streams : Type 0 where
+  pub script : Option (List ℕ)
+  pub replies : Option (List ℕ)
+  pub faults : Option (List ℕ)
+
+abbrev pub streams : Option (List ℕ) → Option (List ℕ) → Option (List ℕ) → Streams
+streams script replies faults = record { script = script; replies = replies; faults = faults }
+
+-- a world of a policy is opened, with places for so many entries in its audit, and no queue
+abbrev pub OpensWorld : Declared → ℕ → Result Ringed OpenFault → Type 0
+OpensWorld policy places (Ok world) = (world.rings ≡ []) × Opens policy places (Ok world.core)
+OpensWorld policy places (Err fault) = Opens policy places (Err fault)
+
+-- a script runs over a world, once: what is left of it, and its replies
+unfoldable pub RunsOver : Ringed → Ringed → (script left replies replied : Option (List ℕ)) → Result ⊤ ScriptFault → Type 0
+RunsOver old new script left replies replied ended =
+    RunsScript (law_of Serves (λ world. world.core.start.policy)) old new replies replied script left ended
+
+-- the same, whatever becomes of the world
+abbrev pub RunsFrom : Ringed → (script left replies replied : Option (List ℕ)) → Result ⊤ ScriptFault → Type 0
+RunsFrom old script left replies replied ended = (new : Ringed) × RunsOver old new script left replies replied ended
+
+-- how a run ended: all lines were served, or a fault is named
+abbrev pub TellsEnd : Result ⊤ ScriptFault → (before after : Option (List ℕ)) → Status → Type 0
+TellsEnd (Ok done) before after status = (after ≡ before) × (status ≡ Done)
+TellsEnd (Err fault) before after status = NamesFailure (failure_of_script fault) before after status
+
+-- nothing was read and no reply written, and a failure is named
+abbrev pub StopsBefore : Failure → (before after : Streams) → Status → Type 0
+StopsBefore failure before after status =
+    (after.script ≡ before.script) × (after.replies ≡ before.replies) × NamesFailure failure before.faults after.faults status
+
+-- a script runs over a world that is newly open
+abbrev pub RunsIn : Ringed → (before after : Streams) → Status → Type 0
+RunsIn world before after status =
+    (ended : Result ⊤ ScriptFault) × RunsFrom world before.script after.script before.replies after.replies ended
+    × TellsEnd ended before.faults after.faults status
+
+-- the script runs over the world, where one was opened
+abbrev pub RunsWorld : Result Ringed OpenFault → (before after : Streams) → Status → Type 0
+RunsWorld (Ok world) before after status = RunsIn world before after status
+RunsWorld (Err fault) before after status = StopsBefore (failure_of_opening fault) before after status
+
+-- the script runs over a policy with so many places in its audit
+abbrev pub RunsUnder : Declared → ℕ → (before after : Streams) → Status → Type 0
+RunsUnder policy places before after status =
+    (opened : Result Ringed OpenFault) × OpensWorld policy places opened × RunsWorld opened before after status
+
+-- the same, where the policy is good
+abbrev pub RunsVerdict : Result Declared Failure → ℕ → (before after : Streams) → Status → Type 0
+RunsVerdict (Ok policy) places before after status = RunsUnder policy places before after status
+RunsVerdict (Err failure) places before after status = StopsBefore failure before after status
+
+-- a policy is judged, and the script runs over it, or its failure is named
+abbrev pub RunsPolicy : List ℕ → ℕ → (before after : Streams) → Status → Type 0
+RunsPolicy text places before after status =
+    (verdict : Result Declared Failure) × JudgesPolicy text verdict × RunsVerdict verdict places before after status

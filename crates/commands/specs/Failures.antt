@@ -1,0 +1,66 @@
+-- Why a command fails: its text on standard error, and the status that it ends with (own).
+use Rattle.std.specs.Prelude.{ℕ, ◌≡◌, ◌⊎◌, List, [], ◌∷◌, ◌++◌, codes, Option}
+use Rattle.std.specs.Fmt.{decimal}
+use Rattle.std.specs.Io.KnownBytes.{Appends}
+use Rattle.policy.specs.declared.fault.ReadPolicyError.{ReadPolicyError}
+use Rattle.policy.specs.declared.fault.ReadPolicyError.TheVariants as reading
+use Rattle.policy.specs.FaultTexts.{text_of_fault}
+use Rattle.access_core.specs.declared.access.OpenFault.{OpenFault}
+use Rattle.access_core.specs.declared.access.OpenFault.TheVariants as opening
+use Rattle.script.specs.declared.fault.ScriptFault.{ScriptFault}
+use Rattle.script.specs.declared.fault.ScriptFault.TheVariants as script
+use Rattle.commands.specs.declared.failure.Failure.{Failure}
+use Rattle.commands.specs.declared.failure.Failure.TheVariants.{OutOfMemory, Policy, Kernel, Capacity, Line, Read, Write}
+use Rattle.commands.specs.declared.kernels.KernelError.{KernelError}
+use Rattle.commands.specs.declared.kernels.KernelError.TheVariants as kernels
+use Rattle.commands.specs.declared.status.Status.{Status}
+use Rattle.commands.specs.declared.status.Status.TheVariants.{Refused, Failed}
+use Rattle.commands.specs.KernelTexts.{text_of_kernel_fault}
+
+-- the text of a failure
+abbrev pub text_of_failure : Failure → List ℕ
+text_of_failure OutOfMemory = codes "no memory"
+text_of_failure (Policy fault) = codes "policy: " ++ text_of_fault fault
+text_of_failure (Kernel fault) = text_of_kernel_fault fault
+text_of_failure Capacity = codes "audit: 1 to 1048576 entries"
+text_of_failure (Line number) = codes "line " ++ decimal number ++ codes ": bad request"
+text_of_failure Read = codes "read fault"
+text_of_failure Write = codes "write fault"
+
+-- what was handed in is refused, or reading, writing or memory failed
+abbrev pub status_of : Failure → Status
+status_of OutOfMemory = Failed
+status_of (Policy fault) = Refused
+status_of (Kernel fault) = Refused
+status_of Capacity = Refused
+status_of (Line number) = Refused
+status_of Read = Failed
+status_of Write = Failed
+
+-- a failure is named in a line, and its status answered; or the writer took no line, and the command failed. `told`
+-- and `tells` are the writer's bytes before and after
+abbrev pub NamesFailure : Failure → Option (List ℕ) → Option (List ℕ) → Status → Type 0
+NamesFailure failure told tells status =
+    (Appends told tells (text_of_failure failure ++ 10 ∷ []) × (status ≡ status_of failure)) ⊎ (status ≡ Failed)
+
+-- the failure of the reading of a policy
+abbrev pub failure_of_reading : ReadPolicyError → Failure
+failure_of_reading reading.OutOfMemory = OutOfMemory
+failure_of_reading (reading.Fault fault) = Policy fault
+
+-- the failure of the check of its kernels
+abbrev pub failure_of_kernels : KernelError → Failure
+failure_of_kernels kernels.OutOfMemory = OutOfMemory
+failure_of_kernels (kernels.Fault fault) = Kernel fault
+
+-- the failure of the opening of its core
+abbrev pub failure_of_opening : OpenFault → Failure
+failure_of_opening opening.OutOfMemory = OutOfMemory
+failure_of_opening opening.BadCapacity = Capacity
+
+-- the failure of the run of a script
+abbrev pub failure_of_script : ScriptFault → Failure
+failure_of_script script.OutOfMemory = OutOfMemory
+failure_of_script (script.BadLine number) = Line number
+failure_of_script script.Read = Read
+failure_of_script script.Write = Write
