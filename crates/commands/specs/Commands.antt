@@ -5,12 +5,11 @@ use Rattle.std.specs.Io.KnownBytes.{Appends}
 use Rattle.policy.specs.Format.{Declares, HasFault}
 use Rattle.policy.specs.Policy.{Declared}
 use Rattle.access_core.specs.declared.access.OpenFault.{OpenFault}
-use Rattle.access_core.specs.Opening.{Opens}
 use Rattle.script.specs.declared.fault.ScriptFault.{ScriptFault}
-use Rattle.script.specs.Runs.{law_of}
+use Rattle.script.specs.Runs.{worlds}
 use Rattle.script.specs.Scripts.{RunsScript}
-use Rattle.world.specs.Opening.{core_opened}
-use Rattle.world.specs.Serving.{Ringed, Serves}
+use Rattle.world.specs.Starting.{Begins}
+use Rattle.world.specs.States.{Joined}
 use Rattle.commands.specs.declared.failure.Failure.{Failure}
 use Rattle.commands.specs.declared.failure.Failure.TheVariants.{OutOfMemory, Policy, Kernel, Capacity, Line, Read, Write}
 use Rattle.commands.specs.declared.status.Status.{Status}
@@ -81,19 +80,14 @@ pub record Streams : Type 0 where
 abbrev pub streams : Option (List ℕ) → Option (List ℕ) → Option (List ℕ) → Streams
 streams script replies faults = record { script = script; replies = replies; faults = faults }
 
--- a world of a policy is opened, with places for so many entries in its audit, and no queue
-abbrev pub OpensWorld : Declared → ℕ → Result Ringed OpenFault → Type 0
-OpensWorld policy places (Ok world) = (world.rings ≡ []) × Opens policy places (Ok world.core)
-OpensWorld policy places (Err fault) = Opens policy places (Err fault)
-
 -- a script runs over a world, once: what is left of it, and its replies
-unfoldable pub RunsOver : Ringed → Ringed → (script left replies replied : Option (List ℕ)) → Result ⊤ ScriptFault → Type 0
+unfoldable pub RunsOver : Joined → Joined → (script left replies replied : Option (List ℕ)) → Result ⊤ ScriptFault → Type 0
 RunsOver old new script left replies replied ended =
-    RunsScript (law_of Serves (λ world. world.core.start.policy)) old new replies replied script left ended
+    RunsScript worlds old new replies replied script left ended
 
 -- the same, whatever becomes of the world
-abbrev pub RunsFrom : Ringed → (script left replies replied : Option (List ℕ)) → Result ⊤ ScriptFault → Type 0
-RunsFrom old script left replies replied ended = (new : Ringed) × RunsOver old new script left replies replied ended
+abbrev pub RunsFrom : Joined → (script left replies replied : Option (List ℕ)) → Result ⊤ ScriptFault → Type 0
+RunsFrom old script left replies replied ended = (new : Joined) × RunsOver old new script left replies replied ended
 
 -- how a run ended: all lines were served, or a fault is named
 abbrev pub TellsEnd : Result ⊤ ScriptFault → (before after : Option (List ℕ)) → Status → Type 0
@@ -106,20 +100,20 @@ StopsBefore failure before after status =
     (after.script ≡ before.script) × (after.replies ≡ before.replies) × NamesFailure failure before.faults after.faults status
 
 -- a script runs over a world that is newly open
-abbrev pub RunsIn : Ringed → (before after : Streams) → Status → Type 0
+abbrev pub RunsIn : Joined → (before after : Streams) → Status → Type 0
 RunsIn world before after status =
     (ended : Result ⊤ ScriptFault) × RunsFrom world before.script after.script before.replies after.replies ended
     × TellsEnd ended before.faults after.faults status
 
 -- the script runs over the world, where one was opened
-abbrev pub RunsWorld : Result Ringed OpenFault → (before after : Streams) → Status → Type 0
+abbrev pub RunsWorld : Result Joined OpenFault → (before after : Streams) → Status → Type 0
 RunsWorld (Ok world) before after status = RunsIn world before after status
 RunsWorld (Err fault) before after status = StopsBefore (failure_of_opening fault) before after status
 
--- the script runs over a policy with so many places in its audit
+-- a world is opened under a policy, with so many places in its audit, and the script runs over it
 abbrev pub RunsUnder : Declared → ℕ → (before after : Streams) → Status → Type 0
 RunsUnder policy places before after status =
-    (opened : Result Ringed OpenFault) × OpensWorld policy places opened × RunsWorld opened before after status
+    (opened : Result Joined OpenFault) × Begins policy places opened × RunsWorld opened before after status
 
 -- the same, where the policy is good
 abbrev pub RunsVerdict : Result Declared Failure → ℕ → (before after : Streams) → Status → Type 0

@@ -1,6 +1,7 @@
 //! The command that runs a script over a policy.
 
-ghost use Rattle.commands.specs.Commands.{OpensWorld, RunsOver, RunsFrom, TellsEnd, RunsUnder, RunsPolicy, streams};
+ghost use Rattle.commands.specs.Commands.{RunsOver, RunsFrom, TellsEnd, RunsUnder, RunsPolicy, streams};
+ghost use Rattle.world.specs.Starting.{Begins};
 
 use crate::check::judge;
 use crate::failure::{Failure, name_failure};
@@ -27,7 +28,7 @@ fn tell_end<E: io::Write>(ended: Result<(), ScriptFault>, err: &mut E) -> Status
 
 // Opens a world under a policy.
 fn open_world(alloc: Global, policy: Policy, places: usize) -> Result<World, OpenFault>
-    ensures { OpensWorld policy places result }
+    ensures { Begins policy places result }
 {
     World::open(alloc, policy, places)
 }

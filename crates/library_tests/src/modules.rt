@@ -197,10 +197,12 @@ fn check_access(rt: &impl Abort, access: &Access) -> Result<(), Fail> {
 }
 
 fn check_load(rt: &impl Abort, operation: &Operation) -> Result<(), Fail> {
-    assert!(rt; matches!(
-        operation.modifiers,
-        Modifiers::Two(Modifier::Width(Width::All), Modifier::Align(16))
-    ));
+    assert!(rt;
+        matches!(
+            operation.modifiers,
+            Modifiers::Two(Modifier::Width(Width::All), Modifier::Align(16))
+        )
+    );
     match &operation.operands.second {
         Operand::Address(access) => check_access(rt, access),
         _ => Err(Fail::from("an address")),
