@@ -14,9 +14,9 @@ use Rattle.packet_processor.specs.Holding.{as_rights}
 use Rattle.access_core.proofs.CachedMore.{GrantsAfter}
 use Rattle.access_core.proofs.HeldMore.{AreHeld-legal}
 use Rattle.access_core.proofs.HeldRights.{any-before}
-use Rattle.access_core.proofs.Terms.{ClientId, Effect, Entry, Event, Held, Holds, InFlight, Inside, IsCached, IsHeld, Ledger, Object, OpenQueue, Opening}
+use Rattle.access_core.proofs.Terms.{ClientId, Effect, Entry, Event, ObjectRight, Holds, InFlight, Inside, IsCached, IsHeld, Ledger, Object, OpenQueue, Opening}
 use Rattle.access_core.proofs.Terms.{Outcome, Packet, PacketId, QueueId, Releases, Right, Rights, Start, are_in_force, bit_of, each_right, entry_of, flight}
-use Rattle.access_core.proofs.Terms.{has, held_at_launch, holds_by, in_force, in_force_after, is_packet, numbered, openings, openings-more, owner, packet_holds}
+use Rattle.access_core.proofs.Terms.{has, rights_at_launch, holds_by, in_force, in_force_after, is_packet, numbered, openings, openings-more, owner, packet_holds}
 use Rattle.access_core.proofs.Terms.{start_of, with_entry, with_some}
 use Rattle.policy.specs.declared.rights.Right.TheVariants as right
 use Rattle.grants.specs.Ledger as ledger
@@ -75,15 +75,15 @@ or-false b = grind arith
 same_turned : (a b : ℕ) → (a == b) ≡ (b == a)
 same_turned a b = grind arith
 
-names-held : (client c : ClientId) (on : Object) (right : Right) (hs : List Held) → names (map as_rights hs) client c on right ≡ (client.0 == c.0 && list_any (λ h. same_object on h.0 && has (as_rights h).1 right) hs)
+names-held : (client c : ClientId) (on : Object) (right : Right) (hs : List ObjectRight) → names (map as_rights hs) client c on right ≡ (client.0 == c.0 && list_any (λ h. same_object on h.0 && has (as_rights h).1 right) hs)
 names-held client c on right hs =
     ap (λ b. list_any (λ (named : Object × Rights). (b && same_object on named.0) && has named.1 right) (map as_rights hs)) (same_turned c.0 client.0)
-    ∙ mapped hs ∙ any-before (λ (h : Held). same_object on h.0 && has (as_rights h).1 right) (client.0 == c.0) hs
+    ∙ mapped hs ∙ any-before (λ (h : ObjectRight). same_object on h.0 && has (as_rights h).1 right) (client.0 == c.0) hs
   where
     turned : (a b d : Bool) → ((a && b) && d) ≡ (a && (b && d))
     turned a b d = grind arith
 
-    mapped : (hs : List Held) → list_any (λ (named : Object × Rights). (client.0 == c.0 && same_object on named.0) && has named.1 right) (map as_rights hs) ≡ list_any (λ (h : Held). client.0 == c.0 && (same_object on h.0 && has (as_rights h).1 right)) hs
+    mapped : (hs : List ObjectRight) → list_any (λ (named : Object × Rights). (client.0 == c.0 && same_object on named.0) && has named.1 right) (map as_rights hs) ≡ list_any (λ (h : ObjectRight). client.0 == c.0 && (same_object on h.0 && has (as_rights h).1 right)) hs
     mapped [] = refl
     mapped (h ∷ hs) = ap (λ b. b || list_any (λ (named : Object × Rights). (client.0 == c.0 && same_object on named.0) && has named.1 right) (map as_rights hs)) (turned (client.0 == c.0) (same_object on h.0) (has (as_rights h).1 right))
         ∙ ap (λ rest. (client.0 == c.0 && (same_object on h.0 && has (as_rights h).1 right)) || rest) (mapped hs)
@@ -91,16 +91,16 @@ names-held client c on right hs =
 -- the packets in flight hold what they held, and the one that is launched what its launch gives it
 pub held-launched : (owners : QueueId → Option Opening) (fs : List InFlight) (opening : Opening) (q : QueueId) (i : PacketId) (p : Packet) → owners q ≡ Some opening
     → (queue : QueueId) (id : PacketId) (client : ClientId) (on : Object) (right : Right)
-    → (packet_holds owners fs queue id client on right || (same_packet queue id q i && names (map as_rights (held_at_launch opening p)) opening.client client on right))
+    → (packet_holds owners fs queue id client on right || (same_packet queue id q i && names (map as_rights (rights_at_launch opening p)) opening.client client on right))
     ≡ packet_holds owners (fs ++ (record { queue = q; id = i; packet = p }) ∷ []) queue id client on right
 held-launched owners fs opening q i p is queue id client on right =
     ap (λ b. packet_holds owners fs queue id client on right || b) (launched ∙ sym (or-false _))
     ∙ sym (list_any-append (λ (f : InFlight). is_packet queue id f && holds_by (owners f.queue) client on right f.packet) fs ((record { queue = q; id = i; packet = p }) ∷ []))
   where
-    launched : (same_packet queue id q i && names (map as_rights (held_at_launch opening p)) opening.client client on right) ≡ (is_packet queue id ((record { queue = q; id = i; packet = p })) && holds_by (owners q) client on right p)
+    launched : (same_packet queue id q i && names (map as_rights (rights_at_launch opening p)) opening.client client on right) ≡ (is_packet queue id ((record { queue = q; id = i; packet = p })) && holds_by (owners q) client on right p)
     launched =
-        ap (λ b. b && names (map as_rights (held_at_launch opening p)) opening.client client on right) numbers
-        ∙ ap (λ b. is_packet queue id ((record { queue = q; id = i; packet = p })) && b) (names-held opening.client client on right (held_at_launch opening p) ∙ ap (λ (o : Option Opening). holds_by o client on right p) (sym is))
+        ap (λ b. b && names (map as_rights (rights_at_launch opening p)) opening.client client on right) numbers
+        ∙ ap (λ b. is_packet queue id ((record { queue = q; id = i; packet = p })) && b) (names-held opening.client client on right (rights_at_launch opening p) ∙ ap (λ (o : Option Opening). holds_by o client on right p) (sym is))
       where
         numbers : same_packet queue id q i ≡ is_packet queue id ((record { queue = q; id = i; packet = p }))
         numbers = grind arith
@@ -134,7 +134,7 @@ held-opened start es e queue id client on right (f ∷ fs) all =
 pub grants-launched : (a : Inside) → IsCached a → (event : Event) (outcome : Outcome) (effects : List Effect) → opening_of event ≡ None → ((client : ClientId) (on : Object) (right : Right) (b : Bool) → in_force_after client on right b event ≡ b)
     → (old new : Ledger) (opening : Opening) (q : QueueId) (i : PacketId) (p : Packet) (rights : List (Object × Rights))
     → flight (start_of a) (with_entry a.audit.items event outcome effects) ≡ flight (start_of a) a.audit.items ++ record { queue = q; id = i; packet = p } ∷ []
-    → old ≡ record a.grants { room = old.room } → rights ≡ map as_rights (held_at_launch opening p) → owner (start_of a) a.audit.items q ≡ Some opening → Holds old new opening.client q i rights → GrantsAfter a new event outcome effects
+    → old ≡ record a.grants { room = old.room } → rights ≡ map as_rights (rights_at_launch opening p) → owner (start_of a) a.audit.items q ≡ Some opening → Holds old new opening.client q i rights → GrantsAfter a new event outcome effects
 grants-launched a kept event outcome effects none still old new opening q i p rights flying same are is holds = record {
   granted = λ client on right. holds.same_rights client on right ∙ ap (λ (g : Ledger). ledger.in_force g client on right) same ∙ sym (still client on right _);
   rules = holds.same_rules ∙ ap ledger.rules_in same;
@@ -142,7 +142,7 @@ grants-launched a kept event outcome effects none still old new opening q i p ri
       holds.held queue id client on right
       ∙ ap (λ (g : Ledger). ledger.holds g queue id client on right || (same_packet queue id q i && names rights opening.client client on right)) same
       ∙ ap (λ (rs : List (Object × Rights)). ledger.holds a.grants queue id client on right || (same_packet queue id q i && names rs opening.client client on right)) are
-      ∙ ap (λ b. b || (same_packet queue id q i && names (map as_rights (held_at_launch opening p)) opening.client client on right)) (kept.held queue id client on right)
+      ∙ ap (λ b. b || (same_packet queue id q i && names (map as_rights (rights_at_launch opening p)) opening.client client on right)) (kept.held queue id client on right)
       ∙ held-launched (owner (start_of a) a.audit.items) (flight (start_of a) a.audit.items) opening q i p is queue id client on right
       ∙ (λ j. packet_holds (λ (n : QueueId). numbered (sym (owners-still a event outcome effects none) j) n.0) (sym flying j) queue id client on right);
 }
@@ -151,20 +151,20 @@ grants-launched a kept event outcome effects none still old new opening q i p ri
 each-one : (one : Right) (test : Right → Bool) → each_right (record { 0 = bit_of one }) test ≡ test one
 each-one one test = grind arith
 
-all-in_force : (grants : Ledger) (client : ClientId) (hs : List Held) → are_in_force grants client (map as_rights hs) ≡ list_all (λ h. ledger.in_force grants client h.0 h.1) hs
+all-in_force : (grants : Ledger) (client : ClientId) (hs : List ObjectRight) → are_in_force grants client (map as_rights hs) ≡ list_all (λ h. ledger.in_force grants client h.0 h.1) hs
 all-in_force grants client [] = refl
 all-in_force grants client (h ∷ hs) =
     ap (λ b. b && are_in_force grants client (map as_rights hs)) (each-one h.1 (ledger.in_force grants client h.0))
     ∙ ap (λ rest. ledger.in_force grants client h.0 h.1 && rest) (all-in_force grants client hs)
 
 -- what a packet that is launched needs is in force
-pub launch-in_force : (a : Inside) → IsCached a → (old : Ledger) (opening : Opening) (p : Packet) (rights : List (Object × Rights)) → old ≡ record a.grants { room = old.room } → rights ≡ map as_rights (held_at_launch opening p)
-    → list_all (λ h. in_force (start_of a) a.audit.items opening.client h.0 h.1) (held_at_launch opening p) ≡ true → are_in_force old opening.client rights ≡ true
+pub launch-in_force : (a : Inside) → IsCached a → (old : Ledger) (opening : Opening) (p : Packet) (rights : List (Object × Rights)) → old ≡ record a.grants { room = old.room } → rights ≡ map as_rights (rights_at_launch opening p)
+    → list_all (λ h. in_force (start_of a) a.audit.items opening.client h.0 h.1) (rights_at_launch opening p) ≡ true → are_in_force old opening.client rights ≡ true
 launch-in_force a kept old opening p rights same are forced =
     ap (λ (g : Ledger). are_in_force g opening.client rights) same
     ∙ ap (are_in_force a.grants opening.client) are
-    ∙ all-in_force a.grants opening.client (held_at_launch opening p)
-    ∙ (λ i. list_all (λ (h : Held). kept.granted opening.client h.0 h.1 i) (held_at_launch opening p))
+    ∙ all-in_force a.grants opening.client (rights_at_launch opening p)
+    ∙ (λ i. list_all (λ (h : ObjectRight). kept.granted opening.client h.0 h.1 i) (rights_at_launch opening p))
     ∙ forced
 
 -- a queue that is opened leaves the grants as the history says

@@ -10,7 +10,7 @@ use Rattle.queue_error.specs.declared.rule.Rule.{Rule}
 use Rattle.packet_processor.proofs.FirstFailing.{first_failing-decoded}
 use Rattle.core_model.specs.Queues.{opening_of, next_id}
 use Rattle.core_model.specs.declared.need.Need.{Need}
-use Rattle.core_model.specs.LaunchRules.{may_start}
+use Rattle.core_model.specs.LaunchRules.{cause_to_wait}
 use Rattle.packet_processor.specs.Judged.{later_failing}
 use Rattle.core_model.specs.Owed.{owed}
 use Rattle.access_core.specs.inner.Judged.{facts_lent}
@@ -18,10 +18,10 @@ use Rattle.access_core.specs.inner.QueueChanges.{with_launched}
 use Rattle.access_core.proofs.CachedMore.{QueuesAfter, none-launched}
 use Rattle.access_core.proofs.QueueAt.{flight-launched, flight-unlaunched, map-map, denied, launched, queue_at-denied, queue_at-launched}
 use Rattle.access_core.proofs.ChangedQueue.{length-changed, openings-changed, queues-changed, sound-at, sound-changed}
-use Rattle.access_core.proofs.Terms.{IsInPlace, CanFail, ClientId, Denied, Effect, Entry, Event, Facts, Held, History, InFlight, Inside, IsCached, IsSound}
+use Rattle.access_core.proofs.Terms.{IsInPlace, CanFail, ClientId, Denied, Effect, Entry, Event, Facts, ObjectRight, History, InFlight, Inside, IsCached, IsSound}
 use Rattle.access_core.proofs.Terms.{Launched, MayHold, Opening, Outcome, Packet, PacketId, Place, Queue, QueueError, QueueId, QueueView, SLOTS, Start, Take}
-use Rattle.access_core.proofs.Terms.{TakesNext, as_held, as_launched, barrier_bit, cached, cached_opening, decided, decoded, entry_of, error_at, errors}
-use Rattle.access_core.proofs.Terms.{facts_of, first_failing, flight, flight_of, hands_over, held_at_launch, history_of, is_met, is_stopped, lacks_room}
+use Rattle.access_core.proofs.Terms.{TakesNext, right_needed, as_launched, barrier_bit, cached, cached_opening, owed_verdict, decoded, entry_of, error_without_place, errors}
+use Rattle.access_core.proofs.Terms.{facts_of, first_failing_rule, flight, flight_of, hands_over_packet_of, rights_at_launch, history_of, need_is_met, is_stopped, lacks_room}
 use Rattle.access_core.proofs.Terms.{launched_by, lies_in_regions, lies_whole, memory_needs, needs, numbered, numbered-map, owner, place_of, queue_at}
 use Rattle.access_core.proofs.Terms.{refuse_if, refuse_unless, refuses, region_lengths, start_of, with_denied, with_entry, with_queue, with_some}
 use Rattle.queue_error.specs.declared.rule.Rule.TheVariants as rule
@@ -62,7 +62,7 @@ module _ (a : Inside) (kept : IsCached a) (queue : QueueId) (id : PacketId) (byt
       owed (start_of a) a.audit.items (Take queue id bytes) ≡
       refuse_if (nat_lt 0 (length q.errors.items) || q.stopped) refusal.QueueDown
       (refuse_unless (id.0 == q.next) (refusal.OutOfStep q.next)
-      (decided queue id.0 (may_start (map (λ (p : Place). p.packet) q.places) (barrier_bit bytes)) (first_failing (facts_lent a.policy a.grants a.memory q.client q.agent) bytes)))
+      (owed_verdict queue id.0 (cause_to_wait (map (λ (p : Place). p.packet) q.places) (barrier_bit bytes)) (first_failing_rule (facts_lent a.policy a.grants a.memory q.client q.agent) bytes)))
   unfolding owed
   take-known q some =
       let view = view-kept a queue q kept some in
@@ -73,25 +73,25 @@ module _ (a : Inside) (kept : IsCached a) (queue : QueueId) (id : PacketId) (byt
 
 -- the rules that ask for rights
 pub record PassesRights (facts : Facts) (p : Packet) : Type 0 where
-  pub agent : list_all (is_met facts) (needs rule.L4 facts.agent p) ≡ true
-  pub memory : list_all (is_met facts) (memory_needs p) ≡ true
-  pub waits : list_all (is_met facts) (needs rule.L9 facts.agent p) ≡ true
-  pub completes : list_all (is_met facts) (needs rule.L10 facts.agent p) ≡ true
+  pub agent : list_all (need_is_met facts) (needs rule.L4 facts.agent p) ≡ true
+  pub memory : list_all (need_is_met facts) (memory_needs p) ≡ true
+  pub waits : list_all (need_is_met facts) (needs rule.L9 facts.agent p) ≡ true
+  pub completes : list_all (need_is_met facts) (needs rule.L10 facts.agent p) ≡ true
 
 -- a packet that no rule refuses passes them
 passed-rights : (facts : Facts) (p : Packet) → later_failing facts p ≡ None → PassesRights facts p
 passed-rights facts p none = record { agent = grind arith; memory = grind arith; waits = grind arith; completes = grind arith }
 
 -- what is needed and met is in force
-held-met : (facts : Facts) (all : List Need) (rest : List Held) → list_all (is_met facts) all ≡ true → list_all (λ h. facts.in_force h.0 h.1) rest ≡ true → list_all (λ h. facts.in_force h.0 h.1) (map as_held all ++ rest) ≡ true
+held-met : (facts : Facts) (all : List Need) (rest : List ObjectRight) → list_all (need_is_met facts) all ≡ true → list_all (λ h. facts.in_force h.0 h.1) rest ≡ true → list_all (λ h. facts.in_force h.0 h.1) (map right_needed all ++ rest) ≡ true
 held-met facts [] rest met others = others
 held-met facts (need ∷ all) rest met others =
-    let both = and_parts (is_met facts need) (list_all (is_met facts) all) met in
+    let both = and_parts (need_is_met facts need) (list_all (need_is_met facts) all) met in
     let forced = and_parts (lies_whole facts.lengths need.subject) _ both.0 in
     rw (forced.1, held-met facts all rest both.1 others) refl
 
 -- so all that a packet will hold is in force
-held-passed : (facts : Facts) (p : Packet) (client : ClientId) → PassesRights facts p → list_all (λ h. facts.in_force h.0 h.1) (held_at_launch (record { client = client; agent = facts.agent }) p) ≡ true
+held-passed : (facts : Facts) (p : Packet) (client : ClientId) → PassesRights facts p → list_all (λ h. facts.in_force h.0 h.1) (rights_at_launch (record { client = client; agent = facts.agent }) p) ≡ true
 held-passed facts p client passes =
     held-met facts (needs rule.L4 facts.agent p) _ passes.agent
     (held-met facts (memory_needs p) _ passes.memory
@@ -99,23 +99,23 @@ held-passed facts p client passes =
     (held-met facts (needs rule.L10 facts.agent p) [] passes.completes refl)))
 
 -- what is needed and met lies whole in regions
-lies-met : (facts : Facts) (all : List Need) → list_all (is_met facts) all ≡ true → list_all (λ need. lies_whole facts.lengths need.subject) all ≡ true
+lies-met : (facts : Facts) (all : List Need) → list_all (need_is_met facts) all ≡ true → list_all (λ need. lies_whole facts.lengths need.subject) all ≡ true
 lies-met facts [] met = refl
 lies-met facts (need ∷ all) met =
-    let both = and_parts (is_met facts need) (list_all (is_met facts) all) met in
+    let both = and_parts (need_is_met facts need) (list_all (need_is_met facts) all) met in
     let lies = and_parts (lies_whole facts.lengths need.subject) _ both.0 in
     rw (lies.0, lies-met facts all both.1) refl
 
 -- a packet that is launched has all its ranges within regions
-pub within-launched : (a : Inside) (q : Queue) (bytes : List ℕ) (p : Packet) → IsCached a → decoded bytes ≡ Some p → first_failing (facts_lent a.policy a.grants a.memory q.client q.agent) bytes ≡ None → lies_in_regions (region_lengths (start_of a)) p ≡ true
+pub within-launched : (a : Inside) (q : Queue) (bytes : List ℕ) (p : Packet) → IsCached a → decoded bytes ≡ Some p → first_failing_rule (facts_lent a.policy a.grants a.memory q.client q.agent) bytes ≡ None → lies_in_regions (region_lengths (start_of a)) p ≡ true
 within-launched a q bytes p kept found none =
     rw (← kept.lengths) (lies-met (facts_lent a.policy a.grants a.memory q.client q.agent) (memory_needs p)
     (passed-rights (facts_lent a.policy a.grants a.memory q.client q.agent) p (sym (first_failing-decoded _ bytes p found) ∙ none)).memory)
 
 -- a packet that is launched may hold what it needs
-pub may-hold : (a : Inside) (q : Queue) (bytes : List ℕ) (p : Packet) → IsCached a → decoded bytes ≡ Some p → first_failing (facts_lent a.policy a.grants a.memory q.client q.agent) bytes ≡ None → MayHold (history_of a) (cached_opening q) p
+pub may-hold : (a : Inside) (q : Queue) (bytes : List ℕ) (p : Packet) → IsCached a → decoded bytes ≡ Some p → first_failing_rule (facts_lent a.policy a.grants a.memory q.client q.agent) bytes ≡ None → MayHold (history_of a) (cached_opening q) p
 may-hold a q bytes p kept found none =
-    (λ i. list_all (λ (h : Held). sym (kept.granted q.client h.0 h.1) i) (held_at_launch (cached_opening q) p))
+    (λ i. list_all (λ (h : ObjectRight). sym (kept.granted q.client h.0 h.1) i) (rights_at_launch (cached_opening q) p))
     ∙ held-passed (facts_lent a.policy a.grants a.memory q.client q.agent) p q.client
     (passed-rights (facts_lent a.policy a.grants a.memory q.client q.agent) p (sym (first_failing-decoded _ bytes p found) ∙ none))
 
@@ -125,16 +125,16 @@ pub room-launched : (h : History) (queue : QueueId) (id : PacketId) (bytes : Lis
 room-launched h queue id bytes p reads = rw (reads, length-append) refl
 
 -- a packet that may start finds a slot free
-may_start-few : (ps : List Packet) (barrier : Bool) → may_start ps barrier ≡ None → length ps < SLOTS
-unfolding may_start
+may_start-few : (ps : List Packet) (barrier : Bool) → cause_to_wait ps barrier ≡ None → length ps < SLOTS
+unfolding cause_to_wait
 may_start-few ps barrier none = grind arith
 
 -- a queue that is kept, and not down, and where a packet may start takes its next packet
-pub takes-next : (a : Inside) (kept : IsCached a) (queue : QueueId) (q : Queue) (barrier : Bool) → numbered a.queues.items queue.0 ≡ Some q → (nat_lt 0 (length q.errors.items) || q.stopped) ≡ false → may_start (map (λ (p : Place). p.packet) q.places) barrier ≡ None → TakesNext (history_of a) queue
+pub takes-next : (a : Inside) (kept : IsCached a) (queue : QueueId) (q : Queue) (barrier : Bool) → numbered a.queues.items queue.0 ≡ Some q → (nat_lt 0 (length q.errors.items) || q.stopped) ≡ false → cause_to_wait (map (λ (p : Place). p.packet) q.places) barrier ≡ None → TakesNext (history_of a) queue
 takes-next a kept queue q barrier some down starts =
     let view = view-kept a queue q kept some in
     let count = length-map (flight_of (start_of a) a.audit.items queue) (λ (f : InFlight). f.packet) in
-    let few = may_start-few (map (λ (f : InFlight). f.packet) (flight_of (start_of a) a.audit.items queue)) barrier (ap (λ ps. may_start ps barrier) (packets-kept a queue q kept some) ∙ starts) in (
+    let few = may_start-few (map (λ (f : InFlight). f.packet) (flight_of (start_of a) a.audit.items queue)) barrier (ap (λ ps. cause_to_wait ps barrier) (packets-kept a queue q kept some) ∙ starts) in (
       cached_opening q,
       owner-kept a queue kept ∙ ap (option_map cached_opening) some,
       ap (λ (v : QueueView). nat_lt 0 (length v.errors) || v.stopped) (sym view) ∙ down,
@@ -147,7 +147,7 @@ none_opening o e = cc
 -- no more packets of a queue were handed over than there are entries
 next_id-le : (start : Start) (entries : List Entry) (queue : QueueId) → next_id start entries queue ≤ length entries
 unfolding next_id
-next_id-le start entries queue = count_by-le-length (λ (entry : Entry). hands_over queue entry.event) entries
+next_id-le start entries queue = count_by-le-length (λ (entry : Entry). hands_over_packet_of queue entry.event) entries
 
 no_errors : (xs : List QueueError) (s : Bool) → (nat_lt 0 (length xs) || s) ≡ false → xs ≡ []
 no_errors [] s e = refl
@@ -225,14 +225,14 @@ module _ (a : Inside) (kept : IsCached a) (queue : QueueId) (id : PacketId) (byt
         below = All-weaker (λ (p : Place). p.id.0 < q.next) (λ p. p.id.0 < q.next + 1) (λ p below. omega (arith, below)) q.places can.opened.sound.below;
       }
 
-  pub flight-denied : (rule : Rule) → flight (start_of a) (with_entry a.audit.items (Take queue id bytes) (outcome.Taken (Denied (error_at queue id.0 rule))) []) ≡ flight (start_of a) a.audit.items
-  flight-denied rule = flight-unlaunched (start_of a) a.audit.items (Take queue id bytes) (outcome.Taken (Denied (error_at queue id.0 rule))) [] refl
+  pub flight-denied : (rule : Rule) → flight (start_of a) (with_entry a.audit.items (Take queue id bytes) (outcome.Taken (Denied (error_without_place queue id.0 rule))) []) ≡ flight (start_of a) a.audit.items
+  flight-denied rule = flight-unlaunched (start_of a) a.audit.items (Take queue id bytes) (outcome.Taken (Denied (error_without_place queue id.0 rule))) [] refl
 
   -- it is denied
-  pub queues-denied : (rule : Rule) → QueuesAfter a (with_queue a.queues.items queue (with_denied (error_at queue id.0 rule))) a.flying (Take queue id bytes) (outcome.Taken (Denied (error_at queue id.0 rule))) []
+  pub queues-denied : (rule : Rule) → QueuesAfter a (with_queue a.queues.items queue (with_denied (error_without_place queue id.0 rule))) a.flying (Take queue id bytes) (outcome.Taken (Denied (error_without_place queue id.0 rule))) []
   queues-denied rule =
-      queues-after a kept queue can.opened (with_denied (error_at queue id.0 rule)) (denied (error_at queue id.0 rule)) a.flying _ _ _ refl refl (sound-denied (error_at queue id.0 rule)) refl
-      (λ m. queue_at-denied (start_of a) a.audit.items queue id bytes rule m) (kept.flying ∙ ap length (sym (flight-denied rule))) (none-launched (Take queue id bytes) (outcome.Taken (Denied (error_at queue id.0 rule))) refl (start_of a))
+      queues-after a kept queue can.opened (with_denied (error_without_place queue id.0 rule)) (denied (error_without_place queue id.0 rule)) a.flying _ _ _ refl refl (sound-denied (error_without_place queue id.0 rule)) refl
+      (λ m. queue_at-denied (start_of a) a.audit.items queue id bytes rule m) (kept.flying ∙ ap length (sym (flight-denied rule))) (none-launched (Take queue id bytes) (outcome.Taken (Denied (error_without_place queue id.0 rule))) refl (start_of a))
 
   -- it is launched
   module _ (p : Packet) (reads : decoded bytes ≡ Some p) (next : id.0 ≡ next_id (start_of a) a.audit.items queue) where

@@ -3,7 +3,7 @@ use Rattle.std.specs.Prelude.{ℕ, ℤ, ◌≡◌, ◌&&◌, Bool, true, false, 
 use Rattle.policy.specs.Policy.{Declared}
 use Rattle.core_model.specs.declared.limits.TheConstants.{MOST_ENTRIES}
 use Rattle.core_model.specs.History.{History}
-use Rattle.core_model.specs.Legal.{opened}
+use Rattle.core_model.specs.Legal.{empty_history}
 use Rattle.regions.specs.Memory.{zeros}
 use Rattle.grants.specs.Rules.{rules_of}
 use Rattle.grants.specs.Ledger.{IsNew, rules_in}
@@ -25,7 +25,7 @@ is_capacity capacity = nat_le 1 capacity && nat_le capacity MOST_ENTRIES
 
 -- a core is opened just where its audit's capacity is one, unless memory is wanted (own)
 abbrev pub Opens : Declared → ℕ → Result History OpenFault → Type 0
-Opens policy capacity (Ok core) = (is_capacity capacity ≡ true) × (core ≡ opened policy capacity)
+Opens policy capacity (Ok core) = (is_capacity capacity ≡ true) × (core ≡ empty_history policy capacity)
 Opens policy capacity (Err fault.OutOfMemory) = is_capacity capacity ≡ true
 Opens policy capacity (Err fault.BadCapacity) = is_capacity capacity ≡ false
 

@@ -3,7 +3,7 @@
 ghost use Rattle.std.specs.Prelude.{◌≡◌, ◌++◌, IfOk, OnOk, map, option_to_list};
 ghost use Rattle.std.specs.List.{flat_map};
 ghost use Rattle.aql_packet.specs.declared.ids.ClientId.{ClientId};
-ghost use Rattle.core_model.specs.Holds.{as_held, held_at_launch};
+ghost use Rattle.core_model.specs.Holds.{right_needed, rights_at_launch};
 ghost use Rattle.packet_processor.specs.Holding.{as_rights};
 
 use crate::judging::object_of;
@@ -25,7 +25,7 @@ pub fn held(
     packet: &Packet,
 ) -> Result<Sequence<Held>, AllocError>
     ensures { (client : ClientId) → IfOk result (λ held. held
-        ≡ map as_rights (held_at_launch (record { client = client; agent = agent }) packet.now)) }
+        ≡ map as_rights (rights_at_launch (record { client = client; agent = agent }) packet.now)) }
 {
     let mut held = Sequence::new(alloc);
     hold_all(&mut held, needs(Rule::L4, agent, packet))?;
@@ -38,7 +38,7 @@ pub fn held(
 // Puts what is needed behind what is held.
 fn hold_all(held: &mut Sequence<Held>, needs: Needs) -> Result<(), AllocError>
     ensures { OnOk result (held.new
-        ≡ held.old ++ map (λ need. as_rights (as_held need)) (flat_map option_to_list needs)) }
+        ≡ held.old ++ map (λ need. as_rights (right_needed need)) (flat_map option_to_list needs)) }
 {
     let [first, second, third, fourth, fifth] = needs;
     hold_one(held, first)?;
@@ -51,7 +51,7 @@ fn hold_all(held: &mut Sequence<Held>, needs: Needs) -> Result<(), AllocError>
 // Puts what is needed behind what is held, if it is anything.
 fn hold_one(held: &mut Sequence<Held>, need: Option<Need>) -> Result<(), AllocError>
     ensures { OnOk result (held.new
-        ≡ held.old ++ map (λ need. as_rights (as_held need)) (option_to_list need)) }
+        ≡ held.old ++ map (λ need. as_rights (right_needed need)) (option_to_list need)) }
 {
     if let Some(need) = need {
         held.push((object_of(&need.subject), Rights::of(need.right)))?;

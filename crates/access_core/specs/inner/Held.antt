@@ -15,13 +15,13 @@ use Rattle.core_model.specs.declared.flight.InFlight.{InFlight}
 use Rattle.core_model.specs.History.{Start}
 use Rattle.core_model.specs.Queues.{Opening, owner}
 use Rattle.core_model.specs.Flight.{is_packet}
-use Rattle.core_model.specs.Holds.{held, held_at_launch}
+use Rattle.core_model.specs.Holds.{packet_rights, rights_at_launch}
 
 -- a packet's queue was opened, and the packet holds what its launch gave it (own)
 pub record IsHeld (start : Start) (entries : List Entry) (f : InFlight) : Type 0 where
   pub opening : Opening
   pub owner_is : owner start entries f.queue ≡ Some opening
-  pub held_is : held start entries f.queue f.id ≡ held_at_launch opening f.packet
+  pub held_is : packet_rights start entries f.queue f.id ≡ rights_at_launch opening f.packet
 
 -- the set of one right
 abbrev pub as_rights : Right → Rights
@@ -31,7 +31,7 @@ as_rights right = record { 0 = bit_of right }
 abbrev pub holds_by : Option Opening → ClientId → Object → Right → Packet → Bool
 holds_by None client on right p = false
 holds_by (Some opening) client on right p =
-    opening.client.0 == client.0 && list_any (λ h. same_object on h.0 && has (as_rights h.1) right) (held_at_launch opening p)
+    opening.client.0 == client.0 && list_any (λ h. same_object on h.0 && has (as_rights h.1) right) (rights_at_launch opening p)
 
 -- whether the packet in flight with this queue and id holds a client's right on an object, by the openings of the queues
 abbrev pub packet_holds : (QueueId → Option Opening) → List InFlight → QueueId → PacketId → ClientId → Object → Right → Bool

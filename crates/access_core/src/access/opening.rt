@@ -3,7 +3,7 @@
 ghost use Rattle.std.specs.Prelude.{◌≡◌, ◌+◌, ◌<◌, IfOk, IsTrue, Some, length, true};
 ghost use Rattle.policy.specs.Policy.{initial_of, length_of};
 ghost use Rattle.regions.specs.Memory.{are_region_lengths, zeros};
-ghost use Rattle.core_model.specs.Legal.{opened};
+ghost use Rattle.core_model.specs.Legal.{empty_history};
 ghost use Rattle.access_core.specs.Opening.{is_capacity, IsUntouched, lengths_of_rows, Opens, values_of_rows};
 
 use crate::access::{AccessCore, OpenFault};
@@ -142,7 +142,7 @@ fn value_behind(policy: &Policy, before: usize) -> i64
 fn blank(alloc: Global, policy: Policy, capacity: usize, parts: Parts) -> AccessCore
     requires untouched { IsUntouched policy capacity parts }
     requires few { is_capacity capacity ≡ true }
-    ensures { result ≡ opened policy capacity }
+    ensures { result ≡ empty_history policy capacity }
 {
     let Parts {
         grants,

@@ -11,7 +11,7 @@ ghost use Rattle.core_model.specs.Memory.{memory_from, region_lengths};
 ghost use Rattle.core_model.specs.Needs.{function_of};
 ghost use Rattle.core_model.specs.Work.{function_result, function_writes, number_in_memory, result_writes, write_of};
 ghost use Rattle.core_model.specs.Owed.{owed_group, refuses};
-ghost use Rattle.core_model.specs.Legal.{MeetsOrLacks, due, wrapped};
+ghost use Rattle.core_model.specs.Legal.{MeetsOrLacks, due, as_variant};
 ghost use Rattle.access_core.specs.inner.QueueChanges.{IsThere, with_advance, with_queue};
 ghost use Rattle.access_core.specs.inner.LiesInRegions.{lies_in_regions};
 ghost use Rattle.access_core.specs.inner.InPlace.{IsChanged, IsGroupOf, IsNextGroup, IsPlaced, is_placed, run_owed};
@@ -50,7 +50,7 @@ impl AccessCore {
         queue: QueueId,
         packet: PacketId,
     ) -> Result<Worked, Refusal>
-        ensures { MeetsOrLacks (Event.RunNext queue packet) self.old self.new (wrapped Outcome.Worked result) }
+        ensures { MeetsOrLacks (Event.RunNext queue packet) self.old self.new (as_variant Outcome.Worked result) }
     {
         let Some(group) = self.may_run(queue, packet)? else {
             return Ok(Worked::Done);

@@ -7,7 +7,7 @@ ghost use Rattle.packet_processor.specs.Judged.{Judges};
 ghost use Rattle.access_core.specs.inner.Judged.{facts_lent};
 ghost use Rattle.access_core.specs.inner.Deciding.{Decides};
 ghost use Rattle.access_core.specs.inner.QueueChanges.{CanFail, CanLaunch, with_denied, with_launched, with_queue};
-ghost use Rattle.core_model.specs.Legal.{Meets, MeetsOrLacks, due, wrapped};
+ghost use Rattle.core_model.specs.Legal.{Meets, MeetsOrLacks, due, as_variant};
 
 use crate::access::lookups::queue_of;
 use crate::access::{AccessCore, enter};
@@ -144,7 +144,7 @@ impl AccessCore {
         packet: PacketId,
         bytes: &[u8; 64],
     ) -> Result<Taken, Refusal>
-        ensures { MeetsOrLacks (Event.Take queue packet bytes.now) self.old self.new (wrapped Outcome.Taken result) }
+        ensures { MeetsOrLacks (Event.Take queue packet bytes.now) self.old self.new (as_variant Outcome.Taken result) }
     {
         match self.may_take(queue, packet, bytes)? {
             Decision::Wait(cause) => Ok(Taken::Waiting(cause)),
@@ -190,7 +190,7 @@ impl AccessCore {
         launching: Launching,
     ) -> Result<Taken, Refusal>
         requires { Decides self.old queue packet bytes.now (Decision.Launch launching) }
-        ensures { MeetsOrLacks (Event.Take queue packet bytes.now) self.old self.new (wrapped Outcome.Taken result) }
+        ensures { MeetsOrLacks (Event.Take queue packet bytes.now) self.old self.new (as_variant Outcome.Taken result) }
     {
         let rights = held(alloc, launching.agent, &launching.packet)?;
         self.grants.reserve(rights.len())?;
