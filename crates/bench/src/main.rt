@@ -18,14 +18,15 @@ use clap::{Arg, ArgAction, ArgMatches, Command, Error};
 use fault::Fault;
 use kernel_speed::MOST_ITEMS;
 use report::{measure_kernels, measure_ring, measure_script};
+use script_speed::MOST_PACKETS;
 use std::alloc::{AllocError, Global};
 use std::process::ExitCode;
 use std::thread::Threads;
 use std::time::Clock;
 use std::{env, io};
 
-/// How many packets a producer sends at the most.
-const MOST_PACKETS: u64 = 1_000_000_000;
+/// How many packets a producer sends at the most, where the ring alone is measured.
+const MOST_RING_PACKETS: u64 = 1_000_000_000;
 
 /// How often everything is measured at the most.
 const MOST_RUNS: u64 = 1_000;
@@ -37,12 +38,30 @@ const FAILED: u8 = 1;
 const NOT_UNDERSTOOD: u8 = 2;
 
 // The argument that says how many packets are sent.
-fn packets<'a>(alloc: Global) -> Arg<'a> {
+fn packets<'a>(alloc: Global, most: u64, help: &'static str) -> Arg<'a> {
     Arg::new(alloc, "PACKETS")
         .required(true)
         .action(ArgAction::Set)
-        .value_parser(ValueParser::Unsigned(1, MOST_PACKETS))
-        .help("How many packets each producer sends, 1 to 1000000000")
+        .value_parser(ValueParser::Unsigned(1, most))
+        .help(help)
+}
+
+// That argument where the ring alone is measured.
+fn ring_packets<'a>(alloc: Global) -> Arg<'a> {
+    packets(
+        alloc,
+        MOST_RING_PACKETS,
+        "How many packets each producer sends, 1 to 1000000000",
+    )
+}
+
+// That argument where a script is measured.
+fn script_packets<'a>(alloc: Global) -> Arg<'a> {
+    packets(
+        alloc,
+        MOST_PACKETS,
+        "How many packets are sent, 1 to 300000",
+    )
 }
 
 // The argument that says how many items are run.
@@ -68,7 +87,15 @@ fn runs<'a>(alloc: Global) -> Arg<'a> {
 fn ring_command<'a>(alloc: Global) -> Result<Command<'a>, AllocError> {
     Command::new(alloc, "ring")
         .about("Measures the ring over atomics, with 64 slots")
-        .arg(packets(alloc))?
+        .arg(ring_packets(alloc))?
+        .arg(runs(alloc))
+}
+
+// The command that measures scripts.
+fn script_command<'a>(alloc: Global) -> Result<Command<'a>, AllocError> {
+    Command::new(alloc, "script")
+        .about("Measures a script: each packet is submitted, served, run and finished, a line each")
+        .arg(script_packets(alloc))?
         .arg(runs(alloc))
 }
 
@@ -83,8 +110,8 @@ fn kernels_command<'a>(alloc: Global) -> Result<Command<'a>, AllocError> {
 // The command that measures all.
 fn all_command<'a>(alloc: Global) -> Result<Command<'a>, AllocError> {
     Command::new(alloc, "all")
-        .about("Measures both")
-        .arg(packets(alloc))?
+        .about("Measures all three")
+        .arg(script_packets(alloc))?
         .arg(items(alloc))?
         .arg(runs(alloc))
 }
@@ -92,6 +119,7 @@ fn all_command<'a>(alloc: Global) -> Result<Command<'a>, AllocError> {
 // The command line that the program understands.
 fn command<'a>(alloc: Global) -> Result<Command<'a>, AllocError> {
     let ring = ring_command(alloc)?;
+    let script = script_command(alloc)?;
     let kernels = kernels_command(alloc)?;
     let all = all_command(alloc)?;
     Command::new(alloc, "bench")
@@ -99,6 +127,7 @@ fn command<'a>(alloc: Global) -> Result<Command<'a>, AllocError> {
         .version("0.1.0")
         .subcommand_required(true)
         .subcommand(ring)?
+        .subcommand(script)?
         .subcommand(kernels)?
         .subcommand(all)
 }
@@ -107,7 +136,9 @@ fn command<'a>(alloc: Global) -> Result<Command<'a>, AllocError> {
 #[derive(Clone, Copy)]
 struct Request {
     // How many packets each producer sends, where the ring is measured.
-    packets: Option<u64>,
+    ring: Option<u64>,
+    // How many packets a script has, where one is measured.
+    script: Option<u64>,
     // How many items a kernel has, where kernels are measured.
     items: Option<u32>,
     runs: u64,
@@ -118,8 +149,11 @@ fn measure<R: Print + Eprint + Clock + AllocGlobal + Threads + Sync>(
     rt: &R,
     request: Request,
 ) -> Result<(), Fault> {
-    if let Some(packets) = request.packets {
+    if let Some(packets) = request.ring {
         measure_ring(rt, packets, request.runs)?;
+    }
+    if let Some(packets) = request.script {
+        measure_script(rt, packets, request.runs)?;
     }
     if let Some(items) = request.items {
         measure_kernels(rt, items, request.runs)?;
@@ -156,9 +190,11 @@ fn understand(rt: &HostRuntime, words: &[String]) -> Result<Request, u8> {
 
 // What the words of a command line ask for.
 fn requested(matches: &ArgMatches<'_>) -> Option<Request> {
-    let (_, asked) = matches.subcommand()?;
+    let (name, asked) = matches.subcommand()?;
+    let packets = asked.get_one("PACKETS");
     Some(Request {
-        packets: asked.get_one("PACKETS"),
+        ring: packets.filter(|_| name != "script"),
+        script: packets.filter(|_| name != "ring"),
         items: asked.get_one("ITEMS"),
         runs: asked.get_one("runs").unwrap_or(1),
     })
