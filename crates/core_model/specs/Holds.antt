@@ -1,18 +1,24 @@
 -- What packets in flight hold, and which of them stands against a revocation.
-use Rattle.std.specs.Prelude.{◌==◌, ◌&&◌, ◌||◌, Bool, false, nat_lt, nat_le, List, [], ◌∷◌, ◌++◌, map, filter, find, Option, Some, None, if◌then◌else◌}
+use Rattle.std.specs.Prelude.{ℕ, ◌==◌, ◌&&◌, ◌||◌, Bool, false, nat_lt, nat_le, List, [], ◌∷◌, ◌++◌, map, filter, find, Option, Some, None, if◌then◌else◌}
 use Rattle.std.specs.List.{flat_map, list_all, list_any}
 use Rattle.aql_packet.specs.declared.ids.ClientId.{ClientId}
 use Rattle.aql_packet.specs.declared.ids.QueueId.{QueueId}
 use Rattle.aql_packet.specs.declared.ids.PacketId.{PacketId}
 use Rattle.aql_packet.specs.declared.packet.Packet.{Packet}
+use Rattle.aql_packet.specs.declared.packet.Packet.TheVariants as packet
 use Rattle.policy.specs.declared.object.Object.{Object}
+use Rattle.policy.specs.declared.object.Object.TheVariants as object
+use Rattle.regions.specs.Memory.{lies_in_region, region_of}
 use Rattle.policy.specs.declared.rights.Right.{Right}
 use Rattle.policy.specs.declared.rights.Rights.{Rights}
 use Rattle.policy.specs.Object.{same_object}
-use Rattle.policy.specs.Rights.{has}
+use Rattle.policy.specs.Rights.{all_rights, has}
 use Rattle.core_model.specs.declared.entry.Entry.{Entry}
 use Rattle.core_model.specs.declared.flight.InFlight.{InFlight}
 use Rattle.core_model.specs.History.{Start}
+use Rattle.core_model.specs.Grants.{in_force}
+use Rattle.core_model.specs.Memory.{region_lengths}
+use Rattle.core_model.specs.Kernels.{argument_block, kernel_of, wide_arguments}
 use Rattle.core_model.specs.Queues.{Opening, owner}
 use Rattle.core_model.specs.Flight.{flight, is_packet, launched_by}
 use Rattle.core_model.specs.declared.need.Need.{Need}
@@ -27,31 +33,66 @@ Held = Object × Right
 abbrev pub as_held : Need → Held
 as_held need = (object_of need.subject, need.right)
 
--- what a packet holds from its launch on: all that it needs for its agent (own)
-abbrev pub held_at_launch : Opening → Packet → List Held
-held_at_launch opening p = flat_map (λ rule. map as_held (needs rule opening.agent p)) launch_rules
+-- what a packet holds by what it needs for its agent
+abbrev pub held_by_needs : Opening → Packet → List Held
+held_by_needs opening p = flat_map (λ rule. map as_held (needs rule opening.agent p)) launch_rules
 
--- what a packet that is launched in a queue with this opening holds, if there are both
-abbrev pub held_if : Option Opening → Option InFlight → List Held
-held_if (Some opening) (Some f) = held_at_launch opening f.packet
-held_if _ _ = []
+-- all rights that a client has in force on an object, each by itself
+abbrev pub all_in_force : Start → List Entry → ClientId → Object → List Held
+all_in_force start entries client on = map (λ right. (on, right)) (filter (in_force start entries client on) all_rights)
+
+-- all rights in force on the region in which an argument points, if it points in one (own)
+abbrev pub held_by_pointer : Start → List Entry → ClientId → ℕ → List Held
+held_by_pointer start entries client address =
+    if lies_in_region (region_lengths start) address
+    then all_in_force start entries client (object.Region (record { 0 = region_of address }))
+    else []
+
+-- what a packet holds by its arguments: a kernel dispatch all rights in force on each region in which one of its arguments of 64
+-- bits points (own)
+abbrev pub held_by_arguments : Start → List Entry → ClientId → Packet → List Held
+held_by_arguments start entries client (packet.Kernel d) =
+    flat_map (held_by_pointer start entries client) (wide_arguments (kernel_of start d) (argument_block start entries d))
+held_by_arguments start entries client _ = []
+
+-- what a packet holds from its launch behind these entries on: all that it needs for its agent, and what its arguments have it hold (own)
+abbrev pub held_at_launch : Start → List Entry → Opening → Packet → List Held
+held_at_launch start entries opening p = held_by_needs opening p ++ held_by_arguments start entries opening.client p
+
+-- what a packet holds that is launched behind these entries in a queue with this opening, if there are both
+abbrev pub held_if : Start → List Entry → Option Opening → Option InFlight → List Held
+held_if start entries (Some opening) (Some f) = held_at_launch start entries opening f.packet
+held_if start entries _ _ = []
+
+-- the argument block of a packet that is launched behind these entries, if it is a kernel dispatch
+abbrev pub arguments_of : Start → List Entry → Packet → List ℕ
+arguments_of start entries (packet.Kernel d) = argument_block start entries d
+arguments_of start entries _ = []
+
+abbrev pub arguments_if : Start → List Entry → Option InFlight → List ℕ
+arguments_if start entries None = []
+arguments_if start entries (Some f) = arguments_of start entries f.packet
 
 -- whether a packet that is launched is the one with this queue and id
 abbrev pub is_launch : QueueId → PacketId → Option InFlight → Bool
 is_launch queue id None = false
 is_launch queue id (Some f) = is_packet queue id f
 
--- what a packet holds, by the part of the history before its launch: `before` comes before the entries
-abbrev pub held_from : Start → List Entry → List Entry → QueueId → PacketId → List Held
-held_from start before [] queue id = []
-held_from start before (entry ∷ entries) queue id =
+-- what a packet's launch gives it, by the part of the history before the launch: `before` comes before the entries
+abbrev pub from_launch : {X : Type 0} → (List Entry → Option InFlight → List X) → List Entry → List Entry → QueueId → PacketId → List X
+from_launch give before [] queue id = []
+from_launch give before (entry ∷ entries) queue id =
     if is_launch queue id (launched_by entry.event entry.outcome)
-    then held_if (owner start before queue) (launched_by entry.event entry.outcome)
-    else held_from start (before ++ entry ∷ []) entries queue id
+    then give before (launched_by entry.event entry.outcome)
+    else from_launch give (before ++ entry ∷ []) entries queue id
 
 -- what a packet that was launched holds
 abbrev pub held : Start → List Entry → QueueId → PacketId → List Held
-held start entries queue id = held_from start [] entries queue id
+held start entries queue id = from_launch (λ before f. held_if start before (owner start before queue) f) [] entries queue id
+
+-- the argument block of a packet that was launched, as it was at its launch
+abbrev pub arguments : Start → List Entry → QueueId → PacketId → List ℕ
+arguments start entries queue id = from_launch (arguments_if start) [] entries queue id
 
 -- whether a packet in flight holds one of these rights on the object
 abbrev pub holds_one_of : Start → List Entry → Object → Rights → InFlight → Bool
