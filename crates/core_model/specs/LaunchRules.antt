@@ -55,14 +55,18 @@ is_taken takes _ = true
 abbrev pub are_sizes : Bool → ℕ → ℕ → Bool
 are_sizes is_used group grid = nat_le 1 group && nat_le 1 grid && nat_le group grid && (is_used || (group == 1 && grid == 1))
 
--- the dimensions and sizes of a kernel dispatch: 1 to 3 dimensions (PSA, Kernel Dispatch Packet), and not too many work-items in a
--- work-group, nor work-groups (own limits)
-abbrev pub has_sizes : KernelDispatch → Bool
-has_sizes d =
+-- 1 to 3 dimensions, and sizes in each of the three (PSA, Kernel Dispatch Packet)
+abbrev pub has_dimensions : KernelDispatch → Bool
+has_dimensions d =
     nat_le 1 d.dimensions && nat_le d.dimensions 3
     && are_sizes true d.workgroup_size_x d.grid_size_x
     && are_sizes (nat_le 2 d.dimensions) d.workgroup_size_y d.grid_size_y
     && are_sizes (nat_le 3 d.dimensions) d.workgroup_size_z d.grid_size_z
+
+-- the dimensions and sizes of a kernel dispatch, with not too many work-items in a work-group, nor work-groups (own limits)
+abbrev pub has_sizes : KernelDispatch → Bool
+has_sizes d =
+    has_dimensions d
     && nat_le (count_of (group_size d)) MOST_GROUP_ITEMS
     && nat_lt (count_of (groups_of (grid_size d) (group_size d))) (2 ^ 32)
 

@@ -3,7 +3,7 @@
 ghost use Rattle.std.specs.Prelude.{◌≡◌, ◌++◌, IfOk, OnOk, map, option_to_list};
 ghost use Rattle.std.specs.List.{flat_map};
 ghost use Rattle.aql_packet.specs.declared.ids.ClientId.{ClientId};
-ghost use Rattle.core_model.specs.Holds.{as_held, held_at_launch};
+ghost use Rattle.core_model.specs.Holds.{as_held, held_by_needs};
 ghost use Rattle.packet_processor.specs.Holding.{as_rights};
 
 use crate::judging::object_of;
@@ -18,17 +18,18 @@ use std::alloc::{AllocError, Global};
 /// An object, and rights on it.
 type Held = (Object, Rights);
 
-/// What a packet holds from its launch on an agent on: all that it needs, rule by rule.
-pub fn held(
+/// What a packet holds from its launch on an agent on by what it needs, rule by rule.
+pub fn held_by_needs(
     alloc: Global,
     agent: AgentHandle,
     packet: &Packet,
 ) -> Result<Sequence<Held>, AllocError>
     ensures { (client : ClientId) → IfOk result (λ held. held
-        ≡ map as_rights (held_at_launch (record { client = client; agent = agent }) packet.now)) }
+        ≡ map as_rights (held_by_needs (record { client = client; agent = agent }) packet.now)) }
 {
     let mut held = Sequence::new(alloc);
     hold_all(&mut held, needs(Rule::L4, agent, packet))?;
+    hold_all(&mut held, needs(Rule::L6, agent, packet))?;
     hold_all(&mut held, needs(Rule::L8, agent, packet))?;
     hold_all(&mut held, needs(Rule::L9, agent, packet))?;
     hold_all(&mut held, needs(Rule::L10, agent, packet))?;
