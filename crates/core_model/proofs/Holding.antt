@@ -297,22 +297,22 @@ module _ (start : Start) (es : List Entry) (e : Entry) where
   rules-met facts p (r ∷ rules) each = All-append (λ h. facts.in_force h.0 h.1 ≡ true) _ _ (rights-met facts (needs r facts.agent p) (each r)) (rules-met facts p rules each)
 
   -- what arguments have a packet hold is in force
-  object-met : (client : ClientId) (on : Object) → All (λ h. in_force start es client h.0 h.1 ≡ true) (all_in_force start es client on)
+  object-met : (client : ClientId) (on : Object) → All (λ h. in_force start es client h.0 h.1 ≡ true) (all_in_force (in_force start es client) on)
   object-met client on = All-map (λ h. in_force start es client h.0 h.1 ≡ true) (λ right. (on, right)) _ (filter-passes (in_force start es client on) all_rights)
 
-  pointer-met : (client : ClientId) (address : ℕ) → All (λ h. in_force start es client h.0 h.1 ≡ true) (held_by_pointer start es client address)
+  pointer-met : (client : ClientId) (address : ℕ) → All (λ h. in_force start es client h.0 h.1 ≡ true) (held_by_pointer (in_force start es client) (region_lengths start) address)
   pointer-met client address = by_test (lies_in_region (region_lengths start) address)
     where
-      by_test : (b : Bool) → All (λ h. in_force start es client h.0 h.1 ≡ true) (if b then all_in_force start es client (object.Region (record { 0 = region_of address })) else [])
+      by_test : (b : Bool) → All (λ h. in_force start es client h.0 h.1 ≡ true) (if b then all_in_force (in_force start es client) (object.Region (record { 0 = region_of address })) else [])
       by_test true = object-met client (object.Region (record { 0 = region_of address }))
       by_test false = All-nil _
 
-  pointers-met : (client : ClientId) (addresses : List ℕ) → All (λ h. in_force start es client h.0 h.1 ≡ true) (flat_map (held_by_pointer start es client) addresses)
+  pointers-met : (client : ClientId) (addresses : List ℕ) → All (λ h. in_force start es client h.0 h.1 ≡ true) (flat_map (held_by_pointer (in_force start es client) (region_lengths start)) addresses)
   pointers-met client [] = All-nil _
   pointers-met client (x ∷ xs) = All-append (λ h. in_force start es client h.0 h.1 ≡ true) _ _ (pointer-met client x) (pointers-met client xs)
 
   arguments-held : (client : ClientId) (p : Packet) → All (λ h. in_force start es client h.0 h.1 ≡ true) (held_by_arguments start es client p)
-  arguments-held client (packet.Kernel d) = pointers-met client (wide_arguments (kernel_of start d) (argument_block start es d))
+  arguments-held client (packet.Kernel d) = pointers-met client (wide_arguments (kernel_of start d).wide (argument_block start es d))
   arguments-held client (packet.Agent _) = All-nil _
   arguments-held client (packet.BarrierAnd _) = All-nil _
   arguments-held client (packet.BarrierOr _) = All-nil _

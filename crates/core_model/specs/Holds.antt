@@ -37,22 +37,20 @@ as_held need = (object_of need.subject, need.right)
 abbrev pub held_by_needs : Opening → Packet → List Held
 held_by_needs opening p = flat_map (λ rule. map as_held (needs rule opening.agent p)) launch_rules
 
--- all rights that a client has in force on an object, each by itself
-abbrev pub all_in_force : Start → List Entry → ClientId → Object → List Held
-all_in_force start entries client on = map (λ right. (on, right)) (filter (in_force start entries client on) all_rights)
+-- all rights that are in force on an object, each by itself
+abbrev pub all_in_force : (Object → Right → Bool) → Object → List Held
+all_in_force in_force on = map (λ right. (on, right)) (filter (in_force on) all_rights)
 
--- all rights in force on the region in which an argument points, if it points in one (own)
-abbrev pub held_by_pointer : Start → List Entry → ClientId → ℕ → List Held
-held_by_pointer start entries client address =
-    if lies_in_region (region_lengths start) address
-    then all_in_force start entries client (object.Region (record { 0 = region_of address }))
-    else []
+-- all rights in force on the region in which an argument points, by the regions' lengths, if it points in one (own)
+abbrev pub held_by_pointer : (Object → Right → Bool) → List ℕ → ℕ → List Held
+held_by_pointer in_force lengths address =
+    if lies_in_region lengths address then all_in_force in_force (object.Region (record { 0 = region_of address })) else []
 
 -- what a packet holds by its arguments: a kernel dispatch all rights in force on each region in which one of its arguments of 64
 -- bits points (own)
 abbrev pub held_by_arguments : Start → List Entry → ClientId → Packet → List Held
 held_by_arguments start entries client (packet.Kernel d) =
-    flat_map (held_by_pointer start entries client) (wide_arguments (kernel_of start d) (argument_block start entries d))
+    flat_map (held_by_pointer (in_force start entries client) (region_lengths start)) (wide_arguments (kernel_of start d).wide (argument_block start entries d))
 held_by_arguments start entries client _ = []
 
 -- what a packet holds from its launch behind these entries on: all that it needs for its agent, and what its arguments have it hold (own)

@@ -34,6 +34,6 @@ grid_size d = record { x = d.grid_size_x; y = d.grid_size_y; z = d.grid_size_z }
 abbrev pub argument_block : Start → List Entry → KernelDispatch → List ℕ
 argument_block start entries d = memory_from start entries d.kernarg_address.0 (kernel_of start d).argument_bytes
 
--- the arguments of 64 bits in a kernel's argument block, as numbers
-abbrev pub wide_arguments : Program → List ℕ → List ℕ
-wide_arguments kernel block = map (λ offset. from_le_bytes w64 (take 8 (drop offset block))) kernel.wide
+-- the arguments of 64 bits at these offsets of an argument block, as numbers
+abbrev pub wide_arguments : List ℕ → List ℕ → List ℕ
+wide_arguments offsets block = map (λ offset. from_le_bytes w64 (take 8 (drop offset block))) offsets
