@@ -1,39 +1,18 @@
 -- What is cached stays what the history says when an entry is put behind it and the fields follow.
-use Rattle.std.proofs.Common.{◌≡◌, ℕ, ◌+◌, ◌<◌, ◌≤◌, List, [], ◌∷◌, length, sym, ◌∙◌, ap, subst, refl, true, false, Some, None, arith, length-append}
-use Rattle.std.specs.Prelude.{map, fold, All}
+use Rattle.std.proofs.Common.{◌≡◌, ℕ, ◌+◌, ◌<◌, ◌≤◌, List, [], ◌∷◌, length, sym, ◌∙◌, ap, subst, refl, true, false, Some, None, arith, length-append, map, fold}
+use Rattle.std.proofs.Common.{All}
 use Rattle.std.proofs.lemmas.Bool.{ltb-false}
-use Rattle.aql_packet.specs.declared.ids.ClientId.{ClientId}
-use Rattle.aql_packet.specs.declared.ids.QueueId.{QueueId}
-use Rattle.aql_packet.specs.declared.ids.PacketId.{PacketId}
-use Rattle.policy.specs.declared.object.Object.{Object}
-use Rattle.policy.specs.declared.rights.Right.{Right}
-use Rattle.policy.specs.Policy.{numbered}
-use Rattle.regions.specs.Memory.{byte_at, lengths_of, lies_in_region}
-use Rattle.core_model.specs.declared.entry.Effect.{Effect}
-use Rattle.core_model.specs.declared.event.Event.{Event}
-use Rattle.core_model.specs.declared.flight.InFlight.{InFlight}
-use Rattle.core_model.specs.declared.outcome.Outcome.{Outcome}
-use Rattle.core_model.specs.Grants.{in_force, in_force_after}
-use Rattle.core_model.specs.Memory.{memory_at, byte_after, signals_after, region_lengths}
-use Rattle.core_model.specs.Queues.{owner, opening_of}
-use Rattle.core_model.specs.Flight.{flight, launched_by}
-use Rattle.core_model.specs.declared.limits.TheConstants.{QUEUES}
-use Rattle.core_model.specs.History.{Start, History}
-use Rattle.core_model.specs.Owed.{Owed, enters, owed}
-use Rattle.core_model.specs.Legal.{due, entry_of, lacks_room, with_entry}
+use Rattle.core_model.specs.Queues.{opening_of}
 use Rattle.core_model.proofs.Meeting.{entered-owed}
 use Rattle.core_model.proofs.Flying.{all-after}
-use Rattle.core_model.proofs.More.{in_force-more, memory_at-more, signals-more, openings-more, with_some, flight-more}
 use Rattle.core_model.proofs.Legality.{IsLegal-more}
-use Rattle.grants.specs.Ledger as ledger
-use Rattle.grants.specs.Ledger.{Ledger}
-use Rattle.access_core.specs.declared.access.AccessCore.TheInside.{Inside}
-use Rattle.access_core.specs.declared.queue.Queue.{Queue}
-use Rattle.access_core.specs.inner.Held.{packet_holds}
-use Rattle.access_core.specs.inner.Cached.{IsCached, IsEntered, history_of, start_of}
-use Rattle.access_core.specs.inner.CachedQueue.{IsSound, cached, cached_opening, queue_at}
-use Rattle.access_core.specs.inner.LiesInRegions.{lies_in_regions}
 use Rattle.access_core.proofs.QueueAt.{IsQuiet, flight-quiet, queue_at-quiet}
+use Rattle.access_core.proofs.Terms.{ClientId, Effect, Event, History, InFlight, Inside, IsCached, IsEntered, IsSound, Ledger, Object, Outcome, Owed, PacketId}
+use Rattle.access_core.proofs.Terms.{QUEUES, Queue, QueueId, Right, Start, byte_after, byte_at, cached, cached_opening, due, enters, entry_of, flight}
+use Rattle.access_core.proofs.Terms.{flight-more, history_of, in_force, in_force-more, in_force_after, lacks_room, launched_by, lengths_of, lies_in_region}
+use Rattle.access_core.proofs.Terms.{lies_in_regions, memory_at, memory_at-more, numbered, openings-more, owed, owner, packet_holds, queue_at, region_lengths}
+use Rattle.access_core.proofs.Terms.{signals-more, signals_after, start_of, with_entry, with_some}
+use Rattle.grants.specs.Ledger as ledger
 
 -- How the grants follow an entry.
 pub record GrantsAfter (a : Inside) (new : Ledger) (event : Event) (outcome : Outcome) (effects : List Effect) : Type 0 where

@@ -1,15 +1,7 @@
 -- What is due to a call, by what the fields say that it is owed, and how it meets that.
 use Rattle.std.proofs.Common.{◌≡◌, List, refl, sym, ◌∙◌, ap, Ok, Err}
-use Rattle.core_model.specs.declared.entry.Effect.{Effect}
-use Rattle.core_model.specs.declared.entry.Entry.{Entry}
-use Rattle.core_model.specs.declared.event.Event.{Event}
-use Rattle.core_model.specs.declared.outcome.Outcome.{Outcome}
-use Rattle.core_model.specs.declared.refusal.Refusal.{Refusal}
-use Rattle.core_model.specs.History.{History}
-use Rattle.core_model.specs.Owed.{Owed, refuses, enters, owed}
-use Rattle.core_model.specs.Legal.{Meets, due, with_entry, within_room}
-use Rattle.access_core.specs.declared.access.AccessCore.TheInside.{Inside}
-use Rattle.access_core.specs.inner.Cached.{start_of, history_of}
+use Rattle.access_core.proofs.Terms.{Effect, Entry, Event, History, Inside, Meets, Outcome, Owed, Refusal, due, enters, history_of, owed, refuses, start_of}
+use Rattle.access_core.proofs.Terms.{with_entry, within_room}
 
 -- what is owed is due, if there is room for it
 pub due-as : (history : History) (event : Event) (owing : Owed) → owed history.start history.entries event ≡ owing → due history event ≡ within_room history event owing

@@ -1,23 +1,17 @@
 -- One queue of the list changed: what is kept of it, and of the others.
-use Rattle.std.proofs.Common.{◌≡◌, ℕ, zero, suc, ◌-◌, ◌<◌, List, [], ◌∷◌, length, map, All, get_or, refl, sym, ◌∙◌, ap, subst, rules, Bool, true, false, Option, Some, None, arith, inl, inr}
-use Rattle.std.specs.Prelude.{◌==◌, slice_get, slice_set, nat_lt, if◌then◌else◌}
-use Rattle.std.proofs.lemmas.Bool.{cases_eq, eqb-true, ltb-true, lt-ltb}
-use Rattle.std.proofs.Common.{eq-eqb}
-use Rattle.std.proofs.lemmas.List.Elements.{All-set, All-head, All-tail}
-use Rattle.aql_packet.specs.declared.ids.QueueId.{QueueId}
-use Rattle.policy.specs.Policy.{numbered}
-use Rattle.core_model.specs.declared.entry.Entry.{Entry}
-use Rattle.core_model.specs.History.{Start}
-use Rattle.access_core.specs.declared.queue.Queue.{Queue}
-use Rattle.access_core.specs.inner.CachedQueue.{IsSound, QueueView, cached, cached_opening, queue_at}
-use Rattle.aql_packet.specs.declared.ids.PacketId.{PacketId}
-use Rattle.std.proofs.lemmas.Option.{get_or_from_slice_get}
-use Rattle.access_core.specs.inner.QueueChanges.{freed, freed_by, with_queue}
+use Rattle.std.proofs.Common.{◌≡◌, ℕ, zero, suc, ◌-◌, ◌<◌, List, [], ◌∷◌, length, map, All, get_or, refl, sym, ◌∙◌, ap, subst, rules, Bool, true, false, Option}
+use Rattle.std.proofs.Common.{Some, None, arith, inl, inr, eq-eqb, length-set, lt-length-set, get_or-set_same, ◌==◌, slice_get, slice_set, if◌then◌else◌}
+use Rattle.std.proofs.lemmas.Bool.{cases_eq, eqb-true, lt-ltb}
+use Rattle.std.proofs.lemmas.List.Elements.{All-set}
+use Rattle.std.proofs.lemmas.Option.{get_or_from_slice_get, slice_get-get_or, slice_get_within}
+use Rattle.std.proofs.Math.Seq.{map-set_same}
+use Rattle.access_core.proofs.Terms.{Entry, IsSound, PacketId, Queue, QueueId, QueueView, Start, cached, cached_opening, freed, freed_by, numbered, queue_at}
+use Rattle.access_core.proofs.Terms.{with_queue}
 
 get-changed : (qs : List Queue) (i : ℕ) (q v : Queue) → slice_get qs i ≡ Some q → slice_get (slice_set qs i v) i ≡ Some v
-get-changed [] i q v at = cc
-get-changed (x ∷ xs) zero q v at = refl
-get-changed (x ∷ xs) (suc i) q v at = get-changed xs i q v at
+get-changed qs i q v at =
+    let within = slice_get_within qs i q at in
+    slice_get-get_or (slice_set qs i v) i v (lt-length-set qs i v within) ∙ ap Some (get_or-set_same qs i v v within)
 
 get-other : (qs : List Queue) (i : ℕ) (v : Queue) (k : ℕ) → (i ≡ k → ⊥) → slice_get (slice_set qs i v) k ≡ slice_get qs k
 get-other [] i v k other = refl
@@ -26,41 +20,15 @@ get-other (x ∷ xs) zero v (suc k) other = refl
 get-other (x ∷ xs) (suc i) v zero other = refl
 get-other (x ∷ xs) (suc i) v (suc k) other = get-other xs i v k (λ e. other (ap suc e))
 
-map-set : {Y : Type 0} (f : Queue → Y) (qs : List Queue) (i : ℕ) (q v : Queue) → slice_get qs i ≡ Some q → f v ≡ f q → map f (slice_set qs i v) ≡ map f qs
-map-set f [] i q v at same = refl
-map-set f (x ∷ xs) zero q v at same = let is_q : x ≡ q = cc in rw (same, is_q) refl
-map-set f (x ∷ xs) (suc i) q v at same = rw (map-set f xs i q v at same) refl
-
-length-set : (qs : List Queue) (i : ℕ) (v : Queue) → length (slice_set qs i v) ≡ length qs
-length-set [] i v = refl
-length-set (x ∷ xs) zero v = refl
-length-set (x ∷ xs) (suc i) v = ap suc (length-set xs i v)
-
-none_some : (q : Queue) → None ≡ Some q → ⊥
-none_some q e = cc
-
 -- the place of a number
 pub numbered-place : (qs : List Queue) (n : ℕ) (q : Queue) → numbered qs n ≡ Some q → (0 < n) × (slice_get qs (n - 1) ≡ Some q)
-numbered-place qs n q found = either (nat_lt 0 n) refl
-  where
-    either : (b : Bool) → nat_lt 0 n ≡ b → (0 < n) × (slice_get qs (n - 1) ≡ Some q)
-    either true is = (ltb-true 0 n is, rw is at found)
-    either false is = absurd (none_some q (rw is at found))
+numbered-place qs n q found = (grind arith, grind arith)
 
 numbered-at : (qs : List Queue) (n : ℕ) (q : Queue) → 0 < n → slice_get qs (n - 1) ≡ Some q → numbered qs n ≡ Some q
 numbered-at qs n q above at = rw (lt-ltb 0 n above) at
 
 numbered-other : (qs : List Queue) (n : ℕ) (v : Queue) (m : ℕ) → 0 < n → (n ≡ m → ⊥) → numbered (slice_set qs (n - 1) v) m ≡ numbered qs m
-numbered-other qs n v m above other = either (nat_lt 0 m) refl
-  where
-    either : (b : Bool) → nat_lt 0 m ≡ b → (if b then slice_get (slice_set qs (n - 1) v) (m - 1) else None) ≡ (if b then slice_get qs (m - 1) else None)
-    either true is = let positive : 0 < m = ltb-true 0 m is in get-other qs (n - 1) v (m - 1) (λ e. other (omega arith))
-    either false is = refl
-
-get-sound : (P : Queue → Type 0) (qs : List Queue) (i : ℕ) (q : Queue) → All P qs → slice_get qs i ≡ Some q → P q
-get-sound P [] i q all at = absurd cc
-get-sound P (x ∷ xs) zero q all at = let here : x ≡ q = cc in subst P here (All-head P x xs all)
-get-sound P (x ∷ xs) (suc i) q all at = get-sound P xs i q (All-tail P x xs all) at
+numbered-other qs n v m above other = grind (arith, get-other qs (n - 1) v (m - 1))
 
 -- the item at the place of a number
 pub item-at : (qs : List Queue) (n : ℕ) (q x : Queue) → numbered qs n ≡ Some q → x ≡ get_or qs (n - 1) x → x ≡ q
@@ -71,12 +39,9 @@ freed-at id qs n q found = ap (λ (o : Option Queue). elim o [ None ↦ 0 | Some
 
 -- a kept queue is sound
 pub sound-at : (qs : List Queue) (n : ℕ) (q : Queue) → All IsSound qs → numbered qs n ≡ Some q → IsSound q
-sound-at qs n q all found = get-sound IsSound qs (n - 1) q all (numbered-place qs n q found).1
-
-pub slice_get-below : (qs : List Queue) (i : ℕ) (q : Queue) → slice_get qs i ≡ Some q → i < length qs
-slice_get-below [] i q at = cc
-slice_get-below (x ∷ xs) zero q at = omega arith
-slice_get-below (x ∷ xs) (suc i) q at = let below : i < length xs = slice_get-below xs i q at in omega arith
+sound-at qs n q all found =
+    let at = (numbered-place qs n q found).1 in
+    subst IsSound (get_or_from_slice_get qs (n - 1) q q at) (all (n - 1) q (slice_get_within qs (n - 1) q at))
 
 module _ (qs : List Queue) (n : QueueId) (change : Queue → Queue) (q : Queue) (found : numbered qs n.0 ≡ Some q) where
   -- the changed list
@@ -91,7 +56,8 @@ module _ (qs : List Queue) (n : QueueId) (change : Queue → Queue) (q : Queue) 
   place = numbered-place qs n.0 q found
 
   pub openings-changed : cached_opening (change q) ≡ cached_opening q → map cached_opening (with_queue qs n change) ≡ map cached_opening qs
-  openings-changed same = rw with_queue-is (map-set cached_opening qs (n.0 - 1) q (change q) place.1 same)
+  openings-changed same =
+      rw with_queue-is (map-set_same cached_opening qs (n.0 - 1) (change q) q (same ∙ ap cached_opening (sym (get_or_from_slice_get qs (n.0 - 1) q q place.1))))
 
   pub length-changed : length (with_queue qs n change) ≡ length qs
   length-changed = rw with_queue-is (length-set qs (n.0 - 1) (change q))

@@ -1,34 +1,18 @@
 -- What a grant and a revocation are owed, by the grants that are cached.
-use Rattle.std.proofs.Common.{◌≡◌, refl, sym, ◌∙◌, ap, Bool, true, false, Option, Some, None, Ok, Err}
-use Rattle.std.specs.Prelude.{◌&&◌, [], Result, if◌then◌else◌, not}
-use Rattle.grants.specs.Rules as rules_kept
-use Rattle.aql_packet.specs.declared.ids.ClientId.{ClientId}
-use Rattle.aql_packet.specs.declared.ids.QueueId.{QueueId}
-use Rattle.aql_packet.specs.declared.ids.PacketId.{PacketId}
-use Rattle.policy.specs.declared.object.Object.{Object}
-use Rattle.policy.specs.declared.rights.Rights.{Rights}
-use Rattle.policy.specs.Policy.{declares_client, declares, allows}
+use Rattle.std.proofs.Common.{arith, ◌≡◌, refl, sym, ◌∙◌, ap, Bool, true, false, Option, Some, None, Ok, Err, ◌&&◌, [], Result, if◌then◌else◌, not}
 use Rattle.grants.specs.declared.refusal.Refusal.{Refusal as Why}
-use Rattle.grants.specs.declared.refusal.Refusal.TheVariants as why
-use Rattle.grants.specs.Holders.{IsFirstTo}
-use Rattle.grants.specs.Rules.{Rules, rules_of, knows_client, knows}
-use Rattle.grants.specs.Ledger.{grant_due, RevokeAnswers, is_holder, rules_in}
-use Rattle.core_model.specs.declared.event.Event.TheVariants.{Grant, Revoke}
-use Rattle.core_model.specs.declared.outcome.Outcome.TheVariants as outcome
-use Rattle.core_model.specs.declared.refusal.Refusal.TheVariants as refusal
-use Rattle.core_model.specs.declared.flight.InFlight.{InFlight}
-use Rattle.core_model.specs.Holds.{holder, is_owned, holds_one_of}
-use Rattle.core_model.specs.Flight.{flight}
-use Rattle.core_model.specs.History.{History}
-use Rattle.core_model.specs.Owed.{owed, enters, refuses, refuse_unless}
-use Rattle.core_model.specs.Legal.{due}
-use Rattle.access_core.specs.declared.access.AccessCore.TheInside.{Inside}
-use Rattle.access_core.specs.inner.Cached.{IsCached, history_of, is_full, start_of}
-use Rattle.access_core.specs.inner.Deciding.{refusal_of}
+use Rattle.core_model.specs.Owed.{owed}
 use Rattle.access_core.proofs.Calls.{due-by}
 use Rattle.access_core.proofs.HeldMore.{AreHeld-legal}
 use Rattle.access_core.proofs.HeldRights.{is_holder-history}
 use Rattle.access_core.proofs.Least.{passes, least-none, least-first}
+use Rattle.access_core.proofs.Terms.{ClientId, Grant, History, InFlight, Inside, IsCached, IsFirstTo, Object, PacketId, QueueId, Revoke, RevokeAnswers, Rights}
+use Rattle.access_core.proofs.Terms.{Rules, allows, declares, declares_client, due, enters, flight, grant_due, history_of, holder, holds_one_of, is_full}
+use Rattle.access_core.proofs.Terms.{is_holder, is_owned, knows, knows_client, refusal_of, refuse_unless, refuses, rules_in, rules_of, start_of}
+use Rattle.grants.specs.Rules as rules_kept
+use Rattle.grants.specs.declared.refusal.Refusal.TheVariants as why
+use Rattle.core_model.specs.declared.outcome.Outcome.TheVariants as outcome
+use Rattle.core_model.specs.declared.refusal.Refusal.TheVariants as refusal
 
 -- what is due to a grant, by whether the client and the object are declared, and the rights allowed
 abbrev due_of : Bool → Bool → Bool → Result (Unit {0}) Why
@@ -56,14 +40,8 @@ module _ (a : Inside) (kept : IsCached a) (client : ClientId) (on : Object) (rig
 
   grant-owed : Ok tt ≡ grant_due a.grants client on rights → owed (start_of a) a.audit.items (Grant client on rights) ≡ enters outcome.Accepted []
   unfolding owed
-  grant-owed due = by_tests (declares_client a.policy client) (declares a.policy on) (allows a.policy client on rights) (due ∙ due-is)
-    where
-      by_tests : (c o s : Bool) → Ok tt ≡ due_of c o s
-          → refuse_unless c refusal.UnknownClient (refuse_unless o refusal.UnknownObject (refuse_unless s refusal.NotAllowed (enters outcome.Accepted []))) ≡ enters outcome.Accepted []
-      by_tests false o s e = absurd cc
-      by_tests true false s e = absurd cc
-      by_tests true true false e = absurd cc
-      by_tests true true true e = refl
+  grant-owed due =
+      let is : Ok tt ≡ due_of (declares_client a.policy client) (declares a.policy on) (allows a.policy client on rights) = due ∙ due-is in grind arith
 
   -- so it is due its entry, where there is room
   pub grant-due : (old : History) → history_of a ≡ old → Ok tt ≡ grant_due a.grants client on rights → (full : Bool) → is_full old ≡ full → due old (Grant client on rights) ≡ (if full then refuses refusal.AuditFull else enters outcome.Accepted [])

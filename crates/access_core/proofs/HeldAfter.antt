@@ -1,47 +1,25 @@
 -- What packets hold moves along with what is in flight.
-use Rattle.std.proofs.Common.{◌≡◌, List, [], ◌∷◌, ◌++◌, refl, sym, ◌∙◌, ap, Bool, true, false, Option, Some, None, arith}
-use Rattle.std.specs.Prelude.{All, ℕ, ◌&&◌, ◌||◌, ◌==◌, not, map, filter, if◌then◌else◌}
+use Rattle.std.proofs.Common.{◌≡◌, List, [], ◌∷◌, ◌++◌, refl, sym, ◌∙◌, ap, Bool, true, false, Option, Some, None, arith, All, ℕ, ◌&&◌, ◌||◌, ◌==◌, not, map}
+use Rattle.std.proofs.Common.{filter, if◌then◌else◌}
 use Rattle.std.specs.List.{list_all, list_any}
 use Rattle.std.proofs.lemmas.List.Elements.{All-head, All-tail}
 use Rattle.std.proofs.lemmas.List.Folds.{list_any-append}
-use Rattle.aql_packet.specs.declared.ids.ClientId.{ClientId}
-use Rattle.aql_packet.specs.declared.ids.QueueId.{QueueId}
-use Rattle.aql_packet.specs.declared.ids.PacketId.{PacketId}
-use Rattle.aql_packet.specs.declared.packet.Packet.{Packet}
-use Rattle.policy.specs.declared.object.Object.{Object}
-use Rattle.policy.specs.declared.rights.Right.{Right}
-use Rattle.policy.specs.declared.rights.Rights.{Rights}
 use Rattle.policy.specs.Object.{same_object}
-use Rattle.policy.specs.declared.rights.Right.TheVariants as right
-use Rattle.policy.specs.Rights.{has, bit_of, each_right}
-use Rattle.policy.specs.Policy.{numbered}
-use Rattle.grants.specs.Ledger as ledger
-use Rattle.grants.specs.Ledger.{Ledger, Holds, Releases, are_in_force}
 use Rattle.grants.specs.Holders.{same_packet}
 use Rattle.grants.specs.Pairs.{names}
-use Rattle.core_model.specs.declared.entry.Effect.{Effect}
-use Rattle.core_model.specs.declared.entry.Entry.{Entry}
-use Rattle.core_model.specs.History.{Start}
-use Rattle.core_model.specs.Grants.{in_force}
-use Rattle.core_model.specs.declared.event.Event.{Event}
-use Rattle.core_model.specs.declared.outcome.Outcome.{Outcome}
-use Rattle.core_model.specs.declared.flight.InFlight.{InFlight}
-use Rattle.core_model.specs.Queues.{Opening, openings, owner, opening_of}
-use Rattle.core_model.specs.Flight.{flight, is_packet}
-use Rattle.core_model.specs.Grants.{in_force_after}
-use Rattle.access_core.proofs.CachedMore.{GrantsAfter}
-use Rattle.core_model.specs.Holds.{Held, held_at_launch}
-use Rattle.core_model.specs.Legal.{entry_of, with_entry}
-use Rattle.core_model.proofs.More.{openings-more, with_some}
-use Rattle.access_core.specs.declared.access.AccessCore.TheInside.{Inside}
-use Rattle.access_core.specs.inner.Cached.{IsCached, start_of}
-use Rattle.access_core.specs.inner.Held.{IsHeld, holds_by, packet_holds}
+use Rattle.core_model.specs.Queues.{opening_of}
 use Rattle.aql_packet.specs.declared.ids.AgentHandle.{AgentHandle}
-use Rattle.core_model.specs.declared.event.Event.TheVariants.{OpenQueue}
-use Rattle.access_core.proofs.HeldMore.{AreHeld-legal}
 use Rattle.core_model.proofs.Holding.{owner-more}
 use Rattle.packet_processor.specs.Holding.{as_rights}
-use Rattle.access_core.proofs.HeldRights.{any-before, or-false}
+use Rattle.access_core.proofs.CachedMore.{GrantsAfter}
+use Rattle.access_core.proofs.HeldMore.{AreHeld-legal}
+use Rattle.access_core.proofs.HeldRights.{any-before}
+use Rattle.access_core.proofs.Terms.{ClientId, Effect, Entry, Event, Held, Holds, InFlight, Inside, IsCached, IsHeld, Ledger, Object, OpenQueue, Opening}
+use Rattle.access_core.proofs.Terms.{Outcome, Packet, PacketId, QueueId, Releases, Right, Rights, Start, are_in_force, bit_of, each_right, entry_of, flight}
+use Rattle.access_core.proofs.Terms.{has, held_at_launch, holds_by, in_force, in_force_after, is_packet, numbered, openings, openings-more, owner, packet_holds}
+use Rattle.access_core.proofs.Terms.{start_of, with_entry, with_some}
+use Rattle.policy.specs.declared.rights.Right.TheVariants as right
+use Rattle.grants.specs.Ledger as ledger
 
 -- ---- an entry that opens no queue
 
@@ -68,22 +46,7 @@ grants-still a kept event outcome effects none same flying = record {
 -- ---- a packet that leaves flight
 
 left_out : (k p s x r : Bool) → (k ≡ true → p ≡ s) → (k ≡ false → (p && s) ≡ false) → (if not k then ((p && x) || (r && not s)) else (r && not s)) ≡ (((p && x) || r) && not s)
-left_out true true true x r one two = either x
-  where
-    either : (x : Bool) → (r && false) ≡ ((x || r) && false)
-    either true = and-none r
-      where
-        and-none : (r : Bool) → (r && false) ≡ false
-        and-none true = refl
-        and-none false = refl
-    either false = refl
-left_out true true false x r one two = let e : true ≡ false = one refl in absurd cc
-left_out true false true x r one two = let e : false ≡ true = one refl in absurd cc
-left_out true false false x r one two = refl
-left_out false true true x r one two = let e : true ≡ false = two refl in absurd cc
-left_out false true false true r one two = refl
-left_out false true false false r one two = refl
-left_out false false s x r one two = refl
+left_out k p s x r one two = grind arith
 
 module _ (owners : QueueId → Option Opening) (q : QueueId) (i : PacketId) (queue : QueueId) (id : PacketId) (client : ClientId) (on : Object) (right : Right) where
   pub held-without : (fs : List InFlight) → packet_holds owners (filter (λ f. not (is_packet q i f)) fs) queue id client on right ≡ (packet_holds owners fs queue id client on right && not (same_packet queue id q i))
@@ -106,6 +69,9 @@ module _ (owners : QueueId → Option Opening) (q : QueueId) (i : PacketId) (que
 
 -- ---- a packet that is launched
 
+or-false : (b : Bool) → (b || false) ≡ b
+or-false b = grind arith
+
 same_turned : (a b : ℕ) → (a == b) ≡ (b == a)
 same_turned a b = grind arith
 
@@ -115,8 +81,7 @@ names-held client c on right hs =
     ∙ mapped hs ∙ any-before (λ (h : Held). same_object on h.0 && has (as_rights h).1 right) (client.0 == c.0) hs
   where
     turned : (a b d : Bool) → ((a && b) && d) ≡ (a && (b && d))
-    turned true b d = refl
-    turned false b d = refl
+    turned a b d = grind arith
 
     mapped : (hs : List Held) → list_any (λ (named : Object × Rights). (client.0 == c.0 && same_object on named.0) && has named.1 right) (map as_rights hs) ≡ list_any (λ (h : Held). client.0 == c.0 && (same_object on h.0 && has (as_rights h).1 right)) hs
     mapped [] = refl
@@ -182,18 +147,9 @@ grants-launched a kept event outcome effects none still old new opening q i p ri
       ∙ (λ j. packet_holds (λ (n : QueueId). numbered (sym (owners-still a event outcome effects none) j) n.0) (sym flying j) queue id client on right);
 }
 
-and-true : (b : Bool) → (b && true) ≡ b
-and-true true = refl
-and-true false = refl
-
 -- a set of one right is in force where the right is
 each-one : (one : Right) (test : Right → Bool) → each_right (record { 0 = bit_of one }) test ≡ test one
-each-one right.Use test = and-true (test right.Use)
-each-one right.Read test = and-true (test right.Read)
-each-one right.Write test = and-true (test right.Write)
-each-one right.Wait test = and-true (test right.Wait)
-each-one right.Change test = and-true (test right.Change)
-each-one right.Launch test = and-true (test right.Launch)
+each-one one test = grind arith
 
 all-in_force : (grants : Ledger) (client : ClientId) (hs : List Held) → are_in_force grants client (map as_rights hs) ≡ list_all (λ h. ledger.in_force grants client h.0 h.1) hs
 all-in_force grants client [] = refl

@@ -1,20 +1,11 @@
 -- What packets in flight hold stays as it was at their launch, whatever entry comes behind.
-use Rattle.std.proofs.Common.{◌≡◌, ◌<◌, List, [], ◌∷◌, ◌++◌, refl, ◌∙◌, Bool, true, false, Some, arith}
-use Rattle.std.specs.Prelude.{All}
+use Rattle.std.proofs.Common.{◌≡◌, ◌<◌, List, [], ◌∷◌, ◌++◌, refl, ◌∙◌, Bool, true, false, Some, arith, All}
 use Rattle.std.proofs.lemmas.Bool.{and_from, eq-eqb}
 use Rattle.std.proofs.lemmas.List.Elements.{All-weaker}
-use Rattle.core_model.specs.declared.entry.Entry.{Entry}
-use Rattle.core_model.specs.declared.flight.InFlight.{InFlight}
-use Rattle.core_model.specs.History.{Start}
-use Rattle.core_model.specs.Queues.{next_id}
-use Rattle.core_model.specs.Flight.{flight, flight_after, is_packet, launched_by}
-use Rattle.core_model.proofs.Flying.{all-after, flying-legal}
+use Rattle.core_model.proofs.Flying.{flying-legal}
 use Rattle.core_model.proofs.Holding.{held_from-kept, held_from-launch, held_from-none, owner-more}
-use Rattle.core_model.specs.Holds.{is_launch}
-use Rattle.core_model.specs.Owed.{owed, enters}
-use Rattle.core_model.specs.Legal.{IsLegal}
-use Rattle.access_core.specs.inner.Held.{IsHeld}
 use Rattle.core_model.proofs.Launches.{launched_by-is, was_launched, IsNext-from_owed, AreBelowNext-legal}
+use Rattle.access_core.proofs.Terms.{Entry, InFlight, IsHeld, IsLegal, Start, enters, flight, is_launch, is_packet, launched_by, next_id, owed}
 
 -- ---- one entry more
 
@@ -49,12 +40,6 @@ IsHeld-launched start es e f legal owing is =
     by_test : (b : Bool) → was_launched es f.queue f.id ≡ b → f.id.0 ≡ next_id start es f.queue → was_launched es f.queue f.id ≡ false
     by_test true was at = let below : f.id.0 < next_id start es f.queue = AreBelowNext-legal start es legal f.queue f.id was in absurd (omega arith)
     by_test false was at = was
-
--- what holds of all packets in flight holds after an entry that was owed
-pub AreHeld-more : (start : Start) (es : List Entry) (e : Entry) (fs : List InFlight) → IsLegal start es → owed start es e.event ≡ enters e.outcome e.effects → All (IsHeld start es) fs → All (IsHeld start (es ++ e ∷ [])) (flight_after fs e)
-AreHeld-more start es e fs legal owing all =
-    all-after (IsHeld start (es ++ e ∷ [])) e fs (λ f is. IsHeld-launched start es e f legal owing is)
-    (All-weaker (IsHeld start es) (IsHeld start (es ++ e ∷ [])) (IsHeld-more start es e) fs all)
 
 -- ---- a legal history
 

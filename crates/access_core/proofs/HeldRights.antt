@@ -1,91 +1,47 @@
 -- Tests of rights that packets hold, taken right by right or packet by packet.
-use Rattle.std.proofs.Common.{◌≡◌, List, [], ◌∷◌, refl, sym, ◌∙◌, ap, Bool, true, false, Option, Some, None}
-use Rattle.std.specs.Prelude.{All, ◌&&◌, ◌||◌, ◌==◌}
+use Rattle.std.proofs.Common.{arith, ◌≡◌, List, [], ◌∷◌, refl, sym, ◌∙◌, ap, Bool, false, Option, Some, None, All, ◌&&◌, ◌||◌, ◌==◌}
 use Rattle.std.proofs.lemmas.List.Elements.{All-head, All-tail}
 use Rattle.std.specs.List.{list_any}
-use Rattle.aql_packet.specs.declared.ids.ClientId.{ClientId}
-use Rattle.aql_packet.specs.declared.ids.QueueId.{QueueId}
-use Rattle.aql_packet.specs.declared.ids.PacketId.{PacketId}
-use Rattle.aql_packet.specs.declared.packet.Packet.{Packet}
-use Rattle.policy.specs.declared.object.Object.{Object}
-use Rattle.policy.specs.declared.rights.Right.{Right}
-use Rattle.policy.specs.declared.rights.Right.TheVariants as right
-use Rattle.policy.specs.declared.rights.Rights.{Rights}
 use Rattle.policy.specs.Object.{same_object}
-use Rattle.policy.specs.Rights.{has, all_rights}
-use Rattle.grants.specs.Ledger.{Ledger, holds, is_holder}
-use Rattle.core_model.specs.declared.entry.Entry.{Entry}
-use Rattle.core_model.specs.declared.flight.InFlight.{InFlight}
-use Rattle.core_model.specs.History.{Start}
-use Rattle.core_model.specs.Queues.{Opening, owner}
-use Rattle.core_model.specs.Flight.{is_packet}
-use Rattle.core_model.specs.Holds.{Held, held_at_launch, is_owned, holds_one_of}
-use Rattle.access_core.specs.inner.Held.{as_rights, holds_by, packet_holds, IsHeld}
+use Rattle.access_core.specs.inner.Held.{as_rights}
+use Rattle.access_core.proofs.Terms.{ClientId, Entry, Held, InFlight, IsHeld, Ledger, Object, Opening, Packet, PacketId, QueueId, Right, Rights, Start}
+use Rattle.access_core.proofs.Terms.{all_rights, has, held_at_launch, holds, holds_by, holds_one_of, is_holder, is_owned, is_packet, owner, packet_holds}
 
 -- ---- tests of lists
 
 any-none : {X : Type 0} (a : X → Bool) (xs : List X) → list_any (λ x. a x && false) xs ≡ false
 any-none a [] = refl
-any-none a (x ∷ xs) = either (a x) (any-none a xs)
-  where
-    either : (b : Bool) → list_any (λ y. a y && false) xs ≡ false → ((b && false) || list_any (λ y. a y && false) xs) ≡ false
-    either true none = none
-    either false none = none
+any-none a (x ∷ xs) = grind (arith, any-none a xs)
 
 -- what doesn't look at the item stands before the test
 any-constant : {X : Type 0} (a d : X → Bool) (c : Bool) (xs : List X) → list_any (λ x. a x && (c && d x)) xs ≡ (c && list_any (λ x. a x && d x) xs)
-any-constant a d true xs = refl
-any-constant a d false xs = any-none a xs
+any-constant a d c [] = grind arith
+any-constant a d c (x ∷ xs) = grind (arith, any-constant a d c xs)
 
 pub any-before : {X : Type 0} (d : X → Bool) (c : Bool) (xs : List X) → list_any (λ x. c && d x) xs ≡ (c && list_any d xs)
-any-before d true xs = refl
-any-before d false [] = refl
-any-before d false (x ∷ xs) = any-before d false xs
-
-or-spread : (a b c : Bool) → (a && (b || c)) ≡ ((a && b) || (a && c))
-or-spread true b c = refl
-or-spread false b c = refl
-
-or-four : (a b c d : Bool) → ((a || b) || (c || d)) ≡ ((a || c) || (b || d))
-or-four true b c d = refl
-or-four false true true d = refl
-or-four false true false d = refl
-or-four false false c d = refl
+any-before d c [] = grind arith
+any-before d c (x ∷ xs) = grind (arith, any-before d c xs)
 
 any-or : {X : Type 0} (p q : X → Bool) (xs : List X) → list_any (λ x. p x || q x) xs ≡ (list_any p xs || list_any q xs)
 any-or p q [] = refl
-any-or p q (x ∷ xs) = ap (λ b. (p x || q x) || b) (any-or p q xs) ∙ or-four (p x) (q x) (list_any p xs) (list_any q xs)
+any-or p q (x ∷ xs) = grind (arith, any-or p q xs)
 
 -- a test of one list within a test of another may be turned round
 any-swap : {X Y : Type 0} (a : Y → Bool) (b : X → Y → Bool) (xs : List X) (ys : List Y) → list_any (λ y. a y && list_any (λ x. b x y) xs) ys ≡ list_any (λ x. list_any (λ y. a y && b x y) ys) xs
 any-swap a b [] ys = any-none a ys
 any-swap a b (x ∷ xs) ys =
-    (λ i. list_any (λ y. or-spread (a y) (b x y) (list_any (λ z. b z y) xs) i) ys)
-    ∙ any-or (λ y. a y && b x y) (λ y. a y && list_any (λ z. b z y) xs) ys
+    spread ys ∙ any-or (λ y. a y && b x y) (λ y. a y && list_any (λ z. b z y) xs) ys
     ∙ ap (λ rest. list_any (λ y. a y && b x y) ys || rest) (any-swap a b xs ys)
+  where
+    spread : (ys : List _) → list_any (λ y. a y && (b x y || list_any (λ z. b z y) xs)) ys ≡ list_any (λ y. (a y && b x y) || (a y && list_any (λ z. b z y) xs)) ys
+    spread [] = refl
+    spread (y ∷ ys) = grind (arith, spread ys)
 
 -- ---- one right as a set
 
-pub or-false : (b : Bool) → (b || false) ≡ b
-or-false true = refl
-or-false false = refl
-
-passed : (b rest : Bool) → ((b && false) || rest) ≡ rest
-passed true rest = refl
-passed false rest = refl
-
-picked : (b rest : Bool) → rest ≡ false → ((b && true) || rest) ≡ b
-picked true rest none = refl
-picked false rest none = none
-
 -- a set and the set of one right meet where that right is in it
 pub one-right : (test : Right → Bool) (one : Right) → list_any (λ r. test r && has (as_rights one) r) all_rights ≡ test one
-one-right test right.Use = picked (test right.Use) _ (passed (test right.Read) _ ∙ passed (test right.Write) _ ∙ passed (test right.Wait) _ ∙ passed (test right.Change) _ ∙ passed (test right.Launch) _)
-one-right test right.Read = passed (test right.Use) _ ∙ picked (test right.Read) _ (passed (test right.Write) _ ∙ passed (test right.Wait) _ ∙ passed (test right.Change) _ ∙ passed (test right.Launch) _)
-one-right test right.Write = passed (test right.Use) _ ∙ passed (test right.Read) _ ∙ picked (test right.Write) _ (passed (test right.Wait) _ ∙ passed (test right.Change) _ ∙ passed (test right.Launch) _)
-one-right test right.Wait = passed (test right.Use) _ ∙ passed (test right.Read) _ ∙ passed (test right.Write) _ ∙ picked (test right.Wait) _ (passed (test right.Change) _ ∙ passed (test right.Launch) _)
-one-right test right.Change = passed (test right.Use) _ ∙ passed (test right.Read) _ ∙ passed (test right.Write) _ ∙ passed (test right.Wait) _ ∙ picked (test right.Change) _ (passed (test right.Launch) _)
-one-right test right.Launch = passed (test right.Use) _ ∙ passed (test right.Read) _ ∙ passed (test right.Write) _ ∙ passed (test right.Wait) _ ∙ passed (test right.Change) _ ∙ picked (test right.Launch) _ refl
+one-right test one = grind arith
 
 -- ---- what packets hold, of one of some rights
 

@@ -1,16 +1,11 @@
 -- The least of the packets that pass a test is the first to pass it by queue and id.
-use Rattle.std.proofs.Common.{◌≡◌, inl, inr, List, [], ◌∷◌, refl, sym, ◌∙◌, ap, Bool, true, false, Some, None, arith}
-use Rattle.std.specs.Prelude.{All, ◌&&◌, ◌||◌, ◌==◌, filter, find, if◌then◌else◌}
+use Rattle.std.proofs.Common.{◌≡◌, inl, inr, List, [], ◌∷◌, refl, sym, ◌∙◌, ap, Bool, true, false, Some, None, arith, All, ◌&&◌, ◌||◌, ◌==◌, filter, find}
+use Rattle.std.proofs.Common.{if◌then◌else◌}
 use Rattle.std.specs.List.{list_all, list_any}
-use Rattle.std.proofs.lemmas.Bool.{and_parts, or_parts, eqb-true, lt-ltb}
+use Rattle.std.proofs.lemmas.Bool.{and_parts, or_parts, or_right, eqb-true, lt-ltb}
 use Rattle.std.proofs.lemmas.List.Elements.{All-nil, All-cons, All-head, All-tail}
-use Rattle.aql_packet.specs.declared.ids.QueueId.{QueueId}
-use Rattle.aql_packet.specs.declared.ids.PacketId.{PacketId}
-use Rattle.grants.specs.Holders.{IsUpTo, IsFirstTo}
 use Rattle.core_model.proofs.Lists.{all-from_list_all, found-all, found-passes}
-use Rattle.core_model.specs.declared.flight.InFlight.{InFlight}
-use Rattle.core_model.specs.Flight.{is_packet}
-use Rattle.core_model.specs.Holds.{is_up_to, least}
+use Rattle.access_core.proofs.Terms.{InFlight, IsFirstTo, IsUpTo, PacketId, QueueId, is_packet, is_up_to, least}
 
 -- ---- what is found in a list
 
@@ -30,15 +25,7 @@ any-found test (x ∷ xs) any = first (test x) refl any (any-found test xs)
 -- one that is found by one test, and passes another, is one that passes
 found-any : {X : Type 0} (sought test : X → Bool) (xs : List X) (f : X) → find sought xs ≡ Some f → test f ≡ true → list_any test xs ≡ true
 found-any sought test [] f found passes = absurd cc
-found-any sought test (x ∷ xs) f found passes = first (sought x) found (found-any sought test xs f)
-  where
-    or-true : (b : Bool) → (b || true) ≡ true
-    or-true true = refl
-    or-true false = refl
-
-    first : (b : Bool) → (if b then Some x else find sought xs) ≡ Some f → (find sought xs ≡ Some f → test f ≡ true → list_any test xs ≡ true) → (test x || list_any test xs) ≡ true
-    first true same more = let here : x ≡ f = cc in rw (here, passes) refl
-    first false same more = ap (λ b. test x || b) (more same passes) ∙ or-true (test x)
+found-any sought test (x ∷ xs) f found passes = grind (arith, found-any sought test xs f)
 
 list_all-from_all : {X : Type 0} (P : X → Type 0) (test : X → Bool) (xs : List X) → ((x : X) → P x → test x ≡ true) → All P xs → list_all test xs ≡ true
 list_all-from_all P test [] step all = refl
@@ -64,11 +51,7 @@ module _ (test : InFlight → Bool) where
   itself-passes f fs is = rw (is_packet-itself f, is) refl
 
   later-passes : (f : InFlight) (fs : List InFlight) (queue : QueueId) (id : PacketId) → passes fs queue id ≡ true → passes (f ∷ fs) queue id ≡ true
-  later-passes f fs queue id is = either (is_packet queue id f && test f)
-    where
-      either : (b : Bool) → (b || passes fs queue id) ≡ true
-      either true = refl
-      either false = is
+  later-passes f fs queue id is = or_right (is_packet queue id f && test f) _ is
 
   -- what holds of all that pass by queue and id holds of each of the list that passes
   all-passing : (P : QueueId → PacketId → Type 0) (fs : List InFlight) → ((queue : QueueId) (id : PacketId) → passes fs queue id ≡ true → P queue id) → All (λ f. P f.queue f.id) (filter test fs)
@@ -91,17 +74,7 @@ module _ (test : InFlight → Bool) where
   -- one that passes by its queue and id is found among those that pass
   passing-found : (fs : List InFlight) (queue : QueueId) (id : PacketId) → passes fs queue id ≡ true → list_any (is_packet queue id) (filter test fs) ≡ true
   passing-found [] queue id is = absurd cc
-  passing-found (f ∷ fs) queue id is = either (test f) (is_packet queue id f) refl is (passing-found fs queue id)
-    where
-      either : (t p : Bool) → is_packet queue id f ≡ p → ((p && t) || passes fs queue id) ≡ true → (passes fs queue id ≡ true → list_any (is_packet queue id) (filter test fs) ≡ true) → list_any (is_packet queue id) (if t then f ∷ filter test fs else filter test fs) ≡ true
-      either true true same is more = rw same refl
-      either true false same is more = rw same (more is)
-      either false true same is more = more is
-      either false false same is more = more is
-
--- a packet's name
-abbrev pub name_of : InFlight → QueueId × PacketId
-name_of f = (f.queue, f.id)
+  passing-found (f ∷ fs) queue id is = grind (arith, passing-found fs queue id)
 
 -- a packet that is the first, and one that comes up to it, are the same
 same_name : (queue : QueueId) (id : PacketId) (f g : InFlight) → is_packet queue id g ≡ true → IsUpTo queue id f.queue f.id → is_up_to f g ≡ true → (f.queue.0 ≡ queue.0) × (f.id.0 ≡ id.0)

@@ -1,8 +1,8 @@
+pub mod Terms
 pub mod CachedMore
 pub mod Calls
 pub mod QueueLemmas
 pub mod TakeLemmas
-pub mod PlacesMore
 pub mod QueueAt
 pub mod ChangedQueue
 pub mod PollLemmas

@@ -1,21 +1,13 @@
 -- A client's listing, by the grants that are kept.
-use Rattle.std.proofs.Common.{◌≡◌, List, ◌∙◌, ap, true, Ok}
-use Rattle.std.specs.Prelude.{map, filter}
+use Rattle.std.proofs.Common.{◌≡◌, List, ◌∙◌, ap, true, Ok, map, filter}
 use Rattle.std.specs.List.{list_any}
-use Rattle.aql_packet.specs.declared.ids.ClientId.{ClientId}
-use Rattle.policy.specs.declared.object.Object.{Object}
-use Rattle.policy.specs.declared.rights.Rights.{Rights}
-use Rattle.policy.specs.Policy.{declares_client}
-use Rattle.policy.specs.Rights.{all_rights, rights_that}
-use Rattle.grants.specs.Rules.{Rules, rules_of}
+use Rattle.core_model.specs.Queries.{replied}
+use Rattle.access_core.proofs.Terms.{ClientId, History, Inside, IsCached, Object, Rights, Rules, all_objects, all_rights, declares_client, history_of, listing}
+use Rattle.access_core.proofs.Terms.{rights_that, start_of}
 use Rattle.grants.specs.Rules as rules_kept
 use Rattle.grants.specs.Ledger as ledger
 use Rattle.core_model.specs.declared.answer.Answer.TheVariants as answer
 use Rattle.core_model.specs.declared.event.Query.TheVariants as query
-use Rattle.core_model.specs.History.{History}
-use Rattle.core_model.specs.Queries.{replied, listing, all_objects}
-use Rattle.access_core.specs.declared.access.AccessCore.TheInside.{Inside}
-use Rattle.access_core.specs.inner.Cached.{IsCached, start_of, history_of}
 
 module _ (a : Inside) (kept : IsCached a) (client : ClientId) where
   listing-kept : ledger.listing a.grants client ≡ listing (start_of a) a.audit.items client

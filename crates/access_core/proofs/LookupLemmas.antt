@@ -1,14 +1,6 @@
 -- What the fields say of queues is what the history says.
 use Rattle.std.proofs.Common.{◌≡◌, Option, sym, ◌∙◌, ap, subst}
-use Rattle.aql_packet.specs.declared.ids.QueueId.{QueueId}
-use Rattle.policy.specs.Policy.{numbered}
-use Rattle.policy.proofs.NameLemmas.{numbered-map}
-use Rattle.core_model.specs.History.{History}
-use Rattle.access_core.specs.declared.access.AccessCore.TheInside.{Inside}
-use Rattle.access_core.specs.declared.queue.Queue.{Queue}
-use Rattle.access_core.specs.inner.Cached.{IsCached, history_of}
-use Rattle.access_core.specs.inner.CachedQueue.{cached_opening}
-use Rattle.access_core.specs.inner.CachedQueue.{IsQueue}
+use Rattle.access_core.proofs.Terms.{History, Inside, IsCached, IsQueue, Queue, QueueId, cached_opening, history_of, numbered, numbered-map}
 
 -- the queue with a number among those kept
 pub IsQueue-kept : (a : Inside) (history : History) (queue : QueueId) (kept : Option Queue) → IsCached a → history_of a ≡ history → kept ≡ numbered a.queues.items queue.0 → IsQueue history queue kept

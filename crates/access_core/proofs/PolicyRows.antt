@@ -1,8 +1,7 @@
 -- The rows of a policy, one by one.
-use Rattle.std.proofs.Common.{◌≡◌, ℕ, zero, suc, ◌+◌, ◌<◌, List, [], ◌∷◌, ◌++◌, length, sym, ◌∙◌, ap, Some, None, arith, add-one}
-use Rattle.std.specs.Prelude.{map, take, slice_get, option_map}
-use Rattle.policy.specs.Policy.{Name, row_of}
-use Rattle.policy.proofs.NameLemmas.{numbered-next}
+use Rattle.std.proofs.Common.{◌≡◌, ℕ, zero, suc, ◌+◌, ◌<◌, List, [], ◌∷◌, ◌++◌, length, sym, ◌∙◌, ap, Some, None, arith, add-one, map, take, slice_get}
+use Rattle.std.proofs.Common.{option_map}
+use Rattle.access_core.proofs.Terms.{Name, numbered-next, row_of}
 
 -- what the next row holds follows what the rows before hold
 next-at : {X : Type 0} (rows : List (Name × X)) (i : ℕ) (x : X) → option_map (λ (row : Name × X). row.1) (slice_get rows i) ≡ Some x

@@ -1,154 +1,224 @@
 -- What the history says of a queue, with one entry more.
-use Rattle.std.proofs.Common.{◌≡◌, ℕ, ◌+◌, List, [], ◌∷◌, ◌++◌, map, All, refl, ◌∙◌, ap, Bool, true, false, Some, None}
-use Rattle.std.specs.Prelude.{◌<◌, ◌==◌, filter, fold, not, if◌then◌else◌}
-use Rattle.aql_packet.specs.declared.ids.QueueId.{QueueId}
-use Rattle.aql_packet.specs.declared.ids.PacketId.{PacketId}
-use Rattle.aql_packet.specs.declared.packet.Packet.{Packet}
-use Rattle.aql_packet.specs.Reading.{decoded}
-use Rattle.queue_error.specs.declared.error.QueueError.{QueueError}
+use Rattle.std.proofs.Common.{◌≡◌, ℕ, ◌+◌, ◌<◌, subst, eq-eqb, eqb-true, List, [], ◌∷◌, ◌++◌, length, map, All, refl, sym, ◌∙◌, ap, Bool, true, false, Some}
+use Rattle.std.proofs.Common.{None, arith, ◌==◌, ◌&&◌, filter, fold, not, if◌then◌else◌}
+use Rattle.std.proofs.lemmas.List.{append-nil, map-append}
+use Rattle.std.proofs.lemmas.List.Elements.{All-head, All-tail, filter-append}
 use Rattle.queue_error.specs.declared.rule.Rule.{Rule}
-use Rattle.core_model.specs.declared.event.Event.{Event}
-use Rattle.core_model.specs.declared.event.Event.TheVariants.{Take}
-use Rattle.core_model.specs.declared.outcome.Outcome.{Outcome}
+use Rattle.core_model.specs.Flight.{same_packet, with_launched}
+use Rattle.access_core.proofs.Terms.{Denied, Effect, Entry, Event, InFlight, Launched, Outcome, Packet, PacketId, Place, Progress, QueueError, QueueId}
+use Rattle.access_core.proofs.Terms.{QueueView, Start, Take, as_launched, at_launch, decoded, entry_of, error_at, error_of, errors, errors-more, flight}
+use Rattle.access_core.proofs.Terms.{flight-more, flight_after_effect, flight_of, hands_over, is_packet, is_stopped-more, launched_by, next_id, next_id-more}
+use Rattle.access_core.proofs.Terms.{place_of, progress, progress-more, progress_after, queue_at, stops, with_entry, with_error, with_progress, without}
 use Rattle.core_model.specs.declared.outcome.Outcome.TheVariants as outcome
-use Rattle.core_model.specs.declared.outcome.Taken.TheVariants.{Launched, Denied}
-use Rattle.core_model.specs.declared.entry.Entry.{Entry}
-use Rattle.core_model.specs.declared.entry.Effect.{Effect}
-use Rattle.core_model.specs.declared.flight.InFlight.{InFlight}
-use Rattle.core_model.specs.declared.flight.Progress.{Progress}
-use Rattle.core_model.specs.History.{Start}
-use Rattle.core_model.specs.Queues.{error_of, errors, hands_over, is_stopped, next_id, stops}
-use Rattle.core_model.specs.Flight.{flight, flight_after_effect, is_packet, launched_by, progress, progress_after, same_packet}
-use Rattle.core_model.specs.Legal.{entry_of, with_entry}
-use Rattle.core_model.specs.Owed.{error_at}
-use Rattle.core_model.proofs.More.{errors-more, is_stopped-more, next_id-more, with_error}
-use Rattle.packet_processor.specs.declared.places.Place.{Place}
-use Rattle.packet_processor.specs.Queueing.{as_launched, with_progress, without}
-use Rattle.access_core.specs.inner.CachedQueue.{QueueView, queue_at}
-use Rattle.access_core.proofs.PlacesMore.{flight-unlaunched, places-advanced, places-launched, places-released, places-still}
+
+-- ---- lists of packets
+
+abbrev pub of_queue : ℕ → InFlight → Bool
+of_queue n f = f.queue.0 == n
+
+pub map-map : {X Y Z : Type 0} (g : Y → Z) (h : X → Y) (xs : List X) → map g (map h xs) ≡ map (λ x. g (h x)) xs
+map-map g h [] = refl
+map-map g h (x ∷ xs) = ap (λ ys. g (h x) ∷ ys) (map-map g h xs)
+
+module _ (i : ℕ) where
+  -- whether a packet is not the one with a number in a queue
+  abbrev pub stays : ℕ → InFlight → Bool
+  stays n f = not (f.queue.0 == n && f.id.0 == i)
+
+  -- of its queue, a release takes out the packets with its id, and of another nothing
+  released-in : (g : InFlight → Place) (n m : ℕ) (fs : List InFlight) → ((f : InFlight) → (g f).id ≡ f.id) → map g (filter (of_queue m) (filter (stays n) fs))
+      ≡ (if n == m then filter (λ p. not (p.id.0 == i)) (map g (filter (of_queue m) fs)) else map g (filter (of_queue m) fs))
+  released-in g n m [] named = grind arith
+  released-in g n m (f ∷ fs) named = grind (arith, named f, released-in g n m fs named)
+
+  pub released-of : (g : InFlight → Place) (n : ℕ) (fs : List InFlight) → ((f : InFlight) → (g f).id ≡ f.id)
+      → map g (filter (of_queue n) (filter (stays n) fs)) ≡ filter (λ p. not (p.id.0 == i)) (map g (filter (of_queue n) fs))
+  released-of g n [] named = refl
+  released-of g n (f ∷ fs) named = grind (arith, named f, released-of g n fs named)
+
+  -- it takes out as many of all as of its queue
+  pub released-count : (n : ℕ) (fs : List InFlight) → length (filter (of_queue n) fs) + length (filter (stays n) fs) ≡ length fs + length (filter (of_queue n) (filter (stays n) fs))
+  released-count n [] = refl
+  released-count n (f ∷ fs) = grind (arith, released-count n fs)
+
+-- ---- one entry more
+
+-- how a place's packet comes further by an event
+abbrev pub further : QueueId → Event → Outcome → Place → Place
+further m event told place = record place { progress = progress_after m place.id place.progress event told }
+
+-- a queue after an event that leaves these places
+abbrev pub after : QueueId → Event → Outcome → QueueView → List Place → QueueView
+after m event told v places = record {
+  next = if hands_over m event then v.next + 1 else v.next;
+  stopped = if stops m event then true else v.stopped;
+  errors = with_error m v.errors (error_of told);
+  places = places;
+}
+
+module _ (start : Start) (es : List Entry) (event : Event) (told : Outcome) (effects : List Effect) where
+  abbrev entry : Entry
+  entry = entry_of event told effects
+
+  pub flight-unlaunched : launched_by event told ≡ None → flight start (with_entry es event told effects) ≡ fold flight_after_effect (flight start es) effects
+  flight-unlaunched none = flight-more start es entry ∙ ap (λ o. fold flight_after_effect (with_launched (flight start es) o) effects) none
+
+  place-more : (m : QueueId) (f : InFlight) → place_of start (with_entry es event told effects) m f ≡ further m event told (place_of start es m f)
+  place-more m f = λ i. record { id = f.id; packet = f.packet; progress = progress-more start es entry m f.id i }
+
+  -- its places are those of the packets left in flight, each as far as it has come
+  pub queue_at-more : (m : QueueId) (fs : List InFlight) → flight start (with_entry es event told effects) ≡ fs → queue_at start (with_entry es event told effects) m
+      ≡ after m event told (queue_at start es m) (map (λ f. further m event told (place_of start es m f)) (filter (of_queue m.0) fs))
+  queue_at-more m fs is = λ i. record {
+    next = next_id-more start es entry m i;
+    stopped = is_stopped-more start es entry m i;
+    errors = errors-more start es entry m i;
+    places = map (λ f. place-more m f i) (filter (of_queue m.0) (is i));
+  }
 
 -- An entry that changes nothing of any queue.
 pub record IsQuiet (event : Event) (told : Outcome) (effects : List Effect) : Type 0 where
   pub launches : launched_by event told ≡ None
   pub progress : (queue : QueueId) (id : PacketId) (p : Progress) → progress_after queue id p event told ≡ p
   pub releases : (fs : List InFlight) → fold flight_after_effect fs effects ≡ fs
-  pub hands : (m : QueueId) → hands_over m event ≡ false
-  pub stops : (m : QueueId) → stops m event ≡ false
-  pub errors : error_of told ≡ None
-
-module _ (start : Start) (es : List Entry) (event : Event) (told : Outcome) (effects : List Effect) where
-  abbrev entry : Entry
-  entry = entry_of event told effects
-
-  pub flight-quiet : IsQuiet event told effects → flight start (with_entry es event told effects) ≡ flight start es
-  flight-quiet quiet = flight-unlaunched start es entry quiet.launches ∙ quiet.releases (flight start es)
-
-  pub queue_at-quiet : IsQuiet event told effects → (m : QueueId) → queue_at start (with_entry es event told effects) m ≡ queue_at start es m
-  queue_at-quiet quiet m = λ i. record {
-    next = (next_id-more start es entry m ∙ ap (λ b. if b then next_id start es m + 1 else next_id start es m) (quiet.hands m)) i;
-    stopped = (is_stopped-more start es entry m ∙ ap (λ b. if b then true else is_stopped start es m) (quiet.stops m)) i;
-    errors = (errors-more start es entry m ∙ ap (with_error m (errors start es m)) quiet.errors) i;
-    places = places-still start es entry quiet.launches quiet.progress m (quiet.releases (flight start es)) i;
-  }
-
--- ---- a packet is denied
-
-abbrev pub denied : QueueError → QueueView → QueueView
-denied error v = record v { next = v.next + 1; errors = v.errors ++ error ∷ [] }
-
-pub queue_at-denied : (start : Start) (es : List Entry) (q : QueueId) (id : PacketId) (bytes : List ℕ) (rule : Rule) (m : QueueId)
-    → queue_at start (with_entry es (Take q id bytes) (outcome.Taken (Denied (error_at q id.0 rule))) []) m ≡ (if q.0 == m.0 then denied (error_at q id.0 rule) (queue_at start es m) else queue_at start es m)
-queue_at-denied start es q id bytes rule m =
-    let e = entry_of (Take q id bytes) (outcome.Taken (Denied (error_at q id.0 rule))) [] in
-    (λ i. record {
-      next = next_id-more start es e m i;
-      stopped = is_stopped-more start es e m i;
-      errors = errors-more start es e m i;
-      places = places-still start es e refl (λ queue id p. refl) m refl i;
-    })
-    ∙ pick (q.0 == m.0) (queue_at start es m)
-  where
-    pick : (b : Bool) (v : QueueView) → record { next = (if b then v.next + 1 else v.next); stopped = v.stopped; errors = (if b then v.errors ++ error_at q id.0 rule ∷ [] else v.errors); places = v.places } ≡ (if b then denied (error_at q id.0 rule) v else v)
-    pick true v = refl
-    pick false v = refl
-
--- ---- a packet is launched
-
-abbrev pub launched : PacketId → Packet → QueueView → QueueView
-launched id p v = record v { next = v.next + 1; places = v.places ++ as_launched id p ∷ [] }
-
-pub queue_at-launched : (start : Start) (es : List Entry) (q : QueueId) (id : PacketId) (bytes : List ℕ) (p : Packet) → decoded bytes ≡ Some p → All (λ (place : Place). place.id.0 < id.0) (queue_at start es q).places → (m : QueueId)
-    → queue_at start (with_entry es (Take q id bytes) (outcome.Taken Launched) []) m ≡ (if q.0 == m.0 then launched id p (queue_at start es m) else queue_at start es m)
-queue_at-launched start es q id bytes p reads below m =
-    let e = entry_of (Take q id bytes) (outcome.Taken Launched) [] in
-    (λ i. record {
-      next = next_id-more start es e m i;
-      stopped = is_stopped-more start es e m i;
-      errors = errors-more start es e m i;
-      places = places-launched start es q id bytes p reads m below i;
-    })
-    ∙ pick (q.0 == m.0) (queue_at start es m)
-  where
-    pick : (b : Bool) (v : QueueView) → record { next = (if b then v.next + 1 else v.next); stopped = v.stopped; errors = v.errors; places = (if b then v.places ++ as_launched id p ∷ [] else v.places) } ≡ (if b then launched id p v else v)
-    pick true v = refl
-    pick false v = refl
-
--- ---- a packet comes further
-
-abbrev pub advanced : PacketId → Progress → QueueView → QueueView
-advanced id so_far v = record v { places = map (with_progress id so_far) v.places }
+  pub views : (m : QueueId) (v : QueueView) → after m event told v v.places ≡ v
 
 -- An entry by which one packet comes further.
 pub record IsAdvance (q : QueueId) (id : PacketId) (g : Progress → Progress) (event : Event) (told : Outcome) (effects : List Effect) : Type 0 where
   pub launches : launched_by event told ≡ None
   pub progress : (queue : QueueId) (i : PacketId) (p : Progress) → progress_after queue i p event told ≡ (if same_packet queue i q id then g p else p)
   pub releases : (fs : List InFlight) → fold flight_after_effect fs effects ≡ fs
-  pub hands : (m : QueueId) → hands_over m event ≡ false
-  pub stops : (m : QueueId) → stops m event ≡ false
-  pub errors : error_of told ≡ None
+  pub views : (m : QueueId) (v : QueueView) (places : List Place) → after m event told v places ≡ record v { places = places }
 
-module _ (start : Start) (es : List Entry) (q : QueueId) (id : PacketId) (g : Progress → Progress) (event : Event) (told : Outcome) (effects : List Effect) (is : IsAdvance q id g event told effects) where
-  pub flight-advanced : flight start (with_entry es event told effects) ≡ flight start es
-  flight-advanced = flight-unlaunched start es (entry_of event told effects) is.launches ∙ is.releases (flight start es)
-
-  pub queue_at-advanced : (so_far : Progress) → so_far ≡ g (progress start es q id) → (m : QueueId)
-      → queue_at start (with_entry es event told effects) m ≡ (if q.0 == m.0 then advanced id so_far (queue_at start es m) else queue_at start es m)
-  queue_at-advanced so_far new m =
-      let e = entry_of event told effects in
-      (λ i. record {
-        next = (next_id-more start es e m ∙ ap (λ b. if b then next_id start es m + 1 else next_id start es m) (is.hands m)) i;
-        stopped = (is_stopped-more start es e m ∙ ap (λ b. if b then true else is_stopped start es m) (is.stops m)) i;
-        errors = (errors-more start es e m ∙ ap (with_error m (errors start es m)) is.errors) i;
-        places = places-advanced start es e is.launches q id g is.progress so_far m new (is.releases (flight start es)) i;
-      })
-      ∙ pick (q.0 == m.0) (queue_at start es m)
-    where
-      pick : (b : Bool) (v : QueueView) → record { next = v.next; stopped = v.stopped; errors = v.errors; places = (if b then map (with_progress id so_far) v.places else v.places) } ≡ (if b then advanced id so_far v else v)
-      pick true v = refl
-      pick false v = refl
-
--- ---- a packet leaves flight: it fails, or is completed, or its queue is stopped
-
--- What an entry that releases one packet says of its queue beside.
+-- An entry by which one packet leaves flight: it fails, or is completed, or its queue is stopped.
 pub record IsRelease (q : QueueId) (id : PacketId) (event : Event) (told : Outcome) (effects : List Effect) : Type 0 where
   pub launches : launched_by event told ≡ None
   pub progress : (queue : QueueId) (i : PacketId) (p : Progress) → progress_after queue i p event told ≡ p
   pub releases : (fs : List InFlight) → fold flight_after_effect fs effects ≡ filter (λ f. not (is_packet q id f)) fs
-  pub hands : (m : QueueId) → hands_over m event ≡ false
 
-module _ (start : Start) (es : List Entry) (q : QueueId) (id : PacketId) (event : Event) (told : Outcome) (effects : List Effect) (is : IsRelease q id event told effects) where
-  pub flight-released : flight start (with_entry es event told effects) ≡ filter (λ f. not (is_packet q id f)) (flight start es)
-  flight-released = flight-unlaunched start es (entry_of event told effects) is.launches ∙ is.releases (flight start es)
+-- what becomes of a queue whose packet is denied, is launched, or comes further
+abbrev pub denied : QueueError → QueueView → QueueView
+denied error v = record v { next = v.next + 1; errors = v.errors ++ error ∷ [] }
 
-  pub queue_at-released : (view : QueueView → QueueView) (m : QueueId)
-      → ((v : QueueView) (b : Bool) → (q.0 == m.0) ≡ b → record { next = v.next; stopped = (if stops m event then true else v.stopped); errors = with_error m v.errors (error_of told); places = (if b then without id v.places else v.places) } ≡ (if b then view v else v))
-      → queue_at start (with_entry es event told effects) m ≡ (if q.0 == m.0 then view (queue_at start es m) else queue_at start es m)
-  queue_at-released view m pick =
-      let e = entry_of event told effects in
-      (λ i. record {
-        next = (next_id-more start es e m ∙ ap (λ b. if b then next_id start es m + 1 else next_id start es m) (is.hands m)) i;
-        stopped = is_stopped-more start es e m i;
-        errors = errors-more start es e m i;
-        places = places-released start es e is.launches is.progress q id m (is.releases (flight start es)) i;
-      })
-      ∙ pick (queue_at start es m) (q.0 == m.0) refl
+abbrev pub launched : PacketId → Packet → QueueView → QueueView
+launched id p v = record v { next = v.next + 1; places = v.places ++ as_launched id p ∷ [] }
+
+abbrev pub advanced : PacketId → Progress → QueueView → QueueView
+advanced id so_far v = record v { places = map (with_progress id so_far) v.places }
+
+module _ (start : Start) (es : List Entry) (event : Event) (told : Outcome) (effects : List Effect) where
+  still : ((queue : QueueId) (id : PacketId) (p : Progress) → progress_after queue id p event told ≡ p) → (m : QueueId) (fs : List InFlight)
+      → map (λ f. further m event told (place_of start es m f)) fs ≡ map (place_of start es m) fs
+  still same m fs = λ i. map (λ f. record { id = f.id; packet = f.packet; progress = same m f.id (progress start es m f.id) i }) fs
+
+  pub flight-quiet : IsQuiet event told effects → flight start (with_entry es event told effects) ≡ flight start es
+  flight-quiet quiet = flight-unlaunched start es event told effects quiet.launches ∙ quiet.releases (flight start es)
+
+  pub queue_at-quiet : IsQuiet event told effects → (m : QueueId) → queue_at start (with_entry es event told effects) m ≡ queue_at start es m
+  queue_at-quiet quiet m =
+      queue_at-more start es event told effects m (flight start es) (flight-quiet quiet)
+      ∙ ap (after m event told (queue_at start es m)) (still quiet.progress m (flight_of start es m)) ∙ quiet.views m (queue_at start es m)
+
+  module _ (q : QueueId) (id : PacketId) (g : Progress → Progress) (is : IsAdvance q id g event told effects) where
+    pub flight-advanced : flight start (with_entry es event told effects) ≡ flight start es
+    flight-advanced = flight-unlaunched start es event told effects is.launches ∙ is.releases (flight start es)
+
+    pub queue_at-advanced : (so_far : Progress) → so_far ≡ g (progress start es q id) → (m : QueueId)
+        → queue_at start (with_entry es event told effects) m ≡ (if q.0 == m.0 then advanced id so_far (queue_at start es m) else queue_at start es m)
+    queue_at-advanced so_far new m =
+        queue_at-more start es event told effects m (flight start es) flight-advanced ∙ is.views m (queue_at start es m) _
+        ∙ (λ i. record (queue_at start es m) { places = map (λ f. comes f i) (flight_of start es m) }) ∙ either (q.0 == m.0)
+      where
+        comes : (f : InFlight) → further m event told (place_of start es m f)
+            ≡ (if q.0 == m.0 then with_progress id so_far (place_of start es m f) else place_of start es m f)
+        comes f =
+            let turned : (id.0 == f.id.0) ≡ (f.id.0 == id.0) = grind arith in
+            (λ i. record { id = f.id; packet = f.packet; progress = is.progress m f.id (progress start es m f.id) i })
+            ∙ (λ i. record { id = f.id; packet = f.packet; progress = (if q.0 == m.0 && turned i then g (progress start es m f.id) else progress start es m f.id) })
+            ∙ at (q.0 == m.0) (f.id.0 == id.0) refl refl
+          where
+            at : (b c : Bool) → (q.0 == m.0) ≡ b → (f.id.0 == id.0) ≡ c
+                → record { id = f.id; packet = f.packet; progress = (if b && c then g (progress start es m f.id) else progress start es m f.id) }
+                ≡ (if b then (if c then record { id = f.id; packet = f.packet; progress = so_far } else place_of start es m f) else place_of start es m f)
+            at true true same this =
+                let queues : q ≡ m = ap (λ n. record { 0 = n }) (eqb-true _ _ same) in
+                let ids : id ≡ f.id = ap (λ n. record { 0 = n }) (sym (eqb-true _ _ this)) in
+                λ i. record { id = f.id; packet = f.packet; progress = sym (new ∙ (λ j. g (progress start es (queues j) (ids j)))) i }
+            at true false same this = refl
+            at false c same this = refl
+
+        either : (b : Bool)
+            → record (queue_at start es m) { places = map (λ f. if b then with_progress id so_far (place_of start es m f) else place_of start es m f) (flight_of start es m) }
+            ≡ (if b then advanced id so_far (queue_at start es m) else queue_at start es m)
+        either true = λ i. record (queue_at start es m) { places = sym (map-map (with_progress id so_far) (place_of start es m) (flight_of start es m)) i }
+        either false = refl
+
+  module _ (q : QueueId) (id : PacketId) (is : IsRelease q id event told effects) where
+    pub flight-released : flight start (with_entry es event told effects) ≡ filter (λ f. not (is_packet q id f)) (flight start es)
+    flight-released = flight-unlaunched start es event told effects is.launches ∙ is.releases (flight start es)
+
+    pub queue_at-released : (m : QueueId)
+        → queue_at start (with_entry es event told effects) m
+        ≡ after m event told (queue_at start es m) (if q.0 == m.0 then without id (queue_at start es m).places else (queue_at start es m).places)
+    queue_at-released m =
+        queue_at-more start es event told effects m _ flight-released
+        ∙ ap (after m event told (queue_at start es m)) (still is.progress m _ ∙ released-in id.0 (place_of start es m) q.0 m.0 (flight start es) (λ f. refl))
+
+module _ (start : Start) (es : List Entry) (q : QueueId) (id : PacketId) (bytes : List ℕ) where
+  -- a packet is denied
+  pub queue_at-denied : (rule : Rule) (m : QueueId) → queue_at start (with_entry es (Take q id bytes) (outcome.Taken (Denied (error_at q id.0 rule))) []) m
+      ≡ (if q.0 == m.0 then denied (error_at q id.0 rule) (queue_at start es m) else queue_at start es m)
+  queue_at-denied rule m =
+      queue_at-more start es (Take q id bytes) (outcome.Taken (Denied (error_at q id.0 rule))) [] m (flight start es) (flight-unlaunched start es _ _ [] refl)
+      ∙ either (q.0 == m.0) (queue_at start es m)
+    where
+      either : (b : Bool) (v : QueueView)
+          → record v { next = (if b then v.next + 1 else v.next); errors = (if b then v.errors ++ error_at q id.0 rule ∷ [] else v.errors) }
+          ≡ (if b then denied (error_at q id.0 rule) v else v)
+      either b v = grind arith
+
+  -- a packet is launched
+  module _ (p : Packet) (reads : decoded bytes ≡ Some p) where
+    abbrev new : InFlight
+    new = record { queue = q; id = id; packet = p }
+
+    pub flight-launched : flight start (with_entry es (Take q id bytes) (outcome.Taken Launched) []) ≡ flight start es ++ new ∷ []
+    flight-launched = flight-more start es (entry_of (Take q id bytes) (outcome.Taken Launched) []) ∙ (rw reads refl)
+
+    -- its id is above those of the queue's other packets in flight, which stay as they are
+    older : (m : QueueId) (fs : List InFlight) → All (λ (place : Place). place.id.0 < id.0) (map (place_of start es m) fs)
+        → map (λ f. record { id = f.id; packet = f.packet; progress = (if id.0 == f.id.0 then at_launch else progress start es m f.id) }) fs
+        ≡ map (place_of start es m) fs
+    older m [] below = refl
+    older m (f ∷ fs) below =
+        let less : f.id.0 < id.0 = All-head (λ (place : Place). place.id.0 < id.0) (place_of start es m f) (map (place_of start es m) fs) below in
+        let other : (id.0 == f.id.0) ≡ false = grind arith in
+        let rest = older m fs (All-tail (λ (place : Place). place.id.0 < id.0) (place_of start es m f) (map (place_of start es m) fs) below) in
+        λ i. record { id = f.id; packet = f.packet; progress = (if other i then at_launch else progress start es m f.id) } ∷ rest i
+
+    pub queue_at-launched : All (λ (place : Place). place.id.0 < id.0) (queue_at start es q).places → (m : QueueId)
+        → queue_at start (with_entry es (Take q id bytes) (outcome.Taken Launched) []) m
+        ≡ (if q.0 == m.0 then launched id p (queue_at start es m) else queue_at start es m)
+    queue_at-launched below m =
+        queue_at-more start es (Take q id bytes) (outcome.Taken Launched) [] m _ flight-launched
+        ∙ ap (after m (Take q id bytes) (outcome.Taken Launched) (queue_at start es m))
+        (ap (map (comes (q.0 == m.0))) (filter-append (of_queue m.0) (flight start es) (new ∷ []))
+        ∙ map-append (comes (q.0 == m.0)) (flight_of start es m) (filter (of_queue m.0) (new ∷ []))) ∙ either (q.0 == m.0) refl
+      where
+        comes : Bool → InFlight → Place
+        comes b f = record { id = f.id; packet = f.packet; progress = (if b && id.0 == f.id.0 then at_launch else progress start es m f.id) }
+
+        either : (b : Bool) → (q.0 == m.0) ≡ b → record (queue_at start es m) {
+              next = (if b then next_id start es m + 1 else next_id start es m);
+              places = map (comes b) (flight_of start es m) ++ map (comes b) (if b then new ∷ [] else []);
+            } ≡ (if b then launched id p (queue_at start es m) else queue_at start es m)
+        either true same =
+            let itself : (id.0 == id.0) ≡ true = eq-eqb id.0 id.0 refl in
+            let all = subst (λ k. All (λ (place : Place). place.id.0 < id.0) (queue_at start es k).places)
+            (ap (λ n. record { 0 = n }) (eqb-true _ _ same)) below in
+            λ i. record (queue_at start es m) {
+              next = next_id start es m + 1;
+              places = older m (flight_of start es m) all i
+                  ++ record { id = id; packet = p; progress = (if itself i then at_launch else progress start es m id) } ∷ [];
+            }
+        either false same = λ i. record (queue_at start es m) { places = append-nil (map (place_of start es m) (flight_of start es m)) i }

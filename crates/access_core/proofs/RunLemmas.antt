@@ -1,40 +1,24 @@
 -- Groups that ran: what their writes leave, and how many there can be.
-use Rattle.std.proofs.Common.{◌≡◌, ℕ, ◌+◌, ◌^◌, List, [], ◌++◌, length, refl, sym, ◌∙◌, ap, Bool, true, false, Option, Some, None}
-use Rattle.std.specs.Prelude.{ℤ, ◌==◌, ◌%◌, fold, nat_lt, replicate, if◌then◌else◌}
+use Rattle.std.proofs.Common.{◌≡◌, ℕ, ◌+◌, ◌^◌, List, [], ◌++◌, length, refl, sym, ◌∙◌, ap, Bool, true, false, Option, Some, None, ℤ, ◌==◌, ◌%◌, fold, nat_lt}
+use Rattle.std.proofs.Common.{replicate, if◌then◌else◌}
 use Rattle.std.specs.Option.{IfSome}
 use Rattle.std.specs.Int.{w64, to_le_bytes}
 use Rattle.std.proofs.lemmas.List.Sums.{fold-append}
-use Rattle.aql_packet.specs.declared.ids.QueueId.{QueueId}
-use Rattle.aql_packet.specs.declared.ids.PacketId.{PacketId}
 use Rattle.aql_packet.specs.declared.packet.AgentDispatch.{AgentDispatch}
-use Rattle.core_model.specs.declared.event.Event.{Event}
-use Rattle.core_model.specs.declared.event.Event.TheVariants.{RunNext}
-use Rattle.core_model.specs.declared.outcome.Outcome.TheVariants as outcome
 use Rattle.core_model.specs.declared.outcome.Worked.TheVariants.{Ran}
-use Rattle.core_model.specs.declared.entry.Entry.{Entry}
-use Rattle.core_model.specs.declared.entry.Effect.{Effect}
-use Rattle.core_model.specs.declared.flight.InFlight.{InFlight}
-use Rattle.core_model.specs.declared.flight.Progress.{Progress}
-use Rattle.core_model.specs.History.{Start, History}
-use Rattle.core_model.specs.Memory.{memory_from, region_lengths, signals_after}
-use Rattle.core_model.specs.Flight.{flight, flight_after_effect}
-use Rattle.core_model.specs.Work.{write_of, agent_writes, function_writes, function_result, result_writes, number_in_memory}
 use Rattle.core_model.specs.declared.need.AgentFunction.{AgentFunction}
 use Rattle.core_model.specs.declared.need.AgentFunction.TheVariants.{Fill, Copy, Add64}
-use Rattle.core_model.specs.Needs.{function_of}
-use Rattle.core_model.specs.declared.refusal.Refusal.{Refusal}
-use Rattle.core_model.specs.declared.refusal.Refusal.TheVariants as refusal
-use Rattle.core_model.specs.Owed.{enters, owed, owed_group, refuses}
-use Rattle.core_model.specs.Legal.{due}
-use Rattle.packet_processor.specs.declared.places.Place.{Place}
-use Rattle.access_core.specs.declared.access.AccessCore.TheInside.{Inside}
+use Rattle.core_model.specs.Owed.{owed}
 use Rattle.access_core.specs.declared.access.running.Group.{Group}
-use Rattle.access_core.specs.inner.InPlace.{IsGroupOf, IsInPlace, IsNextGroup, run_owed}
-use Rattle.access_core.specs.inner.Cached.{start_of, history_of, is_full}
-use Rattle.access_core.specs.inner.LiesInRegions.{lies_in_regions}
 use Rattle.access_core.proofs.Calls.{due-as}
 use Rattle.access_core.proofs.QueueAt.{IsAdvance}
 use Rattle.access_core.proofs.WorkLemmas.{owed-in_place}
+use Rattle.access_core.proofs.Terms.{Effect, Entry, Event, History, InFlight, Inside, IsGroupOf, IsInPlace, IsNextGroup, PacketId, Place, Progress, QueueId}
+use Rattle.access_core.proofs.Terms.{Refusal, RunNext, Start, agent_writes, due, enters, flight, flight_after_effect, function_of, function_result}
+use Rattle.access_core.proofs.Terms.{function_writes, history_of, is_full, lies_in_regions, memory_from, number_in_memory, owed_group, refuses, region_lengths}
+use Rattle.access_core.proofs.Terms.{result_writes, run_owed, signals_after, start_of, write_of}
+use Rattle.core_model.specs.declared.outcome.Outcome.TheVariants as outcome
+use Rattle.core_model.specs.declared.refusal.Refusal.TheVariants as refusal
 
 -- ---- writes change neither signals nor what is in flight
 
@@ -80,9 +64,7 @@ run-advances queue id start entries dispatch = record {
   launches = refl;
   progress = λ q i so_far. refl;
   releases = (agent-writes start entries dispatch).flight;
-  hands = λ m. refl;
-  stops = λ m. refl;
-  errors = refl;
+  views = λ m v places. refl;
 }
 
 -- the next group, of the packet in its place

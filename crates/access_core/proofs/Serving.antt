@@ -1,14 +1,9 @@
 -- Requests that are served one behind the other.
 use Rattle.std.proofs.Common.{List, [], ◌∷◌, ◌++◌, refl, ap, subst, inl, inr, Result}
-use Rattle.core_model.specs.declared.event.Event.{Event}
 use Rattle.core_model.specs.declared.event.Query.{Query}
 use Rattle.core_model.specs.declared.event.Request.{Request}
+use Rattle.access_core.proofs.Terms.{AreReplies, Event, History, IsServed, MeetsOrLacks, Outcome, Refusal, RepliesOrLacks, Replying, as_reply}
 use Rattle.core_model.specs.declared.event.Request.TheVariants as request
-use Rattle.core_model.specs.declared.outcome.Outcome.{Outcome}
-use Rattle.core_model.specs.declared.refusal.Refusal.{Refusal}
-use Rattle.core_model.specs.History.{History}
-use Rattle.core_model.specs.Legal.{AreReplies, as_reply, IsServed, MeetsOrLacks, RepliesOrLacks}
-use Rattle.core_model.specs.Queries.{Replying}
 
 -- an event that got what was due, or wanted memory, was served
 pub served-event : (event : Event) (old new : History) (made : Result Outcome Refusal) → MeetsOrLacks event old new made → IsServed old (request.Event event) (as_reply made) new

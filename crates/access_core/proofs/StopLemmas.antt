@@ -1,54 +1,28 @@
 -- Stops of queues: what is owed by what is kept, and the room that is left.
-use Rattle.std.proofs.Common.{◌≡◌, ℕ, ◌-◌, ◌≤◌, List, [], ◌∷◌, length, map, refl, sym, ◌∙◌, ap, subst, Bool, true, false, Option, Some, None, arith}
-use Rattle.std.specs.Prelude.{ℤ, ◌==◌, IfNone, IfSome, find, fold, is_some, not, option_map, if◌then◌else◌}
+use Rattle.std.proofs.Common.{◌≡◌, ℕ, ◌-◌, ◌≤◌, List, [], ◌∷◌, length, map, refl, sym, ◌∙◌, ap, subst, Bool, true, false, Option, Some, None, arith, ℤ, ◌==◌}
+use Rattle.std.proofs.Common.{IfNone, IfSome, find, fold, is_some, not, option_map, if◌then◌else◌}
 use Rattle.std.proofs.lemmas.Bool.{le-ltb}
-use Rattle.aql_packet.specs.declared.ids.QueueId.{QueueId}
-use Rattle.aql_packet.specs.declared.ids.PacketId.{PacketId}
-use Rattle.policy.specs.Policy.{numbered}
-use Rattle.grants.specs.Ledger.{Ledger, Releases}
-use Rattle.core_model.specs.declared.entry.Effect.{Effect}
-use Rattle.core_model.specs.declared.entry.Effect.TheVariants as effect
-use Rattle.core_model.specs.declared.event.Event.TheVariants.{Stop}
-use Rattle.core_model.specs.declared.flight.InFlight.{InFlight}
-use Rattle.core_model.specs.declared.outcome.Outcome.{Outcome}
-use Rattle.core_model.specs.declared.outcome.Outcome.TheVariants as outcome
-use Rattle.core_model.specs.declared.refusal.Refusal.TheVariants as refusal
-use Rattle.core_model.specs.Flight.{flight_of}
-use Rattle.core_model.specs.History.{History}
-use Rattle.core_model.specs.LaunchRules.{is_barrier}
-use Rattle.core_model.specs.Legal.{due, entry_of, lacks_room}
-use Rattle.core_model.specs.Memory.{byte_after, signals_after}
-use Rattle.core_model.specs.Owed.{owed, enters, refuses, refuse_if, release_of}
-use Rattle.core_model.specs.Queues.{is_stopped}
-use Rattle.core_model.proofs.More.{errors-more, is_stopped-more, next_id-more}
-use Rattle.packet_processor.specs.declared.places.Place.{Place}
-use Rattle.packet_processor.specs.Queueing.{is_at, without}
-use Rattle.access_core.specs.declared.access.AccessCore.TheInside.{Inside}
-use Rattle.access_core.specs.declared.queue.Queue.{Queue}
-use Rattle.access_core.specs.inner.CachedQueue.{IsSound, QueueView, cached_opening, place_of, queue_at}
-use Rattle.access_core.specs.inner.Cached.{IsCached, history_of, is_full, start_of}
-use Rattle.access_core.specs.inner.QueueChanges.{freed_by, with_queue, with_stop, without_one}
+use Rattle.core_model.specs.Owed.{owed}
 use Rattle.access_core.proofs.Calls.{due-by}
 use Rattle.access_core.proofs.HeldAfter.{grants-released, grants-still}
 use Rattle.access_core.proofs.CachedMore.{GrantsAfter, QueuesAfter, none-launched}
-use Rattle.access_core.proofs.PlacesMore.{flight-unlaunched, places-still}
-use Rattle.access_core.proofs.QueueAt.{IsRelease, flight-released}
+use Rattle.access_core.proofs.QueueAt.{IsRelease, flight-released, flight-unlaunched, queue_at-more}
 use Rattle.access_core.proofs.ChangedQueue.{freed-at}
 use Rattle.access_core.proofs.TakeLemmas.{IsOpen, is-open, owner-kept, queues-after, view-kept}
 use Rattle.access_core.proofs.WorkLemmas.{freed-below, in-place, queues-released, release-room, sound-released}
+use Rattle.access_core.proofs.Terms.{Effect, History, InFlight, Inside, IsCached, IsSound, Ledger, Outcome, PacketId, Place, Queue, QueueId, QueueView}
+use Rattle.access_core.proofs.Terms.{Releases, Stop, byte_after, cached_opening, due, enters, entry_of, flight_of, freed_by, history_of, is_at, is_barrier}
+use Rattle.access_core.proofs.Terms.{is_full, is_stopped, lacks_room, numbered, place_of, queue_at, refuse_if, refuses, release_of, signals_after, start_of}
+use Rattle.access_core.proofs.Terms.{with_queue, with_stop, without_one}
+use Rattle.core_model.specs.declared.entry.Effect.TheVariants as effect
+use Rattle.core_model.specs.declared.outcome.Outcome.TheVariants as outcome
+use Rattle.core_model.specs.declared.refusal.Refusal.TheVariants as refusal
 
 -- the barrier packet among the places is the one in flight
 barrier-placed : (g : InFlight → Place) (fs : List InFlight) → ((f : InFlight) → (g f).id ≡ f.id) → ((f : InFlight) → (g f).packet ≡ f.packet)
     → option_map (λ (p : Place). p.id) (find (λ (p : Place). is_barrier p.packet) (map g fs)) ≡ option_map (λ (f : InFlight). f.id) (find (λ (f : InFlight). is_barrier f.packet) fs)
 barrier-placed g [] named same = refl
-barrier-placed g (f ∷ fs) named same = either (is_barrier (g f).packet) (is_barrier f.packet) (ap is_barrier (same f)) (barrier-placed g fs named same)
-  where
-    either : (b c : Bool) → b ≡ c → option_map (λ (p : Place). p.id) (find (λ (p : Place). is_barrier p.packet) (map g fs)) ≡ option_map (λ (f : InFlight). f.id) (find (λ (f : InFlight). is_barrier f.packet) fs)
-        → option_map (λ (p : Place). p.id) (if b then Some (g f) else find (λ (p : Place). is_barrier p.packet) (map g fs)) ≡ option_map (λ (f : InFlight). f.id) (if c then Some f else find (λ (f : InFlight). is_barrier f.packet) fs)
-    either true true is more = ap Some (named f)
-    either false false is more = more
-    either true false is more = absurd cc
-    either false true is more = absurd cc
+barrier-placed g (f ∷ fs) named same = grind (arith, named f, ap is_barrier (same f), barrier-placed g fs named same)
 
 -- one that is found is found by its id
 record FoundById (id : PacketId) (ps : List Place) : Type 0 where
@@ -73,7 +47,7 @@ abbrev pub stopped : Option PacketId → QueueView → QueueView
 stopped barrier v = record v { stopped = true; places = without_one barrier v.places }
 
 is_release : (queue : QueueId) (id : PacketId) → IsRelease queue id (Stop queue) outcome.Accepted (effect.Release queue id ∷ [])
-is_release queue id = record { launches = refl; progress = λ q i so_far. refl; releases = λ fs. refl; hands = λ m. refl }
+is_release queue id = record { launches = refl; progress = λ q i so_far. refl; releases = λ fs. refl }
 
 -- a release changes neither memory nor signals
 pub memory-released : (queue : QueueId) (barrier : Option PacketId) (x byte : ℕ) → fold (byte_after x) byte (release_of queue barrier) ≡ byte
@@ -94,7 +68,7 @@ module _ (a : Inside) (kept : IsCached a) (queue : QueueId) where
       ≡ option_map (λ (f : InFlight). f.id) (find (λ (f : InFlight). is_barrier f.packet) (flight_of (start_of a) a.audit.items queue))
   barrier-is q some =
       ap (λ (v : QueueView). option_map (λ (p : Place). p.id) (find (λ (p : Place). is_barrier p.packet) v.places)) (view-kept a queue q kept some)
-      ∙ barrier-placed (place_of (start_of a) a.audit.items) (flight_of (start_of a) a.audit.items queue) (λ f. refl) (λ f. refl)
+      ∙ barrier-placed (place_of (start_of a) a.audit.items queue) (flight_of (start_of a) a.audit.items queue) (λ f. refl) (λ f. refl)
 
   -- the queue is kept
   pub stop-known : (q : Queue) → numbered a.queues.items queue.0 ≡ Some q →
@@ -126,39 +100,28 @@ module _ (a : Inside) (kept : IsCached a) (queue : QueueId) where
     -- how the queues move along
     pub queues-stopped : (barrier : Option PacketId) → QueuesAfter a (with_queue a.queues.items queue (with_stop barrier)) (a.flying - freed_by barrier a.queues.items queue) (Stop queue) outcome.Accepted (release_of queue barrier)
     queues-stopped None =
-        let e = entry_of (Stop queue) outcome.Accepted [] in
-        let same = ap length (flight-unlaunched (start_of a) a.audit.items e refl) in
+        let same = flight-unlaunched (start_of a) a.audit.items (Stop queue) outcome.Accepted [] refl in
+        let count = ap length same in
         queues-after a kept queue at (with_stop None) (stopped None) _ _ _ _ refl refl (record { room = at.sound.room; free = at.sound.free; below = at.sound.below }) refl
-        (λ m.
-        (λ i. record {
-          next = next_id-more (start_of a) a.audit.items e m i;
-          stopped = is_stopped-more (start_of a) a.audit.items e m i;
-          errors = errors-more (start_of a) a.audit.items e m i;
-          places = places-still (start_of a) a.audit.items e refl (λ q id p. refl) m refl i;
-        })
-        ∙ pick (queue.0 == m.0) (queue_at (start_of a) a.audit.items m))
-        (omega (arith, same, freed-none, kept.flying)) (none-launched (Stop queue) outcome.Accepted refl (start_of a))
+        (λ m. queue_at-more (start_of a) a.audit.items (Stop queue) outcome.Accepted [] m _ same ∙ pick (queue.0 == m.0) (queue_at (start_of a) a.audit.items m))
+        (omega (arith, count, freed-none, kept.flying)) (none-launched (Stop queue) outcome.Accepted refl (start_of a))
       where
-        pick : (b : Bool) (v : QueueView) → record { next = v.next; stopped = (if b then true else v.stopped); errors = v.errors; places = v.places } ≡ (if b then stopped None v else v)
-        pick true v = refl
-        pick false v = refl
+        pick : (b : Bool) (v : QueueView) → record v { stopped = (if b then true else v.stopped) } ≡ (if b then stopped None v else v)
+        pick b v = grind arith
     queues-stopped (Some id) =
-        queues-released a kept queue id (Stop queue) outcome.Accepted (effect.Release queue id ∷ []) (is_release queue id) refl at (with_stop (Some id)) (stopped (Some id)) refl sound refl pick
+        queues-released a kept queue id (Stop queue) outcome.Accepted (effect.Release queue id ∷ []) (is_release queue id) refl at (with_stop (Some id)) (stopped (Some id)) refl sound refl (λ m v. grind arith)
       where
         sound : IsSound (with_stop (Some id) at.q)
         sound = let less = sound-released at.q id at.sound in record { room = less.room; free = less.free; below = less.below }
-
-        pick : (m : QueueId) (v : QueueView) (b : Bool) → (queue.0 == m.0) ≡ b → record { next = v.next; stopped = (if queue.0 == m.0 then true else v.stopped); errors = v.errors; places = (if b then without id v.places else v.places) } ≡ (if b then stopped (Some id) v else v)
-        pick m v true same = rw same refl
-        pick m v false same = rw same refl
 
   -- how the grants do
   pub grants-stopped : (barrier : Option PacketId) (new : Ledger) → IfSome barrier (λ id. Releases a.grants new queue id) → IfNone barrier (new ≡ a.grants) → GrantsAfter a new (Stop queue) outcome.Accepted (release_of queue barrier)
   grants-stopped None new released same =
       subst (λ g. GrantsAfter a g (Stop queue) outcome.Accepted []) (sym same)
-      (grants-still a kept (Stop queue) outcome.Accepted [] refl (λ client on right b. refl) (flight-unlaunched (start_of a) a.audit.items (entry_of (Stop queue) outcome.Accepted []) refl))
+      (grants-still a kept (Stop queue) outcome.Accepted [] refl (λ client on right b. refl) (flight-unlaunched (start_of a) a.audit.items (Stop queue) outcome.Accepted [] refl))
   grants-stopped (Some id) new released same =
-      grants-released a kept (Stop queue) outcome.Accepted (effect.Release queue id ∷ []) refl (λ client on right b. refl) new queue id (flight-released (start_of a) a.audit.items queue id _ _ _ (is_release queue id)) released
+      grants-released a kept (Stop queue) outcome.Accepted (effect.Release queue id ∷ []) refl (λ client on right b. refl) new queue id
+      (flight-released (start_of a) a.audit.items _ _ _ queue id (is_release queue id)) released
 
   -- a stop is due its entry where a barrier packet leaves flight for it, or the audit has room
   pub may-stop : (q : Queue) (barrier : Option PacketId) (none : Bool) (old : History) → history_of a ≡ old → numbered a.queues.items queue.0 ≡ Some q → q.stopped ≡ false

@@ -1,63 +1,32 @@
 -- What is owed to a packet that is handed over, by what is kept.
-use Rattle.std.proofs.Common.{◌≡◌, ℕ, ◌<◌, ◌≤◌, ◌^◌, List, [], ◌∷◌, ◌++◌, length, refl, sym, ◌∙◌, ap, Bool, true, false, Option, Some, None, arith}
-use Rattle.std.specs.Prelude.{nat_lt, nat_le, All, not, ◌||◌, ◌&&◌, ◌==◌, map, option_map, if◌then◌else◌}
-use Rattle.aql_packet.specs.declared.ids.QueueId.{QueueId}
-use Rattle.aql_packet.specs.declared.ids.PacketId.{PacketId}
-use Rattle.aql_packet.specs.declared.packet.Packet.{Packet}
-use Rattle.aql_packet.specs.Reading.{barrier_bit, decoded}
-use Rattle.queue_error.specs.declared.rule.Rule.{Rule}
-use Rattle.queue_error.specs.declared.rule.Rule.TheVariants as rule
-use Rattle.std.specs.List.{list_all, list_any}
-use Rattle.access_core.specs.inner.LiesInRegions.{lies_in_regions}
-use Rattle.packet_processor.proofs.FirstFailing.{first_failing-decoded}
-use Rattle.policy.specs.Policy.{numbered}
-use Rattle.policy.proofs.NameLemmas.{numbered-map}
-use Rattle.core_model.specs.declared.event.Event.TheVariants.{Take}
-use Rattle.core_model.specs.declared.flight.InFlight.{InFlight}
-use Rattle.core_model.specs.declared.outcome.Cause.TheVariants as cause
-use Rattle.core_model.specs.declared.refusal.Refusal.TheVariants as refusal
-use Rattle.core_model.specs.History.{History, Start}
-use Rattle.core_model.specs.Memory.{region_lengths}
-use Rattle.core_model.specs.Queues.{Opening, opening_of, owner, next_id, hands_over, errors, is_stopped}
-use Rattle.core_model.specs.declared.entry.Effect.{Effect}
-use Rattle.core_model.specs.declared.entry.Entry.{Entry}
-use Rattle.core_model.specs.declared.event.Event.{Event}
-use Rattle.core_model.specs.declared.limits.TheConstants.{SLOTS}
-use Rattle.core_model.specs.declared.outcome.Outcome.{Outcome}
-use Rattle.core_model.proofs.More.{with_some}
-use Rattle.queue_error.specs.declared.error.QueueError.{QueueError}
+use Rattle.std.proofs.Common.{◌≡◌, ℕ, ◌<◌, ◌≤◌, ◌^◌, List, [], ◌∷◌, ◌++◌, length, refl, sym, ◌∙◌, ap, Bool, true, false, Option, Some, None, arith, ◌+◌}
+use Rattle.std.proofs.Common.{length-append, subst, nat_lt, All, ◌||◌, ◌==◌, map, option_map, if◌then◌else◌}
+use Rattle.std.specs.List.{list_all}
 use Rattle.std.proofs.lemmas.List.Sums.{count_by-le-length}
-use Rattle.std.proofs.lemmas.Bool.{and_parts, leb-false, lt-ltb}
-use Rattle.core_model.specs.declared.need.Need.{Need}
-use Rattle.core_model.specs.Needs.{memory_needs, needs}
-use Rattle.core_model.specs.Holds.{Held, as_held, held_at_launch}
-use Rattle.aql_packet.specs.declared.ids.ClientId.{ClientId}
-use Rattle.core_model.specs.LaunchRules.{Facts, is_met, is_taken, names_known_function, lies_whole, first_failing, is_barrier, may_start}
-use Rattle.packet_processor.specs.Judged.{later_failing}
-use Rattle.core_model.specs.Owed.{refuses, owed, refuse_if, refuse_unless, decided, facts_of}
-use Rattle.access_core.specs.declared.queue.Queue.{Queue}
-use Rattle.access_core.specs.declared.access.AccessCore.TheInside.{Inside}
-use Rattle.access_core.specs.inner.Judged.{facts_lent}
-use Rattle.access_core.specs.inner.Cached.{IsCached, start_of, history_of}
-use Rattle.access_core.specs.inner.CachedQueue.{IsSound, QueueView, cached, cached_opening, place_of, queue_at}
-use Rattle.access_core.proofs.PlacesMore.{map-map}
-use Rattle.std.proofs.Common.{◌+◌, length-append, subst}
+use Rattle.std.proofs.lemmas.Bool.{and_parts, lt-ltb}
 use Rattle.std.proofs.lemmas.List.Elements.{All-push, All-weaker}
-use Rattle.core_model.specs.declared.outcome.Outcome.TheVariants as outcome
-use Rattle.core_model.specs.declared.outcome.Taken.TheVariants.{Launched, Denied}
-use Rattle.core_model.specs.Flight.{flight, launched_by}
-use Rattle.core_model.specs.Legal.{entry_of, lacks_room, with_entry}
-use Rattle.core_model.specs.Owed.{error_at}
-use Rattle.packet_processor.specs.Queueing.{as_launched}
-use Rattle.access_core.specs.inner.QueueChanges.{CanFail, with_denied, with_launched, with_queue}
-use Rattle.access_core.proofs.CachedMore.{QueuesAfter, none-launched}
-use Rattle.access_core.proofs.PlacesMore.{flight-launched, flight-unlaunched}
-use Rattle.access_core.proofs.QueueAt.{denied, launched, queue_at-denied, queue_at-launched}
-use Rattle.access_core.proofs.ChangedQueue.{length-changed, openings-changed, queues-changed, sound-at, sound-changed}
-use Rattle.packet_processor.specs.declared.places.Place.{Place}
-use Rattle.core_model.specs.Flight.{flight_of}
 use Rattle.std.proofs.lemmas.List.{length-map}
-use Rattle.access_core.specs.inner.Deciding.{TakesNext, MayHold}
+use Rattle.queue_error.specs.declared.rule.Rule.{Rule}
+use Rattle.packet_processor.proofs.FirstFailing.{first_failing-decoded}
+use Rattle.core_model.specs.Queues.{opening_of, next_id}
+use Rattle.core_model.specs.declared.need.Need.{Need}
+use Rattle.core_model.specs.LaunchRules.{may_start}
+use Rattle.packet_processor.specs.Judged.{later_failing}
+use Rattle.core_model.specs.Owed.{owed}
+use Rattle.access_core.specs.inner.Judged.{facts_lent}
+use Rattle.access_core.specs.inner.QueueChanges.{with_launched}
+use Rattle.access_core.proofs.CachedMore.{QueuesAfter, none-launched}
+use Rattle.access_core.proofs.QueueAt.{flight-launched, flight-unlaunched, map-map, denied, launched, queue_at-denied, queue_at-launched}
+use Rattle.access_core.proofs.ChangedQueue.{length-changed, openings-changed, queues-changed, sound-at, sound-changed}
+use Rattle.access_core.proofs.Terms.{IsInPlace, CanFail, ClientId, Denied, Effect, Entry, Event, Facts, Held, History, InFlight, Inside, IsCached, IsSound}
+use Rattle.access_core.proofs.Terms.{Launched, MayHold, Opening, Outcome, Packet, PacketId, Place, Queue, QueueError, QueueId, QueueView, SLOTS, Start, Take}
+use Rattle.access_core.proofs.Terms.{TakesNext, as_held, as_launched, barrier_bit, cached, cached_opening, decided, decoded, entry_of, error_at, errors}
+use Rattle.access_core.proofs.Terms.{facts_of, first_failing, flight, flight_of, hands_over, held_at_launch, history_of, is_met, is_stopped, lacks_room}
+use Rattle.access_core.proofs.Terms.{launched_by, lies_in_regions, lies_whole, memory_needs, needs, numbered, numbered-map, owner, place_of, queue_at}
+use Rattle.access_core.proofs.Terms.{refuse_if, refuse_unless, refuses, region_lengths, start_of, with_denied, with_entry, with_queue, with_some}
+use Rattle.queue_error.specs.declared.rule.Rule.TheVariants as rule
+use Rattle.core_model.specs.declared.refusal.Refusal.TheVariants as refusal
+use Rattle.core_model.specs.declared.outcome.Outcome.TheVariants as outcome
 
 -- the owner of a queue is the one that is kept
 pub owner-kept : (a : Inside) (queue : QueueId) → IsCached a → owner (start_of a) a.audit.items queue ≡ option_map cached_opening (numbered a.queues.items queue.0)
@@ -79,7 +48,7 @@ view-kept a queue q kept some = ap cached (sym some) ∙ kept.queues queue
 -- its packets in flight are those of the history
 pub packets-kept : (a : Inside) (queue : QueueId) (q : Queue) → IsCached a → numbered a.queues.items queue.0 ≡ Some q → map (λ (f : InFlight). f.packet) (flight_of (start_of a) a.audit.items queue) ≡ map (λ (p : Place). p.packet) q.places
 packets-kept a queue q kept some =
-    sym (map-map (λ (p : Place). p.packet) (place_of (start_of a) a.audit.items) (flight_of (start_of a) a.audit.items queue))
+    sym (map-map (λ (p : Place). p.packet) (place_of (start_of a) a.audit.items queue) (flight_of (start_of a) a.audit.items queue))
     ∙ ap (λ (v : QueueView). map (λ (p : Place). p.packet) v.places) (sym (view-kept a queue q kept some))
 
 module _ (a : Inside) (kept : IsCached a) (queue : QueueId) (id : PacketId) (bytes : List ℕ) where
@@ -111,19 +80,7 @@ pub record PassesRights (facts : Facts) (p : Packet) : Type 0 where
 
 -- a packet that no rule refuses passes them
 passed-rights : (facts : Facts) (p : Packet) → later_failing facts p ≡ None → PassesRights facts p
-passed-rights facts p none =
-    by_tests (is_taken facts.takes p) (list_all (is_met facts) (needs rule.L4 facts.agent p)) (names_known_function p && true) (list_all (is_met facts) (memory_needs p))
-    (list_all (is_met facts) (needs rule.L9 facts.agent p)) (list_all (is_met facts) (needs rule.L10 facts.agent p)) none refl refl refl refl
-  where
-    by_tests : (t l4 l5 l8 l9 l10 : Bool) → (if not (t && l4) then Some rule.L4 else if not l5 then Some rule.L5 else if not l8 then Some rule.L8 else if not l9 then Some rule.L9 else if not l10 then Some rule.L10 else None) ≡ None
-        → list_all (is_met facts) (needs rule.L4 facts.agent p) ≡ l4 → list_all (is_met facts) (memory_needs p) ≡ l8 → list_all (is_met facts) (needs rule.L9 facts.agent p) ≡ l9 → list_all (is_met facts) (needs rule.L10 facts.agent p) ≡ l10 → PassesRights facts p
-    by_tests true true true true true true e four eight nine ten = record { agent = four; memory = eight; waits = nine; completes = ten }
-    by_tests false l4 l5 l8 l9 l10 e four eight nine ten = absurd cc
-    by_tests true false l5 l8 l9 l10 e four eight nine ten = absurd cc
-    by_tests true true false l8 l9 l10 e four eight nine ten = absurd cc
-    by_tests true true true false l9 l10 e four eight nine ten = absurd cc
-    by_tests true true true true false l10 e four eight nine ten = absurd cc
-    by_tests true true true true true false e four eight nine ten = absurd cc
+passed-rights facts p none = record { agent = grind arith; memory = grind arith; waits = grind arith; completes = grind arith }
 
 -- what is needed and met is in force
 held-met : (facts : Facts) (all : List Need) (rest : List Held) → list_all (is_met facts) all ≡ true → list_all (λ h. facts.in_force h.0 h.1) rest ≡ true → list_all (λ h. facts.in_force h.0 h.1) (map as_held all ++ rest) ≡ true
@@ -170,13 +127,7 @@ room-launched h queue id bytes p reads = rw (reads, length-append) refl
 -- a packet that may start finds a slot free
 may_start-few : (ps : List Packet) (barrier : Bool) → may_start ps barrier ≡ None → length ps < SLOTS
 unfolding may_start
-may_start-few ps barrier none = by_tests (list_any is_barrier ps) (barrier && nat_lt 0 (length ps)) (nat_le 8 (length ps)) refl none
-  where
-    by_tests : (first second third : Bool) → nat_le 8 (length ps) ≡ third → (if first then Some cause.Barrier else if second then Some cause.Active else if third then Some cause.Slots else None) ≡ None → length ps < SLOTS
-    by_tests true second third is none = absurd (cc)
-    by_tests false true third is none = absurd (cc)
-    by_tests false false true is none = absurd (cc)
-    by_tests false false false is none = leb-false 8 (length ps) is
+may_start-few ps barrier none = grind arith
 
 -- a queue that is kept, and not down, and where a packet may start takes its next packet
 pub takes-next : (a : Inside) (kept : IsCached a) (queue : QueueId) (q : Queue) (barrier : Bool) → numbered a.queues.items queue.0 ≡ Some q → (nat_lt 0 (length q.errors.items) || q.stopped) ≡ false → may_start (map (λ (p : Place). p.packet) q.places) barrier ≡ None → TakesNext (history_of a) queue
@@ -200,10 +151,7 @@ next_id-le start entries queue = count_by-le-length (λ (entry : Entry). hands_o
 
 no_errors : (xs : List QueueError) (s : Bool) → (nat_lt 0 (length xs) || s) ≡ false → xs ≡ []
 no_errors [] s e = refl
-no_errors (x ∷ xs) s e = let some : nat_lt 0 (length (x ∷ xs)) ≡ true = lt-ltb 0 (length (x ∷ xs)) (omega arith) in absurd (true_false (rw some at e))
-  where
-    true_false : true ≡ false → ⊥
-    true_false e = cc
+no_errors (x ∷ xs) s e = let some = lt-ltb 0 (length (x ∷ xs)) (omega arith) in let lost : true ≡ false = rw some at e in absurd cc
 
 -- What is kept of a queue whose opening the history knows.
 pub record IsOpen (a : Inside) (queue : QueueId) : Type 0 where
@@ -224,6 +172,11 @@ is-open a kept queue opening owned = either (numbered a.queues.items queue.0) re
         let few : next_id (start_of a) a.audit.items queue ≤ length a.audit.items = next_id-le (start_of a) a.audit.items queue in
         record { q = q; found = is; view = view; sound = sound-at a.queues.items queue.0 q kept.sound is; small = omega (arith, kept.room, kept.few, next, few) }
 
+-- the queue of a packet in its place is open
+pub open-of : (a : Inside) (kept : IsCached a) (old : History) → history_of a ≡ old → (queue : QueueId) (id : PacketId) (place : Place)
+    → IsInPlace old queue id place → IsOpen a queue
+open-of a kept old seen_as queue id place found = is-open a kept queue found.opening (ap (λ h. owner h.start h.entries queue) seen_as ∙ found.owner_is)
+
 -- A queue that takes its next packet has no error, and a slot free.
 pub record CanTake (a : Inside) (queue : QueueId) : Type 0 where
   pub opened : IsOpen a queue
@@ -233,8 +186,8 @@ pub record CanTake (a : Inside) (queue : QueueId) : Type 0 where
 pub can-take : (a : Inside) (kept : IsCached a) (queue : QueueId) → TakesNext (history_of a) queue → CanTake a queue
 can-take a kept queue takes =
     let at = is-open a kept queue takes.0 takes.1 in
-    let count = length-map (flight_of (start_of a) a.audit.items queue) (place_of (start_of a) a.audit.items) in
-    let places : length at.q.places ≡ length (map (place_of (start_of a) a.audit.items) (flight_of (start_of a) a.audit.items queue)) = ap (λ (v : QueueView). length v.places) at.view in
+    let count = length-map (flight_of (start_of a) a.audit.items queue) (place_of (start_of a) a.audit.items queue) in
+    let places : length at.q.places ≡ length (map (place_of (start_of a) a.audit.items queue) (flight_of (start_of a) a.audit.items queue)) = ap (λ (v : QueueView). length v.places) at.view in
     record { opened = at; none = ap (λ (v : QueueView). v.errors) at.view ∙ no_errors _ _ takes.2; few = omega (arith, count, places, takes.3) }
 
 -- how the queues follow an entry that changes one of them
@@ -273,7 +226,7 @@ module _ (a : Inside) (kept : IsCached a) (queue : QueueId) (id : PacketId) (byt
       }
 
   pub flight-denied : (rule : Rule) → flight (start_of a) (with_entry a.audit.items (Take queue id bytes) (outcome.Taken (Denied (error_at queue id.0 rule))) []) ≡ flight (start_of a) a.audit.items
-  flight-denied rule = flight-unlaunched (start_of a) a.audit.items (entry_of (Take queue id bytes) (outcome.Taken (Denied (error_at queue id.0 rule))) []) refl
+  flight-denied rule = flight-unlaunched (start_of a) a.audit.items (Take queue id bytes) (outcome.Taken (Denied (error_at queue id.0 rule))) [] refl
 
   -- it is denied
   pub queues-denied : (rule : Rule) → QueuesAfter a (with_queue a.queues.items queue (with_denied (error_at queue id.0 rule))) a.flying (Take queue id bytes) (outcome.Taken (Denied (error_at queue id.0 rule))) []

@@ -1,57 +1,33 @@
 -- Packets in flight and their completion: what an entry changes beside them, and how many are left.
-use Rattle.std.proofs.Common.{◌≡◌, ℕ, ◌+◌, ◌-◌, ◌<◌, ◌≤◌, List, [], ◌∷◌, ◌++◌, length, refl, sym, subst, ◌∙◌, ap, Bool, true, false, Option, Some, None, arith, pos}
-use Rattle.std.specs.Prelude.{ℤ, filter, find, fold, nat_lt, not, slice_set, ◌==◌, if◌then◌else◌, Ok, Err}
+use Rattle.std.proofs.Common.{◌≡◌, ℕ, ◌+◌, ◌-◌, ◌<◌, ◌≤◌, List, [], ◌∷◌, ◌++◌, length, refl, sym, subst, ◌∙◌, ap, Bool, true, false, Option, Some, None, arith}
+use Rattle.std.proofs.Common.{get_or, length-append, ℤ, filter, find, fold, nat_lt, not, slice_set, ◌==◌, if◌then◌else◌, Ok, Err, ◌&&◌, option_map, map}
 use Rattle.std.specs.Option.{ok_or}
-use Rattle.signals.specs.declared.operation.SignalOp.{SignalOp}
-use Rattle.signals.specs.Values.{after, applied, value_of}
-use Rattle.aql_packet.specs.declared.ids.QueueId.{QueueId}
-use Rattle.aql_packet.specs.declared.ids.PacketId.{PacketId}
-use Rattle.aql_packet.specs.declared.ids.SignalHandle.{SignalHandle}
-use Rattle.core_model.specs.declared.entry.Effect.TheVariants as effect
-use Rattle.core_model.specs.declared.flight.InFlight.{InFlight}
-use Rattle.core_model.specs.Memory.{byte_after, signals, signals_after}
-use Rattle.core_model.specs.declared.refusal.Refusal.TheVariants as refusal
 use Rattle.std.proofs.lemmas.Bool.{and_parts, eqb-true, le-ltb}
-use Rattle.std.specs.Prelude.{◌&&◌, option_map, All}
-use Rattle.policy.specs.Policy.{numbered}
-use Rattle.core_model.specs.Memory.{region_lengths}
-use Rattle.core_model.specs.Flight.{flight, flight_after, flight_after_effect, in_flight, is_packet, progress, with_launched}
-use Rattle.core_model.specs.declared.flight.Progress.{Progress}
-use Rattle.core_model.specs.Owed.{Owed, owed, enters, error_at, refuses, completed, for_packet}
-use Rattle.core_model.specs.Legal.{due, entry_of, lacks_room}
-use Rattle.core_model.specs.Queues.{error_of, opening_of, owner, stops}
-use Rattle.core_model.specs.declared.event.Event.{Event}
-use Rattle.core_model.specs.declared.event.Event.TheVariants.{Finish, Poll}
-use Rattle.core_model.specs.declared.outcome.Polled.TheVariants.{Failed}
-use Rattle.core_model.specs.Needs.{completion}
-use Rattle.queue_error.specs.declared.rule.Rule.TheVariants.{B1}
-use Rattle.access_core.proofs.Calls.{due-as}
-use Rattle.core_model.specs.declared.entry.Effect.{Effect}
-use Rattle.core_model.specs.declared.outcome.Outcome.{Outcome}
-use Rattle.core_model.specs.declared.outcome.Outcome.TheVariants as outcome
-use Rattle.core_model.specs.History.{History}
-use Rattle.core_model.proofs.More.{with_error}
-use Rattle.aql_packet.specs.declared.packet.Packet.{Packet}
 use Rattle.std.proofs.lemmas.List.{length-map}
-use Rattle.std.proofs.lemmas.List.Elements.{All-filter, All-head, All-tail}
-use Rattle.std.specs.Prelude.{map}
-use Rattle.packet_processor.specs.declared.places.Place.{Place}
-use Rattle.packet_processor.specs.Queueing.{is_at, with_progress, without}
-use Rattle.access_core.specs.declared.access.AccessCore.TheInside.{Inside}
-use Rattle.access_core.specs.declared.queue.Queue.{Queue}
-use Rattle.access_core.specs.inner.CachedQueue.{IsSound, QueueView, cached, cached_opening, place_of}
-use Rattle.access_core.specs.inner.InPlace.{IsInPlace, RefusedAt, completion_of, finish_owed}
-use Rattle.access_core.specs.inner.LiesInRegions.{lies_in_regions}
-use Rattle.access_core.specs.inner.Cached.{IsCached, start_of, history_of}
-use Rattle.queue_error.specs.declared.error.QueueError.{QueueError}
-use Rattle.std.proofs.Common.{get_or, length-append}
-use Rattle.std.proofs.lemmas.List.Elements.{All-map}
-use Rattle.access_core.specs.inner.QueueChanges.{CanFail, freed_by, with_advance, with_failure, with_queue, with_release}
+use Rattle.std.proofs.lemmas.List.Elements.{All-filter, All-map}
+use Rattle.signals.specs.declared.operation.SignalOp.{SignalOp}
+use Rattle.signals.specs.Values.{after}
+use Rattle.aql_packet.specs.declared.ids.SignalHandle.{SignalHandle}
+use Rattle.core_model.specs.Flight.{with_launched}
+use Rattle.core_model.specs.Queues.{opening_of}
+use Rattle.core_model.specs.declared.outcome.Polled.TheVariants.{Failed}
+use Rattle.queue_error.specs.declared.rule.Rule.TheVariants.{B1}
+use Rattle.core_model.proofs.Lists.{found-all, found-passes}
+use Rattle.access_core.proofs.Calls.{due-as}
 use Rattle.access_core.proofs.CachedMore.{QueuesAfter, none-launched}
-use Rattle.access_core.proofs.PlacesMore.{of_queue, released-count, released-of}
-use Rattle.access_core.proofs.QueueAt.{IsAdvance, IsRelease, advanced, flight-advanced, flight-released, queue_at-advanced, queue_at-released}
+use Rattle.access_core.proofs.QueueAt.{after as after_entry, of_queue, released-count, released-of, IsAdvance, IsRelease, advanced, flight-advanced}
+use Rattle.access_core.proofs.QueueAt.{flight-released, queue_at-advanced, queue_at-released}
 use Rattle.access_core.proofs.ChangedQueue.{freed-at}
 use Rattle.access_core.proofs.TakeLemmas.{IsOpen, owner-kept, queues-after, view-kept}
+use Rattle.access_core.proofs.Terms.{CanFail, Effect, Event, Finish, History, InFlight, Inside, IsCached, IsInPlace, IsSound, Outcome, Owed, Packet, PacketId}
+use Rattle.access_core.proofs.Terms.{Place, Poll, Progress, Queue, QueueError, QueueId, QueueView, RefusedAt, applied, byte_after, cached, cached_opening}
+use Rattle.access_core.proofs.Terms.{completed, completion, completion_of, due, enters, entry_of, error_at, finish_owed, flight, flight_after}
+use Rattle.access_core.proofs.Terms.{flight_after_effect, for_packet, freed_by, history_of, in_flight, is_at, is_packet, lacks_room, lies_in_regions, numbered}
+use Rattle.access_core.proofs.Terms.{owed, owner, place_of, progress, queue_at, refuses, region_lengths, signals, signals_after, start_of, value_of}
+use Rattle.access_core.proofs.Terms.{with_advance, with_failure, with_progress, with_queue, with_release, without}
+use Rattle.core_model.specs.declared.entry.Effect.TheVariants as effect
+use Rattle.core_model.specs.declared.refusal.Refusal.TheVariants as refusal
+use Rattle.core_model.specs.declared.outcome.Outcome.TheVariants as outcome
 
 -- ---- signals
 
@@ -80,63 +56,22 @@ missing-err None e f same = refl
 
 pub flight-completed : (values : List ℤ) (signal : SignalHandle) (queue : QueueId) (id : PacketId) (flying : List InFlight) →
     fold flight_after_effect flying (completed values signal ++ effect.Release queue id ∷ []) ≡ filter (λ f. not (is_packet queue id f)) flying
-flight-completed values signal queue id flying = null (signal.0 == 0)
-  where
-    known : (o : Option ℤ) → fold flight_after_effect flying ((elim o [ None ↦ [] | Some v ↦ effect.Signal signal v (applied (SignalOp.Subtract (pos 1)) v) ∷ [] ]) ++ effect.Release queue id ∷ []) ≡ filter (λ f. not (is_packet queue id f)) flying
-    known None = refl
-    known (Some v) = refl
-
-    null : (b : Bool) → fold flight_after_effect flying ((if b then [] else elim (value_of values signal.0) [ None ↦ [] | Some v ↦ effect.Signal signal v (applied (SignalOp.Subtract (pos 1)) v) ∷ [] ]) ++ effect.Release queue id ∷ []) ≡ filter (λ f. not (is_packet queue id f)) flying
-    null true = refl
-    null false = known (value_of values signal.0)
+flight-completed values signal queue id flying = grind arith
 
 pub memory-completed : (values : List ℤ) (signal : SignalHandle) (queue : QueueId) (id : PacketId) (x byte : ℕ) →
     fold (byte_after x) byte (completed values signal ++ effect.Release queue id ∷ []) ≡ byte
-memory-completed values signal queue id x byte = null (signal.0 == 0)
-  where
-    known : (o : Option ℤ) → fold (byte_after x) byte ((elim o [ None ↦ [] | Some v ↦ effect.Signal signal v (applied (SignalOp.Subtract (pos 1)) v) ∷ [] ]) ++ effect.Release queue id ∷ []) ≡ byte
-    known None = refl
-    known (Some v) = refl
-
-    null : (b : Bool) → fold (byte_after x) byte ((if b then [] else elim (value_of values signal.0) [ None ↦ [] | Some v ↦ effect.Signal signal v (applied (SignalOp.Subtract (pos 1)) v) ∷ [] ]) ++ effect.Release queue id ∷ []) ≡ byte
-    null true = refl
-    null false = known (value_of values signal.0)
+memory-completed values signal queue id x byte = grind arith
 
 -- ---- how many are left
 
 pub filter-not_more : {X : Type 0} (test : X → Bool) (xs : List X) → length (filter test xs) ≤ length xs
 filter-not_more test [] = omega arith
-filter-not_more test (x ∷ xs) = either (test x) (filter-not_more test xs)
-  where
-    either : (b : Bool) → length (filter test xs) ≤ length xs → length (if b then x ∷ filter test xs else filter test xs) ≤ length (x ∷ xs)
-    either true less = omega arith
-    either false less = omega arith
+filter-not_more test (x ∷ xs) = grind (arith, filter-not_more test xs)
 
 -- one that is found, and doesn't pass another test, is left out by that
 pub filter-fewer : {X : Type 0} (test kept : X → Bool) (xs : List X) (f : X) → find test xs ≡ Some f → kept f ≡ false → length (filter kept xs) + 1 ≤ length xs
 filter-fewer test kept [] f found out = absurd cc
-filter-fewer test kept (x ∷ xs) f found out = first (test x) refl found (filter-fewer test kept xs f)
-  where
-    either : (b : Bool) → length (filter kept xs) + 1 ≤ length xs → length (if b then x ∷ filter kept xs else filter kept xs) + 1 ≤ length (x ∷ xs)
-    either true fewer = omega arith
-    either false fewer = omega arith
-
-    first : (b : Bool) → test x ≡ b → (if b then Some x else find test xs) ≡ Some f → (find test xs ≡ Some f → kept f ≡ false → length (filter kept xs) + 1 ≤ length xs) → length (if kept x then x ∷ filter kept xs else filter kept xs) + 1 ≤ length (x ∷ xs)
-    first true is same more =
-        let here : x ≡ f = cc in
-        let left : kept x ≡ false = rw here out in
-        let fewer = filter-not_more kept xs in
-        rw left (omega arith)
-    first false is same more = either (kept x) (more same out)
-
--- what is found passes
-found-passes : {X : Type 0} (test : X → Bool) (xs : List X) (f : X) → find test xs ≡ Some f → test f ≡ true
-found-passes test [] f found = absurd cc
-found-passes test (x ∷ xs) f found = first (test x) refl found (found-passes test xs f)
-  where
-    first : (b : Bool) → test x ≡ b → (if b then Some x else find test xs) ≡ Some f → (find test xs ≡ Some f → test f ≡ true) → test f ≡ true
-    first true is same more = let here : x ≡ f = cc in subst (λ y. test y ≡ true) here is
-    first false is same more = more same
+filter-fewer test kept (x ∷ xs) f found out = grind (arith, filter-not_more kept xs, filter-fewer test kept xs f)
 
 -- ---- what is kept, and what is owed by it
 
@@ -164,12 +99,12 @@ module _ (a : Inside) (kept : IsCached a) (queue : QueueId) (id : PacketId) wher
   -- what it frees, in numbers
   freed-is : (at : IsOpen a queue) → length (filter (of_queue queue.0) flying) ≡ freed_by (Some id) a.queues.items queue + length (filter (of_queue queue.0) others)
   freed-is at =
-      let places : at.q.places ≡ map (place_of (start_of a) a.audit.items) (filter (of_queue queue.0) flying) = ap (λ (v : QueueView). v.places) at.view in
-      let left : without id at.q.places ≡ map (place_of (start_of a) a.audit.items) (filter (of_queue queue.0) others) =
-      ap (without id) places ∙ sym (released-of id.0 (place_of (start_of a) a.audit.items) queue.0 flying (λ f. refl)) in
+      let places : at.q.places ≡ map (place_of (start_of a) a.audit.items queue) (filter (of_queue queue.0) flying) = ap (λ (v : QueueView). v.places) at.view in
+      let left : without id at.q.places ≡ map (place_of (start_of a) a.audit.items queue) (filter (of_queue queue.0) others) =
+      ap (without id) places ∙ sym (released-of id.0 (place_of (start_of a) a.audit.items queue) queue.0 flying (λ f. refl)) in
       let freed-now : freed_by (Some id) a.queues.items queue ≡ length at.q.places - length (without id at.q.places) = freed-at (Some id) a.queues.items queue at.q at.found in
-      let one : length at.q.places ≡ length (filter (of_queue queue.0) flying) = ap length places ∙ length-map (filter (of_queue queue.0) flying) (place_of (start_of a) a.audit.items) in
-      let two : length (without id at.q.places) ≡ length (filter (of_queue queue.0) others) = ap length left ∙ length-map (filter (of_queue queue.0) others) (place_of (start_of a) a.audit.items) in
+      let one : length at.q.places ≡ length (filter (of_queue queue.0) flying) = ap length places ∙ length-map (filter (of_queue queue.0) flying) (place_of (start_of a) a.audit.items queue) in
+      let two : length (without id at.q.places) ≡ length (filter (of_queue queue.0) others) = ap length left ∙ length-map (filter (of_queue queue.0) others) (place_of (start_of a) a.audit.items queue) in
       let count = released-count id.0 queue.0 flying in
       let less = filter-not_more (λ (f : InFlight). not (is_packet queue id f)) flying in
       omega (arith, freed-now, one, two, count, less)
@@ -196,11 +131,12 @@ module _ (a : Inside) (kept : IsCached a) (queue : QueueId) (id : PacketId) wher
   -- how the queues move along with it
   pub queues-released : (event : Event) (told : Outcome) (effects : List Effect) → IsRelease queue id event told effects → opening_of event ≡ None → (at : IsOpen a queue) (change : Queue → Queue) (view : QueueView → QueueView)
       → cached_opening (change at.q) ≡ cached_opening at.q → IsSound (change at.q) → cached (Some (change at.q)) ≡ view (cached (Some at.q))
-      → ((m : QueueId) (v : QueueView) (b : Bool) → (queue.0 == m.0) ≡ b → record { next = v.next; stopped = (if stops m event then true else v.stopped); errors = with_error m v.errors (error_of told); places = (if b then without id v.places else v.places) } ≡ (if b then view v else v))
+      → ((m : QueueId) (v : QueueView) → after_entry m event told v (if queue.0 == m.0 then without id v.places else v.places) ≡ (if queue.0 == m.0 then view v else v))
       → QueuesAfter a (with_queue a.queues.items queue change) (a.flying - freed_by (Some id) a.queues.items queue) event told effects
   queues-released event told effects is none at change view same sound alike pick =
-      queues-after a kept queue at change view _ event told effects none same sound alike (λ m. queue_at-released (start_of a) a.audit.items queue id event told effects is view m (pick m))
-      (flying-released at ∙ ap length (sym (flight-released (start_of a) a.audit.items queue id event told effects is))) (none-launched _ _ is.launches (start_of a))
+      queues-after a kept queue at change view _ event told effects none same sound alike
+      (λ m. queue_at-released (start_of a) a.audit.items event told effects queue id is m ∙ pick m (queue_at (start_of a) a.audit.items m))
+      (flying-released at ∙ ap length (sym (flight-released (start_of a) a.audit.items event told effects queue id is))) (none-launched _ _ is.launches (start_of a))
 
 -- a queue whose packet left flight is sound
 pub sound-released : (q : Queue) (id : PacketId) → IsSound q → IsSound (with_release id q)
@@ -212,30 +148,16 @@ sound-released q id sound =
 
 find-placed : (g : InFlight → Place) (n i : ℕ) (fs : List InFlight) → ((f : InFlight) → (g f).id ≡ f.id) → find (λ (p : Place). p.id.0 == i) (map g (filter (of_queue n) fs)) ≡ option_map g (find (λ (f : InFlight). f.queue.0 == n && f.id.0 == i) fs)
 find-placed g n i [] named = refl
-find-placed g n i (f ∷ fs) named = either (f.queue.0 == n) (f.id.0 == i) (ap (λ (id : PacketId). id.0 == i) (named f)) (find-placed g n i fs named)
-  where
-    either : (c d : Bool) → ((g f).id.0 == i) ≡ d → find (λ (p : Place). p.id.0 == i) (map g (filter (of_queue n) fs)) ≡ option_map g (find (λ (f : InFlight). f.queue.0 == n && f.id.0 == i) fs)
-        → find (λ (p : Place). p.id.0 == i) (map g (if c then f ∷ filter (of_queue n) fs else filter (of_queue n) fs)) ≡ option_map g (if c && d then Some f else find (λ (f : InFlight). f.queue.0 == n && f.id.0 == i) fs)
-    either true true at more = rw at refl
-    either true false at more = rw at more
-    either false d at more = more
-
-pub all-found : {X : Type 0} (P : X → Type 0) (test : X → Bool) (xs : List X) (f : X) → All P xs → find test xs ≡ Some f → P f
-all-found P test [] f all found = absurd cc
-all-found P test (x ∷ xs) f all found = first (test x) found (all-found P test xs f (All-tail P x xs all))
-  where
-    first : (b : Bool) → (if b then Some x else find test xs) ≡ Some f → (find test xs ≡ Some f → P f) → P f
-    first true same more = let here : x ≡ f = cc in subst P here (All-head P x xs all)
-    first false same more = more same
+find-placed g n i (f ∷ fs) named = grind (arith, named f, find-placed g n i fs named)
 
 module _ (a : Inside) (kept : IsCached a) (queue : QueueId) (id : PacketId) (q : Queue) (some : numbered a.queues.items queue.0 ≡ Some q) where
   owned : owner (start_of a) a.audit.items queue ≡ Some (cached_opening q)
   owned = owner-kept a queue kept ∙ ap (option_map cached_opening) some
 
-  pub sought : find (is_at id) q.places ≡ option_map (place_of (start_of a) a.audit.items) (in_flight (start_of a) a.audit.items queue id)
+  pub sought : find (is_at id) q.places ≡ option_map (place_of (start_of a) a.audit.items queue) (in_flight (start_of a) a.audit.items queue id)
   sought =
       ap (λ (v : QueueView). find (is_at id) v.places) (view-kept a queue q kept some)
-      ∙ find-placed (place_of (start_of a) a.audit.items) queue.0 id.0 (flight (start_of a) a.audit.items) (λ f. refl)
+      ∙ find-placed (place_of (start_of a) a.audit.items queue) queue.0 id.0 (flight (start_of a) a.audit.items) (λ f. refl)
 
   -- where one is found, it is in flight
   pub in-place : (place : Place) → find (is_at id) q.places ≡ Some place → IsInPlace (history_of a) queue id place
@@ -244,12 +166,11 @@ module _ (a : Inside) (kept : IsCached a) (queue : QueueId) (id : PacketId) (q :
       none_place : None ≡ Some place → ⊥
       none_place e = cc
 
-      either : (o : Option InFlight) → in_flight (start_of a) a.audit.items queue id ≡ o → option_map (place_of (start_of a) a.audit.items) o ≡ Some place → IsInPlace (history_of a) queue id place
+      either : (o : Option InFlight) → in_flight (start_of a) a.audit.items queue id ≡ o → option_map (place_of (start_of a) a.audit.items queue) o ≡ Some place → IsInPlace (history_of a) queue id place
       either None found e = absurd (none_place e)
       either (Some f) found e =
-          let same : place_of (start_of a) a.audit.items f ≡ place = cc in
+          let same : place_of (start_of a) a.audit.items queue f ≡ place = cc in
           let both = and_parts (f.queue.0 == queue.0) _ (found-passes (is_packet queue id) (flight (start_of a) a.audit.items) f found) in
-          let queues : f.queue ≡ queue = ap (λ n. record { 0 = n }) (eqb-true _ _ both.0) in
           let ids : f.id ≡ id = ap (λ n. record { 0 = n }) (eqb-true _ _ both.1) in
           record {
             opening = cached_opening q;
@@ -257,14 +178,14 @@ module _ (a : Inside) (kept : IsCached a) (queue : QueueId) (id : PacketId) (q :
             flying = f;
             found = found;
             packet_is = ap (λ (p : Place). p.packet) same;
-            progress_is = (λ i. progress (start_of a) a.audit.items (sym queues i) (sym ids i)) ∙ ap (λ (p : Place). p.progress) same;
+            progress_is = ap (progress (start_of a) a.audit.items queue) (sym ids) ∙ ap (λ (p : Place). p.progress) same;
           }
 
   -- where none is found, a call about it is refused
   pub none-in-place : find (is_at id) q.places ≡ None → RefusedAt (history_of a) queue id refusal.NotInFlight
   none-in-place is rest = either (in_flight (start_of a) a.audit.items queue id) refl (sym sought ∙ is)
     where
-      either : (o : Option InFlight) → in_flight (start_of a) a.audit.items queue id ≡ o → option_map (place_of (start_of a) a.audit.items) o ≡ None → for_packet (start_of a) a.audit.items queue id rest ≡ refuses refusal.NotInFlight
+      either : (o : Option InFlight) → in_flight (start_of a) a.audit.items queue id ≡ o → option_map (place_of (start_of a) a.audit.items queue) o ≡ None → for_packet (start_of a) a.audit.items queue id rest ≡ refuses refusal.NotInFlight
       either None found e = rw (owned, found) refl
       either (Some f) found e = absurd cc
 
@@ -272,14 +193,14 @@ module _ (a : Inside) (kept : IsCached a) (queue : QueueId) (id : PacketId) (q :
 pub reaches-in_place : (a : Inside) (kept : IsCached a) (queue : QueueId) (id : PacketId) (place : Place) → IsInPlace (history_of a) queue id place → lies_in_regions (region_lengths (start_of a)) place.packet ≡ true
 reaches-in_place a kept queue id place found =
     ap (lies_in_regions (region_lengths (start_of a))) (sym found.packet_is)
-    ∙ all-found (λ (f : InFlight). lies_in_regions (region_lengths (start_of a)) f.packet ≡ true) (is_packet queue id) (flight (start_of a) a.audit.items) found.flying kept.within found.found
+    ∙ found-all (λ (f : InFlight). lies_in_regions (region_lengths (start_of a)) f.packet ≡ true) (is_packet queue id) (flight (start_of a) a.audit.items) found.flying kept.within found.found
 
 -- ---- a packet fails
 
 module _ (a : Inside) (kept : IsCached a) (queue : QueueId) (id : PacketId) (at : IsOpen a queue) where
   fewer-places : (f : InFlight) → in_flight (start_of a) a.audit.items queue id ≡ Some f → length (without id at.q.places) + 1 ≤ length at.q.places
   fewer-places f found =
-      let there : find (is_at id) at.q.places ≡ Some (place_of (start_of a) a.audit.items f) = sought a kept queue id at.q at.found ∙ ap (option_map (place_of (start_of a) a.audit.items)) found in
+      let there : find (is_at id) at.q.places ≡ Some (place_of (start_of a) a.audit.items queue f) = sought a kept queue id at.q at.found ∙ ap (option_map (place_of (start_of a) a.audit.items queue)) found in
       filter-fewer (is_at id) (λ (p : Place). not (is_at id p)) at.q.places _ there (ap (λ (b : Bool). not b) (found-passes (is_at id) at.q.places _ there))
 
   -- its queue has room for an error
@@ -307,28 +228,27 @@ sound-advanced q id so_far sound =
     record {
       room = sound.room;
       free = omega (arith, same, sound.free);
-      below = All-map (λ (p : Place). p.id.0 < q.next) (with_progress id so_far) q.places (λ k d h. either (get_or q.places k d) (is_at id (get_or q.places k d)) (sound.below k d h));
+      below = All-map (λ (p : Place). p.id.0 < q.next) (with_progress id so_far) q.places (λ k d h. below (get_or q.places k d) (sound.below k d h));
     }
   where
-    either : (p : Place) (b : Bool) → p.id.0 < q.next → (if b then record p { progress = so_far } else p).id.0 < q.next
-    either p true below = below
-    either p false below = below
+    below : (p : Place) → p.id.0 < q.next → (with_progress id so_far p).id.0 < q.next
+    below p less = grind arith
 
 -- how the queues move along with it
 pub queues-advanced : (a : Inside) (kept : IsCached a) (queue : QueueId) (at : IsOpen a queue) (id : PacketId) (g : Progress → Progress) (event : Event) (told : Outcome) (effects : List Effect) → IsAdvance queue id g event told effects → opening_of event ≡ None
     → (so_far : Progress) → so_far ≡ g (progress (start_of a) a.audit.items queue id) → QueuesAfter a (with_queue a.queues.items queue (with_advance id so_far)) a.flying event told effects
 queues-advanced a kept queue at id g event told effects is none so_far new =
     queues-after a kept queue at (with_advance id so_far) (advanced id so_far) a.flying event told effects none refl (sound-advanced at.q id so_far at.sound) refl
-    (λ m. queue_at-advanced (start_of a) a.audit.items queue id g event told effects is so_far new m)
-    (kept.flying ∙ ap length (sym (flight-advanced (start_of a) a.audit.items queue id g event told effects is))) (none-launched _ _ is.launches (start_of a))
+    (λ m. queue_at-advanced (start_of a) a.audit.items event told effects queue id g is so_far new m)
+    (kept.flying ∙ ap length (sym (flight-advanced (start_of a) a.audit.items event told effects queue id g is))) (none-launched _ _ is.launches (start_of a))
 
 -- ---- a packet leaves flight, for which its own entry always finds room
 
 pub finish-releases : (values : List ℤ) (queue : QueueId) (id : PacketId) (p : Packet) → IsRelease queue id (Finish queue id) outcome.Accepted (completion_of values queue id p)
-finish-releases values queue id p = record { launches = refl; progress = λ q i so_far. refl; releases = λ fs. flight-completed values (completion p) queue id fs; hands = λ m. refl }
+finish-releases values queue id p = record { launches = refl; progress = λ q i so_far. refl; releases = λ fs. flight-completed values (completion p) queue id fs }
 
 pub failure-releases : (queue : QueueId) (id : PacketId) → IsRelease queue id (Poll queue id) (outcome.Polled (Failed (error_at queue id.0 B1))) (effect.Release queue id ∷ [])
-failure-releases queue id = record { launches = refl; progress = λ q i so_far. refl; releases = λ fs. refl; hands = λ m. refl }
+failure-releases queue id = record { launches = refl; progress = λ q i so_far. refl; releases = λ fs. refl }
 
 pub release-due : (a : Inside) → IsCached a → (old : History) → history_of a ≡ old → (queue : QueueId) (id : PacketId) (place : Place) → IsInPlace old queue id place → (event : Event) (told : Outcome) (effects : List Effect)
     → IsRelease queue id event told effects → owed old.start old.entries event ≡ enters told effects → due old event ≡ enters told effects

@@ -19,51 +19,51 @@ use Rattle.core_model.specs.declared.flight.InFlight.{InFlight}
 use Rattle.core_model.specs.declared.flight.Progress.{Progress}
 use Rattle.core_model.specs.History.{Start, effects_of}
 
--- whether two names are of one packet
+-- whether two names are of one packet (own)
 abbrev pub same_packet : QueueId → PacketId → QueueId → PacketId → Bool
 same_packet queue id q i = q.0 == queue.0 && i.0 == id.0
 
--- whether a packet in flight is the one with this queue and id
+-- whether a packet in flight is the one with this queue and id (own)
 abbrev pub is_packet : QueueId → PacketId → InFlight → Bool
 is_packet queue id f = same_packet queue id f.queue f.id
 
--- the packet that an event launches, if it launches one
+-- the packet that an event launches, if it launches one (own)
 abbrev pub launched_by : Event → Outcome → Option InFlight
 launched_by (Take queue id bytes) (outcome.Taken Launched) = option_map (λ p. record { queue = queue; id = id; packet = p }) (decoded bytes)
 launched_by _ _ = None
 
--- the packets in flight with one more, if there is one
+-- the packets in flight with one more, if there is one (own)
 abbrev pub with_launched : List InFlight → Option InFlight → List InFlight
 with_launched before None = before
 with_launched before (Some f) = before ++ f ∷ []
 
--- the packets in flight after a change: without the one that it releases
+-- the packets in flight after a change: without the one that it releases (own)
 abbrev pub flight_after_effect : List InFlight → Effect → List InFlight
 flight_after_effect before (Release queue id) = filter (λ f. not (is_packet queue id f)) before
 flight_after_effect before _ = before
 
--- the packets in flight after an entry
+-- the packets in flight after an entry (own)
 abbrev pub flight_after : List InFlight → Entry → List InFlight
 flight_after before entry = fold flight_after_effect (with_launched before (launched_by entry.event entry.outcome)) entry.effects
 
--- the packets in flight, in the order in which they were launched
+-- the packets in flight, in the order in which they were launched (own)
 unfoldable pub flight : Start → List Entry → List InFlight
 flight start entries = fold flight_after [] entries
 
--- the packets of a queue in flight
+-- the packets of a queue in flight (own)
 abbrev pub flight_of : Start → List Entry → QueueId → List InFlight
 flight_of start entries queue = filter (λ f. f.queue.0 == queue.0) (flight start entries)
 
--- the packet in flight with this queue and id, if there is one
+-- the packet in flight with this queue and id, if there is one (own)
 abbrev pub in_flight : Start → List Entry → QueueId → PacketId → Option InFlight
 in_flight start entries queue id = find (is_packet queue id) (flight start entries)
 
--- whether a change releases a packet
+-- whether a change releases a packet (own)
 abbrev pub releases : InFlight → Effect → Bool
 releases f (Release queue id) = is_packet queue id f
 releases f _ = false
 
--- a packet was launched by one of these entries, and neither that one nor any since released it
+-- a packet was launched by one of these entries, and neither that one nor any since released it (own)
 pub record WasLaunched (entries : List Entry) (f : InFlight) : Type 0 where
   pub before : List Entry
   pub launch : Entry
@@ -72,24 +72,24 @@ pub record WasLaunched (entries : List Entry) (f : InFlight) : Type 0 where
   pub launches : launched_by launch.event launch.outcome ≡ Some f
   pub stays : list_any (releases f) (effects_of (launch ∷ since)) ≡ false
 
--- after any entries, in flight are just the packets that were launched and not released since
+-- after any entries, in flight are just the packets that were launched and not released since (own)
 abbrev pub LawOfFlight : Type 0
 LawOfFlight = (start : Start) (entries : List Entry) (f : InFlight)
     → (Contains (flight start entries) f → WasLaunched entries f) × (WasLaunched entries f → Contains (flight start entries) f)
 
--- no position seen
+-- no position seen (own)
 abbrev pub none_seen : Seen
 none_seen = record { 0 = false ∷ false ∷ false ∷ false ∷ false ∷ [] }
 
--- the positions seen by either
+-- the positions seen by either (own)
 abbrev pub seen_with : Seen → Seen → Seen
 seen_with a b = record { 0 = map (λ pair. pair.0 || pair.1) (zip a.0 b.0) }
 
--- a packet as it is launched: no group has run, and no dependency was seen
+-- a packet as it is launched: no group has run, and no dependency was seen (own)
 abbrev pub at_launch : Progress
 at_launch = record { groups_run = 0; satisfied = none_seen }
 
--- how far a packet has come after an event: one of its groups ran, or dependencies were seen
+-- how far a packet has come after an event: one of its groups ran, or dependencies were seen (own)
 abbrev pub progress_after : QueueId → PacketId → Progress → Event → Outcome → Progress
 progress_after queue id p (Take q i _) (outcome.Taken Launched) = if same_packet queue id q i then at_launch else p
 progress_after queue id p (RunNext q i) (outcome.Worked (Ran _ _)) = if same_packet queue id q i then record p { groups_run = p.groups_run + 1 } else p
@@ -97,6 +97,6 @@ progress_after queue id p (Poll q i) (outcome.Polled (Pending seen)) = if same_p
 progress_after queue id p (Poll q i) (outcome.Polled (Ready seen)) = if same_packet queue id q i then record p { satisfied = seen_with p.satisfied seen } else p
 progress_after queue id p _ _ = p
 
--- how far a packet has come since its launch
+-- how far a packet has come since its launch (own)
 unfoldable pub progress : Start → List Entry → QueueId → PacketId → Progress
 progress start entries queue id = fold (λ before entry. progress_after queue id before entry.event entry.outcome) at_launch entries

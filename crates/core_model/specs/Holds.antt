@@ -25,11 +25,11 @@ use Rattle.core_model.specs.declared.need.Need.{Need}
 use Rattle.core_model.specs.Needs.{needs, object_of}
 use Rattle.core_model.specs.LaunchRules.{launch_rules}
 
--- one right on one object
+-- one right on one object (own)
 abbrev pub Held : Type 0
 Held = Object × Right
 
--- the right on the object that a need asks for
+-- the right on the object that a need asks for (own)
 abbrev pub as_held : Need → Held
 as_held need = (object_of need.subject, need.right)
 
@@ -71,7 +71,7 @@ abbrev pub arguments_if : Start → List Entry → Option InFlight → List ℕ
 arguments_if start entries None = []
 arguments_if start entries (Some f) = arguments_of start entries f.packet
 
--- whether a packet that is launched is the one with this queue and id
+-- whether a packet that is launched is the one with this queue and id (own)
 abbrev pub is_launch : QueueId → PacketId → Option InFlight → Bool
 is_launch queue id None = false
 is_launch queue id (Some f) = is_packet queue id f
@@ -84,7 +84,7 @@ from_launch give before (entry ∷ entries) queue id =
     then give before (launched_by entry.event entry.outcome)
     else from_launch give (before ++ entry ∷ []) entries queue id
 
--- what a packet that was launched holds
+-- what a packet that was launched holds (own)
 abbrev pub held : Start → List Entry → QueueId → PacketId → List Held
 held start entries queue id = from_launch (λ before f. held_if start before (owner start before queue) f) [] entries queue id
 
@@ -92,27 +92,27 @@ held start entries queue id = from_launch (λ before f. held_if start before (ow
 abbrev pub arguments : Start → List Entry → QueueId → PacketId → List ℕ
 arguments start entries queue id = from_launch (arguments_if start) [] entries queue id
 
--- whether a packet in flight holds one of these rights on the object
+-- whether a packet in flight holds one of these rights on the object (own)
 abbrev pub holds_one_of : Start → List Entry → Object → Rights → InFlight → Bool
 holds_one_of start entries on rights f = list_any (λ h. same_object on h.0 && has rights h.1) (held start entries f.queue f.id)
 
--- whether a queue is the client's
+-- whether a queue is the client's (own)
 abbrev pub is_owned : Start → List Entry → ClientId → QueueId → Bool
 is_owned start entries client queue = elim (owner start entries queue) [ None ↦ false | Some opening ↦ opening.client.0 == client.0 ]
 
--- the packets in flight, of the client's queues, that hold one of these rights on the object
+-- the packets in flight, of the client's queues, that hold one of these rights on the object (own)
 abbrev pub holders : Start → List Entry → ClientId → Object → Rights → List InFlight
 holders start entries client on rights =
     filter (λ f. is_owned start entries client f.queue && holds_one_of start entries on rights f) (flight start entries)
 
--- whether a packet comes before another, or is it: by queue, then by id
+-- whether a packet comes before another, or is it: by queue, then by id (own)
 abbrev pub is_up_to : InFlight → InFlight → Bool
 is_up_to f g = nat_lt f.queue.0 g.queue.0 || (f.queue.0 == g.queue.0 && nat_le f.id.0 g.id.0)
 
--- the least of some packets: the one of them that comes before each, or is it
+-- the least of some packets: the one of them that comes before each, or is it (own)
 abbrev pub least : List InFlight → Option InFlight
 least all = find (λ f. list_all (is_up_to f) all) all
 
--- of all packets that hold one of these rights, the one with the least queue, then the least id
+-- of all packets that hold one of these rights, the one with the least queue, then the least id (own)
 abbrev pub holder : Start → List Entry → ClientId → Object → Rights → Option InFlight
 holder start entries client on rights = least (holders start entries client on rights)

@@ -39,7 +39,7 @@ pub record Facts : Type 0 where
   -- the segments of all kernels, in order
   pub kernels : List KernelSegments
 
--- whether a range lies whole in one region; an object lies nowhere else
+-- whether a range lies whole in one region; an object lies nowhere else (own)
 abbrev pub lies_whole : List ℕ → Subject → Bool
 lies_whole lengths (subject.Object on) = true
 lies_whole lengths (subject.Range range) = is_within lengths range.address.0 range.size
@@ -105,7 +105,7 @@ has_form facts p L7 = has_segments facts p
 has_form facts p L8 = has_arguments facts p
 has_form facts p _ = true
 
--- whether a packet's fields are as a launch rule asks, and the rights that it needs for the rule in force
+-- whether a packet's fields are as a launch rule asks, and the rights that it needs for the rule in force (own)
 abbrev pub meets_rule : Facts → Packet → Rule → Bool
 meets_rule facts p rule = has_form facts p rule && list_all (is_met facts) (needs rule facts.agent p)
 
@@ -116,7 +116,7 @@ holds_rule facts bytes p L2 = passes codec.L2 bytes
 holds_rule facts bytes p L3 = passes codec.L3 bytes
 holds_rule facts bytes p rule = meets_rule facts p rule
 
--- the launch rules, in the order in which they are tried
+-- the launch rules, in the order in which they are tried (own)
 abbrev pub launch_rules : List Rule
 launch_rules = L1 ∷ L2 ∷ L3 ∷ L4 ∷ L5 ∷ L6 ∷ L7 ∷ L8 ∷ L9 ∷ L10 ∷ []
 
@@ -124,7 +124,7 @@ launch_rules = L1 ∷ L2 ∷ L3 ∷ L4 ∷ L5 ∷ L6 ∷ L7 ∷ L8 ∷ L9 ∷ L1
 unfoldable pub first_failing : Facts → List ℕ → Option Rule
 first_failing facts bytes = find (λ rule. not (holds_rule facts bytes (packet_at (packet_type bytes) bytes) rule)) launch_rules
 
--- whether a packet is a barrier packet
+-- whether a packet is a barrier packet (PSA, Architected Queuing Language: barrier-AND and barrier-OR packets)
 abbrev pub is_barrier : Packet → Bool
 is_barrier (packet.BarrierAnd _) = true
 is_barrier (packet.BarrierOr _) = true

@@ -34,11 +34,11 @@ IsLegalAfter start before (entry ∷ entries) =
 abbrev pub IsLegal : Start → List Entry → Type 0
 IsLegal start entries = IsLegalAfter start [] entries
 
--- the entry of an event
+-- the entry of an event (own)
 abbrev pub entry_of : Event → Outcome → List Effect → Entry
 entry_of event outcome effects = record { event = event; outcome = outcome; effects = effects }
 
--- the entries with one more behind them
+-- the entries with one more behind them (own)
 abbrev pub with_entry : List Entry → Event → Outcome → List Effect → List Entry
 with_entry entries event outcome effects = entries ++ entry_of event outcome effects ∷ []
 
@@ -55,32 +55,32 @@ within_room history event (enters outcome effects) =
     if lacks_room history (entry_of event outcome effects) then refuses refusal.AuditFull
     else enters outcome effects
 
--- what is due to an event: what it is owed, or that the audit has no room for its entry
+-- what is due to an event: what it is owed, or that the audit has no room for its entry (own)
 abbrev pub due : History → Event → Owed
 due history event = within_room history event (owed history.start history.entries event)
 
--- the reply to an event that is owed this
+-- the reply to an event that is owed this (own)
 abbrev pub reply_of : Owed → Result Outcome Refusal
 reply_of (refuses why) = Err why
 reply_of (answers outcome) = Ok outcome
 reply_of (enters outcome effects) = Ok outcome
 
--- the entries after an event that is owed this
+-- the entries after an event that is owed this (own)
 abbrev pub entries_after : List Entry → Event → Owed → List Entry
 entries_after entries event (refuses why) = entries
 entries_after entries event (answers outcome) = entries
 entries_after entries event (enters outcome effects) = with_entry entries event outcome effects
 
--- the history after an event that is owed this
+-- the history after an event that is owed this (own)
 abbrev pub history_after : History → Event → Owed → History
 history_after history event owing = record history { entries = entries_after history.entries event owing }
 
--- what a call answers by itself, said as a variant of what all calls answer; a refusal stays
+-- what a call answers by itself, said as a variant of what all calls answer; a refusal stays (own)
 abbrev pub wrapped : {X Y : Type 0} → (X → Y) → Result X Refusal → Result Y Refusal
 wrapped say (Ok x) = Ok (say x)
 wrapped say (Err why) = Err why
 
--- a call that answers nothing more than that it was made
+-- a call that answers nothing more than that it was made (own)
 abbrev pub accepted : Result (Unit {0}) Refusal → Result Outcome Refusal
 accepted made = wrapped (λ done. outcomes.Accepted) made
 
@@ -104,7 +104,7 @@ pub record Lacks (event : Event) (old new : History) (reply : Result Outcome Ref
   pub reply_is : reply ≡ Err refusal.OutOfMemory
   pub history_is : new ≡ old
 
--- an event got and left what was due, unless memory was wanted
+-- an event got and left what was due, unless memory was wanted (own)
 abbrev pub MeetsOrLacks : Event → History → History → Result Outcome Refusal → Type 0
 MeetsOrLacks event old new reply = Meets event old new reply ⊎ Lacks event old new reply
 
@@ -115,29 +115,30 @@ query_may_lack (Ok (answer.Value _)) = false
 query_may_lack (Ok (answer.Test _)) = false
 query_may_lack (Ok _) = true
 
--- an event's reply as a reply to a request
+-- an event's reply as a reply to a request (own)
 abbrev pub as_reply : Result Outcome Refusal → Replying
 as_reply made = wrapped answer.Outcome made
 
--- the reply that is due to a request
+-- the reply that is due to a request (own)
 abbrev pub reply_due : History → Request → Replying
 reply_due history (request.Event event) = as_reply (reply_of (due history event))
 reply_due history (request.Query asked) = replied history.start history.entries asked
 
--- a query got its answer, or its refusal, and changed nothing; where it may want memory it may be told so
+-- a query got its answer, or its refusal, and changed nothing (own)
 abbrev pub Replies : Query → History → Replying → Type 0
 Replies asked history reply = reply ≡ replied history.start history.entries asked
 
+-- it did, or it may want memory, and was told so (own)
 abbrev pub RepliesOrLacks : Query → History → Replying → Type 0
 RepliesOrLacks asked history reply =
     Replies asked history reply ⊎ ((query_may_lack (replied history.start history.entries asked) ≡ true) × (reply ≡ Err refusal.OutOfMemory))
 
--- whether a request may want memory
+-- whether a request may want memory (own)
 abbrev pub request_may_lack : History → Request → Bool
 request_may_lack history (request.Event event) = may_lack event (due history event)
 request_may_lack history (request.Query asked) = query_may_lack (replied history.start history.entries asked)
 
--- the history that is due after a request: queries change nothing
+-- the history that is due after a request: queries change nothing (own)
 abbrev pub after : History → Request → History
 after history (request.Event event) = history_after history event (due history event)
 after history (request.Query asked) = history

@@ -21,11 +21,11 @@ use Rattle.core_model.specs.declared.need.Subject.{Subject}
 use Rattle.core_model.specs.declared.need.Subject.TheVariants as subject
 use Rattle.core_model.specs.declared.need.Need.{Need}
 
--- so many bytes from an address on
+-- so many bytes from an address on (own)
 abbrev pub bytes_at : ℕ → ℕ → Range
 bytes_at address size = record { address = record { 0 = address }; size = size }
 
--- an agent dispatch's argument number k, from 0
+-- an agent dispatch's argument number k, from 0 (PSA, Architected Queuing Language: the agent dispatch packet)
 abbrev pub argument : AgentDispatch → ℕ → ℕ
 argument dispatch k = slice_index dispatch.arguments k
 
@@ -56,13 +56,13 @@ function_needs (Some (Fill target byte)) = range_need Write target
 function_needs (Some (Copy source target)) = range_need Read source ++ range_need Write target
 function_needs (Some (Add64 number addend)) = range_need Read number ++ range_need Write number
 
--- the signals that a packet depends on
+-- the signals that a packet depends on (PSA, Architected Queuing Language: barrier packets)
 abbrev pub dependencies : Packet → List SignalHandle
 dependencies (packet.BarrierAnd barrier) = barrier.dependencies
 dependencies (packet.BarrierOr barrier) = barrier.dependencies
 dependencies _ = []
 
--- the signal that is decremented when a packet completes
+-- the signal that is decremented when a packet completes (PSA, Architected Queuing Language: the completion signal)
 abbrev pub completion : Packet → SignalHandle
 completion (packet.Kernel dispatch) = dispatch.completion_signal
 completion (packet.Agent dispatch) = dispatch.completion_signal
@@ -90,7 +90,7 @@ needs L9 agent p = flat_map (signal_need Wait) (dependencies p)
 needs L10 agent p = signal_need Change (completion p)
 needs _ agent p = []
 
--- the object that a right is needed on: of a range, its region
+-- the object that a right is needed on: of a range, its region (own)
 abbrev pub object_of : Subject → Object
 object_of (subject.Object on) = on
 object_of (subject.Range range) = object.Region (record { 0 = region_of range.address.0 })

@@ -59,15 +59,15 @@ pub data Owed : Type 0 where
   -- an outcome with an entry, and the changes that the entry tells
   enters : Outcome → List Effect → Owed
 
--- a refusal where the test holds, else the rest
+-- a refusal where the test holds, else the rest (own)
 abbrev pub refuse_if : Bool → Refusal → Owed → Owed
 refuse_if test why rest = if test then refuses why else rest
 
--- the rest where the test holds, else a refusal
+-- the rest where the test holds, else a refusal (own)
 abbrev pub refuse_unless : Bool → Refusal → Owed → Owed
 refuse_unless test why rest = if test then rest else refuses why
 
--- a refusal where there is nothing, else the rest for what there is
+-- a refusal where there is nothing, else the rest for what there is (own)
 abbrev pub for_some : {X : Type 0} → Option X → Refusal → (X → Owed) → Owed
 for_some None why rest = refuses why
 for_some (Some x) why rest = rest x
@@ -81,11 +81,11 @@ is_ring_size size =
 abbrev pub is_host_size : ℕ → Bool
 is_host_size size = nat_le 1 size && nat_le size MOST_HOST_BYTES
 
--- an agent that takes no dispatch
+-- an agent that takes no dispatch (own)
 abbrev pub takes_nothing : Takes
 takes_nothing = record { kernel = false; agent = false }
 
--- the facts by which a queue's packets are judged
+-- the facts by which a queue's packets are judged (own)
 abbrev pub facts_of : Start → List Entry → Opening → Facts
 facts_of start entries opening = record {
   agent = opening.agent;
@@ -95,17 +95,17 @@ facts_of start entries opening = record {
   kernels = map segments_of start.kernels;
 }
 
--- a packet's error without a place
+-- a packet's error without a place (own)
 abbrev pub error_at : QueueId → ℕ → Rule → QueueError
 error_at queue id rule = record { queue = queue; packet = record { 0 = id }; rule = rule; place = None }
 
--- a packet that is next: it waits, or is launched, or denied by the first rule that fails
+-- a packet that is next: it waits, or is launched, or denied by the first rule that fails (own)
 abbrev pub decided : QueueId → ℕ → Option Cause → Option Rule → Owed
 decided queue id (Some cause) verdict = answers (outcome.Taken (Waiting cause))
 decided queue id None None = enters (outcome.Taken Launched) []
 decided queue id None (Some rule) = enters (outcome.Taken (Denied (error_at queue id rule))) []
 
--- a packet that is handed over to an open queue
+-- a packet that is handed over to an open queue (PSA, User Mode Queuing: packets are processed in order; the refusals are own)
 abbrev pub owed_take : Start → List Entry → QueueId → PacketId → List ℕ → Opening → Owed
 owed_take start entries queue id bytes opening =
     refuse_if (is_down start entries queue) refusal.QueueDown
@@ -113,7 +113,7 @@ owed_take start entries queue id bytes opening =
     (decided queue id.0 (may_start (map (λ f. f.packet) (flight_of start entries queue)) (barrier_bit bytes)) (first_failing (facts_of start entries opening) bytes)))
 
 -- what a call about a packet in flight is owed: a refusal where there is no such queue or packet, else what is owed by the packet
--- and by how far it has come
+-- and by how far it has come (own)
 abbrev pub for_packet : Start → List Entry → QueueId → PacketId → (Packet → Progress → Owed) → Owed
 for_packet start entries queue id rest =
     for_some (owner start entries queue) refusal.UnknownQueue (λ opening.
@@ -143,7 +143,7 @@ owed_group start entries queue id own (packet.Kernel d) so_far =
 owed_group start entries queue id own (packet.BarrierAnd _) so_far = refuses refusal.NotInFlight
 owed_group start entries queue id own (packet.BarrierOr _) so_far = refuses refusal.NotInFlight
 
--- the outcome of a poll that sees something new, or nothing new
+-- the outcome of a poll that sees something new, or nothing new (own)
 abbrev pub polled : Packet → Seen → Seen → Owed
 polled p seen new =
     if list_any (λ at. at) new.0
@@ -151,6 +151,7 @@ polled p seen new =
     else answers (outcome.Polled (Pending none_seen))
 
 -- a poll of a barrier packet in flight: ready packets stay ready; then a negative dependency fails it, before what is newly seen
+-- (PSA, Architected Queuing Language: barrier packets; that a negative dependency fails the packet is own)
 abbrev pub owed_poll : List ℤ → QueueId → PacketId → Packet → Progress → Owed
 owed_poll values queue id p so_far =
     refuse_unless (is_barrier p) refusal.NotInFlight
@@ -159,7 +160,7 @@ owed_poll values queue id p so_far =
     then enters (outcome.Polled (Failed (error_at queue id.0 B1))) (effect.Release queue id ∷ [])
     else polled p so_far.satisfied (newly_seen values p so_far.satisfied))
 
--- whether a packet's work is done: all its groups have run, or the barrier is ready
+-- whether a packet's work is done: all its groups have run, or the barrier is ready (PSA, Architected Queuing Language: the packet process flow)
 abbrev pub is_finished : Packet → Progress → Bool
 is_finished p so_far = if is_barrier p then is_ready p so_far.satisfied else nat_le (groups_of p) so_far.groups_run
 
@@ -167,33 +168,33 @@ is_finished p so_far = if is_barrier p then is_ready p so_far.satisfied else nat
 abbrev pub completed : List ℤ → SignalHandle → List Effect
 completed values signal = if signal.0 == 0 then [] else elim (value_of values signal.0) [ None ↦ [] | Some v ↦ effect.Signal signal v (applied (op.Subtract (pos 1)) v) ∷ [] ]
 
--- the completion of a packet in flight
+-- the completion of a packet in flight (PSA, Signals: the completion signal is decremented; the refusal is own)
 abbrev pub owed_finish : List ℤ → QueueId → PacketId → Packet → Progress → Owed
 owed_finish values queue id p so_far =
     refuse_unless (is_finished p so_far) refusal.NotFinished
     (enters outcome.Accepted (completed values (completion p) ++ effect.Release queue id ∷ []))
 
--- the release of a packet, if there is one
+-- the release of a packet, if there is one (own)
 abbrev pub release_of : QueueId → Option PacketId → List Effect
 release_of queue None = []
 release_of queue (Some id) = effect.Release queue id ∷ []
 
--- the barrier packet among packets of a queue in flight, if there is one
+-- the barrier packet among packets of a queue in flight, if there is one (PSA, Architected Queuing Language: barrier packets)
 abbrev pub barrier_in : List InFlight → Option PacketId
 barrier_in flying = option_map (λ f. f.id) (find (λ f. is_barrier f.packet) flying)
 
--- what a change of a signal answers: the old value for an exchange or a compare-and-swap, else 0
+-- what a change of a signal answers: the old value for an exchange or a compare-and-swap, else 0 (own)
 abbrev pub old_if_asked : SignalOp → ℤ → ℤ
 old_if_asked (op.Exchange _) old = old
 old_if_asked (op.Cas _ _) old = old
 old_if_asked _ old = pos 0
 
--- the refusal of a revocation by the packet that holds a right
+-- the refusal of a revocation by the packet that holds a right (own)
 abbrev pub refuse_if_held : Option InFlight → Owed → Owed
 refuse_if_held None rest = rest
 refuse_if_held (Some f) rest = refuses (refusal.Busy f.queue f.id)
 
--- what an event is owed after these entries, whatever room the audit has: its refusals in order, then its outcome
+-- what an event is owed after these entries, whatever room the audit has: its refusals in order, then its outcome (own)
 unfoldable pub owed : Start → List Entry → Event → Owed
 owed start entries (Grant client on rights) =
     refuse_unless (declares_client start.policy client) refusal.UnknownClient

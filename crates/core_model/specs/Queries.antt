@@ -23,15 +23,15 @@ use Rattle.core_model.specs.Memory.{memory_from, region_lengths, signals}
 use Rattle.core_model.specs.Queues.{owner, errors}
 use Rattle.core_model.specs.Owed.{is_host_size}
 
--- the reply to a query: an answer, or why it is refused
+-- the reply to a query: an answer, or why it is refused (own)
 abbrev pub Replying : Type 0
 Replying = Result Answer Refusal
 
--- the rest where the test holds, else a refusal
+-- the rest where the test holds, else a refusal (own)
 abbrev pub answer_if : Bool → Refusal → Replying → Replying
 answer_if test why rest = if test then rest else Err why
 
--- a refusal where there is nothing, else the rest for what there is
+-- a refusal where there is nothing, else the rest for what there is (own)
 abbrev pub answer_some : {X : Type 0} → Option X → Refusal → (X → Replying) → Replying
 answer_some None why rest = Err why
 answer_some (Some x) why rest = rest x
@@ -44,7 +44,7 @@ all_objects policy =
     ++ map (λ n. object.Signal (record { 0 = n })) (range_with_len 1 (length policy.signals))
     ++ map (λ n. object.Kernel (record { 0 = n })) (range_with_len 1 (length policy.kernels))
 
--- whether a client has some right in force on an object
+-- whether a client has some right in force on an object (own)
 abbrev pub has_some : Start → List Entry → ClientId → Object → Bool
 has_some start entries client on = list_any (in_force start entries client on) all_rights
 
@@ -53,7 +53,7 @@ abbrev pub listing : Start → List Entry → ClientId → List (Object × Right
 listing start entries client =
     map (λ on. (on, rights_in_force start entries client on)) (filter (has_some start entries client) (all_objects start.policy))
 
--- what a query is answered after these entries: its refusals in order, then its answer
+-- what a query is answered after these entries: its refusals in order, then its answer (own)
 unfoldable pub replied : Start → List Entry → Query → Replying
 replied start entries (query.HostRead client address size) =
     answer_if (declares_client start.policy client) refusal.UnknownClient

@@ -27,7 +27,7 @@ use Rattle.core_model.specs.Needs.{function_of, dependencies}
 abbrev pub write_of : ℕ → List ℕ → List Effect
 write_of address bytes = if length bytes == 0 then [] else Write (record { 0 = address }) bytes ∷ []
 
--- the 64-bit number in memory at an address, the lowest byte first
+-- the 64-bit number in memory at an address, the lowest byte first (own)
 abbrev pub number_in_memory : Start → List Entry → ℕ → ℕ
 number_in_memory start entries address = from_le_bytes w64 (memory_from start entries address 8)
 
@@ -67,11 +67,11 @@ groups_of _ = 0
 abbrev pub write_of_run : Run → Effect
 write_of_run run = Write (record { 0 = run.address }) run.bytes
 
--- a dependency with whether it was seen as 0 before
+-- a dependency with whether it was seen as 0 before (PSA, Architected Queuing Language: barrier packets)
 abbrev pub Awaited : Type 0
 Awaited = SignalHandle × Bool
 
--- a barrier packet's dependencies, each with whether it was seen as 0
+-- a barrier packet's dependencies, each with whether it was seen as 0 (PSA, Architected Queuing Language: barrier packets)
 abbrev pub awaited : Packet → Seen → List Awaited
 awaited p seen = zip (dependencies p) seen.0
 
@@ -82,11 +82,11 @@ is_ready (packet.BarrierAnd barrier) seen = list_all (λ a. a.0.0 == 0 || a.1) (
 is_ready (packet.BarrierOr barrier) seen = list_any (λ a. not (a.0.0 == 0) && a.1) (zip barrier.dependencies seen.0)
 is_ready _ seen = false
 
--- whether a dependency is still looked at: it isn't null, and wasn't seen as 0
+-- whether a dependency is still looked at: it isn't null, and wasn't seen as 0 (PSA, Architected Queuing Language: barrier packets)
 abbrev pub is_awaited : Awaited → Bool
 is_awaited a = not (a.0.0 == 0) && not a.1
 
--- a signal's value, 0 for a number that no signal has
+-- a signal's value, 0 for a number that no signal has (own)
 abbrev pub signal_value : List ℤ → SignalHandle → ℤ
 signal_value values signal = unwrap_or (value_of values signal.0) (pos 0)
 
@@ -94,10 +94,10 @@ signal_value values signal = unwrap_or (value_of values signal.0) (pos 0)
 abbrev pub is_negative : List ℤ → Awaited → Bool
 is_negative values a = is_awaited a && int_lt (signal_value values a.0) (pos 0)
 
--- whether a dependency that is still looked at is 0
+-- whether a dependency that is still looked at is 0 (PSA, Architected Queuing Language: barrier packets)
 abbrev pub is_zero : List ℤ → Awaited → Bool
 is_zero values a = is_awaited a && int_eq (signal_value values a.0) (pos 0)
 
--- the positions that a poll is the first to see as 0
+-- the positions that a poll is the first to see as 0 (PSA, Architected Queuing Language: barrier packets; polls are own)
 abbrev pub newly_seen : List ℤ → Packet → Seen → Seen
 newly_seen values p seen = record { 0 = map (is_zero values) (awaited p seen) }

@@ -3,3 +3,4 @@ pub mod Invariant
 pub mod Written
 pub mod Parts
 pub mod Laws
+pub mod Placing

@@ -1,8 +1,8 @@
 //! All regions, found by address.
-ghost use Rattle.std.specs.Prelude.{◌≡◌, IfOk, OnOk, OnErr, IsTrue, true, length, replicate};
+ghost use Rattle.std.specs.Prelude.{◌≡◌, ◌+◌, ◌<◌, IfOk, OnOk, OnErr, IsTrue, true, length, replicate};
 ghost use Rattle.std.specs.List.{list_all};
 ghost use Rattle.std.specs.Result.{result_err};
-ghost use Rattle.regions.specs.Memory.{are_region_lengths, bytes_from, is_region_length, is_within, IsMemory, IsWritten, lengths_of, region_length, region_of, zeros};
+ghost use Rattle.regions.specs.Memory.{are_region_lengths, bytes_from, is_region_length, is_within, IsMemory, IsWritten, lengths_of, offset_of, region_length, region_of, zeros};
 ghost use Rattle.regions.specs.Faults.{range_fault, copy_fault};
 ghost use Rattle.regions.specs.Place.{IsPlaceOf, LiesInside, handle_at, laid_at, length_of_region, part_at};
 
@@ -116,8 +116,8 @@ impl Regions {
         ensures bytes { IfOk result (λ bytes. bytes.now ≡ bytes_from self.now address.0 length) }
         ensures memory { IsMemory self.now }
     {
-        let place = self.locate(address, length)?;
-        Ok(self.regions[place.index].part(place.offset, length as usize))
+        self.locate(address, length)?;
+        Ok(self.bytes(address, length))
     }
 
     /// Lays `bytes` over the memory from an address on. Refused as a read of that range is.
@@ -129,8 +129,8 @@ impl Regions {
         ensures err { OnErr result (self.new ≡ self.old) }
         ensures memory { IsMemory self.new }
     {
-        let place = self.locate(address, bytes.len() as u64)?;
-        self.regions[place.index].put(place.offset, bytes);
+        self.locate(address, bytes.len() as u64)?;
+        self.lay(address, bytes);
         Ok(())
     }
 
@@ -147,10 +147,8 @@ impl Regions {
         ensures bytes { result.now ≡ bytes_from self.now address.0 length }
         ensures memory { IsMemory self.now }
     {
-        match self.read(address, length) {
-            Ok(bytes) => bytes,
-            Err(_) => unreachable!(),
-        }
+        let place = place_of(address);
+        self.regions[place.index].part(place.offset, length as usize)
     }
 
     /// Lays bytes over a range that lies whole in one region.
@@ -160,10 +158,8 @@ impl Regions {
         ensures lengths { lengths_of self.new ≡ lengths_of self.old }
         ensures memory { IsMemory self.new }
     {
-        match self.write(address, bytes) {
-            Ok(()) => {}
-            Err(_) => unreachable!(),
-        }
+        let place = place_of(address);
+        self.regions[place.index].put(place.offset, bytes);
     }
 
     /// Makes each of `length` bytes from an address on the byte `byte`. Refused as a read of that
@@ -209,19 +205,27 @@ impl Regions {
         ensures place { IfOk result (λ place. IsPlaceOf self.now address.0 length place) }
         ensures memory { IsMemory self.now }
     {
-        let region = address.0 / SPAN;
         let offset = address.0 % SPAN;
-        let room = self.room(RegionHandle(region as u32));
+        let room = self.room(region_of(address));
         if offset >= room {
             return Err(RegionFault::NoRegion);
         }
         if length > room - offset {
             return Err(RegionFault::PastEnd);
         }
-        Ok(Place {
-            index: region as usize - 1,
-            offset: offset as usize,
-        })
+        Ok(place_of(address))
+    }
+}
+
+/// Where an address lies whose region has a number from 1 on.
+fn place_of(address: Address) -> Place
+    requires { 0 < region_of address.0 }
+    ensures index { result.index + 1 ≡ region_of address.0 }
+    ensures offset { result.offset ≡ offset_of address.0 }
+{
+    Place {
+        index: (address.0 / SPAN) as usize - 1,
+        offset: (address.0 % SPAN) as usize,
     }
 }
 

@@ -28,9 +28,9 @@ abbrev pub cached : Option Queue → QueueView
 cached None = record { next = 0; stopped = false; errors = []; places = [] }
 cached (Some q) = record { next = q.next; stopped = q.stopped; errors = q.errors.items; places = q.places }
 
--- the place of a packet in flight: the packet, and how far it has come since its launch
-abbrev pub place_of : Start → List Entry → InFlight → Place
-place_of start entries f = record { id = f.id; packet = f.packet; progress = progress start entries f.queue f.id }
+-- the place of a packet of a queue in flight: the packet, and how far it has come since its launch
+abbrev pub place_of : Start → List Entry → QueueId → InFlight → Place
+place_of start entries queue f = record { id = f.id; packet = f.packet; progress = progress start entries queue f.id }
 
 -- what the history says of a queue; its places are the packets that it finds in flight
 abbrev pub queue_at : Start → List Entry → QueueId → QueueView
@@ -38,7 +38,7 @@ queue_at start entries queue = record {
   next = next_id start entries queue;
   stopped = is_stopped start entries queue;
   errors = errors start entries queue;
-  places = map (place_of start entries) (flight_of start entries queue);
+  places = map (place_of start entries queue) (flight_of start entries queue);
 }
 
 -- A queue has as many places for errors as packets of it can be in flight, one of them free for each that is, and each packet in

@@ -1,11 +1,10 @@
 -- The audit's entries are answered as they are.
 use Rattle.std.proofs.Common.{◌∙◌, List, ap, inl, inr, refl, Ok, Err, subst, sym}
-use Rattle.core_model.specs.declared.answer.Answer.TheVariants as answer
-use Rattle.core_model.specs.declared.entry.Entry.{Entry}
 use Rattle.core_model.specs.declared.event.Query.{Query}
-use Rattle.core_model.specs.declared.refusal.Refusal.TheVariants as refusal
-use Rattle.core_model.specs.Legal.{RepliesOrLacks}
 use Rattle.core_model.specs.Queries.{replied}
+use Rattle.access_core.proofs.Terms.{Entry, RepliesOrLacks}
+use Rattle.core_model.specs.declared.answer.Answer.TheVariants as answer
+use Rattle.core_model.specs.declared.refusal.Refusal.TheVariants as refusal
 use Rattle.access_core.proofs.access.AccessCore.answer.Goals as goal
 
 pub returns-in-Ok : goal.returns-in-Ok

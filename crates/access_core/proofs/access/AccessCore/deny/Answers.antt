@@ -1,13 +1,10 @@
 -- The queue has its first error, and the entry tells it.
 use Rattle.std.proofs.Common.{refl, sym, subst, []}
-use Rattle.core_model.specs.declared.event.Event.TheVariants.{Take}
-use Rattle.core_model.specs.declared.outcome.Outcome.TheVariants as outcome
-use Rattle.core_model.specs.declared.outcome.Taken.TheVariants.{Denied}
-use Rattle.core_model.specs.Owed.{error_at}
-use Rattle.access_core.specs.inner.Deciding.{TakesNext}
 use Rattle.access_core.proofs.HeldAfter.{grants-still}
 use Rattle.access_core.proofs.CachedMore.{IsCached-more, memory-still}
 use Rattle.access_core.proofs.TakeLemmas.{can-deny, can-take, flight-denied, queues-denied}
+use Rattle.access_core.proofs.Terms.{Denied, Take, TakesNext, error_at}
+use Rattle.core_model.specs.declared.outcome.Outcome.TheVariants as outcome
 use Rattle.access_core.proofs.access.AccessCore.deny.Goals as goal
 
 pub fail_next-requires : goal.fail_next-requires

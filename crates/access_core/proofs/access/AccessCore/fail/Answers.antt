@@ -1,32 +1,19 @@
 -- What is kept moves along with the failure, which always finds room: a packet leaves flight for its entry.
-use Rattle.std.proofs.Common.{◌≡◌, ◌++◌, refl, true, false, Bool, [], ◌∷◌}
-use Rattle.std.specs.Prelude.{◌==◌, if◌then◌else◌}
-use Rattle.aql_packet.specs.declared.ids.QueueId.{QueueId}
-use Rattle.aql_packet.specs.declared.ids.PacketId.{PacketId}
+use Rattle.std.proofs.Common.{arith, ◌++◌, refl, [], ◌∷◌}
 use Rattle.queue_error.specs.declared.rule.Rule.TheVariants.{B1}
-use Rattle.core_model.specs.declared.event.Event.TheVariants.{Poll}
-use Rattle.core_model.specs.declared.entry.Effect.TheVariants as effect
-use Rattle.core_model.specs.declared.outcome.Outcome.TheVariants as outcome
 use Rattle.core_model.specs.declared.outcome.Polled.TheVariants.{Failed}
-use Rattle.core_model.specs.Owed.{error_at}
-use Rattle.packet_processor.specs.Queueing.{without}
-use Rattle.access_core.specs.inner.CachedQueue.{QueueView}
-use Rattle.access_core.specs.inner.Cached.{start_of}
-use Rattle.access_core.specs.inner.QueueChanges.{with_failure}
 use Rattle.access_core.proofs.HeldAfter.{grants-released}
 use Rattle.access_core.proofs.CachedMore.{IsCached-more, has_place, memory-still}
 use Rattle.access_core.proofs.QueueAt.{flight-released}
-use Rattle.access_core.proofs.TakeLemmas.{is-open}
+use Rattle.access_core.proofs.TakeLemmas.{is-open, open-of}
 use Rattle.access_core.proofs.WorkLemmas.{failure-releases, can-fail, freed-below, place-inside, queues-released, sound-failed}
+use Rattle.access_core.proofs.Terms.{PacketId, Poll, QueueId, QueueView, error_at, start_of, with_failure, without}
+use Rattle.core_model.specs.declared.entry.Effect.TheVariants as effect
+use Rattle.core_model.specs.declared.outcome.Outcome.TheVariants as outcome
 use Rattle.access_core.proofs.access.AccessCore.fail.Goals as goal
 
 abbrev failed : QueueId → PacketId → QueueView → QueueView
 failed queue id v = record v { errors = v.errors ++ error_at queue id.0 B1 ∷ []; places = without id v.places }
-
-pick : (queue : QueueId) (id : PacketId) (m : QueueId) (v : QueueView) (b : Bool) → (queue.0 == m.0) ≡ b
-    → record { next = v.next; stopped = v.stopped; errors = (if queue.0 == m.0 then v.errors ++ error_at queue id.0 B1 ∷ [] else v.errors); places = (if b then without id v.places else v.places) } ≡ (if b then failed queue id v else v)
-pick queue id m v true same = rw same refl
-pick queue id m v false same = rw same refl
 
 pub fail_packet-requires : goal.fail_packet-requires
 fail_packet-requires c =
@@ -37,8 +24,8 @@ fail_packet-requires c =
 pub overflow_sub-self : goal.overflow_sub-self
 overflow_sub-self c =
     let a = c.self.inside in
-    let found = place-inside a _ c.self.view_is c.args.queue c.args.packet c.args.place c.requires.found in
-    let below = freed-below a c.self.invariant c.args.queue c.args.packet (is-open a c.self.invariant c.args.queue found.opening found.owner_is) in
+    let at = open-of a c.self.invariant _ c.self.view_is c.args.queue c.args.packet c.args.place c.requires.found in
+    let below = freed-below a c.self.invariant c.args.queue c.args.packet at in
     rw c.fail_packet.ensures.freed below
 
 pub enter-requires : goal.enter-requires
@@ -54,10 +41,11 @@ invariant_of-self c =
     (record {
       same = (refl, refl);
       audit = rw c.one-effects.ensures at c.enter.ensures;
-      grants = grants-released a c.self.invariant _ _ _ refl (λ client on right b. refl) _ c.args.queue c.args.packet (flight-released (start_of a) a.audit.items c.args.queue c.args.packet _ _ _ is) c.release.ensures;
+      grants = grants-released a c.self.invariant _ _ _ refl (λ client on right b. refl) _ c.args.queue c.args.packet
+          (flight-released (start_of a) a.audit.items _ _ _ c.args.queue c.args.packet is) c.release.ensures;
       memory = memory-still a.memory _ (λ x byte. refl);
       values = refl;
       queues = rw (c.fail_packet.ensures.queues, c.fail_packet.ensures.freed) (queues-released a c.self.invariant c.args.queue c.args.packet _ _ _ is refl at (with_failure c.args.packet (error_at c.args.queue c.args.packet.0 B1)) (failed c.args.queue c.args.packet)
-          refl (sound-failed a c.self.invariant c.args.queue c.args.packet at (error_at c.args.queue c.args.packet.0 B1) found.flying found.found) refl (pick c.args.queue c.args.packet));
+          refl (sound-failed a c.self.invariant c.args.queue c.args.packet at (error_at c.args.queue c.args.packet.0 B1) found.flying found.found) refl (λ m v. grind arith));
     })
     _ c.self.view_is c.requires.may

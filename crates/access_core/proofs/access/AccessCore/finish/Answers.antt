@@ -1,38 +1,25 @@
 -- What is kept moves along with the completion, which always finds room: a packet leaves flight for its entry.
-use Rattle.std.proofs.Common.{◌≡◌, refl, true, false, Bool}
-use Rattle.std.specs.Prelude.{if◌then◌else◌}
-use Rattle.aql_packet.specs.declared.ids.PacketId.{PacketId}
-use Rattle.core_model.specs.declared.event.Event.TheVariants.{Finish}
-use Rattle.core_model.specs.declared.outcome.Outcome.TheVariants as outcome
-use Rattle.core_model.specs.Needs.{completion}
-use Rattle.packet_processor.specs.Queueing.{without}
-use Rattle.access_core.specs.inner.CachedQueue.{QueueView}
-use Rattle.access_core.specs.inner.InPlace.{completion_of}
-use Rattle.access_core.specs.inner.Cached.{start_of}
-use Rattle.access_core.specs.inner.QueueChanges.{with_release}
+use Rattle.std.proofs.Common.{arith, refl}
 use Rattle.access_core.proofs.HeldAfter.{grants-released}
 use Rattle.access_core.proofs.CachedMore.{IsCached-more, has_place, memory-still}
 use Rattle.access_core.proofs.QueueAt.{flight-released}
-use Rattle.access_core.proofs.TakeLemmas.{is-open}
-use Rattle.access_core.proofs.WorkLemmas.{finish-releases, freed-below, memory-completed, finish-due, place-inside, queues-released, sound-released}
+use Rattle.access_core.proofs.TakeLemmas.{open-of}
+use Rattle.access_core.proofs.WorkLemmas.{finish-releases, freed-below, memory-completed, finish-due, queues-released, sound-released}
+use Rattle.access_core.proofs.Terms.{Finish, completion, completion_of, start_of, with_release, without}
+use Rattle.core_model.specs.declared.outcome.Outcome.TheVariants as outcome
 use Rattle.access_core.proofs.access.AccessCore.finish.Goals as goal
-
-pick : (id : PacketId) (b : Bool) (v : QueueView) → record { next = v.next; stopped = v.stopped; errors = v.errors; places = (if b then without id v.places else v.places) } ≡ (if b then record v { places = without id v.places } else v)
-pick id true v = refl
-pick id false v = refl
 
 pub release-requires : goal.release-requires
 release-requires c =
     let a = c.self.inside in
-    let found = place-inside a _ c.self.view_is c.args.queue c.args.packet c.in_ok-place.place c.in_ok-place.ensures.found in
-    let at = is-open a c.self.invariant c.args.queue found.opening found.owner_is in
+    let at = open-of a c.self.invariant _ c.self.view_is c.args.queue c.args.packet c.in_ok-place.place c.in_ok-place.ensures.found in
     (at.q, at.found)
 
 pub overflow_sub-self : goal.overflow_sub-self
 overflow_sub-self c =
     let a = c.self.inside in
-    let found = place-inside a _ c.self.view_is c.args.queue c.args.packet c.in_ok-place.place c.in_ok-place.ensures.found in
-    let below = freed-below a c.self.invariant c.args.queue c.args.packet (is-open a c.self.invariant c.args.queue found.opening found.owner_is) in
+    let at = open-of a c.self.invariant _ c.self.view_is c.args.queue c.args.packet c.in_ok-place.place c.in_ok-place.ensures.found in
+    let below = freed-below a c.self.invariant c.args.queue c.args.packet at in
     rw c.release.ensures.freed below
 
 pub enter-requires : goal.enter-requires
@@ -44,16 +31,16 @@ invariant_of-self c =
     let a = c.self.inside in
     let p = c.in_ok-place.place.packet in
     let is = finish-releases a.signals c.args.queue c.args.packet p in
-    let found = place-inside a _ c.self.view_is c.args.queue c.args.packet c.in_ok-place.place c.in_ok-place.ensures.found in
-    let at = is-open a c.self.invariant c.args.queue found.opening found.owner_is in
+    let at = open-of a c.self.invariant _ c.self.view_is c.args.queue c.args.packet c.in_ok-place.place c.in_ok-place.ensures.found in
     IsCached-more a _ (Finish c.args.queue c.args.packet) outcome.Accepted (completion_of a.signals c.args.queue c.args.packet p) c.self.invariant
     (record {
       same = (refl, refl);
       audit = rw c.complete-effects.ensures.effects at c.enter.ensures;
-      grants = grants-released a c.self.invariant _ _ _ refl (λ client on right b. refl) _ c.args.queue c.args.packet (flight-released (start_of a) a.audit.items c.args.queue c.args.packet _ _ _ is) c.release-2.ensures;
+      grants = grants-released a c.self.invariant _ _ _ refl (λ client on right b. refl) _ c.args.queue c.args.packet
+          (flight-released (start_of a) a.audit.items _ _ _ c.args.queue c.args.packet is) c.release-2.ensures;
       memory = memory-still a.memory _ (λ x byte. memory-completed a.signals (completion p) c.args.queue c.args.packet x byte);
       values = rw c.complete-effects.ensures.effects at c.complete-effects.ensures.values;
       queues = rw (c.release.ensures.queues, c.release.ensures.freed) (queues-released a c.self.invariant c.args.queue c.args.packet _ _ _ is refl at (with_release c.args.packet) (λ v. record v { places = without c.args.packet v.places })
-          refl (sound-released at.q c.args.packet at.sound) refl (λ m v b same. pick c.args.packet b v));
+          refl (sound-released at.q c.args.packet at.sound) refl (λ m v. grind arith));
     })
     _ c.self.view_is (finish-due a c.self.invariant _ c.self.view_is _ c.args.queue c.args.packet p c.in_ok-place.ensures.may)

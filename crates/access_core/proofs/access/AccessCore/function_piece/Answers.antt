@@ -1,8 +1,7 @@
 -- A copy is as long as its source.
-use Rattle.std.proofs.Common.{◌≡◌, ◌∙◌, ap, length}
+use Rattle.std.proofs.Common.{arith, ◌≡◌, ◌∙◌, ap, length}
 use Rattle.std.proofs.lemmas.List.FromFn.{length-map-range_with_len}
-use Rattle.core_model.specs.Memory.{memory_at}
-use Rattle.access_core.proofs.WorkReadLemmas.{copy-placed}
+use Rattle.access_core.proofs.Terms.{memory_at}
 use Rattle.access_core.proofs.access.AccessCore.function_piece.Goals as goal
 
 pub returns-in_ok-copied-in-Some-Copy-clause-placed : goal.returns-in_ok-copied-in-Some-Copy-clause-placed
@@ -10,4 +9,4 @@ returns-in_ok-copied-in-Some-Copy-clause-placed c =
     let source = c.in-Some-Copy.source in
     let long : length c.in_ok-copied-in-Some-Copy.field-0 ≡ source.size =
     ap length c.in_ok-copied-in-Some-Copy.ensures ∙ length-map-range_with_len (memory_at c.args.self.now.start c.args.self.now.entries) source.address.0 source.size in
-    rw long (copy-placed _ c.args.dispatch.now c.requires source c.in-Some-Copy.target (cc c.function_of.ensures))
+    rw long (grind arith)

@@ -1,20 +1,16 @@
 -- What is cached follows the grant, which is entered where there is room.
 use Rattle.std.proofs.Common.{refl, sym, ◌∙◌, true, false, []}
-use Rattle.aql_packet.specs.declared.ids.ClientId.{ClientId}
-use Rattle.policy.specs.declared.object.Object.{Object}
-use Rattle.policy.specs.declared.rights.Rights.{Rights}
-use Rattle.core_model.specs.declared.event.Event.TheVariants.{Grant}
-use Rattle.core_model.specs.declared.outcome.Outcome.TheVariants as outcome
-use Rattle.access_core.specs.inner.Cached.{start_of}
 use Rattle.access_core.proofs.CachedMore.{IsCached-more, has_place, memory-still, queues-still}
 use Rattle.access_core.proofs.QueueAt.{IsQuiet, flight-quiet}
 use Rattle.access_core.proofs.Calls.{due-by, met-refusal, met-entry}
 use Rattle.access_core.proofs.Granting.{grant-due, grant-refused}
 use Rattle.access_core.proofs.HeldAfter.{held-still}
+use Rattle.access_core.proofs.Terms.{ClientId, Grant, Object, Rights, start_of}
+use Rattle.core_model.specs.declared.outcome.Outcome.TheVariants as outcome
 use Rattle.access_core.proofs.access.AccessCore.grant.Goals as goal
 
 quiet : (client : ClientId) (on : Object) (rights : Rights) → IsQuiet (Grant client on rights) outcome.Accepted []
-quiet client on rights = record { launches = refl; progress = λ queue id p. refl; releases = λ fs. refl; hands = λ m. refl; stops = λ m. refl; errors = refl }
+quiet client on rights = record { launches = refl; progress = λ queue id p. refl; releases = λ fs. refl; views = λ m v. refl }
 
 pub returns-in-Err : goal.returns-in-Err
 returns-in-Err c =

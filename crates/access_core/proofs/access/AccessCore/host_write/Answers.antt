@@ -1,22 +1,17 @@
 -- What is kept moves along with a client's write, which is entered where there is room.
-use Rattle.std.proofs.Common.{◌≡◌, refl, true, List, [], ◌∷◌, ℕ, length}
+use Rattle.std.proofs.Common.{◌≡◌, refl, true, List, [], ◌∷◌, ℕ, length, subst, sym}
 use Rattle.aql_packet.specs.declared.ids.Address.{Address}
-use Rattle.aql_packet.specs.declared.ids.ClientId.{ClientId}
-use Rattle.core_model.specs.declared.event.Event.TheVariants.{HostWrite}
 use Rattle.core_model.specs.declared.entry.Effect.TheVariants.{Write}
-use Rattle.core_model.specs.declared.outcome.Outcome.TheVariants as outcome
-use Rattle.regions.specs.Memory.{is_within}
-use Rattle.core_model.specs.Memory.{region_lengths}
-use Rattle.std.proofs.Common.{subst, sym}
-use Rattle.access_core.specs.inner.Cached.{start_of}
 use Rattle.access_core.proofs.HeldAfter.{grants-still}
 use Rattle.access_core.proofs.CachedMore.{IsCached-more, queues-still}
 use Rattle.access_core.proofs.QueueAt.{IsQuiet, flight-quiet}
 use Rattle.access_core.proofs.HostMemory.{byte_at-written}
+use Rattle.access_core.proofs.Terms.{ClientId, HostWrite, is_within, region_lengths, start_of}
+use Rattle.core_model.specs.declared.outcome.Outcome.TheVariants as outcome
 use Rattle.access_core.proofs.access.AccessCore.host_write.Goals as goal
 
 quiet : (client : ClientId) (address : Address) (bytes : List ℕ) → IsQuiet (HostWrite client address bytes) outcome.Accepted (Write address bytes ∷ [])
-quiet client address bytes = record { launches = refl; progress = λ queue id p. refl; releases = λ fs. refl; hands = λ m. refl; stops = λ m. refl; errors = refl }
+quiet client address bytes = record { launches = refl; progress = λ queue id p. refl; releases = λ fs. refl; views = λ m v. refl }
 
 pub lay-requires : goal.lay-requires
 lay-requires c =

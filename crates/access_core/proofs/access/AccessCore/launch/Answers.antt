@@ -1,18 +1,13 @@
 -- The packet is in flight, and the entry tells it.
 use Rattle.std.proofs.Common.{◌≡◌, ◌∙◌, refl, sym, subst, true, Some, []}
-use Rattle.core_model.specs.declared.event.Event.TheVariants.{Take}
-use Rattle.core_model.specs.declared.outcome.Outcome.TheVariants as outcome
-use Rattle.core_model.specs.declared.outcome.Taken.TheVariants.{Launched}
-use Rattle.core_model.specs.Memory.{region_lengths}
-use Rattle.core_model.specs.Queues.{owner}
-use Rattle.access_core.specs.inner.Deciding.{MayHold, TakesNext, opening_of}
-use Rattle.access_core.specs.inner.Cached.{start_of}
-use Rattle.access_core.specs.inner.LiesInRegions.{lies_in_regions}
+use Rattle.core_model.proofs.Launches.{IsNext-from_owed}
+use Rattle.access_core.specs.inner.Deciding.{opening_of}
 use Rattle.access_core.proofs.HeldAfter.{grants-launched, launch-in_force}
 use Rattle.access_core.proofs.CachedMore.{IsCached-more, memory-still, owed-inside}
-use Rattle.core_model.proofs.Launches.{IsNext-from_owed}
-use Rattle.access_core.proofs.PlacesMore.{flight-launched}
+use Rattle.access_core.proofs.QueueAt.{flight-launched}
 use Rattle.access_core.proofs.TakeLemmas.{can-take, queues-launched}
+use Rattle.access_core.proofs.Terms.{Launched, MayHold, Take, TakesNext, lies_in_regions, owner, region_lengths, start_of}
+use Rattle.core_model.specs.declared.outcome.Outcome.TheVariants as outcome
 use Rattle.access_core.proofs.access.AccessCore.launch.Goals as goal
 
 pub hold_reserved-requires-clause-in_force : goal.hold_reserved-requires-clause-in_force

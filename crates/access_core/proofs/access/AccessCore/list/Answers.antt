@@ -1,7 +1,7 @@
 -- The listing of the grants that are kept is the history's.
 use Rattle.std.proofs.Common.{◌≡◌, inl, true}
-use Rattle.policy.specs.Policy.{declares_client}
 use Rattle.access_core.proofs.Listing.{listing-replied}
+use Rattle.access_core.proofs.Terms.{declares_client}
 use Rattle.access_core.proofs.access.AccessCore.list.Goals as goal
 
 pub returns : goal.returns

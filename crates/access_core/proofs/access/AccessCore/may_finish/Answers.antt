@@ -1,12 +1,11 @@
 -- What the packet is due, by whether its work is done.
 use Rattle.std.proofs.Common.{rules, ◌∙◌, sym}
-use Rattle.core_model.specs.declared.event.Event.TheVariants.{Finish}
-use Rattle.core_model.specs.declared.refusal.Refusal.TheVariants as refusal
-use Rattle.core_model.specs.Memory.{signals}
-use Rattle.core_model.specs.Owed.{owed, owed_finish, refuses}
+use Rattle.core_model.specs.Owed.{owed}
 use Rattle.core_model.proofs.Meeting.{refuse_unless-holds, refuse_unless-fails}
 use Rattle.access_core.proofs.Calls.{due-as}
 use Rattle.access_core.proofs.WorkLemmas.{finish-releases, owed-in_place, release-due}
+use Rattle.access_core.proofs.Terms.{Finish, owed_finish, refuses, signals}
+use Rattle.core_model.specs.declared.refusal.Refusal.TheVariants as refusal
 use Rattle.access_core.proofs.access.AccessCore.may_finish.Goals as goal
 
 pub returns-in_err-place-clause-why : goal.returns-in_err-place-clause-why

@@ -1,13 +1,11 @@
 -- What the packet is due, by what is found.
 use Rattle.std.proofs.Common.{rules, ◌∙◌, ap, refl, []}
-use Rattle.core_model.specs.declared.event.Event.TheVariants.{Poll}
-use Rattle.core_model.specs.declared.outcome.Outcome.TheVariants as outcome
-use Rattle.core_model.specs.Memory.{signals}
-use Rattle.core_model.specs.Owed.{owed, owed_poll, answers, enters}
-use Rattle.access_core.specs.inner.Polling.{look_owed, sight}
+use Rattle.core_model.specs.Owed.{owed}
 use Rattle.access_core.proofs.Calls.{due-as}
 use Rattle.access_core.proofs.PollLemmas.{poll-owed}
 use Rattle.access_core.proofs.WorkLemmas.{failure-releases, release-due}
+use Rattle.access_core.proofs.Terms.{Poll, answers, enters, look_owed, owed_poll, sight, signals}
+use Rattle.core_model.specs.declared.outcome.Outcome.TheVariants as outcome
 use Rattle.access_core.proofs.access.AccessCore.may_poll.Goals as goal
 
 pub returns-in_err-place-clause-why : goal.returns-in_err-place-clause-why

@@ -1,9 +1,9 @@
 -- What the packet's next group is due.
 use Rattle.std.proofs.Common.{rules, ◌∙◌, sym, subst, true, false, Some}
 use Rattle.std.specs.Option.{IfSome}
-use Rattle.core_model.specs.Owed.{owed, owed_group}
-use Rattle.access_core.specs.inner.InPlace.{IsGroupOf}
+use Rattle.core_model.specs.Owed.{owed}
 use Rattle.access_core.proofs.RunLemmas.{due-done, due-group, due-refused, next-group}
+use Rattle.access_core.proofs.Terms.{IsGroupOf, owed_group}
 use Rattle.access_core.proofs.access.AccessCore.may_run.Goals as goal
 
 pub returns-in_err-place-clause-why : goal.returns-in_err-place-clause-why

@@ -1,12 +1,10 @@
 -- What the stop is due, by what is cached.
 use Rattle.std.proofs.Common.{◌≡◌, ◌∙◌, refl, sym, true, false, Some, None}
-use Rattle.policy.specs.Policy.{numbered}
-use Rattle.core_model.specs.declared.event.Event.TheVariants.{Stop}
-use Rattle.core_model.specs.declared.refusal.Refusal.TheVariants as refusal
-use Rattle.core_model.specs.Owed.{refuses}
 use Rattle.access_core.proofs.Calls.{due-by}
 use Rattle.access_core.proofs.StopLemmas.{may-stop, stop-full, stop-known, stop-unknown}
 use Rattle.access_core.proofs.access.AccessCore.may_stop.Goals.{else-is_none-via-then-is_none+else-is_full, else-is_none-via-else-is_none}
+use Rattle.access_core.proofs.Terms.{Stop, numbered, refuses}
+use Rattle.core_model.specs.declared.refusal.Refusal.TheVariants as refusal
 use Rattle.access_core.proofs.access.AccessCore.may_stop.Goals as goal
 
 pub returns-in-None-clause-why : goal.returns-in-None-clause-why

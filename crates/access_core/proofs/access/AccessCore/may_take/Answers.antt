@@ -1,27 +1,12 @@
 -- What is decided is what is due, by what is cached.
-use Rattle.std.proofs.Common.{◌≡◌, refl, ◌∙◌, true, false, Some, None, [], length, rules}
-use Rattle.std.specs.Prelude.{nat_lt, ◌||◌, ◌==◌, map}
-use Rattle.aql_packet.specs.Reading.{barrier_bit}
-use Rattle.policy.specs.Policy.{numbered}
-use Rattle.packet_processor.specs.declared.places.Place.{Place}
-use Rattle.core_model.specs.declared.event.Event.TheVariants.{Take}
-use Rattle.core_model.specs.declared.outcome.Outcome.TheVariants as outcome
-use Rattle.core_model.specs.declared.outcome.Taken.TheVariants.{Launched, Denied, Waiting}
-use Rattle.core_model.specs.declared.refusal.Refusal.TheVariants as refusal
-use Rattle.core_model.specs.LaunchRules.{may_start}
-use Rattle.core_model.specs.Owed.{answers, enters, refuses, error_at}
+use Rattle.std.proofs.Common.{◌≡◌, refl, ◌∙◌, true, false, Some, None, [], length, rules, ap, subst, nat_lt, ◌||◌, ◌==◌, map, option_map}
 use Rattle.packet_processor.proofs.QueueingLemmas.{launching-waits, launching-goes}
-use Rattle.std.proofs.Common.{ap}
-use Rattle.std.specs.Prelude.{option_map}
-use Rattle.access_core.specs.inner.CachedQueue.{cached_opening}
-use Rattle.std.proofs.Common.{subst}
-use Rattle.core_model.specs.History.{History}
-use Rattle.access_core.specs.inner.Deciding.{TakesNext, MayHold}
-use Rattle.access_core.specs.inner.LiesInRegions.{lies_in_regions}
-use Rattle.core_model.specs.Memory.{region_lengths}
-use Rattle.core_model.specs.Queues.{owner}
 use Rattle.access_core.proofs.Calls.{due-by}
 use Rattle.access_core.proofs.TakeLemmas.{owner-kept, room-launched, may-hold, take-unknown, take-known, within-launched, takes-next}
+use Rattle.access_core.proofs.Terms.{Denied, History, Launched, MayHold, Place, Take, TakesNext, Waiting, answers, barrier_bit, cached_opening, enters}
+use Rattle.access_core.proofs.Terms.{error_at, lies_in_regions, may_start, numbered, owner, refuses, region_lengths}
+use Rattle.core_model.specs.declared.outcome.Outcome.TheVariants as outcome
+use Rattle.core_model.specs.declared.refusal.Refusal.TheVariants as refusal
 use Rattle.access_core.proofs.access.AccessCore.may_take.Goals as goal
 
 pub returns-in-None-clause-why : goal.returns-in-None-clause-why
@@ -56,8 +41,7 @@ returns-then-is_full_for_launch-clause-why c =
     let some : numbered c.self.inside.queues.items c.args.queue.0 ≡ Some c.in-Some.kept.now = cc c.in-Some.ensures in
     let down : (nat_lt 0 (length c.in-Some.kept.now.errors.items) || c.in-Some.kept.now.stopped) ≡ false = cc in
     let next : (c.args.packet.0 == c.in-Some.kept.now.next) ≡ true = search rules in
-    let told : may_start (map (λ (p : Place). p.packet) c.as_slice-2.result.now) c.header.result.barrier ≡ None = launching-goes _ c.in-Go.ensures in
-    let waits : may_start (map (λ (p : Place). p.packet) c.in-Some.kept.now.places) (barrier_bit c.args.bytes.now) ≡ None = cc (told, c.as_slice-2.ensures, c.header.ensures) in
+    let waits : may_start (map (λ (p : Place). p.packet) c.in-Some.kept.now.places) (barrier_bit c.args.bytes.now) ≡ None = cc (launching-goes _ c.in-Go.ensures, c.as_slice-2.ensures, c.header.ensures) in
     due-by c.self.inside _ c.self.view_is (Take c.args.queue c.args.packet c.args.bytes.now) (enters (outcome.Taken Launched) []) (take-known c.self.inside c.self.invariant _ _ _ _ some ∙ (rw (down, next, waits, c.in-Launch.ensures.1) refl)) ∙ (rw (room-launched _ c.args.queue c.args.packet _ _ c.in-Launch.ensures.0, ← c.is_full_for_launch.ensures, c.if-is_full_for_launch.true) refl)
 
 pub returns-then-is_full-clause-why : goal.returns-then-is_full-clause-why
@@ -65,8 +49,7 @@ returns-then-is_full-clause-why c =
     let some : numbered c.self.inside.queues.items c.args.queue.0 ≡ Some c.in-Some.kept.now = cc c.in-Some.ensures in
     let down : (nat_lt 0 (length c.in-Some.kept.now.errors.items) || c.in-Some.kept.now.stopped) ≡ false = cc in
     let next : (c.args.packet.0 == c.in-Some.kept.now.next) ≡ true = search rules in
-    let told : may_start (map (λ (p : Place). p.packet) c.as_slice-2.result.now) c.header.result.barrier ≡ None = launching-goes _ c.in-Go.ensures in
-    let waits : may_start (map (λ (p : Place). p.packet) c.in-Some.kept.now.places) (barrier_bit c.args.bytes.now) ≡ None = cc (told, c.as_slice-2.ensures, c.header.ensures) in
+    let waits : may_start (map (λ (p : Place). p.packet) c.in-Some.kept.now.places) (barrier_bit c.args.bytes.now) ≡ None = cc (launching-goes _ c.in-Go.ensures, c.as_slice-2.ensures, c.header.ensures) in
     due-by c.self.inside _ c.self.view_is (Take c.args.queue c.args.packet c.args.bytes.now) (enters (outcome.Taken (Denied (error_at c.args.queue c.args.packet.0 c.in-Deny.rule))) []) (take-known c.self.inside c.self.invariant _ _ _ _ some ∙ (rw (down, next, waits, c.in-Deny.ensures) refl)) ∙ (rw (← c.is_full.ensures, c.if-is_full.true) refl)
 
 pub returns-else-is_full_for_launch-clause-may : goal.returns-else-is_full_for_launch-clause-may
@@ -74,8 +57,7 @@ returns-else-is_full_for_launch-clause-may c =
     let some : numbered c.self.inside.queues.items c.args.queue.0 ≡ Some c.in-Some.kept.now = cc c.in-Some.ensures in
     let down : (nat_lt 0 (length c.in-Some.kept.now.errors.items) || c.in-Some.kept.now.stopped) ≡ false = cc in
     let next : (c.args.packet.0 == c.in-Some.kept.now.next) ≡ true = search rules in
-    let told : may_start (map (λ (p : Place). p.packet) c.as_slice-2.result.now) c.header.result.barrier ≡ None = launching-goes _ c.in-Go.ensures in
-    let waits : may_start (map (λ (p : Place). p.packet) c.in-Some.kept.now.places) (barrier_bit c.args.bytes.now) ≡ None = cc (told, c.as_slice-2.ensures, c.header.ensures) in (
+    let waits : may_start (map (λ (p : Place). p.packet) c.in-Some.kept.now.places) (barrier_bit c.args.bytes.now) ≡ None = cc (launching-goes _ c.in-Go.ensures, c.as_slice-2.ensures, c.header.ensures) in (
       due-by c.self.inside _ c.self.view_is (Take c.args.queue c.args.packet c.args.bytes.now) (enters (outcome.Taken Launched) []) (take-known c.self.inside c.self.invariant _ _ _ _ some ∙ (rw (down, next, waits, c.in-Launch.ensures.1) refl)) ∙ (rw (room-launched _ c.args.queue c.args.packet _ _ c.in-Launch.ensures.0, ← c.is_full_for_launch.ensures, c.if-is_full_for_launch.false) refl),
       c.in-Launch.ensures.0,
       subst (λ (h : History). lies_in_regions (region_lengths h.start) c.in-Launch.packet ≡ true) c.self.view_is (within-launched c.self.inside c.in-Some.kept.now c.args.bytes.now c.in-Launch.packet c.self.invariant c.in-Launch.ensures.0 c.in-Launch.ensures.1),
@@ -89,8 +71,7 @@ returns-else-is_full-clause-may c =
     let some : numbered c.self.inside.queues.items c.args.queue.0 ≡ Some c.in-Some.kept.now = cc c.in-Some.ensures in
     let down : (nat_lt 0 (length c.in-Some.kept.now.errors.items) || c.in-Some.kept.now.stopped) ≡ false = cc in
     let next : (c.args.packet.0 == c.in-Some.kept.now.next) ≡ true = search rules in
-    let told : may_start (map (λ (p : Place). p.packet) c.as_slice-2.result.now) c.header.result.barrier ≡ None = launching-goes _ c.in-Go.ensures in
-    let waits : may_start (map (λ (p : Place). p.packet) c.in-Some.kept.now.places) (barrier_bit c.args.bytes.now) ≡ None = cc (told, c.as_slice-2.ensures, c.header.ensures) in (
+    let waits : may_start (map (λ (p : Place). p.packet) c.in-Some.kept.now.places) (barrier_bit c.args.bytes.now) ≡ None = cc (launching-goes _ c.in-Go.ensures, c.as_slice-2.ensures, c.header.ensures) in (
       due-by c.self.inside _ c.self.view_is (Take c.args.queue c.args.packet c.args.bytes.now) (enters (outcome.Taken (Denied (error_at c.args.queue c.args.packet.0 c.in-Deny.rule))) []) (take-known c.self.inside c.self.invariant _ _ _ _ some ∙ (rw (down, next, waits, c.in-Deny.ensures) refl)) ∙ (rw (← c.is_full.ensures, c.if-is_full.false) refl),
       subst (λ (h : History). TakesNext h c.args.queue) c.self.view_is (takes-next c.self.inside c.self.invariant _ _ _ some down waits),
     )

@@ -1,10 +1,9 @@
 -- A request is served as the call that it names.
 use Rattle.std.proofs.Common.{subst, sym}
 use Rattle.core_model.specs.declared.event.Request.{Request}
-use Rattle.core_model.specs.declared.event.Request.TheVariants as request
-use Rattle.core_model.specs.Legal.{IsServed}
-use Rattle.core_model.specs.Queries.{Replying}
 use Rattle.access_core.proofs.Serving.{served-event, served-query}
+use Rattle.access_core.proofs.Terms.{IsServed, Replying}
+use Rattle.core_model.specs.declared.event.Request.TheVariants as request
 use Rattle.access_core.proofs.access.AccessCore.obey.Goals as goal
 
 pub returns-in-Event : goal.returns-in-Event

@@ -3,24 +3,16 @@ use Rattle.std.proofs.Common.{◌<◌, ◌∙◌, refl, sym, subst, ap, [], leng
 use Rattle.std.proofs.lemmas.List.{map-append}
 use Rattle.std.proofs.lemmas.List.Elements.{All-nil, All-push}
 use Rattle.aql_packet.specs.declared.ids.AgentHandle.{AgentHandle}
-use Rattle.aql_packet.specs.declared.ids.ClientId.{ClientId}
-use Rattle.aql_packet.specs.declared.ids.QueueId.{QueueId}
-use Rattle.core_model.specs.declared.event.Event.TheVariants.{OpenQueue}
-use Rattle.core_model.specs.declared.outcome.Outcome.TheVariants as outcome
-use Rattle.core_model.specs.Queues.{openings}
-use Rattle.packet_processor.specs.declared.places.Place.{Place}
-use Rattle.access_core.specs.inner.CachedQueue.{IsSound, cached, cached_opening}
-use Rattle.access_core.specs.inner.Cached.{start_of}
 use Rattle.access_core.proofs.HeldAfter.{grants-opened}
-use Rattle.access_core.proofs.QueueLemmas.{openings-count}
+use Rattle.access_core.proofs.QueueLemmas.{openings-count, numbered-push, few_after}
 use Rattle.access_core.proofs.CachedMore.{IsCached-more, memory-still, none-launched}
 use Rattle.access_core.proofs.QueueAt.{IsQuiet, flight-quiet, queue_at-quiet}
-use Rattle.access_core.proofs.QueueLemmas.{numbered-push, few_after}
-use Rattle.core_model.specs.declared.limits.TheConstants.{QUEUES}
+use Rattle.access_core.proofs.Terms.{ClientId, IsSound, OpenQueue, Place, QUEUES, QueueId, cached, cached_opening, openings, start_of}
+use Rattle.core_model.specs.declared.outcome.Outcome.TheVariants as outcome
 use Rattle.access_core.proofs.access.AccessCore.open_queue.Goals as goal
 
 quiet : (client : ClientId) (agent : AgentHandle) (size : ℕ) (queue : QueueId) → IsQuiet (OpenQueue client agent size) (outcome.Opened queue) []
-quiet client agent size queue = record { launches = refl; progress = λ q id p. refl; releases = λ fs. refl; hands = λ m. refl; stops = λ m. refl; errors = refl }
+quiet client agent size queue = record { launches = refl; progress = λ q id p. refl; releases = λ fs. refl; views = λ m v. refl }
 
 pub invariant_of-self-2 : goal.invariant_of-self-2
 invariant_of-self-2 c =

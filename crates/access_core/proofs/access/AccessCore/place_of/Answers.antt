@@ -1,13 +1,8 @@
 -- A packet that is found is in flight, and reaches only what lies whole in a region.
-use Rattle.std.proofs.Common.{◌≡◌, Some, None, subst, true}
-use Rattle.std.specs.Prelude.{find}
-use Rattle.policy.specs.Policy.{numbered}
-use Rattle.packet_processor.specs.Queueing.{is_at}
-use Rattle.core_model.specs.Memory.{region_lengths}
-use Rattle.core_model.specs.declared.refusal.Refusal.TheVariants as refusal
-use Rattle.access_core.specs.inner.InPlace.{IsInPlace, RefusedAt}
-use Rattle.access_core.specs.inner.LiesInRegions.{lies_in_regions}
+use Rattle.std.proofs.Common.{◌≡◌, Some, None, subst, true, find}
 use Rattle.access_core.proofs.WorkLemmas.{in-place, none-in-place, reaches-in_place}
+use Rattle.access_core.proofs.Terms.{IsInPlace, RefusedAt, is_at, lies_in_regions, numbered, region_lengths}
+use Rattle.core_model.specs.declared.refusal.Refusal.TheVariants as refusal
 use Rattle.access_core.proofs.access.AccessCore.place_of.Goals as goal
 
 pub returns-in-Some-get-clause-found : goal.returns-in-Some-get-clause-found

@@ -1,8 +1,7 @@
 -- The queue found is the one of the history.
 use Rattle.std.proofs.Common.{ap, ◌∙◌, List}
-use Rattle.policy.specs.Policy.{numbered}
-use Rattle.access_core.specs.declared.queue.Queue.{Queue}
 use Rattle.access_core.proofs.LookupLemmas.{IsQueue-kept}
+use Rattle.access_core.proofs.Terms.{Queue, numbered}
 use Rattle.access_core.proofs.access.AccessCore.queue.Goals as goal
 
 pub returns : goal.returns

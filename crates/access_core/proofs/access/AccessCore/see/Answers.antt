@@ -1,22 +1,19 @@
 -- What is kept moves along with what is seen, which is entered where there is room.
 use Rattle.std.proofs.Common.{◌∙◌, refl, sym, ap, []}
-use Rattle.core_model.specs.declared.event.Event.TheVariants.{Poll}
-use Rattle.core_model.specs.declared.outcome.Outcome.TheVariants as outcome
-use Rattle.access_core.specs.inner.Cached.{start_of}
-use Rattle.access_core.specs.inner.Polling.{sight}
 use Rattle.access_core.proofs.HeldAfter.{grants-still}
 use Rattle.access_core.proofs.CachedMore.{IsCached-more, memory-still}
 use Rattle.access_core.proofs.PollLemmas.{seen_further, sight-advances}
 use Rattle.access_core.proofs.QueueAt.{flight-advanced}
-use Rattle.access_core.proofs.TakeLemmas.{is-open}
+use Rattle.access_core.proofs.TakeLemmas.{is-open, open-of}
 use Rattle.access_core.proofs.WorkLemmas.{place-inside, queues-advanced}
+use Rattle.access_core.proofs.Terms.{Poll, sight, start_of}
+use Rattle.core_model.specs.declared.outcome.Outcome.TheVariants as outcome
 use Rattle.access_core.proofs.access.AccessCore.see.Goals as goal
 
 pub advance-requires : goal.advance-requires
 advance-requires c =
     let a = c.self.inside in
-    let found = place-inside a _ c.self.view_is c.args.queue c.args.packet c.args.place c.requires.found in
-    let at = is-open a c.self.invariant c.args.queue found.opening found.owner_is in
+    let at = open-of a c.self.invariant _ c.self.view_is c.args.queue c.args.packet c.args.place c.requires.found in
     (at.q, at.found)
 
 pub invariant_of-self : goal.invariant_of-self
@@ -29,7 +26,7 @@ invariant_of-self c =
     (record {
       same = (refl, refl);
       audit = rw (c.none.ensures, c.sight-told.ensures) at c.enter.ensures;
-      grants = grants-still a c.self.invariant _ _ _ refl (λ client on right b. refl) (flight-advanced (start_of a) a.audit.items c.args.queue c.args.packet _ _ _ _ is);
+      grants = grants-still a c.self.invariant _ _ _ refl (λ client on right b. refl) (flight-advanced (start_of a) a.audit.items _ _ _ c.args.queue c.args.packet _ is);
       memory = memory-still a.memory _ (λ x byte. refl);
       values = refl;
       queues = rw c.advance.ensures (queues-advanced a c.self.invariant c.args.queue at c.args.packet (seen_further c.args.new) _ _ _ is refl _

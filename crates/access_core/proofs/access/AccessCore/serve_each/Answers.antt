@@ -1,8 +1,7 @@
 -- One request more was served.
 use Rattle.std.proofs.Common.{◌≡◌, ◌+◌, ◌++◌, ◌∷◌, [], List, length, length-append, arith, subst, sym}
-use Rattle.core_model.specs.Legal.{AreReplies}
-use Rattle.core_model.specs.Queries.{Replying}
 use Rattle.access_core.proofs.Serving.{AreReplies-more}
+use Rattle.access_core.proofs.Terms.{AreReplies, Replying}
 use Rattle.access_core.proofs.access.AccessCore.serve_each.Goals as goal
 
 pub loop-request-preserved : goal.loop-request-preserved

@@ -1,6 +1,6 @@
 -- The requests so far were served, and there is room for the replies to the others.
 use Rattle.std.proofs.Common.{◌+◌, ◌≤◌, length}
-use Rattle.core_model.specs.Legal.{AreReplies}
+use Rattle.access_core.proofs.Terms.{AreReplies}
 use Rattle.access_core.proofs.access.AccessCore.serve_each.Given as goal
 
 abbrev pub invariant-loop-request : goal.invariant-loop-request

@@ -1,22 +1,17 @@
 -- What is kept moves along with the change of a signal, which is entered where there is room.
-use Rattle.std.proofs.Common.{refl, [], ◌∷◌, w64, to_z-of_z, SFits, rules}
-use Rattle.std.specs.Prelude.{ℤ}
-use Rattle.aql_packet.specs.declared.ids.ClientId.{ClientId}
+use Rattle.std.proofs.Common.{refl, [], ◌∷◌, w64, to_z-of_z, SFits, rules, ℤ}
 use Rattle.aql_packet.specs.declared.ids.SignalHandle.{SignalHandle}
 use Rattle.signals.specs.declared.operation.SignalOp.{SignalOp}
-use Rattle.signals.specs.Values.{applied}
-use Rattle.core_model.specs.declared.event.Event.TheVariants.{ChangeSignal}
-use Rattle.core_model.specs.declared.entry.Effect.TheVariants as effect
-use Rattle.core_model.specs.declared.outcome.Outcome.TheVariants as outcome
-use Rattle.core_model.specs.Owed.{old_if_asked}
-use Rattle.access_core.specs.inner.Cached.{start_of}
 use Rattle.access_core.proofs.HeldAfter.{grants-still}
 use Rattle.access_core.proofs.CachedMore.{IsCached-more, memory-still, queues-still}
 use Rattle.access_core.proofs.QueueAt.{IsQuiet, flight-quiet}
+use Rattle.access_core.proofs.Terms.{ChangeSignal, ClientId, applied, old_if_asked, start_of}
+use Rattle.core_model.specs.declared.entry.Effect.TheVariants as effect
+use Rattle.core_model.specs.declared.outcome.Outcome.TheVariants as outcome
 use Rattle.access_core.proofs.access.AccessCore.signal_op.Goals as goal
 
 quiet : (client : ClientId) (signal : SignalHandle) (operation : SignalOp) (old : ℤ) → IsQuiet (ChangeSignal client signal operation) (outcome.Changed (old_if_asked operation old)) (effect.Signal signal old (applied operation old) ∷ [])
-quiet client signal operation old = record { launches = refl; progress = λ queue id p. refl; releases = λ fs. refl; hands = λ m. refl; stops = λ m. refl; errors = refl }
+quiet client signal operation old = record { launches = refl; progress = λ queue id p. refl; releases = λ fs. refl; views = λ m v. refl }
 
 pub invariant_of-self : goal.invariant_of-self
 invariant_of-self c =

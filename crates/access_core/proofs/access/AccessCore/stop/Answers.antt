@@ -1,10 +1,9 @@
 -- What is cached follows the stop.
 use Rattle.std.proofs.Common.{refl, sym}
-use Rattle.core_model.specs.declared.event.Event.TheVariants.{Stop}
-use Rattle.core_model.specs.declared.outcome.Outcome.TheVariants as outcome
-use Rattle.core_model.specs.Owed.{release_of}
 use Rattle.access_core.proofs.CachedMore.{IsCached-more, has_place, memory-still, owed-inside}
 use Rattle.access_core.proofs.StopLemmas.{freed-stopped, grants-stopped, memory-released, queues-stopped, stop-open, values-released}
+use Rattle.access_core.proofs.Terms.{Stop, release_of}
+use Rattle.core_model.specs.declared.outcome.Outcome.TheVariants as outcome
 use Rattle.access_core.proofs.access.AccessCore.stop.Goals as goal
 
 pub halt-requires : goal.halt-requires

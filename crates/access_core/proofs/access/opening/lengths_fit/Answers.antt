@@ -1,6 +1,6 @@
 -- A policy within the limits has regions that memory takes.
 use Rattle.std.proofs.Common.{ℕ, List, ◌∙◌, ap}
-use Rattle.regions.specs.Memory.{are_region_lengths}
+use Rattle.access_core.proofs.Terms.{are_region_lengths}
 use Rattle.access_core.proofs.access.opening.lengths_fit.Goals as goal
 
 pub returns : goal.returns

@@ -1,8 +1,7 @@
 -- One queue has an error more, and a packet of it leaves flight.
 use Rattle.std.proofs.Common.{◌≡◌, ◌-◌, ap, ◌∙◌, sym, Some, arith}
-use Rattle.access_core.specs.declared.queue.Queue.{Queue}
-use Rattle.access_core.specs.inner.QueueChanges.{freed, with_failure}
 use Rattle.access_core.proofs.ChangedQueue.{freed-at, changed-by, item-at}
+use Rattle.access_core.proofs.Terms.{Queue, freed, with_failure}
 use Rattle.access_core.proofs.access.polling.fail_packet.Goals as goal
 
 pub returns-clause-queues : goal.returns-clause-queues

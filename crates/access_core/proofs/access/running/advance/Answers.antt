@@ -1,6 +1,6 @@
 -- A packet of one queue has come further.
-use Rattle.access_core.specs.inner.QueueChanges.{with_advance}
 use Rattle.access_core.proofs.ChangedQueue.{changed-by, item-at}
+use Rattle.access_core.proofs.Terms.{with_advance}
 use Rattle.access_core.proofs.access.running.advance.Goals as goal
 
 pub returns : goal.returns

@@ -1,8 +1,7 @@
 -- One queue is stopped, and a packet of it may leave flight.
 use Rattle.std.proofs.Common.{ap, ◌∙◌, sym, true}
-use Rattle.access_core.specs.declared.queue.Queue.{Queue}
-use Rattle.access_core.specs.inner.QueueChanges.{freed, with_stop}
 use Rattle.access_core.proofs.ChangedQueue.{freed-at, changed-by, item-at}
+use Rattle.access_core.proofs.Terms.{Queue, freed, with_stop}
 use Rattle.access_core.proofs.access.stopping.halt.Goals as goal
 
 pub returns-clause-queues : goal.returns-clause-queues

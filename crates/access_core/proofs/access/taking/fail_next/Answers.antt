@@ -1,7 +1,7 @@
 -- One queue's next id rises, and it has an error more.
 use Rattle.std.proofs.Common.{◌≡◌, ◌+◌, ◌-◌, arith}
-use Rattle.access_core.specs.inner.QueueChanges.{with_denied}
 use Rattle.access_core.proofs.ChangedQueue.{changed-by, item-at}
+use Rattle.access_core.proofs.Terms.{with_denied}
 use Rattle.access_core.proofs.access.taking.fail_next.Goals as goal
 
 pub returns : goal.returns

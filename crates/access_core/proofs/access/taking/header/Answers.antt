@@ -1,6 +1,5 @@
 -- The header is the low half of what is asked about.
-use Rattle.std.proofs.Common.{ℕ, ◌∙◌, ap, arith}
-use Rattle.std.specs.Prelude.{◌==◌}
+use Rattle.std.proofs.Common.{ℕ, ◌∙◌, ap, arith, ◌==◌}
 use Rattle.aql_packet.specs.Numbers.{number_at, bits}
 use Rattle.access_core.proofs.access.taking.header.Goals as goal
 

@@ -1,11 +1,9 @@
 -- The signal's new value is the one that the change tells.
-use Rattle.std.proofs.Common.{rules, ◌≡◌, ◌∙◌, ap, sym, [], ◌∷◌}
-use Rattle.core_model.specs.Memory.{signals_after}
-use Rattle.core_model.specs.declared.entry.Effect.TheVariants as effect
-use Rattle.std.specs.Prelude.{fold, pos}
-use Rattle.signals.specs.Values.{applied}
-use Rattle.signals.specs.declared.operation.SignalOp.TheVariants as op
+use Rattle.std.proofs.Common.{rules, ◌≡◌, ◌∙◌, ap, sym, [], ◌∷◌, fold, pos}
 use Rattle.access_core.proofs.WorkLemmas.{values-two, after-missing, found-ok, missing-err}
+use Rattle.access_core.proofs.Terms.{applied, signals_after}
+use Rattle.core_model.specs.declared.entry.Effect.TheVariants as effect
+use Rattle.signals.specs.declared.operation.SignalOp.TheVariants as op
 use Rattle.access_core.proofs.access.working.complete.Goals as goal
 
 pub returns-in-Err-clause-values : goal.returns-in-Err-clause-values

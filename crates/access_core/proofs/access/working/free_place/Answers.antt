@@ -1,7 +1,7 @@
 -- No place is made by taking a packet out of one.
 use Rattle.std.proofs.Common.{◌≤◌, length, not}
-use Rattle.packet_processor.specs.Queueing.{is_at, without}
 use Rattle.access_core.proofs.WorkLemmas.{filter-not_more}
+use Rattle.access_core.proofs.Terms.{is_at, without}
 use Rattle.access_core.proofs.access.working.free_place.Goals as goal
 
 pub overflow_sub-result : goal.overflow_sub-result

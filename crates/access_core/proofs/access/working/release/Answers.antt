@@ -1,8 +1,7 @@
 -- A packet of one queue leaves flight.
 use Rattle.std.proofs.Common.{ap, ◌∙◌, sym, Some}
-use Rattle.access_core.specs.declared.queue.Queue.{Queue}
-use Rattle.access_core.specs.inner.QueueChanges.{freed, with_release}
 use Rattle.access_core.proofs.ChangedQueue.{freed-at, changed-by, item-at}
+use Rattle.access_core.proofs.Terms.{Queue, freed, with_release}
 use Rattle.access_core.proofs.access.working.release.Goals as goal
 
 pub returns-clause-queues : goal.returns-clause-queues
