@@ -62,6 +62,18 @@ module _ {X : Type 0} (give : List Entry → Option InFlight → List X) where
       by_test true is rest = rw is refl
       by_test false is rest = rw is (rest (rw is at launched))
 
+  -- an entry that launches another, or none, gives it nothing
+  pub from_launch-other : (before es : List Entry) (e : Entry) (queue : QueueId) (id : PacketId) → is_launch queue id (launched_by e.event e.outcome) ≡ false → from_launch give before (es ++ e ∷ []) queue id ≡ from_launch give before es queue id
+  from_launch-other before [] e queue id other = rw other refl
+  from_launch-other before (x ∷ xs) e queue id other =
+      by_test (is_launch queue id (launched_by x.event x.outcome)) refl (from_launch-other (before ++ x ∷ []) xs e queue id other)
+    where
+      by_test : (b : Bool) → is_launch queue id (launched_by x.event x.outcome) ≡ b
+          → from_launch give (before ++ x ∷ []) (xs ++ e ∷ []) queue id ≡ from_launch give (before ++ x ∷ []) xs queue id
+          → from_launch give before (x ∷ (xs ++ e ∷ [])) queue id ≡ from_launch give before (x ∷ xs) queue id
+      by_test true is rest = rw is refl
+      by_test false is rest = rw is rest
+
   -- one that wasn't launched has nothing
   pub from_launch-none : (before es : List Entry) (queue : QueueId) (id : PacketId) → was_launched es queue id ≡ false → from_launch give before es queue id ≡ []
   from_launch-none before [] queue id none = refl
@@ -232,7 +244,7 @@ module _ (start : Start) (es : List Entry) (e : Entry) where
     allowed = l.allowed;
   }
 
-  was-launched : (queue : QueueId) (id : PacketId) (before : List Entry) (opening : Opening) (p : Packet) → held start es queue id ≡ held_at_launch start before opening p → was_launched es queue id ≡ true
+  pub was-launched : (queue : QueueId) (id : PacketId) (before : List Entry) (opening : Opening) (p : Packet) → held start es queue id ≡ held_at_launch start before opening p → was_launched es queue id ≡ true
   was-launched queue id before opening p is = by_test (was_launched es queue id) refl
     where
       by_test : (b : Bool) → was_launched es queue id ≡ b → was_launched es queue id ≡ true
@@ -311,7 +323,7 @@ module _ (start : Start) (es : List Entry) (e : Entry) where
   pointers-met client [] = All-nil _
   pointers-met client (x ∷ xs) = All-append (λ h. in_force start es client h.0 h.1 ≡ true) _ _ (pointer-met client x) (pointers-met client xs)
 
-  arguments-held : (client : ClientId) (p : Packet) → All (λ h. in_force start es client h.0 h.1 ≡ true) (held_by_arguments start es client p)
+  pub arguments-held : (client : ClientId) (p : Packet) → All (λ h. in_force start es client h.0 h.1 ≡ true) (held_by_arguments start es client p)
   arguments-held client (packet.Kernel d) = pointers-met client (wide_arguments (kernel_of start d).wide (argument_block start es d))
   arguments-held client (packet.Agent _) = All-nil _
   arguments-held client (packet.BarrierAnd _) = All-nil _

@@ -91,6 +91,7 @@ impl AccessCore {
         };
         self.flying -= fail_packet(&mut self.queues, queue, packet, error);
         self.grants.release(queue, packet);
+        self.blocks.release(queue, packet);
         let told = Polled::Failed(error);
         let event = Event::Poll { queue, packet };
         let effects = Effects::one(Effect::Release { queue, packet });

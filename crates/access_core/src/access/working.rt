@@ -30,6 +30,7 @@ impl AccessCore {
         let effects = complete(&mut self.signals, queue, packet, &place.packet);
         self.flying -= release(&mut self.queues, queue, packet);
         self.grants.release(queue, packet);
+        self.blocks.release(queue, packet);
         let event = Event::Finish { queue, packet };
         enter(&mut self.audit, event, Outcome::Accepted, effects);
         Ok(())

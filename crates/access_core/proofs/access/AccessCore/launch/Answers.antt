@@ -33,7 +33,7 @@ invariant_of-self-2 c =
     let within : lies_in_regions (region_lengths (start_of a)) p ≡ true = subst (λ h. lies_in_regions (region_lengths h.start) p ≡ true) (sym c.self.view_is) c.requires.2 in
     IsCached-more a _ (Take c.args.queue c.args.packet c.args.bytes.now) (outcome.Taken Launched) [] c.self.invariant
     (record {
-      same = (refl, refl);
+      same = ((refl, refl, refl), refl);
       audit = rw c.none.ensures at c.enter.ensures;
       grants = grants-launched a c.self.invariant _ _ _ refl (λ client on right b. refl) _ _ (opening_of c.args.launching) c.args.queue c.args.packet p _
           (flight-launched (start_of a) a.audit.items c.args.queue c.args.packet c.args.bytes.now p c.requires.1)

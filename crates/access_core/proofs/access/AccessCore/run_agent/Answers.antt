@@ -39,9 +39,9 @@ invariant_of-self c =
     let pieces = pieces-inside a _ c.self.view_is dispatch _ _ _ _ c.in_ok-target.ensures.written c.in_ok-result.ensures.written in
     IsCached-more a _ (RunNext c.args.queue c.args.packet) (outcome.Worked (Ran 0 0)) (agent_writes (start_of a) a.audit.items dispatch) c.self.invariant
     (record {
-      same = (refl, refl);
+      same = ((refl, refl, refl), refl);
       audit = rw (c.lay_both-effects.ensures.effects ∙ pieces) at c.enter.ensures;
-      grants = grants-still a c.self.invariant _ _ _ refl (λ client on right b. refl) (flight-advanced (start_of a) a.audit.items _ _ _ c.args.queue c.args.packet _ is);
+      grants = grants-still a c.self.invariant _ _ _ refl refl (λ client on right b. refl) (flight-advanced (start_of a) a.audit.items _ _ _ c.args.queue c.args.packet _ is);
       memory = record {
         lengths = c.lay_both-effects.ensures.lengths;
         memory = subst (λ (effects : List Effect). IsChanged a.memory effects c.lay_both-effects.new.memory) pieces c.lay_both-effects.ensures.changed;
