@@ -86,7 +86,7 @@ module _ (a b : Inside) (event : Event) (outcome : Outcome) (effects : List Effe
 
   memory-after : (x : ℕ) → lies_in_region (region_lengths (start_of b)) x ≡ true → byte_at b.memory x ≡ Some (memory_at (start_of b) b.audit.items x)
   memory-after x lies =
-      let inside : lies_in_region (region_lengths (start_of a)) x ≡ true = rw (← after.same.0.0, ← after.same.0.1) lies in
+      let inside : lies_in_region (region_lengths (start_of a)) x ≡ true = rw (← after.same.0.0) lies in
       rw (after.same.0.0, after.same.0.1, after.audit.items, memory_at-more) (after.memory.memory x (memory_at (start_of a) a.audit.items x) (was.memory x inside))
 
   -- the argument blocks of packets in flight are those of their launches
@@ -124,12 +124,12 @@ module _ (a b : Inside) (event : Event) (outcome : Outcome) (effects : List Effe
       let room = room-inside a was old seen_as event outcome effects is_due in
       record {
         granted = granted-after;
-        rules = rw (after.same.0.0, after.same.0.1) (after.grants.rules ∙ was.rules);
+        rules = rw after.same.0.0 (after.grants.rules ∙ was.rules);
         held = λ queue id client on right. rw (after.same.0.0, after.same.0.1, after.audit.items) (after.grants.held queue id client on right);
         arguments = rw (after.same.0.0, after.same.0.1, after.audit.items) (arguments-after (owed-inside a was old seen_as event outcome effects is_due));
         entries = rw after.same.0.1 was.entries;
         segments = rw (after.same.0.1, after.same.0.2) was.segments;
-        lengths = rw (after.same.0.0, after.same.0.1) (after.memory.lengths ∙ was.lengths);
+        lengths = rw after.same.0.0 (after.memory.lengths ∙ was.lengths);
         memory = memory-after;
         values = rw (after.same.0.0, after.same.0.1, after.audit.items, signals-more, ← was.values) after.values;
         openings = rw (after.same.0.0, after.same.0.1, after.audit.items, openings-more, ← was.openings) after.queues.openings;

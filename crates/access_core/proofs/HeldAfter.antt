@@ -53,15 +53,15 @@ blocks-still a event outcome launches fs = λ k d below. rw launches refl
 -- a packet's block isn't touched where another's is dropped
 block-without : (q : QueueId) (i : PacketId) (f : InFlight) → not (is_packet q i f) ≡ true → (found : List ℕ) (bs : List ArgumentBlock) → fold (block_behind f.queue f.id) found (filter (λ b. not (is_block q i b)) bs) ≡ fold (block_behind f.queue f.id) found bs
 block-without q i f other found [] = refl
-block-without q i f other found (b ∷ bs) = either (is_block q i b) refl
+block-without q i f other found (b ∷ bs) = either (is_block q i b) refl (λ g. block-without q i f other g bs)
   where
-    either : (c : Bool) → is_block q i b ≡ c
+    either : (c : Bool) → is_block q i b ≡ c → ((g : List ℕ) → fold (block_behind f.queue f.id) g (filter (λ x. not (is_block q i x)) bs) ≡ fold (block_behind f.queue f.id) g bs)
         → fold (block_behind f.queue f.id) found (if not c then b ∷ filter (λ x. not (is_block q i x)) bs else filter (λ x. not (is_block q i x)) bs)
         ≡ fold (block_behind f.queue f.id) (block_behind f.queue f.id found b) bs
-    either false is = block-without q i f other (block_behind f.queue f.id found b) bs
-    either true is =
+    either false is rest = rest (block_behind f.queue f.id found b)
+    either true is rest =
         let another : is_block f.queue f.id b ≡ false = grind arith in
-        rw another (block-without q i f other found bs)
+        rw another (rest found)
 
 blocks-dropped : (a : Inside) (event : Event) (outcome : Outcome) → launched_by event outcome ≡ None → (q : QueueId) (i : PacketId) (fs : List InFlight)
     → All (λ f. block_of (filter (λ b. not (is_block q i b)) a.blocks) f.queue f.id ≡ arguments_behind a event outcome f.queue f.id) (filter (λ f. not (is_packet q i f)) fs)

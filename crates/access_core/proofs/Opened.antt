@@ -1,5 +1,6 @@
 -- What is kept of a core in which nothing has happened.
-use Rattle.std.proofs.Common.{◌≡◌, ℕ, ◌≤◌, [], ◌∙◌, Bool, true, false, None, arith, refl, ◌-◌, slice_get, nat_lt, if◌then◌else◌}
+use Rattle.core_model.specs.Kernels.{segments_of}
+use Rattle.std.proofs.Common.{All, map, ◌≡◌, ℕ, ◌≤◌, [], ◌∙◌, Bool, true, false, None, arith, refl, ◌-◌, slice_get, nat_lt, if◌then◌else◌}
 use Rattle.std.proofs.lemmas.List.Elements.{All-nil}
 use Rattle.std.proofs.lemmas.Bool.Decides.{nat_tests}
 use Rattle.regions.proofs.Laws.{lengths_of-zeros, byte_at-zeros}
@@ -8,7 +9,7 @@ use Rattle.core_model.specs.Grants.{in_force}
 use Rattle.core_model.specs.Memory.{memory_at, signals}
 use Rattle.core_model.specs.Queues.{openings, next_id, errors, is_stopped}
 use Rattle.core_model.specs.Flight.{flight}
-use Rattle.access_core.specs.Opening.{is_capacity, lengths_of_rows, values_of_rows}
+use Rattle.access_core.specs.Opening.{has_entry, is_capacity, lengths_of_rows, program_of, values_of_rows}
 use Rattle.access_core.proofs.Terms.{Inside, IsCached, IsNew, IsSound, MOST_ENTRIES, Queue, numbered, rules_in, rules_of, zeros}
 
 -- no queue has a number where there is none
@@ -21,12 +22,15 @@ numbered-none n = either (nat_lt 0 n)
 
 -- what is kept where nothing has happened is what the empty audit says
 pub IsCached-opened : (a : Inside) → IsNew a.grants → rules_in a.grants ≡ rules_of a.policy → a.memory ≡ zeros (lengths_of_rows a.policy) → a.signals ≡ values_of_rows a.policy
-    → a.queues.items ≡ [] → a.flying ≡ 0 → a.audit.items ≡ [] → a.capacity ≤ a.audit.room → a.capacity ≤ MOST_ENTRIES → IsCached a
+    → a.queues.items ≡ [] → a.flying ≡ 0 → a.audit.items ≡ [] → a.capacity ≤ a.audit.room → a.capacity ≤ MOST_ENTRIES → All (λ kernel. has_entry kernel ≡ true) a.kernels.items → a.segments ≡ map segments_of (map program_of a.kernels.items) → IsCached a
 unfolding in_force memory_at effects_of signals openings next_id errors is_stopped flight
-IsCached-opened a fresh ruled memory values queues flying entries places few = record {
+IsCached-opened a fresh ruled memory values queues flying entries places few kernels segments = record {
   granted = λ client on right. fresh.none_in_force client on right ∙ (rw entries refl);
   rules = ruled;
   held = λ queue id client on right. fresh.none_held queue id client on right ∙ (rw entries refl);
+  arguments = rw entries (All-nil _);
+  entries = kernels;
+  segments = segments;
   lengths = rw memory (lengths_of-zeros (lengths_of_rows a.policy));
   memory = λ x lies. rw (memory, entries) (byte_at-zeros (lengths_of_rows a.policy) x lies);
   values = rw entries values;

@@ -1,5 +1,5 @@
 -- Stops of queues: what is owed by what is kept, and the room that is left.
-use Rattle.std.proofs.Common.{◌≡◌, ℕ, ◌-◌, ◌≤◌, List, [], ◌∷◌, length, map, refl, sym, ◌∙◌, ap, subst, Bool, true, false, Option, Some, None, arith, ℤ, ◌==◌}
+use Rattle.std.proofs.Common.{filter, ◌≡◌, ℕ, ◌-◌, ◌≤◌, List, [], ◌∷◌, length, map, refl, sym, ◌∙◌, ap, subst, Bool, true, false, Option, Some, None, arith, ℤ, ◌==◌}
 use Rattle.std.proofs.Common.{IfNone, IfSome, find, fold, is_some, not, option_map, if◌then◌else◌}
 use Rattle.std.proofs.lemmas.Bool.{le-ltb}
 use Rattle.core_model.specs.Owed.{owed}

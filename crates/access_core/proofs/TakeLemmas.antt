@@ -46,11 +46,10 @@ use Rattle.core_model.specs.declared.outcome.Outcome.TheVariants as outcome
 pub owner-kept : (a : Inside) (queue : QueueId) → IsCached a → owner (start_of a) a.audit.items queue ≡ option_map cached_opening (numbered a.queues.items queue.0)
 owner-kept a queue kept = ap (λ (all : List Opening). numbered all queue.0) (sym kept.openings) ∙ numbered-map cached_opening a.queues.items queue.0
 
--- what is found of bytes by facts that are those of the history is found by those of the fields
-pub judged-inside : (a : Inside) (old : History) → history_of a ≡ old → (q : Queue) (facts : Facts) → facts ≡ facts_of old.start old.entries (cached_opening q) → (bytes : List ℕ) (found : Option Rule) → first_failing facts bytes ≡ found
+-- what is found of bytes by the facts of a history is found by those of the fields
+pub judged-inside : (a : Inside) (old : History) → history_of a ≡ old → (q : Queue) (bytes : List ℕ) (found : Option Rule) → first_failing (facts_of old.start old.entries (cached_opening q)) bytes ≡ found
     → first_failing (facts_of (start_of a) a.audit.items (cached_opening q)) bytes ≡ found
-judged-inside a old seen_as q facts are bytes found is =
-    ap (λ (fs : Facts). first_failing fs bytes) (ap (λ (h : History). facts_of h.start h.entries (cached_opening q)) seen_as ∙ sym are) ∙ is
+judged-inside a old seen_as q bytes found is = subst (λ (h : History). first_failing (facts_of h.start h.entries (cached_opening q)) bytes ≡ found) (sym seen_as) is
 
 -- what is kept of a queue is what the history says of it
 pub view-kept : (a : Inside) (queue : QueueId) (q : Queue) → IsCached a → numbered a.queues.items queue.0 ≡ Some q → cached (Some q) ≡ queue_at (start_of a) a.audit.items queue

@@ -5,7 +5,7 @@ ghost use Rattle.aql_packet.specs.Reading.{barrier_bit};
 ghost use Rattle.core_model.specs.Holds.{arguments_of, held_at_launch};
 ghost use Rattle.core_model.specs.Owed.{facts_of, refuses};
 ghost use Rattle.packet_processor.specs.Holding.{as_rights};
-ghost use Rattle.packet_processor.specs.Judged.{facts_seen};
+ghost use Rattle.packet_processor.specs.Judged.{facts_seen, Judges};
 ghost use Rattle.access_core.specs.inner.Deciding.{Decides, IsBlockPlaced, opening_of};
 ghost use Rattle.access_core.specs.inner.QueueChanges.{CanFail, CanLaunch, with_denied, with_launched, with_queue};
 ghost use Rattle.core_model.specs.Legal.{Meets, MeetsOrLacks, due, wrapped};
@@ -91,6 +91,14 @@ impl AccessCore {
         }
     }
 
+    // Judges a packet of a client's queue on an agent.
+    fn judged(&self, client: ClientId, agent: AgentHandle, bytes: &[u8; 64]) -> Verdict
+        ensures { Judges (facts_of self.now.start self.now.entries (record { client = client; agent = agent })) bytes.now result }
+    {
+        let facts = self.facts(client, agent);
+        verdict(bytes, &facts)
+    }
+
     // What is decided of the packet that is handed over, if the queue takes one and it is the next.
     fn may_take(
         &self,
@@ -119,7 +127,7 @@ impl AccessCore {
         match state.may_launch(&header(bytes)) {
             MayLaunch::Waiting(cause) => Ok(Decision::Wait(cause)),
             MayLaunch::Go => {
-                match verdict(bytes, &self.facts(kept.client, kept.agent)) {
+                match self.judged(kept.client, kept.agent, bytes) {
                     Verdict::Launch(packet) => {
                         if self.is_full_for_launch() {
                             return Err(Refusal::AuditFull);
