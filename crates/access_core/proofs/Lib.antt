@@ -3,6 +3,8 @@ pub mod CachedMore
 pub mod Calls
 pub mod QueueLemmas
 pub mod TakeLemmas
+pub mod LaunchLemmas
+pub mod GroupLemmas
 pub mod QueueAt
 pub mod ChangedQueue
 pub mod PollLemmas

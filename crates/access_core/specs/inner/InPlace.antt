@@ -11,6 +11,8 @@ use Rattle.core_model.specs.declared.flight.Progress.{Progress}
 use Rattle.core_model.specs.declared.outcome.Outcome.TheVariants as outcome
 use Rattle.core_model.specs.declared.refusal.Refusal.{Refusal}
 use Rattle.core_model.specs.History.{History}
+use Rattle.aql_packet.specs.declared.packet.Packet.TheVariants as packet
+use Rattle.core_model.specs.LaunchRules.{has_sizes}
 use Rattle.core_model.specs.Needs.{completion}
 use Rattle.core_model.specs.Queues.{Opening, owner}
 use Rattle.core_model.specs.Flight.{in_flight, progress}
@@ -26,6 +28,11 @@ pub record IsInPlace (history : History) (queue : QueueId) (id : PacketId) (plac
   pub found : in_flight history.start history.entries queue id ≡ Some flying
   pub packet_is : flying.packet ≡ place.packet
   pub progress_is : progress history.start history.entries queue id ≡ place.progress
+
+-- a kernel dispatch has sizes that may be
+abbrev pub IsSized : Packet → Type 0
+IsSized (packet.Kernel d) = has_sizes d ≡ true
+IsSized _ = Unit {0}
 
 -- a call about this packet is refused, whatever it asks
 abbrev pub RefusedAt : History → QueueId → PacketId → Refusal → Type 0

@@ -1,10 +1,11 @@
 //! The groups of kernel dispatches in flight are run.
 
-ghost use Rattle.std.specs.Prelude.{◌≡◌, true};
+ghost use Rattle.std.specs.Prelude.{◌≡◌, ◌*◌, ◌<◌, ◌≤◌, ◌^◌, true};
 ghost use Rattle.aql_packet.specs.declared.packet.Packet.TheVariants as kind;
-ghost use Rattle.core_model.specs.Memory.{region_lengths};
+ghost use Rattle.executor.specs.Locations as locations;
+ghost use Rattle.core_model.specs.LaunchRules.{has_sizes};
+ghost use Rattle.core_model.specs.Work.{groups_of};
 ghost use Rattle.core_model.specs.Legal.{MeetsOrLacks, wrapped};
-ghost use Rattle.access_core.specs.inner.LiesInRegions.{lies_in_regions};
 ghost use Rattle.access_core.specs.inner.InPlace.{IsInPlace};
 
 use crate::access::AccessCore;
@@ -24,9 +25,40 @@ impl AccessCore {
         dispatch: KernelDispatch,
     ) -> Result<Worked, Refusal>
         requires found { IsInPlace self.old queue packet place }
+        requires sized { has_sizes dispatch ≡ true }
         requires packet_is { place.packet ≡ kind.Kernel dispatch }
         ensures { MeetsOrLacks (Event.RunNext queue packet) self.old self.new (wrapped Outcome.Worked result) }
     {
         Ok(Worked::Done)
     }
+}
+
+// How many work-groups a kernel dispatch has: fewer than 2^32.
+#[tactic(auto, using(crate::proofs::GroupLemmas::groups_fit))]
+pub(crate) fn group_count(dispatch: &KernelDispatch) -> u32
+    requires { has_sizes dispatch.now ≡ true }
+    ensures { result ≡ groups_of (kind.Kernel dispatch.now) }
+{
+    let x = groups_along(dispatch.grid_size_x, dispatch.workgroup_size_x);
+    let y = groups_along(dispatch.grid_size_y, dispatch.workgroup_size_y);
+    let z = groups_along(dispatch.grid_size_z, dispatch.workgroup_size_z);
+    product(x, y, z)
+}
+
+// How many work-groups there are along a dimension.
+fn groups_along(grid: u32, size: u16) -> u32
+    requires size { 1 ≤ size }
+    requires grid { 1 ≤ grid }
+    ensures { result ≡ locations.groups_along grid size }
+{
+    (grid - 1) / size as u32 + 1
+}
+
+// The product of three numbers, which is below 2^32.
+fn product(x: u32, y: u32, z: u32) -> u32
+    requires { x * y * z < 2 ^ 32 }
+    ensures { result ≡ x * y * z }
+{
+    let layer = x as u64 * y as u64;
+    if z == 0 { 0 } else { (layer * z as u64) as u32 }
 }

@@ -1,11 +1,11 @@
 //! A core is opened.
 
-ghost use Rattle.std.specs.Prelude.{◌≡◌, ◌+◌, ◌<◌, All, IfOk, IsTrue, Some, length, map, true};
+ghost use Rattle.std.specs.Prelude.{◌≡◌, ◌+◌, ◌<◌, All, IfOk, IfSome, IsTrue, Some, length, map, true};
 ghost use Rattle.policy.specs.Policy.{initial_of, length_of};
 ghost use Rattle.regions.specs.Memory.{are_region_lengths, zeros};
 ghost use Rattle.core_model.specs.Kernels.{segments_of};
 ghost use Rattle.core_model.specs.Legal.{opened};
-ghost use Rattle.access_core.specs.Opening.{has_entry, is_capacity, IsUntouched, lengths_of_rows, open_fault, Opens, program_of, values_of_rows};
+ghost use Rattle.access_core.specs.Opening.{first_missing, has_entry, is_capacity, IsUntouched, lengths_of_rows, open_fault, Opens, program_of, values_of_rows};
 
 use crate::access::{AccessCore, OpenFault};
 use crate::argument_blocks::ArgumentBlocks;
@@ -60,11 +60,22 @@ fn open_fault(policy: &Policy, kernels: &[Kernel], capacity: usize) -> Option<Op
     if kernels.len() != policy.object_count(Kind::Kernel) {
         return Some(OpenFault::KernelCount);
     }
-    if let Some(index) = kernels.iter().position(|kernel| !kernel.has_entry()) {
-        return Some(OpenFault::NoEntry(KernelObject(index as u64 + 1)));
+    match first_missing(kernels) {
+        Some(index) => Some(OpenFault::NoEntry(KernelObject(index as u64 + 1))),
+        None if !is_capacity(capacity) => Some(OpenFault::BadCapacity),
+        None => None,
     }
-    if !is_capacity(capacity) {
-        return Some(OpenFault::BadCapacity);
+}
+
+// The index of the first kernel whose own index is that of no checked kernel, if there is one.
+fn first_missing(kernels: &[Kernel]) -> Option<usize>
+    ensures place { result ≡ first_missing kernels.now }
+    ensures within { IfSome result (λ index. index < length kernels.now) }
+{
+    'kernels: for (index, kernel) in kernels.iter().enumerate() {
+        if !kernel.has_entry() {
+            return Some(index);
+        }
     }
     None
 }

@@ -29,8 +29,8 @@ place_next-requires c =
 pub argument_block-requires : goal.argument_block-requires
 argument_block-requires c = block-placed c.args.self.now c.args.queue c.args.packet c.args.bytes.now c.args.launching.packet c.requires.0 c.requires.1
 
-pub invariant_of-self-3 : goal.invariant_of-self-3
-invariant_of-self-3 c =
+pub invariant_of-self-2 : goal.invariant_of-self-2
+invariant_of-self-2 c =
     let a = c.self.inside in
     let p = c.args.launching.packet in
     let can = can-take a c.self.invariant c.args.queue (subst (λ h. TakesNext h c.args.queue) (sym c.self.view_is) c.requires.3) in
