@@ -13,7 +13,7 @@ use Rattle.core_model.specs.View.{Given, given}
 use Rattle.access_core.proofs.Calls.{due-as}
 use Rattle.access_core.proofs.QueueAt.{IsAdvance}
 use Rattle.access_core.proofs.WorkLemmas.{owed-in_place}
-use Rattle.access_core.proofs.Terms.{Effect, Entry, Event, History, InFlight, Inside, IsInPlace, PacketId, Place, Progress, QueueId}
+use Rattle.access_core.proofs.Terms.{Effect, Entry, Event, History, InFlight, Inside, IsInPlace, RefusedAt, PacketId, Place, Progress, QueueId}
 use Rattle.access_core.proofs.Terms.{Refusal, RunNext, Start, agent_writes, due, enters, flight, flight_after_effect, function_of, function_result}
 use Rattle.access_core.proofs.Terms.{function_writes, history_of, is_full, lies_in_regions, memory_from, number_in_memory, owed_group, refuses, region_lengths}
 use Rattle.access_core.proofs.Terms.{answers, result_writes, signals_after, start_of, write_of}
@@ -106,3 +106,8 @@ unfolding owed
 no-groups h queue id place found is =
     due-as h (RunNext queue id) (refuses refusal.NotInFlight)
     (owed-in_place h queue id place found (owed_group h.start h.entries queue id (given h.start h.entries queue id)) ∙ is (given h.start h.entries queue id))
+
+-- a packet that isn't in flight is refused
+pub run-refused : (h : History) (queue : QueueId) (id : PacketId) (why : Refusal) → RefusedAt h queue id why → due h (RunNext queue id) ≡ refuses why
+unfolding owed
+run-refused h queue id why refused = due-as h (RunNext queue id) (refuses why) (refused (owed_group h.start h.entries queue id (given h.start h.entries queue id)))

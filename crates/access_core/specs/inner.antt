@@ -6,4 +6,5 @@ pub mod Deciding
 pub mod Cached
 pub mod InPlace
 pub mod Polling
+pub mod Running
 pub mod Held

@@ -1,17 +1,22 @@
 //! The groups of kernel dispatches in flight are run.
 
-ghost use Rattle.std.specs.Prelude.{◌≡◌, ◌*◌, ◌<◌, ◌≤◌, ◌^◌, true};
+ghost use Rattle.std.specs.Prelude.{◌≡◌, ◌*◌, ◌<◌, ◌≤◌, ◌^◌, Ok, true};
 ghost use Rattle.aql_packet.specs.declared.packet.Packet.TheVariants as kind;
 ghost use Rattle.executor.specs.Locations as locations;
 ghost use Rattle.core_model.specs.LaunchRules.{has_sizes};
 ghost use Rattle.core_model.specs.Work.{groups_of};
-ghost use Rattle.core_model.specs.Legal.{MeetsOrLacks, wrapped};
+ghost use Rattle.core_model.specs.Legal.{Meets, MeetsOrLacks, due, wrapped};
+ghost use Rattle.core_model.specs.Owed.{group_error};
+ghost use Rattle.access_core.specs.inner.Running.{fault_owed};
 ghost use Rattle.access_core.specs.inner.InPlace.{IsInPlace};
 
-use crate::access::AccessCore;
+use crate::access::polling::fail_packet;
+use crate::access::{AccessCore, enter};
 use aql_packet::{KernelDispatch, PacketId, QueueId};
-use core_model::{Event, Outcome, Refusal, Worked};
+use core_model::{Effect, Effects, Event, Outcome, Refusal, Worked};
+use executor::ItemFault;
 use packet_processor::Place;
+use queue_error::QueueError;
 use std::alloc::Global;
 
 impl AccessCore {
@@ -30,6 +35,41 @@ impl AccessCore {
         ensures { MeetsOrLacks (Event.RunNext queue packet) self.old self.new (wrapped Outcome.Worked result) }
     {
         Ok(Worked::Done)
+    }
+
+    // Takes a packet in flight out of it whose group broke a rule: its queue has an error more, which
+    // says where.
+    fn fault(
+        &mut self,
+        queue: QueueId,
+        packet: PacketId,
+        place: Place,
+        group: u32,
+        fault: ItemFault,
+    ) -> Worked
+        requires may { due self.old (Event.RunNext queue packet)
+            ≡ fault_owed (group_error queue packet group fault.item fault.line fault.rule) }
+        requires found { IsInPlace self.old queue packet place }
+        ensures { Meets (Event.RunNext queue packet) self.old self.new (Ok (Outcome.Worked result)) }
+    {
+        let error = QueueError {
+            queue,
+            packet,
+            rule: fault.rule,
+            place: Some(queue_error::Place {
+                group,
+                item: fault.item,
+                line: fault.line,
+            }),
+        };
+        self.flying -= fail_packet(&mut self.queues, queue, packet, error);
+        self.grants.release(queue, packet);
+        self.blocks.release(queue, packet);
+        let worked = Worked::Faulted(error);
+        let event = Event::RunNext { queue, packet };
+        let effects = Effects::one(Effect::Release { queue, packet });
+        enter(&mut self.audit, event, Outcome::Worked(worked), effects);
+        worked
     }
 }
 

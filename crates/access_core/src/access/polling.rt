@@ -251,7 +251,7 @@ fn sight(ready: bool, new: Seen) -> Polled
 
 // Puts an error behind the others of a queue, takes a packet of it out of flight, and answers how many
 // places that frees.
-fn fail_packet(
+pub(crate) fn fail_packet(
     queues: &mut Vec<Queue>,
     queue: QueueId,
     packet: PacketId,
