@@ -20,7 +20,8 @@ use queue_error::QueueError;
 use std::alloc::Global;
 
 impl AccessCore {
-    // Runs the next work-group of a kernel dispatch in flight.
+    // Runs the next work-group of a kernel dispatch in flight. OPEN: the body isn't written yet, and so
+    // not proved; see KERNELS_PLAN.md.
     pub(crate) fn run_kernel(
         &mut self,
         alloc: Global,
