@@ -5,6 +5,7 @@ pub mod QueueLemmas
 pub mod TakeLemmas
 pub mod LaunchLemmas
 pub mod GroupLemmas
+pub mod HeldOn
 pub mod QueueAt
 pub mod ChangedQueue
 pub mod PollLemmas

@@ -1,10 +1,25 @@
 -- What a group of a kernel dispatch is owed, by what it came to.
-use Rattle.std.specs.Prelude.{[], ◌∷◌}
+use Rattle.std.specs.Prelude.{◌≡◌, [], ◌∷◌, Some}
+use Rattle.aql_packet.specs.declared.ids.ClientId.{ClientId}
+use Rattle.aql_packet.specs.declared.ids.PacketId.{PacketId}
+use Rattle.aql_packet.specs.declared.ids.QueueId.{QueueId}
 use Rattle.queue_error.specs.declared.error.QueueError.{QueueError}
 use Rattle.core_model.specs.declared.entry.Effect.TheVariants as effect
 use Rattle.core_model.specs.declared.outcome.Outcome.TheVariants as outcome
 use Rattle.core_model.specs.declared.outcome.Worked.TheVariants.{Faulted}
+use Rattle.core_model.specs.declared.flight.InFlight.{InFlight}
+use Rattle.core_model.specs.Flight.{in_flight}
+use Rattle.core_model.specs.History.{History}
 use Rattle.core_model.specs.Owed.{Owed, enters}
+use Rattle.core_model.specs.Queues.{Opening, owner}
+
+-- a packet in flight, of a queue of this client
+pub record IsHolder (history : History) (queue : QueueId) (id : PacketId) (client : ClientId) : Type 0 where
+  pub opening : Opening
+  pub owner_is : owner history.start history.entries queue ≡ Some opening
+  pub client_is : opening.client ≡ client
+  pub flying : InFlight
+  pub found : in_flight history.start history.entries queue id ≡ Some flying
 
 -- a group that breaks a rule leaves nothing, and releases its packet
 abbrev pub fault_owed : QueueError → Owed

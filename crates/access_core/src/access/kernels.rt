@@ -7,15 +7,19 @@ ghost use Rattle.core_model.specs.LaunchRules.{has_sizes};
 ghost use Rattle.core_model.specs.Work.{groups_of};
 ghost use Rattle.core_model.specs.Legal.{Meets, MeetsOrLacks, due, wrapped};
 ghost use Rattle.core_model.specs.Owed.{group_error};
-ghost use Rattle.access_core.specs.inner.Running.{fault_owed};
+ghost use Rattle.policy.specs.declared.object.Object.TheVariants as object;
+ghost use Rattle.core_model.specs.Holds.{held};
+ghost use Rattle.core_model.specs.View.{rights_held};
+ghost use Rattle.access_core.specs.inner.Running.{fault_owed, IsHolder};
 ghost use Rattle.access_core.specs.inner.InPlace.{IsInPlace};
 
 use crate::access::polling::fail_packet;
 use crate::access::{AccessCore, enter};
-use aql_packet::{KernelDispatch, PacketId, QueueId};
+use aql_packet::{ClientId, KernelDispatch, PacketId, QueueId, RegionHandle};
 use core_model::{Effect, Effects, Event, Outcome, Refusal, Worked};
 use executor::ItemFault;
 use packet_processor::Place;
+use policy::{Object, Rights};
 use queue_error::QueueError;
 use std::alloc::Global;
 
@@ -36,6 +40,21 @@ impl AccessCore {
         ensures { MeetsOrLacks (Event.RunNext queue packet) self.old self.new (wrapped Outcome.Worked result) }
     {
         Ok(Worked::Done)
+    }
+
+    // The rights that a packet in flight holds on a region.
+    fn rights_on(
+        &self,
+        queue: QueueId,
+        packet: PacketId,
+        client: ClientId,
+        region: RegionHandle,
+    ) -> Rights
+        requires { IsHolder self.now queue packet client }
+        ensures { result ≡ rights_held (held self.now.start self.now.entries queue packet) (object.Region region) }
+    {
+        self.grants
+            .rights_held(queue, packet, client, Object::Region(region))
     }
 
     // Takes a packet in flight out of it whose group broke a rule: its queue has an error more, which
