@@ -14,6 +14,7 @@ pub mod LookupLemmas
 pub mod WorkLemmas
 pub mod WorkReadLemmas
 pub mod RunLemmas
+pub mod KernelLemmas
 pub mod HostMemory
 pub mod HeldMore
 pub mod HeldRights

@@ -1,5 +1,5 @@
 -- What a group of a kernel dispatch is owed, by what it came to.
-use Rattle.std.specs.Prelude.{◌≡◌, [], ◌∷◌, Some}
+use Rattle.std.specs.Prelude.{◌≡◌, List, [], ◌∷◌, Some, map}
 use Rattle.aql_packet.specs.declared.ids.ClientId.{ClientId}
 use Rattle.aql_packet.specs.declared.ids.PacketId.{PacketId}
 use Rattle.aql_packet.specs.declared.ids.QueueId.{QueueId}
@@ -9,7 +9,12 @@ use Rattle.core_model.specs.declared.outcome.Outcome.TheVariants as outcome
 use Rattle.core_model.specs.declared.outcome.Worked.TheVariants.{Faulted}
 use Rattle.core_model.specs.declared.flight.InFlight.{InFlight}
 use Rattle.core_model.specs.Flight.{in_flight}
-use Rattle.core_model.specs.History.{History}
+use Rattle.core_model.specs.History.{History, Start}
+use Rattle.core_model.specs.Holds.{Held}
+use Rattle.core_model.specs.Memory.{memory_from}
+use Rattle.core_model.specs.View.{HeldRegion, first_address, held_regions}
+use Rattle.core_model.specs.declared.entry.Entry.{Entry}
+use Rattle.executor.specs.Items.{LentRegion}
 use Rattle.core_model.specs.Owed.{Owed, enters}
 use Rattle.core_model.specs.Queues.{Opening, owner}
 
@@ -24,3 +29,15 @@ pub record IsHolder (history : History) (queue : QueueId) (id : PacketId) (clien
 -- a group that breaks a rule leaves nothing, and releases its packet
 abbrev pub fault_owed : QueueError → Owed
 fault_owed error = enters (outcome.Worked (Faulted error)) (effect.Release error.queue error.packet ∷ [])
+
+-- a held region as it is lent to the executor: all its bytes are those of memory
+abbrev pub lent_whole : Start → List Entry → HeldRegion → LentRegion
+lent_whole start entries region = record {
+  number = region.number;
+  rights = region.rights;
+  bytes = memory_from start entries (first_address region) region.size;
+}
+
+-- the regions that a packet's groups are lent, where it holds all these
+abbrev pub view_whole : Start → List Entry → List Held → List LentRegion
+view_whole start entries all = map (lent_whole start entries) (held_regions start all)
