@@ -42,7 +42,7 @@ pub held-still : (a : Inside) → IsCached a → (event : Event) (outcome : Outc
 held-still a kept event outcome effects none launches same queue id client on right =
     kept.held queue id client on right
     ∙ (λ i. packet_holds (λ (q : QueueId). numbered (sym (owners-still a event outcome effects none) i) q.0)
-        (λ q n. sym (held-unlaunched (start_of a) a.audit.items (entry_of event outcome effects) launches q n) i) (sym same i) queue id client on right)
+    (λ q n. sym (held-unlaunched (start_of a) a.audit.items (entry_of event outcome effects) launches q n) i) (sym same i) queue id client on right)
 
 -- ---- argument blocks
 
@@ -172,7 +172,7 @@ grants-released a kept event outcome effects none launches same new blocks q i f
       ∙ ap (λ b. b && not (same_packet queue id q i)) (kept.held queue id client on right)
       ∙ sym (held-without (owner (start_of a) a.audit.items) (held (start_of a) a.audit.items) q i queue id client on right (flight (start_of a) a.audit.items))
       ∙ (λ j. packet_holds (λ (n : QueueId). numbered (sym (owners-still a event outcome effects none) j) n.0)
-          (λ n m. sym (held-unlaunched (start_of a) a.audit.items (entry_of event outcome effects) launches n m) j) (sym flying j) queue id client on right);
+      (λ n m. sym (held-unlaunched (start_of a) a.audit.items (entry_of event outcome effects) launches n m) j) (sym flying j) queue id client on right);
   arguments = rw (flying, dropped) (blocks-dropped a event outcome launches q i (flight (start_of a) a.audit.items));
 }
 
@@ -239,6 +239,6 @@ grants-opened a kept opener agent size told flying =
           kept.held queue id client on right
           ∙ held-opened (start_of a) a.audit.items e queue id client on right (flight (start_of a) a.audit.items) (holding-legal (start_of a) a.audit.items kept.legal)
           ∙ (λ j. packet_holds (owner (start_of a) (with_entry a.audit.items (OpenQueue opener agent size) told []))
-              (λ n m. sym (held-unlaunched (start_of a) a.audit.items e refl n m) j) (sym flying j) queue id client on right);
+          (λ n m. sym (held-unlaunched (start_of a) a.audit.items e refl n m) j) (sym flying j) queue id client on right);
       arguments = blocks-still a (OpenQueue opener agent size) told refl _;
     }

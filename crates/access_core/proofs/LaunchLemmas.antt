@@ -53,5 +53,5 @@ module _ (start : Start) (es : List Entry) where
         → map as_rights (flat_map (held_by_pointer facts.in_force facts.lengths) (wide_arguments offsets block)) ≡ map as_rights (held_by_arguments start es opening.client p)
     pointed-is opening facts facts_are offsets block offsets_are block_is =
         (λ i. map as_rights (flat_map (held_by_pointer (facts_are i).in_force (facts_are i).lengths)
-            (wide_arguments ((offsets_are ∙ sym (ap (λ (k : Program). k.wide) kernel-is)) i) ((block_is ∙ ap (arguments_of start es) is) i))))
+        (wide_arguments ((offsets_are ∙ sym (ap (λ (k : Program). k.wide) kernel-is)) i) ((block_is ∙ ap (arguments_of start es) is) i))))
         ∙ ap (λ q. map as_rights (held_by_arguments start es opening.client q)) (sym is)

@@ -209,9 +209,9 @@ module _ (start : Start) (es : List Entry) (q : QueueId) (id : PacketId) (bytes 
         comes b f = record { id = f.id; packet = f.packet; progress = (if b && id.0 == f.id.0 then at_launch else progress start es m f.id) }
 
         either : (b : Bool) → (q.0 == m.0) ≡ b → record (queue_at start es m) {
-              next = (if b then next_id start es m + 1 else next_id start es m);
-              places = map (comes b) (flight_of start es m) ++ map (comes b) (if b then new ∷ [] else []);
-            } ≡ (if b then launched id p (queue_at start es m) else queue_at start es m)
+          next = (if b then next_id start es m + 1 else next_id start es m);
+          places = map (comes b) (flight_of start es m) ++ map (comes b) (if b then new ∷ [] else []);
+        } ≡ (if b then launched id p (queue_at start es m) else queue_at start es m)
         either true same =
             let itself : (id.0 == id.0) ≡ true = eq-eqb id.0 id.0 refl in
             let all = subst (λ k. All (λ (place : Place). place.id.0 < id.0) (queue_at start es k).places)

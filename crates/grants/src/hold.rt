@@ -69,9 +69,7 @@ pub fn is_held(
 ) -> bool
     ensures { result ≡ held holds.now queue packet client object right }
 {
-    holds
-        .iter()
-        .any(|hold| hold.is_on(queue, packet, client, object) && hold.rights.has(right))
+    holds.iter().any(|hold| hold.is_on(queue, packet, client, object) && hold.rights.has(right))
 }
 
 /// Takes a packet's holds out of the list.

@@ -24,8 +24,8 @@ use queue_error::QueueError;
 use std::alloc::Global;
 
 impl AccessCore {
-    // Runs the next work-group of a kernel dispatch in flight. OPEN: the body isn't written yet, and so
-    // not proved; see KERNELS_PLAN.md.
+    // Runs the next work-group of a kernel dispatch in flight. OPEN: the body isn't written behind the
+    // first return, and so not proved.
     pub(crate) fn run_kernel(
         &mut self,
         alloc: Global,
@@ -39,7 +39,11 @@ impl AccessCore {
         requires packet_is { place.packet ≡ kind.Kernel dispatch }
         ensures { MeetsOrLacks (Event.RunNext queue packet) self.old self.new (wrapped Outcome.Worked result) }
     {
-        Ok(Worked::Done)
+        let count = group_count(&dispatch);
+        if place.progress.groups_run >= count {
+            return Ok(Worked::Done);
+        }
+        Err(Refusal::OutOfMemory)
     }
 
     // The rights that a packet in flight holds on a region.

@@ -67,7 +67,10 @@ fn fail_next(queues: &mut Vec<Queue>, queue: QueueId, error: QueueError)
 }
 
 // Puts rights behind others.
-fn append(rights: &mut Sequence<(Object, Rights)>, more: &[(Object, Rights)]) -> Result<(), AllocError>
+fn append(
+    rights: &mut Sequence<(Object, Rights)>,
+    more: &[(Object, Rights)],
+) -> Result<(), AllocError>
     ensures { OnOk result (rights.new ≡ rights.old ++ more.now) }
 {
     for one in more {
