@@ -54,8 +54,8 @@ queue alice gpu 64 1
 const OPENED: &str = "ok\nok\nok\nqueue 1\n";
 
 /// An agent dispatch that fills 4 bytes at the region's first address, and completes by the signal.
-const FILL: &str = "041400800000000000000000000000000000000001000000040000000000000\
-05a0000000000000000000000000000000000000000000000000000000100000000000000";
+const FILL: &str =
+    "04140080000000000000000000000000000000000100000004000000000000005a00000000000000000000000000000000000000000000000100000000000000";
 
 /// The lines of so many packets, each through before the next comes.
 fn script(alloc: Global, packets: u64) -> Result<String, AllocError> {
