@@ -7,7 +7,7 @@ use Rattle.access_core.proofs.HeldRights.{is_holder-history}
 use Rattle.access_core.proofs.Least.{passes, least-none, least-first}
 use Rattle.access_core.proofs.Terms.{ClientId, Grant, History, InFlight, Inside, IsCached, IsFirstTo, Object, PacketId, QueueId, Revoke, RevokeAnswers, Rights}
 use Rattle.access_core.proofs.Terms.{Rules, allows, declares, declares_client, due, enters, flight, grant_due, history_of, holder, holds_one_of, is_full}
-use Rattle.access_core.proofs.Terms.{is_holder, is_owned, knows, knows_client, refusal_of, refuse_unless, refuses, rules_in, rules_of, start_of}
+use Rattle.access_core.proofs.Terms.{is_holder, is_queue_of, knows, knows_client, refusal_of, refuse_unless, refuses, rules_in, rules_of, start_of}
 use Rattle.grants.specs.Rules as rules_kept
 use Rattle.grants.specs.declared.refusal.Refusal.TheVariants as why
 use Rattle.core_model.specs.declared.outcome.Outcome.TheVariants as outcome
@@ -48,7 +48,7 @@ module _ (a : Inside) (kept : IsCached a) (client : ClientId) (on : Object) (rig
 
   -- whether a packet in flight holds, by the history
   abbrev holding : InFlight → Bool
-  holding f = is_owned (start_of a) a.audit.items client f.queue && holds_one_of (start_of a) a.audit.items on rights f
+  holding f = is_queue_of (start_of a) a.audit.items client f.queue && holds_one_of (start_of a) a.audit.items on rights f
 
   same_test : (queue : QueueId) (id : PacketId) → is_holder a.grants client on rights queue id ≡ passes holding (flight (start_of a) a.audit.items) queue id
   same_test queue id =

@@ -5,7 +5,7 @@ use Rattle.std.proofs.lemmas.Bool.Decides.{nat_tests}
 use Rattle.aql_packet.specs.declared.packet.KernelDispatch.{KernelDispatch}
 use Rattle.executor.specs.Locations.{count_of, groups_of}
 use Rattle.core_model.specs.Kernels.{grid_size, group_size, segments_of}
-use Rattle.core_model.specs.LaunchRules.{Facts, are_sizes, asks_for_known_work, has_dimensions, has_form, has_segments, has_sizes, is_met}
+use Rattle.core_model.specs.LaunchRules.{Facts, are_sizes, asks_for_known_work, has_dimensions, has_form, has_segments, has_sizes, need_is_met}
 use Rattle.core_model.specs.declared.kernel.KernelSegments.{KernelSegments}
 use Rattle.std.proofs.Common.{Option, Some, None, sym, ap, ◌∙◌, subst, refl, false, option_map}
 use Rattle.std.specs.List.{list_all}
@@ -67,7 +67,7 @@ module _ (start : Start) (es : List Entry) (legal : IsLegal start es) (queue : Q
   asks-known =
       let facts = facts_of start launch-of.launch.before launch-of.launch.opening in
       ap asks_for_known_work (sym launch-of.packet_is)
-      ∙ (and_parts (asks_for_known_work launch-of.launch.packet) (list_all (is_met facts) (needs rule.L5 facts.agent launch-of.launch.packet)) (launch-of.launch.allowed.every_rule 4 rule.L5 (omega arith))).0
+      ∙ (and_parts (asks_for_known_work launch-of.launch.packet) (list_all (need_is_met facts) (needs rule.L5 facts.agent launch-of.launch.packet)) (launch-of.launch.allowed.every_rule 4 rule.L5 (omega arith))).0
 
   -- so a kernel dispatch has sizes that may be
   pub sized : IsSized f.packet
@@ -84,7 +84,7 @@ module _ (start : Start) (es : List Entry) (legal : IsLegal start es) (queue : Q
   segmented d is =
       let facts = facts_of start launch-of.launch.before launch-of.launch.opening in
       ap (has_segments facts) (sym (launch-of.packet_is ∙ is))
-      ∙ (and_parts (has_segments facts launch-of.launch.packet) (list_all (is_met facts) (needs rule.L7 facts.agent launch-of.launch.packet)) (launch-of.launch.allowed.every_rule 6 rule.L7 (omega arith))).0
+      ∙ (and_parts (has_segments facts launch-of.launch.packet) (list_all (need_is_met facts) (needs rule.L7 facts.agent launch-of.launch.packet)) (launch-of.launch.allowed.every_rule 6 rule.L7 (omega arith))).0
 
 -- What the executor asks of a kernel dispatch in flight: it names a kernel, whose argument block was copied whole at the launch, and has
 -- sizes and segments as they may be.

@@ -17,15 +17,15 @@ use Rattle.std.proofs.lemmas.List.Sums.{fold-append}
 use Rattle.core_model.proofs.Holding.{holding-legal}
 use Rattle.core_model.proofs.Lists.{filter-passes}
 use Rattle.core_model.specs.Headline.{HoldsInForce}
-use Rattle.core_model.specs.Holds.{arguments_if, arguments_of, held}
+use Rattle.core_model.specs.Holds.{arguments_if, arguments_of, packet_rights}
 use Rattle.access_core.specs.ArgumentBlocks.{block_behind, block_of, is_block}
 use Rattle.access_core.specs.declared.argument_blocks.ArgumentBlock.{ArgumentBlock}
 use Rattle.access_core.proofs.CachedMore.{arguments_behind}
 use Rattle.access_core.proofs.HeldMore.{held-kept, held-unlaunched}
 use Rattle.access_core.proofs.HeldRights.{any-before}
-use Rattle.access_core.proofs.Terms.{ClientId, Effect, Entry, Event, Held, Holds, InFlight, Inside, IsCached, Ledger, Object, OpenQueue, Opening}
+use Rattle.access_core.proofs.Terms.{ClientId, Effect, Entry, Event, ObjectRight, Holds, InFlight, Inside, IsCached, Ledger, Object, OpenQueue, Opening}
 use Rattle.access_core.proofs.Terms.{Outcome, Packet, PacketId, QueueId, Releases, Right, Rights, Start, are_in_force, bit_of, each_right, entry_of, flight}
-use Rattle.access_core.proofs.Terms.{has, held_at_launch, holds_by, in_force, in_force_after, is_launch, is_packet, launched_by, numbered, openings, openings-more, owner, packet_holds}
+use Rattle.access_core.proofs.Terms.{has, rights_at_launch, holds_by, in_force, in_force_after, is_launch, is_packet, launched_by, numbered, openings, openings-more, owner, packet_holds}
 use Rattle.access_core.proofs.Terms.{start_of, with_entry, with_some}
 use Rattle.policy.specs.declared.rights.Right.TheVariants as right
 use Rattle.grants.specs.Ledger as ledger
@@ -38,7 +38,7 @@ owners-still a event outcome effects none = openings-more (start_of a) a.audit.i
 -- the same packets in flight hold the same after it
 pub held-still : (a : Inside) → IsCached a → (event : Event) (outcome : Outcome) (effects : List Effect) → opening_of event ≡ None → launched_by event outcome ≡ None → flight (start_of a) (with_entry a.audit.items event outcome effects) ≡ flight (start_of a) a.audit.items
     → (queue : QueueId) (id : PacketId) (client : ClientId) (on : Object) (right : Right)
-    → ledger.holds a.grants queue id client on right ≡ packet_holds (owner (start_of a) (with_entry a.audit.items event outcome effects)) (held (start_of a) (with_entry a.audit.items event outcome effects)) (flight (start_of a) (with_entry a.audit.items event outcome effects)) queue id client on right
+    → ledger.holds a.grants queue id client on right ≡ packet_holds (owner (start_of a) (with_entry a.audit.items event outcome effects)) (packet_rights (start_of a) (with_entry a.audit.items event outcome effects)) (flight (start_of a) (with_entry a.audit.items event outcome effects)) queue id client on right
 held-still a kept event outcome effects none launches same queue id client on right =
     kept.held queue id client on right
     ∙ (λ i. packet_holds (λ (q : QueueId). numbered (sym (owners-still a event outcome effects none) i) q.0)
@@ -83,7 +83,7 @@ pub grants-still : (a : Inside) → IsCached a → (event : Event) (outcome : Ou
 grants-still a kept event outcome effects none launches same flying = record {
   granted = λ client on right. sym (same client on right _);
   rules = refl;
-  held = held-still a kept event outcome effects none launches flying;
+  packet_rights = held-still a kept event outcome effects none launches flying;
   arguments = blocks-still a event outcome launches _;
 }
 
@@ -92,7 +92,7 @@ grants-still a kept event outcome effects none launches same flying = record {
 left_out : (k p s x r : Bool) → (k ≡ true → p ≡ s) → (k ≡ false → (p && s) ≡ false) → (if not k then ((p && x) || (r && not s)) else (r && not s)) ≡ (((p && x) || r) && not s)
 left_out k p s x r one two = grind arith
 
-module _ (owners : QueueId → Option Opening) (helds : QueueId → PacketId → List Held) (q : QueueId) (i : PacketId) (queue : QueueId) (id : PacketId) (client : ClientId) (on : Object) (right : Right) where
+module _ (owners : QueueId → Option Opening) (helds : QueueId → PacketId → List ObjectRight) (q : QueueId) (i : PacketId) (queue : QueueId) (id : PacketId) (client : ClientId) (on : Object) (right : Right) where
   pub held-without : (fs : List InFlight) → packet_holds owners helds (filter (λ f. not (is_packet q i f)) fs) queue id client on right ≡ (packet_holds owners helds fs queue id client on right && not (same_packet queue id q i))
   held-without [] = refl
   held-without (f ∷ fs) =
@@ -119,21 +119,21 @@ or-false b = grind arith
 same_turned : (a b : ℕ) → (a == b) ≡ (b == a)
 same_turned a b = grind arith
 
-names-held : (client c : ClientId) (on : Object) (right : Right) (hs : List Held) → names (map as_rights hs) client c on right ≡ (client.0 == c.0 && list_any (λ h. same_object on h.0 && has (as_rights h).1 right) hs)
+names-held : (client c : ClientId) (on : Object) (right : Right) (hs : List ObjectRight) → names (map as_rights hs) client c on right ≡ (client.0 == c.0 && list_any (λ h. same_object on h.0 && has (as_rights h).1 right) hs)
 names-held client c on right hs =
     ap (λ b. list_any (λ (named : Object × Rights). (b && same_object on named.0) && has named.1 right) (map as_rights hs)) (same_turned c.0 client.0)
-    ∙ mapped hs ∙ any-before (λ (h : Held). same_object on h.0 && has (as_rights h).1 right) (client.0 == c.0) hs
+    ∙ mapped hs ∙ any-before (λ (h : ObjectRight). same_object on h.0 && has (as_rights h).1 right) (client.0 == c.0) hs
   where
     turned : (a b d : Bool) → ((a && b) && d) ≡ (a && (b && d))
     turned a b d = grind arith
 
-    mapped : (hs : List Held) → list_any (λ (named : Object × Rights). (client.0 == c.0 && same_object on named.0) && has named.1 right) (map as_rights hs) ≡ list_any (λ (h : Held). client.0 == c.0 && (same_object on h.0 && has (as_rights h).1 right)) hs
+    mapped : (hs : List ObjectRight) → list_any (λ (named : Object × Rights). (client.0 == c.0 && same_object on named.0) && has named.1 right) (map as_rights hs) ≡ list_any (λ (h : ObjectRight). client.0 == c.0 && (same_object on h.0 && has (as_rights h).1 right)) hs
     mapped [] = refl
     mapped (h ∷ hs) = ap (λ b. b || list_any (λ (named : Object × Rights). (client.0 == c.0 && same_object on named.0) && has named.1 right) (map as_rights hs)) (turned (client.0 == c.0) (same_object on h.0) (has (as_rights h).1 right))
         ∙ ap (λ rest. (client.0 == c.0 && (same_object on h.0 && has (as_rights h).1 right)) || rest) (mapped hs)
 
 -- the packets in flight hold what they held, and the one that is launched what its launch gives it
-pub held-with : (owners : QueueId → Option Opening) (helds : QueueId → PacketId → List Held) (fs : List InFlight) (opening : Opening) (q : QueueId) (i : PacketId) (p : Packet) (hs : List Held) → owners q ≡ Some opening → helds q i ≡ hs
+pub held-with : (owners : QueueId → Option Opening) (helds : QueueId → PacketId → List ObjectRight) (fs : List InFlight) (opening : Opening) (q : QueueId) (i : PacketId) (p : Packet) (hs : List ObjectRight) → owners q ≡ Some opening → helds q i ≡ hs
     → (queue : QueueId) (id : PacketId) (client : ClientId) (on : Object) (right : Right)
     → (packet_holds owners helds fs queue id client on right || (same_packet queue id q i && names (map as_rights hs) opening.client client on right))
     ≡ packet_holds owners helds (fs ++ (record { queue = q; id = i; packet = p }) ∷ []) queue id client on right
@@ -152,11 +152,11 @@ held-with owners helds fs opening q i p hs is gives queue id client on right =
 
 -- one entry more leaves what packets in flight hold
 held-left : (start : Start) (es : List Entry) (e : Entry) (owners : QueueId → Option Opening) (queue : QueueId) (id : PacketId) (client : ClientId) (on : Object) (right : Right) (fs : List InFlight) → All (HoldsInForce start es) fs
-    → packet_holds owners (held start es) fs queue id client on right ≡ packet_holds owners (held start (es ++ e ∷ [])) fs queue id client on right
+    → packet_holds owners (packet_rights start es) fs queue id client on right ≡ packet_holds owners (packet_rights start (es ++ e ∷ [])) fs queue id client on right
 held-left start es e owners queue id client on right [] all = refl
 held-left start es e owners queue id client on right (f ∷ fs) all =
-    ap (λ (hs : List Held). (is_packet queue id f && holds_by (owners f.queue) client on right hs) || packet_holds owners (held start es) fs queue id client on right) (sym (held-kept start es e f (All-head (HoldsInForce start es) f fs all)))
-    ∙ ap (λ rest. (is_packet queue id f && holds_by (owners f.queue) client on right (held start (es ++ e ∷ []) f.queue f.id)) || rest) (held-left start es e owners queue id client on right fs (All-tail (HoldsInForce start es) f fs all))
+    ap (λ (hs : List ObjectRight). (is_packet queue id f && holds_by (owners f.queue) client on right hs) || packet_holds owners (packet_rights start es) fs queue id client on right) (sym (held-kept start es e f (All-head (HoldsInForce start es) f fs all)))
+    ∙ ap (λ rest. (is_packet queue id f && holds_by (owners f.queue) client on right (packet_rights start (es ++ e ∷ []) f.queue f.id)) || rest) (held-left start es e owners queue id client on right fs (All-tail (HoldsInForce start es) f fs all))
 
 -- ---- the grants of a call
 
@@ -167,10 +167,10 @@ pub grants-released : (a : Inside) → IsCached a → (event : Event) (outcome :
 grants-released a kept event outcome effects none launches same new blocks q i flying releases dropped = record {
   granted = λ client on right. releases.same_rights client on right ∙ sym (same client on right _);
   rules = releases.same_rules;
-  held = λ queue id client on right.
+  packet_rights = λ queue id client on right.
       releases.released queue id client on right
       ∙ ap (λ b. b && not (same_packet queue id q i)) (kept.held queue id client on right)
-      ∙ sym (held-without (owner (start_of a) a.audit.items) (held (start_of a) a.audit.items) q i queue id client on right (flight (start_of a) a.audit.items))
+      ∙ sym (held-without (owner (start_of a) a.audit.items) (packet_rights (start_of a) a.audit.items) q i queue id client on right (flight (start_of a) a.audit.items))
       ∙ (λ j. packet_holds (λ (n : QueueId). numbered (sym (owners-still a event outcome effects none) j) n.0)
       (λ n m. sym (held-unlaunched (start_of a) a.audit.items (entry_of event outcome effects) launches n m) j) (sym flying j) queue id client on right);
   arguments = rw (flying, dropped) (blocks-dropped a event outcome launches q i (flight (start_of a) a.audit.items));
@@ -178,33 +178,33 @@ grants-released a kept event outcome effects none launches same new blocks q i f
 
 -- a queue that is opened changes nothing of what packets in flight hold
 pub held-opened : (start : Start) (es : List Entry) (e : Entry) (queue : QueueId) (id : PacketId) (client : ClientId) (on : Object) (right : Right) (fs : List InFlight) → All (HoldsInForce start es) fs
-    → packet_holds (owner start es) (held start es) fs queue id client on right ≡ packet_holds (owner start (es ++ e ∷ [])) (held start es) fs queue id client on right
+    → packet_holds (owner start es) (packet_rights start es) fs queue id client on right ≡ packet_holds (owner start (es ++ e ∷ [])) (packet_rights start es) fs queue id client on right
 held-opened start es e queue id client on right [] all = refl
 held-opened start es e queue id client on right (f ∷ fs) all =
     let before = All-head (HoldsInForce start es) f fs all in
     let same : owner start es f.queue ≡ owner start (es ++ e ∷ []) f.queue = before.owner_is ∙ sym (owner-more start es e f.queue before.launch.opening before.owner_is) in
-    ap (λ (o : Option Opening). (is_packet queue id f && holds_by o client on right (held start es f.queue f.id)) || packet_holds (owner start es) (held start es) fs queue id client on right) same
-    ∙ ap (λ rest. (is_packet queue id f && holds_by (owner start (es ++ e ∷ []) f.queue) client on right (held start es f.queue f.id)) || rest) (held-opened start es e queue id client on right fs (All-tail (HoldsInForce start es) f fs all))
+    ap (λ (o : Option Opening). (is_packet queue id f && holds_by o client on right (packet_rights start es f.queue f.id)) || packet_holds (owner start es) (packet_rights start es) fs queue id client on right) same
+    ∙ ap (λ rest. (is_packet queue id f && holds_by (owner start (es ++ e ∷ []) f.queue) client on right (packet_rights start es f.queue f.id)) || rest) (held-opened start es e queue id client on right fs (All-tail (HoldsInForce start es) f fs all))
 
 -- a packet that is launched holds what its launch gives it
 pub grants-launched : (a : Inside) → IsCached a → (event : Event) (outcome : Outcome) (effects : List Effect) → opening_of event ≡ None → ((client : ClientId) (on : Object) (right : Right) (b : Bool) → in_force_after client on right b event ≡ b)
-    → (old new : Ledger) (blocks : List ArgumentBlock) (opening : Opening) (q : QueueId) (i : PacketId) (p : Packet) (rights : List (Object × Rights)) (hs : List Held) (bytes : List ℕ)
+    → (old new : Ledger) (blocks : List ArgumentBlock) (opening : Opening) (q : QueueId) (i : PacketId) (p : Packet) (rights : List (Object × Rights)) (hs : List ObjectRight) (bytes : List ℕ)
     → launched_by event outcome ≡ Some (record { queue = q; id = i; packet = p })
     → flight (start_of a) (with_entry a.audit.items event outcome effects) ≡ flight (start_of a) a.audit.items ++ record { queue = q; id = i; packet = p } ∷ []
-    → old ≡ record a.grants { room = old.room } → rights ≡ map as_rights hs → held (start_of a) (with_entry a.audit.items event outcome effects) q i ≡ hs → owner (start_of a) a.audit.items q ≡ Some opening → Holds old new opening.client q i rights
+    → old ≡ record a.grants { room = old.room } → rights ≡ map as_rights hs → packet_rights (start_of a) (with_entry a.audit.items event outcome effects) q i ≡ hs → owner (start_of a) a.audit.items q ≡ Some opening → Holds old new opening.client q i rights
     → bytes ≡ arguments_of (start_of a) a.audit.items p → blocks ≡ a.blocks ++ record { queue = q; packet = i; bytes = bytes } ∷ [] → GrantsAfter a new blocks event outcome effects
 grants-launched a kept event outcome effects none still old new blocks opening q i p rights hs bytes launches flying same are gives is holds block_is pushed = record {
   granted = λ client on right. holds.same_rights client on right ∙ ap (λ (g : Ledger). ledger.in_force g client on right) same ∙ sym (still client on right _);
   rules = holds.same_rules ∙ ap ledger.rules_in same;
-  held = λ queue id client on right.
+  packet_rights = λ queue id client on right.
       holds.held queue id client on right
       ∙ ap (λ (g : Ledger). ledger.holds g queue id client on right || (same_packet queue id q i && names rights opening.client client on right)) same
       ∙ ap (λ (rs : List (Object × Rights)). ledger.holds a.grants queue id client on right || (same_packet queue id q i && names rs opening.client client on right)) are
       ∙ ap (λ b. b || (same_packet queue id q i && names (map as_rights hs) opening.client client on right))
       (kept.held queue id client on right
       ∙ held-left (start_of a) a.audit.items (entry_of event outcome effects) (owner (start_of a) a.audit.items) queue id client on right (flight (start_of a) a.audit.items) (holding-legal (start_of a) a.audit.items kept.legal))
-      ∙ held-with (owner (start_of a) a.audit.items) (held (start_of a) (with_entry a.audit.items event outcome effects)) (flight (start_of a) a.audit.items) opening q i p hs is gives queue id client on right
-      ∙ (λ j. packet_holds (λ (n : QueueId). numbered (sym (owners-still a event outcome effects none) j) n.0) (held (start_of a) (with_entry a.audit.items event outcome effects)) (sym flying j) queue id client on right);
+      ∙ held-with (owner (start_of a) a.audit.items) (packet_rights (start_of a) (with_entry a.audit.items event outcome effects)) (flight (start_of a) a.audit.items) opening q i p hs is gives queue id client on right
+      ∙ (λ j. packet_holds (λ (n : QueueId). numbered (sym (owners-still a event outcome effects none) j) n.0) (packet_rights (start_of a) (with_entry a.audit.items event outcome effects)) (sym flying j) queue id client on right);
   arguments = rw pushed (blocks-launched a event outcome q i p bytes launches block_is _);
 }
 
@@ -212,20 +212,20 @@ grants-launched a kept event outcome effects none still old new blocks opening q
 each-one : (one : Right) (test : Right → Bool) → each_right (record { 0 = bit_of one }) test ≡ test one
 each-one one test = grind arith
 
-all-in_force : (grants : Ledger) (client : ClientId) (hs : List Held) → are_in_force grants client (map as_rights hs) ≡ list_all (λ h. ledger.in_force grants client h.0 h.1) hs
+all-in_force : (grants : Ledger) (client : ClientId) (hs : List ObjectRight) → are_in_force grants client (map as_rights hs) ≡ list_all (λ h. ledger.in_force grants client h.0 h.1) hs
 all-in_force grants client [] = refl
 all-in_force grants client (h ∷ hs) =
     ap (λ b. b && are_in_force grants client (map as_rights hs)) (each-one h.1 (ledger.in_force grants client h.0))
     ∙ ap (λ rest. ledger.in_force grants client h.0 h.1 && rest) (all-in_force grants client hs)
 
 -- what a packet that is launched will hold is in force
-pub launch-in_force : (a : Inside) → IsCached a → (old : Ledger) (client : ClientId) (rights : List (Object × Rights)) (hs : List Held) → old ≡ record a.grants { room = old.room } → rights ≡ map as_rights hs
+pub launch-in_force : (a : Inside) → IsCached a → (old : Ledger) (client : ClientId) (rights : List (Object × Rights)) (hs : List ObjectRight) → old ≡ record a.grants { room = old.room } → rights ≡ map as_rights hs
     → list_all (λ h. in_force (start_of a) a.audit.items client h.0 h.1) hs ≡ true → are_in_force old client rights ≡ true
 launch-in_force a kept old client rights hs same are forced =
     ap (λ (g : Ledger). are_in_force g client rights) same
     ∙ ap (are_in_force a.grants client) are
     ∙ all-in_force a.grants client hs
-    ∙ (λ i. list_all (λ (h : Held). kept.granted client h.0 h.1 i) hs)
+    ∙ (λ i. list_all (λ (h : ObjectRight). kept.granted client h.0 h.1 i) hs)
     ∙ forced
 
 -- a queue that is opened leaves the grants as the history says
@@ -235,7 +235,7 @@ grants-opened a kept opener agent size told flying =
     record {
       granted = λ client on right. refl;
       rules = refl;
-      held = λ queue id client on right.
+      packet_rights = λ queue id client on right.
           kept.held queue id client on right
           ∙ held-opened (start_of a) a.audit.items e queue id client on right (flight (start_of a) a.audit.items) (holding-legal (start_of a) a.audit.items kept.legal)
           ∙ (λ j. packet_holds (owner (start_of a) (with_entry a.audit.items (OpenQueue opener agent size) told []))

@@ -3,9 +3,9 @@ use Rattle.std.proofs.Common.{arith, ◌≡◌, List, [], ◌∷◌, refl, sym, 
 use Rattle.std.specs.List.{list_any}
 use Rattle.policy.specs.Object.{same_object}
 use Rattle.access_core.specs.inner.Held.{as_rights}
-use Rattle.core_model.specs.Holds.{held}
-use Rattle.access_core.proofs.Terms.{ClientId, Entry, Held, InFlight, Ledger, Object, Opening, PacketId, QueueId, Right, Rights, Start}
-use Rattle.access_core.proofs.Terms.{all_rights, has, holds, holds_by, holds_one_of, is_holder, is_owned, is_packet, owner, packet_holds}
+use Rattle.core_model.specs.Holds.{packet_rights}
+use Rattle.access_core.proofs.Terms.{ClientId, Entry, ObjectRight, InFlight, Ledger, Object, Opening, PacketId, QueueId, Right, Rights, Start}
+use Rattle.access_core.proofs.Terms.{all_rights, has, holds, holds_by, holds_one_of, is_holder, is_queue_of, is_packet, owner, packet_holds}
 
 -- ---- tests of lists
 
@@ -46,12 +46,12 @@ one-right test one = grind arith
 -- ---- what packets hold, of one of some rights
 
 module _ (client : ClientId) (on : Object) (rights : Rights) where
-  one-of_held : (hs : List Held) → list_any (λ r. has rights r && list_any (λ h. same_object on h.0 && has (as_rights h.1) r) hs) all_rights ≡ list_any (λ h. same_object on h.0 && has rights h.1) hs
+  one-of_held : (hs : List ObjectRight) → list_any (λ r. has rights r && list_any (λ h. same_object on h.0 && has (as_rights h.1) r) hs) all_rights ≡ list_any (λ h. same_object on h.0 && has rights h.1) hs
   one-of_held hs =
-      any-swap (has rights) (λ (h : Held) r. same_object on h.0 && has (as_rights h.1) r) hs all_rights
-      ∙ (λ i. list_any (λ (h : Held). (any-constant (has rights) (has (as_rights h.1)) (same_object on h.0) all_rights ∙ ap (λ b. same_object on h.0 && b) (one-right (has rights) h.1)) i) hs)
+      any-swap (has rights) (λ (h : ObjectRight) r. same_object on h.0 && has (as_rights h.1) r) hs all_rights
+      ∙ (λ i. list_any (λ (h : ObjectRight). (any-constant (has rights) (has (as_rights h.1)) (same_object on h.0) all_rights ∙ ap (λ b. same_object on h.0 && b) (one-right (has rights) h.1)) i) hs)
 
-  one-by : (o : Option Opening) (hs : List Held) → list_any (λ r. has rights r && holds_by o client on r hs) all_rights
+  one-by : (o : Option Opening) (hs : List ObjectRight) → list_any (λ r. has rights r && holds_by o client on r hs) all_rights
       ≡ ((elim o [ None ↦ false | Some opening ↦ opening.client.0 == client.0 ]) && list_any (λ h. same_object on h.0 && has rights h.1) hs)
   one-by None hs = any-none (has rights) all_rights
   one-by (Some opening) hs =
@@ -61,10 +61,10 @@ module _ (client : ClientId) (on : Object) (rights : Rights) where
   -- a packet is one that holds, by what is held right by right, where it holds by the history
   module _ (start : Start) (es : List Entry) (grants : Ledger) where
     pub is_holder-history : (fs : List InFlight)
-        → ((queue : QueueId) (id : PacketId) (c : ClientId) (o : Object) (r : Right) → holds grants queue id c o r ≡ packet_holds (owner start es) (held start es) fs queue id c o r)
-        → (queue : QueueId) (id : PacketId) → is_holder grants client on rights queue id ≡ list_any (λ f. is_packet queue id f && (is_owned start es client f.queue && holds_one_of start es on rights f)) fs
+        → ((queue : QueueId) (id : PacketId) (c : ClientId) (o : Object) (r : Right) → holds grants queue id c o r ≡ packet_holds (owner start es) (packet_rights start es) fs queue id c o r)
+        → (queue : QueueId) (id : PacketId) → is_holder grants client on rights queue id ≡ list_any (λ f. is_packet queue id f && (is_queue_of start es client f.queue && holds_one_of start es on rights f)) fs
     is_holder-history fs kept queue id =
         (λ i. list_any (λ r. has rights r && kept queue id client on r i) all_rights)
-        ∙ any-swap (has rights) (λ (f : InFlight) r. is_packet queue id f && holds_by (owner start es f.queue) client on r (held start es f.queue f.id)) fs all_rights
-        ∙ (λ i. list_any (λ (f : InFlight). any-constant (has rights) (λ r. holds_by (owner start es f.queue) client on r (held start es f.queue f.id)) (is_packet queue id f) all_rights i) fs)
-        ∙ (λ i. list_any (λ (f : InFlight). is_packet queue id f && one-by (owner start es f.queue) (held start es f.queue f.id) i) fs)
+        ∙ any-swap (has rights) (λ (f : InFlight) r. is_packet queue id f && holds_by (owner start es f.queue) client on r (packet_rights start es f.queue f.id)) fs all_rights
+        ∙ (λ i. list_any (λ (f : InFlight). any-constant (has rights) (λ r. holds_by (owner start es f.queue) client on r (packet_rights start es f.queue f.id)) (is_packet queue id f) all_rights i) fs)
+        ∙ (λ i. list_any (λ (f : InFlight). is_packet queue id f && one-by (owner start es f.queue) (packet_rights start es f.queue f.id) i) fs)

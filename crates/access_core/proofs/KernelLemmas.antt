@@ -16,7 +16,7 @@ use Rattle.access_core.specs.inner.Running.{lent_whole, view_whole}
 use Rattle.access_core.proofs.QueueAt.{IsAdvance}
 use Rattle.access_core.proofs.RunLemmas.{OnlyWrites, one_group}
 use Rattle.access_core.proofs.WorkLemmas.{owed-in_place}
-use Rattle.access_core.proofs.Terms.{Entry, Held, History, IsInPlace, PacketId, Place, QueueId, RunNext, Start, answers, has, memory_at, memory_from, owed_group}
+use Rattle.access_core.proofs.Terms.{Entry, ObjectRight, History, IsInPlace, PacketId, Place, QueueId, RunNext, Start, answers, has, memory_at, memory_from, owed_group}
 use Rattle.core_model.specs.declared.outcome.Outcome.TheVariants as outcome
 
 -- ---- what a group is lent
@@ -39,7 +39,7 @@ module _ (start : Start) (es : List Entry) where
   all-alike (region ∷ regions) = (lent-alike region, all-alike regions)
 
   -- the regions with all their bytes are lent alike to those that the history tells
-  pub views-alike : (all : List Held) → AreLentAlike (view start es all) (view_whole start es all)
+  pub views-alike : (all : List ObjectRight) → AreLentAlike (view start es all) (view_whole start es all)
   views-alike all = all-alike (held_regions start all)
 
 -- ---- what a group is owed

@@ -10,7 +10,7 @@ use Rattle.kernel_check.specs.Programs.{Program}
 use Rattle.core_model.specs.Holds.{arguments_of, held_by_arguments, held_by_needs, held_by_pointer}
 use Rattle.core_model.specs.Kernels.{kernel_of, no_kernel, wide_arguments}
 use Rattle.packet_processor.specs.Holding.{as_rights}
-use Rattle.access_core.proofs.Terms.{ClientId, Entry, Facts, Object, Opening, Packet, Rights, Start, facts_of, held_at_launch, memory_at, numbered}
+use Rattle.access_core.proofs.Terms.{ClientId, Entry, Facts, Object, Opening, Packet, Rights, Start, facts_of, rights_at_launch, memory_at, numbered}
 
 module _ (start : Start) (es : List Entry) where
   -- only kernel dispatches hold anything by arguments
@@ -25,15 +25,15 @@ module _ (start : Start) (es : List Entry) where
   no-arguments client p d is none = ap (held_by_arguments start es client) is ∙ (rw none refl)
 
   -- all that a packet holds that holds nothing by arguments
-  pub only-needs : (opening : Opening) (p : Packet) (rights : List (Object × Rights)) → rights ≡ map as_rights (held_by_needs opening p) → held_by_arguments start es opening.client p ≡ [] → rights ≡ map as_rights (held_at_launch start es opening p)
+  pub only-needs : (opening : Opening) (p : Packet) (rights : List (Object × Rights)) → rights ≡ map as_rights (held_by_needs opening p) → held_by_arguments start es opening.client p ≡ [] → rights ≡ map as_rights (rights_at_launch start es opening p)
   only-needs opening p rights is none =
       let nil : held_by_needs opening p ++ [] ≡ held_by_needs opening p = append-nil _ in
-      let all : held_by_needs opening p ≡ held_at_launch start es opening p = sym nil ∙ ap (λ ys. held_by_needs opening p ++ ys) (sym none) in
+      let all : held_by_needs opening p ≡ rights_at_launch start es opening p = sym nil ∙ ap (λ ys. held_by_needs opening p ++ ys) (sym none) in
       is ∙ ap (map as_rights) all
 
   -- all that another holds
   pub both-held : (opening : Opening) (p : Packet) (rights pointed all : List (Object × Rights)) → rights ≡ map as_rights (held_by_needs opening p) → pointed ≡ map as_rights (held_by_arguments start es opening.client p)
-      → all ≡ rights ++ pointed → all ≡ map as_rights (held_at_launch start es opening p)
+      → all ≡ rights ++ pointed → all ≡ map as_rights (rights_at_launch start es opening p)
   both-held opening p rights pointed all first second is =
       is ∙ (λ i. first i ++ second i) ∙ sym (map-append as_rights (held_by_needs opening p) (held_by_arguments start es opening.client p))
 

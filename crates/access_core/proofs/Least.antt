@@ -5,7 +5,7 @@ use Rattle.std.specs.List.{list_all, list_any}
 use Rattle.std.proofs.lemmas.Bool.{and_parts, or_parts, or_right, eqb-true, lt-ltb}
 use Rattle.std.proofs.lemmas.List.Elements.{All-nil, All-cons, All-head, All-tail}
 use Rattle.core_model.proofs.Lists.{all-from_list_all, found-all, found-passes}
-use Rattle.access_core.proofs.Terms.{InFlight, IsFirstTo, IsUpTo, PacketId, QueueId, is_packet, is_up_to, least}
+use Rattle.access_core.proofs.Terms.{InFlight, IsFirstTo, IsUpTo, PacketId, QueueId, is_packet, is_up_to, least_in_flight}
 
 -- ---- what is found in a list
 
@@ -82,13 +82,13 @@ same_name queue id f g same first up = grind arith
 
 module _ (test : InFlight → Bool) (fs : List InFlight) where
   -- no packet passes
-  pub least-none : IsFirstTo (passes test fs) None → least (filter test fs) ≡ None
+  pub least-none : IsFirstTo (passes test fs) None → least_in_flight (filter test fs) ≡ None
   least-none none = rw (none-passing test fs none) refl
 
   -- the first by queue and id of those that pass is the least of them
   pub record IsLeast (queue : QueueId) (id : PacketId) : Type 0 where
     pub one : InFlight
-    pub is : least (filter test fs) ≡ Some one
+    pub is : least_in_flight (filter test fs) ≡ Some one
     pub queue_is : one.queue ≡ queue
     pub id_is : one.id ≡ id
 

@@ -1,7 +1,7 @@
 -- A client's listing, by the grants that are kept.
 use Rattle.std.proofs.Common.{◌≡◌, List, ◌∙◌, ap, true, Ok, map, filter}
 use Rattle.std.specs.List.{list_any}
-use Rattle.core_model.specs.Queries.{replied}
+use Rattle.core_model.specs.Queries.{query_answer}
 use Rattle.access_core.proofs.Terms.{ClientId, History, Inside, IsCached, Object, Rights, Rules, all_objects, all_rights, declares_client, history_of, listing}
 use Rattle.access_core.proofs.Terms.{rights_that, start_of}
 use Rattle.grants.specs.Rules as rules_kept
@@ -18,7 +18,7 @@ module _ (a : Inside) (kept : IsCached a) (client : ClientId) where
 
   -- a client that is declared is told the listing
   pub listing-replied : (old : History) → history_of a ≡ old → (rows : List (Object × Rights)) → rows ≡ ledger.listing a.grants client → declares_client old.start.policy client ≡ true
-      → Ok (answer.Listing rows) ≡ replied old.start old.entries (query.List client)
-  unfolding replied
+      → Ok (answer.Listing rows) ≡ query_answer old.start old.entries (query.List client)
+  unfolding query_answer
   listing-replied old seen_as rows are declared =
       rw declared (ap (λ (l : List (Object × Rights)). Ok (answer.Listing l)) (are ∙ listing-kept ∙ ap (λ (h : History). listing h.start h.entries client) seen_as))

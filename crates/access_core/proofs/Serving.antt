@@ -2,7 +2,7 @@
 use Rattle.std.proofs.Common.{List, [], ◌∷◌, ◌++◌, refl, ap, subst, inl, inr, Result}
 use Rattle.core_model.specs.declared.event.Query.{Query}
 use Rattle.core_model.specs.declared.event.Request.{Request}
-use Rattle.access_core.proofs.Terms.{AreReplies, Event, History, IsServed, MeetsOrLacks, Outcome, Refusal, RepliesOrLacks, Replying, as_reply}
+use Rattle.access_core.proofs.Terms.{AreReplies, Event, History, IsServed, MeetsOrLacks, Outcome, Refusal, RepliesOrLacks, AnswerOrRefusal, as_reply}
 use Rattle.core_model.specs.declared.event.Request.TheVariants as request
 
 -- an event that got what was due, or wanted memory, was served
@@ -11,12 +11,12 @@ served-event event old new made (inl meets) = inl (ap as_reply meets.reply_is, m
 served-event event old new made (inr lacks) = inr (lacks.may, ap as_reply lacks.reply_is, lacks.history_is)
 
 -- a query that got its answer, or wanted memory, was served
-pub served-query : (asked : Query) (old : History) (reply : Replying) → RepliesOrLacks asked old reply → IsServed old (request.Query asked) reply old
+pub served-query : (asked : Query) (old : History) (reply : AnswerOrRefusal) → RepliesOrLacks asked old reply → IsServed old (request.Query asked) reply old
 served-query asked old reply (inl replies) = inl (replies, refl)
 served-query asked old reply (inr lacks) = inr (lacks.0, lacks.1, refl)
 
 -- one request more is served behind others
-pub AreReplies-more : (old mid new : History) (requests : List Request) (replies : List Replying) (asked : Request) (reply : Replying)
+pub AreReplies-more : (old mid new : History) (requests : List Request) (replies : List AnswerOrRefusal) (asked : Request) (reply : AnswerOrRefusal)
     → AreReplies old requests replies mid → IsServed mid asked reply new → AreReplies old (requests ++ asked ∷ []) (replies ++ reply ∷ []) new
 AreReplies-more old mid new [] [] asked reply so_far served = (new, subst (λ h. IsServed h asked reply new) so_far served, refl)
 AreReplies-more old mid new (r ∷ requests) (p ∷ replies) asked reply so_far served =

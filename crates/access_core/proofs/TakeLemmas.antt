@@ -10,7 +10,7 @@ use Rattle.queue_error.specs.declared.rule.Rule.{Rule}
 use Rattle.packet_processor.proofs.FirstFailing.{first_failing-decoded}
 use Rattle.core_model.specs.Queues.{opening_of, next_id}
 use Rattle.core_model.specs.declared.need.Need.{Need}
-use Rattle.core_model.specs.LaunchRules.{may_start}
+use Rattle.core_model.specs.LaunchRules.{cause_to_wait}
 use Rattle.packet_processor.specs.Judged.{later_failing}
 use Rattle.core_model.specs.Owed.{owed}
 use Rattle.std.proofs.Common.{◌⊎◌, inl, inr, not}
@@ -32,10 +32,10 @@ use Rattle.access_core.specs.inner.QueueChanges.{with_launched}
 use Rattle.access_core.proofs.CachedMore.{QueuesAfter, none-launched}
 use Rattle.access_core.proofs.QueueAt.{flight-launched, flight-unlaunched, map-map, denied, launched, queue_at-denied, queue_at-launched}
 use Rattle.access_core.proofs.ChangedQueue.{length-changed, openings-changed, queues-changed, sound-at, sound-changed}
-use Rattle.access_core.proofs.Terms.{IsInPlace, in_force, due, enters, is_placed, CanFail, ClientId, Denied, Effect, Entry, Event, Facts, Held, History, InFlight, Inside, IsCached, IsSound}
+use Rattle.access_core.proofs.Terms.{IsInPlace, in_force, due, enters, is_placed, CanFail, ClientId, Denied, Effect, Entry, Event, Facts, ObjectRight, History, InFlight, Inside, IsCached, IsSound}
 use Rattle.access_core.proofs.Terms.{Launched, MayHold, Opening, Outcome, Packet, PacketId, Place, Queue, QueueError, QueueId, QueueView, SLOTS, Start, Take}
-use Rattle.access_core.proofs.Terms.{TakesNext, as_held, as_launched, barrier_bit, cached, cached_opening, decided, decoded, entry_of, error_at, errors}
-use Rattle.access_core.proofs.Terms.{facts_of, first_failing, flight, flight_of, hands_over, held_at_launch, history_of, is_met, is_stopped, lacks_room}
+use Rattle.access_core.proofs.Terms.{TakesNext, right_needed, as_launched, barrier_bit, cached, cached_opening, owed_verdict, decoded, entry_of, error_without_place, errors}
+use Rattle.access_core.proofs.Terms.{facts_of, first_failing_rule, flight, flight_of, hands_over_packet_of, rights_at_launch, history_of, need_is_met, is_stopped, lacks_room}
 use Rattle.access_core.proofs.Terms.{launched_by, lies_in_regions, lies_whole, memory_needs, needs, numbered, numbered-map, owner, place_of, queue_at}
 use Rattle.access_core.proofs.Terms.{refuse_if, refuse_unless, refuses, region_lengths, start_of, with_denied, with_entry, with_queue, with_some}
 use Rattle.queue_error.specs.declared.rule.Rule.TheVariants as rule
@@ -47,9 +47,9 @@ pub owner-kept : (a : Inside) (queue : QueueId) → IsCached a → owner (start_
 owner-kept a queue kept = ap (λ (all : List Opening). numbered all queue.0) (sym kept.openings) ∙ numbered-map cached_opening a.queues.items queue.0
 
 -- what is found of bytes by the facts of a history is found by those of the fields
-pub judged-inside : (a : Inside) (old : History) → history_of a ≡ old → (q : Queue) (bytes : List ℕ) (found : Option Rule) → first_failing (facts_of old.start old.entries (cached_opening q)) bytes ≡ found
-    → first_failing (facts_of (start_of a) a.audit.items (cached_opening q)) bytes ≡ found
-judged-inside a old seen_as q bytes found is = subst (λ (h : History). first_failing (facts_of h.start h.entries (cached_opening q)) bytes ≡ found) (sym seen_as) is
+pub judged-inside : (a : Inside) (old : History) → history_of a ≡ old → (q : Queue) (bytes : List ℕ) (found : Option Rule) → first_failing_rule (facts_of old.start old.entries (cached_opening q)) bytes ≡ found
+    → first_failing_rule (facts_of (start_of a) a.audit.items (cached_opening q)) bytes ≡ found
+judged-inside a old seen_as q bytes found is = subst (λ (h : History). first_failing_rule (facts_of h.start h.entries (cached_opening q)) bytes ≡ found) (sym seen_as) is
 
 -- what is kept of a queue is what the history says of it
 pub view-kept : (a : Inside) (queue : QueueId) (q : Queue) → IsCached a → numbered a.queues.items queue.0 ≡ Some q → cached (Some q) ≡ queue_at (start_of a) a.audit.items queue
@@ -72,7 +72,7 @@ module _ (a : Inside) (kept : IsCached a) (queue : QueueId) (id : PacketId) (byt
       owed (start_of a) a.audit.items (Take queue id bytes) ≡
       refuse_if (nat_lt 0 (length q.errors.items) || q.stopped) refusal.QueueDown
       (refuse_unless (id.0 == q.next) (refusal.OutOfStep q.next)
-      (decided queue id.0 (may_start (map (λ (p : Place). p.packet) q.places) (barrier_bit bytes)) (first_failing (facts_of (start_of a) a.audit.items (cached_opening q)) bytes)))
+      (owed_verdict queue id.0 (cause_to_wait (map (λ (p : Place). p.packet) q.places) (barrier_bit bytes)) (first_failing_rule (facts_of (start_of a) a.audit.items (cached_opening q)) bytes)))
   unfolding owed
   take-known q some =
       let view = view-kept a queue q kept some in
@@ -83,11 +83,11 @@ module _ (a : Inside) (kept : IsCached a) (queue : QueueId) (id : PacketId) (byt
 
 -- the rules that ask for rights
 pub record PassesRights (facts : Facts) (p : Packet) : Type 0 where
-  pub agent : list_all (is_met facts) (needs rule.L4 facts.agent p) ≡ true
-  pub kernel : list_all (is_met facts) (needs rule.L6 facts.agent p) ≡ true
-  pub memory : list_all (is_met facts) (memory_needs p) ≡ true
-  pub waits : list_all (is_met facts) (needs rule.L9 facts.agent p) ≡ true
-  pub completes : list_all (is_met facts) (needs rule.L10 facts.agent p) ≡ true
+  pub agent : list_all (need_is_met facts) (needs rule.L4 facts.agent p) ≡ true
+  pub kernel : list_all (need_is_met facts) (needs rule.L6 facts.agent p) ≡ true
+  pub memory : list_all (need_is_met facts) (memory_needs p) ≡ true
+  pub waits : list_all (need_is_met facts) (needs rule.L9 facts.agent p) ≡ true
+  pub completes : list_all (need_is_met facts) (needs rule.L10 facts.agent p) ≡ true
 
 -- a packet that no rule refuses passes them
 passed-rights : (facts : Facts) (p : Packet) → later_failing facts p ≡ None → PassesRights facts p
@@ -101,18 +101,18 @@ passed-rights facts p none =
       completes = (passed rule.L10 (met 6 rule.L10 (omega arith)));
     }
   where
-    passed : (r : Rule) → not (meets_rule facts p r) ≡ false → list_all (is_met facts) (needs r facts.agent p) ≡ true
-    passed r is = (and_parts (has_form facts p r) (list_all (is_met facts) (needs r facts.agent p)) (from_not (meets_rule facts p r) is)).1
+    passed : (r : Rule) → not (meets_rule facts p r) ≡ false → list_all (need_is_met facts) (needs r facts.agent p) ≡ true
+    passed r is = (and_parts (has_form facts p r) (list_all (need_is_met facts) (needs r facts.agent p)) (from_not (meets_rule facts p r) is)).1
       where
         from_not : (b : Bool) → not b ≡ false → b ≡ true
         from_not true e = refl
         from_not false e = absurd cc
 
 -- what is needed and met is in force
-held-met : (facts : Facts) (all : List Need) (rest : List Held) → list_all (is_met facts) all ≡ true → list_all (λ h. facts.in_force h.0 h.1) rest ≡ true → list_all (λ h. facts.in_force h.0 h.1) (map as_held all ++ rest) ≡ true
+held-met : (facts : Facts) (all : List Need) (rest : List ObjectRight) → list_all (need_is_met facts) all ≡ true → list_all (λ h. facts.in_force h.0 h.1) rest ≡ true → list_all (λ h. facts.in_force h.0 h.1) (map right_needed all ++ rest) ≡ true
 held-met facts [] rest met others = others
 held-met facts (need ∷ all) rest met others =
-    let both = and_parts (is_met facts need) (list_all (is_met facts) all) met in
+    let both = and_parts (need_is_met facts need) (list_all (need_is_met facts) all) met in
     let forced = and_parts (lies_whole facts.lengths need.subject) _ both.0 in
     rw (forced.1, held-met facts all rest both.1 others) refl
 
@@ -126,15 +126,15 @@ held-passed facts p client passes =
     (held-met facts (needs rule.L10 facts.agent p) [] passes.completes refl))))
 
 -- what is needed and met lies whole in regions
-lies-met : (facts : Facts) (all : List Need) → list_all (is_met facts) all ≡ true → list_all (λ need. lies_whole facts.lengths need.subject) all ≡ true
+lies-met : (facts : Facts) (all : List Need) → list_all (need_is_met facts) all ≡ true → list_all (λ need. lies_whole facts.lengths need.subject) all ≡ true
 lies-met facts [] met = refl
 lies-met facts (need ∷ all) met =
-    let both = and_parts (is_met facts need) (list_all (is_met facts) all) met in
+    let both = and_parts (need_is_met facts need) (list_all (need_is_met facts) all) met in
     let lies = and_parts (lies_whole facts.lengths need.subject) _ both.0 in
     rw (lies.0, lies-met facts all both.1) refl
 
 -- a packet that is launched has all its ranges within regions
-pub within-launched : (start : Start) (es : List Entry) (opening : Opening) (bytes : List ℕ) (p : Packet) → decoded bytes ≡ Some p → first_failing (facts_of start es opening) bytes ≡ None → lies_in_regions (region_lengths start) p ≡ true
+pub within-launched : (start : Start) (es : List Entry) (opening : Opening) (bytes : List ℕ) (p : Packet) → decoded bytes ≡ Some p → first_failing_rule (facts_of start es opening) bytes ≡ None → lies_in_regions (region_lengths start) p ≡ true
 within-launched start es opening bytes p found none =
     lies-met (facts_of start es opening) (memory_needs p) (passed-rights (facts_of start es opening) p (sym (first_failing-decoded _ bytes p found) ∙ none)).memory
 
@@ -147,8 +147,8 @@ all-behind test (x ∷ xs) ys met all =
     rw both.0 (all-behind test xs ys both.1 all)
 
 -- a packet that is launched may hold what it needs, and what its arguments have it hold
-pub may-hold : (start : Start) (es : List Entry) (e : Entry) (opening : Opening) (bytes : List ℕ) (p : Packet) → decoded bytes ≡ Some p → first_failing (facts_of start es opening) bytes ≡ None
-    → list_all (λ h. in_force start es opening.client h.0 h.1) (held_at_launch start es opening p) ≡ true
+pub may-hold : (start : Start) (es : List Entry) (e : Entry) (opening : Opening) (bytes : List ℕ) (p : Packet) → decoded bytes ≡ Some p → first_failing_rule (facts_of start es opening) bytes ≡ None
+    → list_all (λ h. in_force start es opening.client h.0 h.1) (rights_at_launch start es opening p) ≡ true
 may-hold start es e opening bytes p found none =
     all-behind (λ h. in_force start es opening.client h.0 h.1) (held_by_needs opening p) (held_by_arguments start es opening.client p)
     (held-passed (facts_of start es opening) p opening.client (passed-rights (facts_of start es opening) p (sym (first_failing-decoded _ bytes p found) ∙ none)))
@@ -180,16 +180,16 @@ pub room-launched : (h : History) (queue : QueueId) (id : PacketId) (bytes : Lis
 room-launched h queue id bytes p reads = rw (reads, length-append) refl
 
 -- a packet that may start finds a slot free
-may_start-few : (ps : List Packet) (barrier : Bool) → may_start ps barrier ≡ None → length ps < SLOTS
-unfolding may_start
+may_start-few : (ps : List Packet) (barrier : Bool) → cause_to_wait ps barrier ≡ None → length ps < SLOTS
+unfolding cause_to_wait
 may_start-few ps barrier none = grind arith
 
 -- a queue that is kept, and not down, and where a packet may start takes its next packet
-pub takes-next : (a : Inside) (kept : IsCached a) (queue : QueueId) (q : Queue) (barrier : Bool) → numbered a.queues.items queue.0 ≡ Some q → (nat_lt 0 (length q.errors.items) || q.stopped) ≡ false → may_start (map (λ (p : Place). p.packet) q.places) barrier ≡ None → TakesNext (history_of a) queue
+pub takes-next : (a : Inside) (kept : IsCached a) (queue : QueueId) (q : Queue) (barrier : Bool) → numbered a.queues.items queue.0 ≡ Some q → (nat_lt 0 (length q.errors.items) || q.stopped) ≡ false → cause_to_wait (map (λ (p : Place). p.packet) q.places) barrier ≡ None → TakesNext (history_of a) queue
 takes-next a kept queue q barrier some down starts =
     let view = view-kept a queue q kept some in
     let count = length-map (flight_of (start_of a) a.audit.items queue) (λ (f : InFlight). f.packet) in
-    let few = may_start-few (map (λ (f : InFlight). f.packet) (flight_of (start_of a) a.audit.items queue)) barrier (ap (λ ps. may_start ps barrier) (packets-kept a queue q kept some) ∙ starts) in (
+    let few = may_start-few (map (λ (f : InFlight). f.packet) (flight_of (start_of a) a.audit.items queue)) barrier (ap (λ ps. cause_to_wait ps barrier) (packets-kept a queue q kept some) ∙ starts) in (
       cached_opening q,
       owner-kept a queue kept ∙ ap (option_map cached_opening) some,
       ap (λ (v : QueueView). nat_lt 0 (length v.errors) || v.stopped) (sym view) ∙ down,
@@ -202,7 +202,7 @@ none_opening o e = cc
 -- no more packets of a queue were handed over than there are entries
 next_id-le : (start : Start) (entries : List Entry) (queue : QueueId) → next_id start entries queue ≤ length entries
 unfolding next_id
-next_id-le start entries queue = count_by-le-length (λ (entry : Entry). hands_over queue entry.event) entries
+next_id-le start entries queue = count_by-le-length (λ (entry : Entry). hands_over_packet_of queue entry.event) entries
 
 no_errors : (xs : List QueueError) (s : Bool) → (nat_lt 0 (length xs) || s) ≡ false → xs ≡ []
 no_errors [] s e = refl
@@ -280,14 +280,14 @@ module _ (a : Inside) (kept : IsCached a) (queue : QueueId) (id : PacketId) (byt
         below = All-weaker (λ (p : Place). p.id.0 < q.next) (λ p. p.id.0 < q.next + 1) (λ p below. omega (arith, below)) q.places can.opened.sound.below;
       }
 
-  pub flight-denied : (rule : Rule) → flight (start_of a) (with_entry a.audit.items (Take queue id bytes) (outcome.Taken (Denied (error_at queue id.0 rule))) []) ≡ flight (start_of a) a.audit.items
-  flight-denied rule = flight-unlaunched (start_of a) a.audit.items (Take queue id bytes) (outcome.Taken (Denied (error_at queue id.0 rule))) [] refl
+  pub flight-denied : (rule : Rule) → flight (start_of a) (with_entry a.audit.items (Take queue id bytes) (outcome.Taken (Denied (error_without_place queue id.0 rule))) []) ≡ flight (start_of a) a.audit.items
+  flight-denied rule = flight-unlaunched (start_of a) a.audit.items (Take queue id bytes) (outcome.Taken (Denied (error_without_place queue id.0 rule))) [] refl
 
   -- it is denied
-  pub queues-denied : (rule : Rule) → QueuesAfter a (with_queue a.queues.items queue (with_denied (error_at queue id.0 rule))) a.flying (Take queue id bytes) (outcome.Taken (Denied (error_at queue id.0 rule))) []
+  pub queues-denied : (rule : Rule) → QueuesAfter a (with_queue a.queues.items queue (with_denied (error_without_place queue id.0 rule))) a.flying (Take queue id bytes) (outcome.Taken (Denied (error_without_place queue id.0 rule))) []
   queues-denied rule =
-      queues-after a kept queue can.opened (with_denied (error_at queue id.0 rule)) (denied (error_at queue id.0 rule)) a.flying _ _ _ refl refl (sound-denied (error_at queue id.0 rule)) refl
-      (λ m. queue_at-denied (start_of a) a.audit.items queue id bytes rule m) (kept.flying ∙ ap length (sym (flight-denied rule))) (none-launched (Take queue id bytes) (outcome.Taken (Denied (error_at queue id.0 rule))) refl (start_of a))
+      queues-after a kept queue can.opened (with_denied (error_without_place queue id.0 rule)) (denied (error_without_place queue id.0 rule)) a.flying _ _ _ refl refl (sound-denied (error_without_place queue id.0 rule)) refl
+      (λ m. queue_at-denied (start_of a) a.audit.items queue id bytes rule m) (kept.flying ∙ ap length (sym (flight-denied rule))) (none-launched (Take queue id bytes) (outcome.Taken (Denied (error_without_place queue id.0 rule))) refl (start_of a))
 
   -- it is launched
   module _ (p : Packet) (reads : decoded bytes ≡ Some p) (next : id.0 ≡ next_id (start_of a) a.audit.items queue) where

@@ -17,20 +17,20 @@ pub use Rattle.aql_packet.specs.declared.ids.QueueId.{QueueId}
 pub use Rattle.aql_packet.specs.declared.packet.Packet.{Packet}
 pub use Rattle.core_model.proofs.More.{errors-more, flight-more, in_force-more, is_stopped-more, memory_at-more, next_id-more, openings-more, progress-more}
 pub use Rattle.core_model.proofs.More.{signals-more, with_error, with_some}
-pub use Rattle.core_model.specs.Flight.{at_launch, flight, flight_after, flight_after_effect, flight_of, in_flight, is_packet, launched_by, progress}
-pub use Rattle.core_model.specs.Flight.{progress_after, seen_with}
+pub use Rattle.core_model.specs.Flight.{launch_progress, flight, flight_after, flight_after_effect, flight_of, in_flight, is_packet, launched_by, progress}
+pub use Rattle.core_model.specs.Flight.{progress_after, seen_by_either}
 pub use Rattle.core_model.specs.Grants.{in_force, in_force_after}
 pub use Rattle.core_model.specs.History.{History, Start}
-pub use Rattle.core_model.specs.Holds.{Held, as_held, held_at_launch, holder, holds_one_of, is_launch, is_owned, is_up_to, least}
-pub use Rattle.core_model.specs.LaunchRules.{Facts, first_failing, is_barrier, is_met, lies_whole, may_start}
+pub use Rattle.core_model.specs.Holds.{ObjectRight, right_needed, rights_at_launch, holder, holds_one_of, is_launch, is_queue_of, is_up_to, least_in_flight}
+pub use Rattle.core_model.specs.LaunchRules.{Facts, first_failing_rule, is_barrier, need_is_met, lies_whole, cause_to_wait}
 pub use Rattle.core_model.specs.Legal.{AreReplies, IsLegal, IsServed, Meets, MeetsOrLacks, RepliesOrLacks, as_reply, due, entry_of, lacks_room, with_entry}
 pub use Rattle.core_model.specs.Legal.{within_room}
 pub use Rattle.core_model.specs.Memory.{byte_after, memory_at, memory_from, region_lengths, signals, signals_after}
-pub use Rattle.core_model.specs.Needs.{completion, function_of, memory_needs, needs}
-pub use Rattle.core_model.specs.Owed.{Owed, answers, completed, decided, enters, error_at, facts_of, for_packet, old_if_asked, owed, owed_finish, owed_group}
+pub use Rattle.core_model.specs.Needs.{completion_signal, function_of, memory_needs, needs}
+pub use Rattle.core_model.specs.Owed.{Owed, answers, signal_decrement, owed_verdict, enters, error_without_place, facts_of, for_packet, old_if_asked, owed, owed_finish, owed_group}
 pub use Rattle.core_model.specs.Owed.{owed_poll, refuse_if, refuse_unless, refuses, release_of}
-pub use Rattle.core_model.specs.Queries.{Replying, all_objects, listing}
-pub use Rattle.core_model.specs.Queues.{Opening, error_of, errors, hands_over, is_stopped, next_id, openings, owner, stops}
+pub use Rattle.core_model.specs.Queries.{AnswerOrRefusal, all_objects, listing}
+pub use Rattle.core_model.specs.Queues.{Opening, error_of, errors, hands_over_packet_of, is_stopped, next_id, openings, owner, stops_queue}
 pub use Rattle.core_model.specs.Work.{agent_writes, function_result, function_writes, number_in_memory, result_writes, write_of}
 pub use Rattle.core_model.specs.declared.entry.Effect.{Effect}
 pub use Rattle.core_model.specs.declared.entry.Entry.{Entry}

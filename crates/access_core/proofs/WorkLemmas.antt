@@ -22,7 +22,7 @@ use Rattle.access_core.proofs.ChangedQueue.{freed-at}
 use Rattle.access_core.proofs.TakeLemmas.{IsOpen, owner-kept, queues-after, view-kept}
 use Rattle.access_core.proofs.Terms.{CanFail, Effect, Event, Finish, History, InFlight, Inside, IsCached, IsInPlace, IsSound, Outcome, Owed, Packet, PacketId}
 use Rattle.access_core.proofs.Terms.{Place, Poll, Progress, RunNext, Queue, QueueError, QueueId, QueueView, RefusedAt, applied, byte_after, cached, cached_opening}
-use Rattle.access_core.proofs.Terms.{completed, completion, completion_of, due, enters, entry_of, error_at, finish_owed, flight, flight_after}
+use Rattle.access_core.proofs.Terms.{signal_decrement, completion_signal, completion_of, due, enters, entry_of, error_without_place, finish_owed, flight, flight_after}
 use Rattle.access_core.proofs.Terms.{flight_after_effect, for_packet, freed_by, history_of, in_flight, is_at, is_packet, lacks_room, lies_in_regions, numbered}
 use Rattle.access_core.proofs.Terms.{owed, owner, place_of, progress, queue_at, refuses, region_lengths, signals, signals_after, start_of, value_of}
 use Rattle.access_core.proofs.Terms.{with_advance, with_failure, with_progress, with_queue, with_release, without}
@@ -56,11 +56,11 @@ missing-err None e f same = refl
 -- ---- a completion's changes: a signal's, perhaps, and the release
 
 pub flight-completed : (values : List ℤ) (signal : SignalHandle) (queue : QueueId) (id : PacketId) (flying : List InFlight) →
-    fold flight_after_effect flying (completed values signal ++ effect.Release queue id ∷ []) ≡ filter (λ f. not (is_packet queue id f)) flying
+    fold flight_after_effect flying (signal_decrement values signal ++ effect.Release queue id ∷ []) ≡ filter (λ f. not (is_packet queue id f)) flying
 flight-completed values signal queue id flying = grind arith
 
 pub memory-completed : (values : List ℤ) (signal : SignalHandle) (queue : QueueId) (id : PacketId) (x byte : ℕ) →
-    fold (byte_after x) byte (completed values signal ++ effect.Release queue id ∷ []) ≡ byte
+    fold (byte_after x) byte (signal_decrement values signal ++ effect.Release queue id ∷ []) ≡ byte
 memory-completed values signal queue id x byte = grind arith
 
 -- ---- how many are left
@@ -246,9 +246,9 @@ queues-advanced a kept queue at id g event told effects is none so_far new =
 -- ---- a packet leaves flight, for which its own entry always finds room
 
 pub finish-releases : (values : List ℤ) (queue : QueueId) (id : PacketId) (p : Packet) → IsRelease queue id (Finish queue id) outcome.Accepted (completion_of values queue id p)
-finish-releases values queue id p = record { launches = refl; progress = λ q i so_far. refl; releases = λ fs. flight-completed values (completion p) queue id fs }
+finish-releases values queue id p = record { launches = refl; progress = λ q i so_far. refl; releases = λ fs. flight-completed values (completion_signal p) queue id fs }
 
-pub failure-releases : (queue : QueueId) (id : PacketId) → IsRelease queue id (Poll queue id) (outcome.Polled (Failed (error_at queue id.0 B1))) (effect.Release queue id ∷ [])
+pub failure-releases : (queue : QueueId) (id : PacketId) → IsRelease queue id (Poll queue id) (outcome.Polled (Failed (error_without_place queue id.0 B1))) (effect.Release queue id ∷ [])
 failure-releases queue id = record { launches = refl; progress = λ q i so_far. refl; releases = λ fs. refl }
 
 pub fault-releases : (queue : QueueId) (id : PacketId) (error : QueueError) → IsRelease queue id (RunNext queue id) (outcome.Worked (Faulted error)) (effect.Release queue id ∷ [])

@@ -6,7 +6,7 @@ use Rattle.policy.specs.Policy.{Declared}
 use Rattle.core_model.specs.declared.limits.TheConstants.{MOST_ENTRIES}
 use Rattle.core_model.specs.History.{History}
 use Rattle.core_model.specs.Kernels.{no_kernel, segments_of}
-use Rattle.core_model.specs.Legal.{opened}
+use Rattle.core_model.specs.Legal.{empty_history}
 use Rattle.regions.specs.Memory.{zeros}
 use Rattle.grants.specs.Rules.{rules_of}
 use Rattle.grants.specs.Ledger.{IsNew, rules_in}
@@ -53,7 +53,7 @@ open_fault policy kernels capacity =
 -- a core is opened just where there is no fault, unless memory is wanted (own)
 abbrev pub Opens : Declared → List Kernel → ℕ → Result History OpenFault → Type 0
 Opens policy kernels capacity (Ok core) =
-    (open_fault policy kernels capacity ≡ None) × (core ≡ opened policy (map program_of kernels) capacity)
+    (open_fault policy kernels capacity ≡ None) × (core ≡ empty_history policy (map program_of kernels) capacity)
 Opens policy kernels capacity (Err fault.OutOfMemory) = open_fault policy kernels capacity ≡ None
 Opens policy kernels capacity (Err why) = open_fault policy kernels capacity ≡ Some why
 

@@ -48,13 +48,13 @@ use Rattle.core_model.specs.Grants.{in_force}
 use Rattle.core_model.specs.Memory.{memory_at, memory_from, region_lengths, signals}
 use Rattle.core_model.specs.Queues.{error_of}
 use Rattle.core_model.specs.Flight.{flight, flight_of, in_flight, is_packet, progress}
-use Rattle.core_model.specs.Needs.{argument, bytes_at, completion, function_of, result_range}
+use Rattle.core_model.specs.Needs.{argument, range_at, completion_signal, function_of, result_range}
 use Rattle.core_model.specs.LaunchRules.{is_barrier}
 use Rattle.core_model.specs.Work.{groups_of, number_in_memory, write_of, write_of_run, function_writes, function_result, result_writes, agent_writes}
-use Rattle.core_model.specs.Holds.{held}
+use Rattle.core_model.specs.Holds.{packet_rights}
 use Rattle.core_model.specs.View.{given, group_input}
 use Rattle.core_model.proofs.Viewing.{IsWithinGrant, runs-granted}
-use Rattle.core_model.specs.Owed.{owed, enters, error_at, group_error, barrier_in, completed, release_of}
+use Rattle.core_model.specs.Owed.{owed, enters, error_without_place, group_error, barrier_in, signal_decrement, release_of}
 use Rattle.core_model.specs.Legal.{IsLegal}
 use Rattle.core_model.specs.Headline.{ChangeIsGranted, InFlightSince, MayReach, MayReachRange, MayUseSignal, IsReleasedBy, ReleaseIsDue, WriteIsGranted, packet_named, ranges_written, writes_of}
 use Rattle.core_model.proofs.Lists.{all-left, all-one, all-right, filter-passes, found-all, found-passes}
@@ -66,11 +66,11 @@ use Rattle.core_model.proofs.Entered.{named-found, IsQuiet, HasSeen, HasFailed, 
 pub copy-size : (d : AgentDispatch) (source target : Range) → function_of d ≡ Some (Copy source target) → source.size ≡ target.size
 copy-size d source target same = by_tests (d.function == FILL) (d.function == COPY) (d.function == ADD64) same
   where
-    by_tests : (fill copy add : Bool) → (if fill then Some (Fill (bytes_at (argument d 0) (argument d 1)) (argument d 2 % 256)) else if copy then Some (Copy (bytes_at (argument d 0) (argument d 2)) (bytes_at (argument d 1) (argument d 2))) else if add then Some (Add64 (bytes_at (argument d 0) 8) (argument d 1)) else None) ≡ Some (Copy source target) → source.size ≡ target.size
+    by_tests : (fill copy add : Bool) → (if fill then Some (Fill (range_at (argument d 0) (argument d 1)) (argument d 2 % 256)) else if copy then Some (Copy (range_at (argument d 0) (argument d 2)) (range_at (argument d 1) (argument d 2))) else if add then Some (Add64 (range_at (argument d 0) 8) (argument d 1)) else None) ≡ Some (Copy source target) → source.size ≡ target.size
     by_tests true copy add same = absurd cc
     by_tests false true add same =
-        let from : bytes_at (argument d 0) (argument d 2) ≡ source = cc in
-        let to : bytes_at (argument d 1) (argument d 2) ≡ target = cc in
+        let from : range_at (argument d 0) (argument d 2) ≡ source = cc in
+        let to : range_at (argument d 1) (argument d 2) ≡ target = cc in
         ap (λ r. r.size) (sym from) ∙ ap (λ r. r.size) to
     by_tests false false true same = absurd cc
     by_tests false false false same = absurd cc
@@ -78,11 +78,11 @@ copy-size d source target same = by_tests (d.function == FILL) (d.function == CO
 pub add-size : (d : AgentDispatch) (number : Range) (addend : ℕ) → function_of d ≡ Some (Add64 number addend) → number.size ≡ 8
 add-size d number addend same = by_tests (d.function == FILL) (d.function == COPY) (d.function == ADD64) same
   where
-    by_tests : (fill copy add : Bool) → (if fill then Some (Fill (bytes_at (argument d 0) (argument d 1)) (argument d 2 % 256)) else if copy then Some (Copy (bytes_at (argument d 0) (argument d 2)) (bytes_at (argument d 1) (argument d 2))) else if add then Some (Add64 (bytes_at (argument d 0) 8) (argument d 1)) else None) ≡ Some (Add64 number addend) → number.size ≡ 8
+    by_tests : (fill copy add : Bool) → (if fill then Some (Fill (range_at (argument d 0) (argument d 1)) (argument d 2 % 256)) else if copy then Some (Copy (range_at (argument d 0) (argument d 2)) (range_at (argument d 1) (argument d 2))) else if add then Some (Add64 (range_at (argument d 0) 8) (argument d 1)) else None) ≡ Some (Add64 number addend) → number.size ≡ 8
     by_tests true copy add same = absurd cc
     by_tests false true add same = absurd cc
     by_tests false false true same =
-        let is : bytes_at (argument d 0) 8 ≡ number = cc in
+        let is : range_at (argument d 0) 8 ≡ number = cc in
         ap (λ r. r.size) (sym is)
     by_tests false false false same = absurd cc
 
@@ -116,9 +116,9 @@ module _ (P : Effect → Type 0) (May : Range → Type 0) (one : (target : Range
         result : List ℕ
         result = to_le_bytes w64 (function_result start es (function_of d))
 
-        by_test : (b : Bool) → May (bytes_at d.return_address.0 (if b then 0 else 8)) → All P (if b then [] else write_of d.return_address.0 result)
+        by_test : (b : Bool) → May (range_at d.return_address.0 (if b then 0 else 8)) → All P (if b then [] else write_of d.return_address.0 result)
         by_test true may = All-nil P
-        by_test false may = write-met (bytes_at d.return_address.0 8) result refl may
+        by_test false may = write-met (range_at d.return_address.0 8) result refl may
 
     agent-met : All May (writes_of (packet.Agent d)) → All P (agent_writes start es d)
     agent-met all =
@@ -132,15 +132,15 @@ module _ (P : Effect → Type 0) where
   release-all queue None each = All-nil P
   release-all queue (Some f) each = all-one P (effect.Release queue f.id) (each f refl)
 
-  poll-all : (start : Start) (es : List Entry) (told : Outcome) (effects : List Effect) (queue : QueueId) (id : PacketId) → ((f : InFlight) → in_flight start es queue id ≡ Some f → told ≡ outcome.Polled (polled_as.Failed (error_at queue id.0 B1)) → P (effect.Release queue id)) →
+  poll-all : (start : Start) (es : List Entry) (told : Outcome) (effects : List Effect) (queue : QueueId) (id : PacketId) → ((f : InFlight) → in_flight start es queue id ≡ Some f → told ≡ outcome.Polled (polled_as.Failed (error_without_place queue id.0 B1)) → P (effect.Release queue id)) →
       HasSeen start es told effects queue id ⊎ HasFailed start es told effects queue id → All P effects
   poll-all start es told effects queue id each (inl seen) = subst (All P) (sym seen.is_quiet.effects_are) (All-nil P)
   poll-all start es told effects queue id each (inr failed) = subst (All P) (sym failed.effects_are) (all-one P (effect.Release queue id) (each failed.flying failed.found failed.outcome_is))
 
   -- a completion's change and its release
   completed-all : (values : List ℤ) (s : SignalHandle) (queue : QueueId) (id : PacketId) →
-      ((v : ℤ) → (s.0 == 0) ≡ false → value_of values s.0 ≡ Some v → P (effect.Signal s v (applied (Subtract (pos 1)) v))) → P (effect.Release queue id) → All P (completed values s ++ effect.Release queue id ∷ [])
-  completed-all values s queue id changed released = All-append P (completed values s) _ (by_test (s.0 == 0) (value_of values s.0) refl refl) (all-one P (effect.Release queue id) released)
+      ((v : ℤ) → (s.0 == 0) ≡ false → value_of values s.0 ≡ Some v → P (effect.Signal s v (applied (Subtract (pos 1)) v))) → P (effect.Release queue id) → All P (signal_decrement values s ++ effect.Release queue id ∷ [])
+  completed-all values s queue id changed released = All-append P (signal_decrement values s) _ (by_test (s.0 == 0) (value_of values s.0) refl refl) (all-one P (effect.Release queue id) released)
     where
       by_test : (b : Bool) (o : Option ℤ) → (s.0 == 0) ≡ b → value_of values s.0 ≡ o → All P (if b then [] else elim o [ None ↦ [] | Some v ↦ effect.Signal s v (applied (Subtract (pos 1)) v) ∷ [] ])
       by_test true o null is = All-nil P
@@ -182,11 +182,11 @@ module _ (start : Start) (es : List Entry) (legal : IsLegal start es) where
   -- the changes of an event, given what holds of each kind of change
   module _ (P : Event → Outcome → Effect → Type 0)
       (ran : (told : Outcome) (queue : QueueId) (id : PacketId) (s : InFlightSince start es queue id) (d : AgentDispatch) → s.flying.packet ≡ packet.Agent d → (progress start es queue id).groups_run < groups_of s.flying.packet → All (P (RunNext queue id) told) (agent_writes start es d))
-      (kernel_ran : (told : Outcome) (queue : QueueId) (id : PacketId) (s : InFlightSince start es queue id) → All (λ h. in_force start s.launch.before s.launch.opening.client h.0 h.1 ≡ true) (held start es queue id) →
+      (kernel_ran : (told : Outcome) (queue : QueueId) (id : PacketId) (s : InFlightSince start es queue id) → All (λ h. in_force start s.launch.before s.launch.opening.client h.0 h.1 ≡ true) (packet_rights start es queue id) →
       (d : KernelDispatch) → s.flying.packet ≡ packet.Kernel d → (progress start es queue id).groups_run < groups_of s.flying.packet → (runs : List Run) →
       group_result (group_input start es (given start es queue id) d (progress start es queue id).groups_run) ≡ wrote runs → All (P (RunNext queue id) told) (map write_of_run runs))
-      (completed_so : (told : Outcome) (queue : QueueId) (id : PacketId) (s : InFlightSince start es queue id) (v : ℤ) → ((completion s.flying.packet).0 == 0) ≡ false → value_of (signals start es) (completion s.flying.packet).0 ≡ Some v →
-      P (Finish queue id) told (effect.Signal (completion s.flying.packet) v (applied (Subtract (pos 1)) v)))
+      (completed_so : (told : Outcome) (queue : QueueId) (id : PacketId) (s : InFlightSince start es queue id) (v : ℤ) → ((completion_signal s.flying.packet).0 == 0) ≡ false → value_of (signals start es) (completion_signal s.flying.packet).0 ≡ Some v →
+      P (Finish queue id) told (effect.Signal (completion_signal s.flying.packet) v (applied (Subtract (pos 1)) v)))
       (released : (event : Event) (told : Outcome) (queue : QueueId) (id : PacketId) → ReleaseIsDue start es event told (effect.Release queue id) → P event told (effect.Release queue id))
       (written : (told : Outcome) (client : ClientId) (address : Address) (bytes : List ℕ) → 0 < length bytes → MayReach start es client right.Write address.0 (length bytes) → P (HostWrite client address bytes) told (effect.Write address bytes))
       (changed : (told : Outcome) (client : ClientId) (signal : SignalHandle) (operation : SignalOp) (old : ℤ) → value_of (signals start es) signal.0 ≡ Some old → in_force start es client (object.Signal signal) right.Change ≡ true →
@@ -203,20 +203,20 @@ module _ (start : Start) (es : List Entry) (legal : IsLegal start es) where
           let there : Contains (flight start es) f = found-all (Contains (flight start es)) (λ f. is_barrier f.packet) (flight_of start es queue) f (All-filter (λ g. g.queue.0 == queue.0) (Contains (flight start es)) (flight start es) (All-contains_itself (flight start es))) found in
           released (Stop queue) outcome.Accepted queue f.id (f, there, queue_is, refl, (sym (eqb-true _ _ own), barrier)))
 
-      finished : (queue : QueueId) (id : PacketId) (flying : InFlight) → in_flight start es queue id ≡ Some flying → All (P (Finish queue id) outcome.Accepted) (completed (signals start es) (completion flying.packet) ++ effect.Release queue id ∷ [])
+      finished : (queue : QueueId) (id : PacketId) (flying : InFlight) → in_flight start es queue id ≡ Some flying → All (P (Finish queue id) outcome.Accepted) (signal_decrement (signals start es) (completion_signal flying.packet) ++ effect.Release queue id ∷ [])
       finished queue id flying found =
           let since = flying-since start es legal queue id flying found in
           let s = since.0 in
-          subst (λ f. All (P (Finish queue id) outcome.Accepted) (completed (signals start es) (completion f.packet) ++ effect.Release queue id ∷ [])) since.1
-          (completed-all (P (Finish queue id) outcome.Accepted) (signals start es) (completion s.flying.packet) queue id (completed_so outcome.Accepted queue id s)
+          subst (λ f. All (P (Finish queue id) outcome.Accepted) (signal_decrement (signals start es) (completion_signal f.packet) ++ effect.Release queue id ∷ [])) since.1
+          (completed-all (P (Finish queue id) outcome.Accepted) (signals start es) (completion_signal s.flying.packet) queue id (completed_so outcome.Accepted queue id s)
           (released (Finish queue id) outcome.Accepted queue id (named-release (Finish queue id) outcome.Accepted queue id (λ f q i. (q, i)) flying found)))
 
       abbrev failing : QueueId → PacketId → Outcome
-      failing queue id = outcome.Polled (polled_as.Failed (error_at queue id.0 B1))
+      failing queue id = outcome.Polled (polled_as.Failed (error_without_place queue id.0 B1))
 
       -- a group that ran, of an agent dispatch or of a kernel, or that faulted
       kernel-changes : (told : Outcome) (effects : List Effect) (queue : QueueId) (id : PacketId) (flying : InFlight) → in_flight start es queue id ≡ Some flying →
-          (s : InFlightSince start es queue id) → All (λ h. in_force start s.launch.before s.launch.opening.client h.0 h.1 ≡ true) (held start es queue id) →
+          (s : InFlightSince start es queue id) → All (λ h. in_force start s.launch.before s.launch.opening.client h.0 h.1 ≡ true) (packet_rights start es queue id) →
           (d : KernelDispatch) → s.flying.packet ≡ packet.Kernel d → (progress start es queue id).groups_run < groups_of s.flying.packet →
           (result : GroupResult) → group_result (group_input start es (given start es queue id) d (progress start es queue id).groups_run) ≡ result →
           GroupWrote start es told effects queue id d (progress start es queue id).groups_run result ⊎ GroupFaulted start es told effects queue id d (progress start es queue id).groups_run result → All (P (RunNext queue id) told) effects
@@ -229,7 +229,7 @@ module _ (start : Start) (es : List Entry) (legal : IsLegal start es) where
           (named-release (RunNext queue id) (outcome.Worked (worked.Faulted (group_error queue id (progress start es queue id).groups_run fault.item fault.line fault.rule))) queue id (λ f q i. (q, i)) flying found))))
 
       group-changes : (told : Outcome) (effects : List Effect) (queue : QueueId) (id : PacketId) (flying : InFlight) → in_flight start es queue id ≡ Some flying →
-          (since : (s : InFlightSince start es queue id) × (s.flying ≡ flying) × All (λ h. in_force start s.launch.before s.launch.opening.client h.0 h.1 ≡ true) (held start es queue id)) →
+          (since : (s : InFlightSince start es queue id) × (s.flying ≡ flying) × All (λ h. in_force start s.launch.before s.launch.opening.client h.0 h.1 ≡ true) (packet_rights start es queue id)) →
           GroupRan start es told effects flying.packet (progress start es queue id) ⊎ KernelRan start es told effects queue id (given start es queue id) flying.packet (progress start es queue id) → All (P (RunNext queue id) told) effects
       group-changes told effects queue id flying found since (inl group) =
           subst (All (P (RunNext queue id) told)) (sym group.effects_are)
@@ -278,7 +278,7 @@ module _ (start : Start) (es : List Entry) (legal : IsLegal start es) where
 
   -- a kernel's group writes where its packet holds WRITE, which was in force at its launch
   kernel-writes : are_region_lengths (region_lengths start) ≡ true → (queue : QueueId) (id : PacketId) (s : InFlightSince start es queue id) →
-      All (λ h. in_force start s.launch.before s.launch.opening.client h.0 h.1 ≡ true) (held start es queue id) → (d : KernelDispatch) → (progress start es queue id).groups_run < groups_of s.flying.packet → (runs : List Run) →
+      All (λ h. in_force start s.launch.before s.launch.opening.client h.0 h.1 ≡ true) (packet_rights start es queue id) → (d : KernelDispatch) → (progress start es queue id).groups_run < groups_of s.flying.packet → (runs : List Run) →
       group_result (group_input start es (given start es queue id) d (progress start es queue id).groups_run) ≡ wrote runs → All (WriteIsGranted start es (RunNext queue id)) (map write_of_run runs)
   kernel-writes fit queue id s granted d left runs is =
       All-map (WriteIsGranted start es (RunNext queue id)) write_of_run runs
@@ -297,11 +297,11 @@ module _ (start : Start) (es : List Entry) (legal : IsLegal start es) where
       (λ event told queue id due. tt) (λ told client address bytes some reach. tt)
       (λ told client signal operation old was granted. (was, inl (record { client = client; operation = operation; event_is = refl; result = refl; allowed = granted })))
     where
-      may_change : (queue : QueueId) (id : PacketId) (s : InFlightSince start es queue id) → ((completion s.flying.packet).0 == 0) ≡ false → in_force start s.launch.before s.launch.opening.client (object.Signal (completion s.flying.packet)) right.Change ≡ true
-      may_change queue id s null = some (subst (λ p. MayUseSignal start s.launch.before s.launch.opening.client right.Change (completion p)) s.packet_is s.launch.allowed.rights.completes)
+      may_change : (queue : QueueId) (id : PacketId) (s : InFlightSince start es queue id) → ((completion_signal s.flying.packet).0 == 0) ≡ false → in_force start s.launch.before s.launch.opening.client (object.Signal (completion_signal s.flying.packet)) right.Change ≡ true
+      may_change queue id s null = some (subst (λ p. MayUseSignal start s.launch.before s.launch.opening.client right.Change (completion_signal p)) s.packet_is s.launch.allowed.rights.completes)
         where
-          some : MayUseSignal start s.launch.before s.launch.opening.client right.Change (completion s.flying.packet) → in_force start s.launch.before s.launch.opening.client (object.Signal (completion s.flying.packet)) right.Change ≡ true
-          some (inl is) = let e : ((completion s.flying.packet).0 == 0) ≡ true = rw is refl in absurd cc
+          some : MayUseSignal start s.launch.before s.launch.opening.client right.Change (completion_signal s.flying.packet) → in_force start s.launch.before s.launch.opening.client (object.Signal (completion_signal s.flying.packet)) right.Change ≡ true
+          some (inl is) = let e : ((completion_signal s.flying.packet).0 == 0) ≡ true = rw is refl in absurd cc
           some (inr granted) = granted
 
   pub release-due : (event : Event) (told : Outcome) (effects : List Effect) → owed start es event ≡ enters told effects → All (ReleaseIsDue start es event told) effects
@@ -322,8 +322,8 @@ module _ (start : Start) (es : List Entry) (legal : IsLegal start es) where
   none-told : {X : Type 0} (told : Outcome) (error : QueueError) → error_of told ≡ Some error → error_of told ≡ None → X
   none-told told error some none = let e : Some error ≡ None = sym some ∙ none in absurd cc
 
-  failed-error : (told : Outcome) (effects : List Effect) (error : QueueError) (queue : QueueId) (id : PacketId) → HasFailed start es told effects queue id → error_of told ≡ Some error → error_at queue id.0 B1 ≡ error
-  failed-error told effects error queue id failed told_is = let same : Some (error_at queue id.0 B1) ≡ Some error = sym (ap error_of failed.outcome_is) ∙ told_is in cc
+  failed-error : (told : Outcome) (effects : List Effect) (error : QueueError) (queue : QueueId) (id : PacketId) → HasFailed start es told effects queue id → error_of told ≡ Some error → error_without_place queue id.0 B1 ≡ error
+  failed-error told effects error queue id failed told_is = let same : Some (error_without_place queue id.0 B1) ≡ Some error = sym (ap error_of failed.outcome_is) ∙ told_is in cc
 
   abbrev named : QueueId → PacketId → Option (QueueId × PacketId)
   named queue id = Some (queue, id)
@@ -337,9 +337,9 @@ module _ (start : Start) (es : List Entry) (legal : IsLegal start es) where
       let decided = take-decided start es told effects queue id bytes owing in
       denied decided.verdict (sym (ap error_of decided.outcome_is) ∙ is)
     where
-      denied : (verdict : Option Rule) → error_of (elim verdict [ None ↦ outcome.Taken taken.Launched | Some rule ↦ outcome.Taken (taken.Denied (error_at queue id.0 rule)) ]) ≡ Some error → named queue id ≡ named error.queue error.packet
+      denied : (verdict : Option Rule) → error_of (elim verdict [ None ↦ outcome.Taken taken.Launched | Some rule ↦ outcome.Taken (taken.Denied (error_without_place queue id.0 rule)) ]) ≡ Some error → named queue id ≡ named error.queue error.packet
       denied None same = absurd cc
-      denied (Some rule) same = let e : error_at queue id.0 rule ≡ error = cc in ap (λ x. named x.queue x.packet) e
+      denied (Some rule) same = let e : error_without_place queue id.0 rule ≡ error = cc in ap (λ x. named x.queue x.packet) e
   error-named (RunNext queue id) told effects error owing is = by_group (run-entered start es told effects queue id owing)
     where
       by_end : (d : KernelDispatch) (group : ℕ) (result : GroupResult) → GroupWrote start es told effects queue id d group result ⊎ GroupFaulted start es told effects queue id d group result → named queue id ≡ named error.queue error.packet
@@ -371,11 +371,11 @@ module _ (start : Start) (es : List Entry) (legal : IsLegal start es) where
   fault-released (Stop queue) told effects error owing faults = none-told told error (error-told told error faults) (stop-effects start es told effects queue owing).no_error
   fault-released (Take queue id bytes) told effects error owing faults = decided_so (take-decided start es told effects queue id bytes owing).verdict (take-decided start es told effects queue id bytes owing).outcome_is faults
     where
-      decided_so : (verdict : Option Rule) → told ≡ (elim verdict [ None ↦ outcome.Taken taken.Launched | Some rule ↦ outcome.Taken (taken.Denied (error_at queue id.0 rule)) ]) → Faults told error → effects ≡ effect.Release error.queue error.packet ∷ []
+      decided_so : (verdict : Option Rule) → told ≡ (elim verdict [ None ↦ outcome.Taken taken.Launched | Some rule ↦ outcome.Taken (taken.Denied (error_without_place queue id.0 rule)) ]) → Faults told error → effects ≡ effect.Release error.queue error.packet ∷ []
       decided_so None is (inl was) = let e : outcome.Taken taken.Launched ≡ outcome.Worked (worked.Faulted error) = sym is ∙ was in absurd cc
       decided_so None is (inr was) = let e : outcome.Taken taken.Launched ≡ outcome.Polled (polled_as.Failed error) = sym is ∙ was in absurd cc
-      decided_so (Some rule) is (inl was) = let e : outcome.Taken (taken.Denied (error_at queue id.0 rule)) ≡ outcome.Worked (worked.Faulted error) = sym is ∙ was in absurd cc
-      decided_so (Some rule) is (inr was) = let e : outcome.Taken (taken.Denied (error_at queue id.0 rule)) ≡ outcome.Polled (polled_as.Failed error) = sym is ∙ was in absurd cc
+      decided_so (Some rule) is (inl was) = let e : outcome.Taken (taken.Denied (error_without_place queue id.0 rule)) ≡ outcome.Worked (worked.Faulted error) = sym is ∙ was in absurd cc
+      decided_so (Some rule) is (inr was) = let e : outcome.Taken (taken.Denied (error_without_place queue id.0 rule)) ≡ outcome.Polled (polled_as.Failed error) = sym is ∙ was in absurd cc
   fault-released (RunNext queue id) told effects error owing faults = by_group (run-entered start es told effects queue id owing)
     where
       by_end : (d : KernelDispatch) (group : ℕ) (result : GroupResult) → GroupWrote start es told effects queue id d group result ⊎ GroupFaulted start es told effects queue id d group result → effects ≡ effect.Release error.queue error.packet ∷ []

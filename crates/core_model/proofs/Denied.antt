@@ -20,7 +20,7 @@ use Rattle.core_model.specs.History.{Start}
 use Rattle.core_model.specs.Grants.{in_force}
 use Rattle.core_model.specs.Memory.{region_lengths}
 use Rattle.core_model.specs.Owed.{is_host_size, owed, refuses}
-use Rattle.core_model.specs.Queries.{replied}
+use Rattle.core_model.specs.Queries.{query_answer}
 use Rattle.core_model.specs.Headline.{MayReach}
 
 module _ (start : Start) (es : List Entry) (client : ClientId) (known : declares_client start.policy client ≡ true) where
@@ -46,14 +46,14 @@ module _ (start : Start) (es : List Entry) (client : ClientId) (known : declares
   unfolding owed
   opening-denied agent size none = rw (known, none) refl
 
-  pub read-denied : (address : Address) (size : ℕ) → is_host_size size ≡ true → (MayReach start es client right.Read address.0 size → ⊥) → replied start es (query.HostRead client address size) ≡ Err (refusal.Denied right.Read)
-  unfolding replied
+  pub read-denied : (address : Address) (size : ℕ) → is_host_size size ≡ true → (MayReach start es client right.Read address.0 size → ⊥) → query_answer start es (query.HostRead client address size) ≡ Err (refusal.Denied right.Read)
+  unfolding query_answer
   read-denied address size good none = rw (known, good, out-of-reach right.Read address.0 size none) refl
 
-  pub load-denied : (signal : SignalHandle) → in_force start es client (object.Signal signal) right.Wait ≡ false → replied start es (query.LoadSignal client signal) ≡ Err (refusal.Denied right.Wait)
-  unfolding replied
+  pub load-denied : (signal : SignalHandle) → in_force start es client (object.Signal signal) right.Wait ≡ false → query_answer start es (query.LoadSignal client signal) ≡ Err (refusal.Denied right.Wait)
+  unfolding query_answer
   load-denied signal none = rw (known, none) refl
 
-  pub test-denied : (signal : SignalHandle) (condition : Condition) (value : ℤ) → in_force start es client (object.Signal signal) right.Wait ≡ false → replied start es (query.TestSignal client signal condition value) ≡ Err (refusal.Denied right.Wait)
-  unfolding replied
+  pub test-denied : (signal : SignalHandle) (condition : Condition) (value : ℤ) → in_force start es client (object.Signal signal) right.Wait ≡ false → query_answer start es (query.TestSignal client signal condition value) ≡ Err (refusal.Denied right.Wait)
+  unfolding query_answer
   test-denied signal condition value none = rw (known, none) refl

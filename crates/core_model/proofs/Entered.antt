@@ -44,14 +44,14 @@ use Rattle.core_model.specs.History.{Start}
 use Rattle.core_model.specs.Grants.{in_force}
 use Rattle.core_model.specs.Memory.{region_lengths, signals}
 use Rattle.core_model.specs.Queues.{error_of, Opening, owner, openings, next_id, is_down, is_stopped}
-use Rattle.core_model.specs.Flight.{flight, flight_of, in_flight, is_packet, none_seen, progress, seen_with}
+use Rattle.core_model.specs.Flight.{flight, flight_of, in_flight, is_packet, none_seen, progress, seen_by_either}
 use Rattle.core_model.specs.Holds.{holder}
 use Rattle.core_model.specs.declared.limits.TheConstants.{QUEUES}
-use Rattle.core_model.specs.Needs.{completion}
-use Rattle.core_model.specs.LaunchRules.{first_failing, may_start, is_barrier}
+use Rattle.core_model.specs.Needs.{completion_signal}
+use Rattle.core_model.specs.LaunchRules.{first_failing_rule, cause_to_wait, is_barrier}
 use Rattle.core_model.specs.View.{Given, given, group_input}
-use Rattle.core_model.specs.Work.{groups_of, write_of_run, agent_writes, is_ready, is_negative, awaited, newly_seen}
-use Rattle.core_model.specs.Owed.{refuse_if, Owed, owed, answers, enters, refuse_if_held, decided, for_packet, error_at, facts_of, is_host_size, is_ring_size, is_finished, completed, owed_take, group_error, group_owed, owed_group, owed_poll, owed_finish, polled, barrier_in, release_of, old_if_asked}
+use Rattle.core_model.specs.Work.{groups_of, write_of_run, agent_writes, is_ready, is_negative, seen_dependencies, newly_seen_positions}
+use Rattle.core_model.specs.Owed.{refuse_if, Owed, owed, answers, enters, refuse_if_held, owed_verdict, for_packet, error_without_place, facts_of, is_host_size, is_ring_size, is_finished, signal_decrement, owed_take, group_error, group_owed, owed_group, owed_poll, owed_finish, owed_sight, barrier_in, release_of, old_if_asked}
 use Rattle.core_model.proofs.Lists.{found-passes}
 use Rattle.core_model.proofs.Launches.{refuse_if-passed, refuse_unless-passed, for_some-found}
 
@@ -142,14 +142,14 @@ module _ (start : Start) (es : List Entry) (told : Outcome) (effects : List Effe
     pub owner_is : owner start es queue ≡ Some opening
     pub launches_yet : is_down start es queue ≡ false
     pub id_is_next : id.0 ≡ next_id start es queue
-    pub need_not_wait : may_start (map (λ f. f.packet) (flight_of start es queue)) (barrier_bit bytes) ≡ None
+    pub need_not_wait : cause_to_wait (map (λ f. f.packet) (flight_of start es queue)) (barrier_bit bytes) ≡ None
     pub effects_are : effects ≡ []
     pub verdict : Option Rule
-    pub verdict_is : first_failing (facts_of start es opening) bytes ≡ verdict
-    pub outcome_is : told ≡ elim verdict [ None ↦ outcome.Taken taken.Launched | Some rule ↦ outcome.Taken (taken.Denied (error_at queue id.0 rule)) ]
+    pub verdict_is : first_failing_rule (facts_of start es opening) bytes ≡ verdict
+    pub outcome_is : told ≡ elim verdict [ None ↦ outcome.Taken taken.Launched | Some rule ↦ outcome.Taken (taken.Denied (error_without_place queue id.0 rule)) ]
 
-  decided-entered : (queue : QueueId) (id : ℕ) (cause : Option Cause) (verdict : Option Rule) → decided queue id cause verdict ≡ enters told effects →
-      (effects ≡ []) × (told ≡ elim verdict [ None ↦ outcome.Taken taken.Launched | Some rule ↦ outcome.Taken (taken.Denied (error_at queue id rule)) ]) × (cause ≡ None)
+  decided-entered : (queue : QueueId) (id : ℕ) (cause : Option Cause) (verdict : Option Rule) → owed_verdict queue id cause verdict ≡ enters told effects →
+      (effects ≡ []) × (told ≡ elim verdict [ None ↦ outcome.Taken taken.Launched | Some rule ↦ outcome.Taken (taken.Denied (error_without_place queue id rule)) ]) × (cause ≡ None)
   decided-entered queue id (Some cause) verdict same = absurd cc
   decided-entered queue id None None same = (cc, cc, refl)
   decided-entered queue id None (Some rule) same = (cc, cc, refl)
@@ -161,7 +161,7 @@ module _ (start : Start) (es : List Entry) (told : Outcome) (effects : List Effe
       let opening = found.found in
       let up = refused-not (is_down start es queue) _ _ told effects found.rest_is in
       let next = refuse_unless-passed (id.0 == next_id start es queue) _ _ told effects up.1 in
-      let last = decided-entered queue id.0 (may_start (map (λ f. f.packet) (flight_of start es queue)) (barrier_bit bytes)) (first_failing (facts_of start es opening) bytes) next.rest_is in
+      let last = decided-entered queue id.0 (cause_to_wait (map (λ f. f.packet) (flight_of start es queue)) (barrier_bit bytes)) (first_failing_rule (facts_of start es opening) bytes) next.rest_is in
       record {
         opening = opening;
         owner_is = found.is;
@@ -169,7 +169,7 @@ module _ (start : Start) (es : List Entry) (told : Outcome) (effects : List Effe
         id_is_next = eqb-true _ _ next.test_is;
         need_not_wait = last.2;
         effects_are = last.0;
-        verdict = first_failing (facts_of start es opening) bytes;
+        verdict = first_failing_rule (facts_of start es opening) bytes;
         verdict_is = refl;
         outcome_is = last.1;
       }
@@ -261,31 +261,31 @@ module _ (start : Start) (es : List Entry) (told : Outcome) (effects : List Effe
 
   -- what a poll tells that sees something new
   abbrev pub sighting : Packet → Seen → Seen → Outcome
-  sighting p satisfied new = outcome.Polled (if is_ready p (seen_with satisfied new) then polled_as.Ready new else polled_as.Pending new)
+  sighting p satisfied new = outcome.Polled (if is_ready p (seen_by_either satisfied new) then polled_as.Ready new else polled_as.Pending new)
 
   pub record HasSeen (queue : QueueId) (id : PacketId) : Type 0 where
     pub is_quiet : IsQuiet
     pub flying : InFlight
     pub found : in_flight start es queue id ≡ Some flying
-    pub outcome_is : told ≡ sighting flying.packet (progress start es queue id).satisfied (newly_seen (signals start es) flying.packet (progress start es queue id).satisfied)
+    pub outcome_is : told ≡ sighting flying.packet (progress start es queue id).satisfied (newly_seen_positions (signals start es) flying.packet (progress start es queue id).satisfied)
 
   pub record HasFailed (queue : QueueId) (id : PacketId) : Type 0 where
     pub flying : InFlight
     pub found : in_flight start es queue id ≡ Some flying
     pub effects_are : effects ≡ effect.Release queue id ∷ []
-    pub outcome_is : told ≡ outcome.Polled (polled_as.Failed (error_at queue id.0 B1))
-    pub negative : list_any (is_negative (signals start es)) (awaited flying.packet (progress start es queue id).satisfied) ≡ true
+    pub outcome_is : told ≡ outcome.Polled (polled_as.Failed (error_without_place queue id.0 B1))
+    pub negative : list_any (is_negative (signals start es)) (seen_dependencies flying.packet (progress start es queue id).satisfied) ≡ true
 
   poll-end : (queue : QueueId) (id : PacketId) (f : InFlight) → in_flight start es queue id ≡ Some f → owed_poll (signals start es) queue id f.packet (progress start es queue id) ≡ enters told effects → HasSeen queue id ⊎ HasFailed queue id
   poll-end queue id f found same =
       let barrier = refuse_unless-passed (is_barrier f.packet) _ _ told effects same in
-      ready (is_ready f.packet satisfied) (list_any (is_negative (signals start es)) (awaited f.packet satisfied)) refl barrier.rest_is
+      ready (is_ready f.packet satisfied) (list_any (is_negative (signals start es)) (seen_dependencies f.packet satisfied)) refl barrier.rest_is
     where
       satisfied : Seen
       satisfied = (progress start es queue id).satisfied
 
       new : Seen
-      new = newly_seen (signals start es) f.packet satisfied
+      new = newly_seen_positions (signals start es) f.packet satisfied
 
       some_seen : (b : Bool) → error_of (sighting f.packet satisfied new) ≡ None → (if b then enters (sighting f.packet satisfied new) [] else answers (outcome.Polled (polled_as.Pending none_seen))) ≡ enters told effects → HasSeen queue id
       some_seen true plain same = record { is_quiet = quiet (sighting f.packet satisfied new) plain same; flying = f; found = found; outcome_is = cc }
@@ -295,11 +295,11 @@ module _ (start : Start) (es : List Entry) (told : Outcome) (effects : List Effe
       either true = refl
       either false = refl
 
-      ready : (is negative : Bool) → list_any (is_negative (signals start es)) (awaited f.packet satisfied) ≡ negative →
-          (if is then answers (outcome.Polled (polled_as.Ready none_seen)) else if negative then enters (outcome.Polled (polled_as.Failed (error_at queue id.0 B1))) (effect.Release queue id ∷ []) else polled f.packet satisfied new) ≡ enters told effects → HasSeen queue id ⊎ HasFailed queue id
+      ready : (is negative : Bool) → list_any (is_negative (signals start es)) (seen_dependencies f.packet satisfied) ≡ negative →
+          (if is then answers (outcome.Polled (polled_as.Ready none_seen)) else if negative then enters (outcome.Polled (polled_as.Failed (error_without_place queue id.0 B1))) (effect.Release queue id ∷ []) else owed_sight f.packet satisfied new) ≡ enters told effects → HasSeen queue id ⊎ HasFailed queue id
       ready true negative looked same = absurd cc
       ready false true looked same = inr (record { flying = f; found = found; effects_are = cc; outcome_is = cc; negative = looked })
-      ready false false looked same = inl (some_seen (list_any (λ at. at) new.0) (either (is_ready f.packet (seen_with satisfied new))) same)
+      ready false false looked same = inl (some_seen (list_any (λ at. at) new.0) (either (is_ready f.packet (seen_by_either satisfied new))) same)
 
   pub poll-entered : (queue : QueueId) (id : PacketId) → owed start es (Poll queue id) ≡ enters told effects → HasSeen queue id ⊎ HasFailed queue id
   unfolding owed
@@ -315,7 +315,7 @@ module _ (start : Start) (es : List Entry) (told : Outcome) (effects : List Effe
     pub is_done : is_finished flying.packet (progress start es queue id) ≡ true
     pub outcome_is : told ≡ outcome.Accepted
     pub no_error : error_of told ≡ None
-    pub effects_are : effects ≡ completed (signals start es) (completion flying.packet) ++ effect.Release queue id ∷ []
+    pub effects_are : effects ≡ signal_decrement (signals start es) (completion_signal flying.packet) ++ effect.Release queue id ∷ []
 
   pub finish-entered : (queue : QueueId) (id : PacketId) → owed start es (Finish queue id) ≡ enters told effects → Completed queue id
   unfolding owed

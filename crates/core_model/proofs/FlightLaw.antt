@@ -10,7 +10,7 @@ use Rattle.core_model.specs.declared.entry.Effect.{Effect}
 use Rattle.core_model.specs.declared.entry.Effect.TheVariants.{Write, Signal, Release}
 use Rattle.core_model.specs.declared.flight.InFlight.{InFlight}
 use Rattle.core_model.specs.History.{effects_of}
-use Rattle.core_model.specs.Flight.{flight, flight_after, flight_after_effect, is_packet, launched_by, releases, with_launched, LawOfFlight, WasLaunched}
+use Rattle.core_model.specs.Flight.{flight, flight_after, flight_after_effect, is_packet, launched_by, releases_packet, with_launched, LawOfFlight, WasLaunchedAndStays}
 
 -- a packet is one of some, item by item
 abbrev among : InFlight → List InFlight → Type 0
@@ -32,11 +32,11 @@ neither false false e = (refl, refl)
 neither true b e = absurd cc
 neither false true e = absurd cc
 
-none-split : (f : InFlight) (xs ys : List Effect) → list_any (releases f) (xs ++ ys) ≡ false → (list_any (releases f) xs ≡ false) × (list_any (releases f) ys ≡ false)
-none-split f xs ys e = neither _ _ (sym (list_any-append (releases f) xs ys) ∙ e)
+none-split : (f : InFlight) (xs ys : List Effect) → list_any (releases_packet f) (xs ++ ys) ≡ false → (list_any (releases_packet f) xs ≡ false) × (list_any (releases_packet f) ys ≡ false)
+none-split f xs ys e = neither _ _ (sym (list_any-append (releases_packet f) xs ys) ∙ e)
 
-none-both : (f : InFlight) (xs ys : List Effect) → list_any (releases f) xs ≡ false → list_any (releases f) ys ≡ false → list_any (releases f) (xs ++ ys) ≡ false
-none-both f xs ys a b = list_any-append (releases f) xs ys ∙ (rw (a, b) refl)
+none-both : (f : InFlight) (xs ys : List Effect) → list_any (releases_packet f) xs ≡ false → list_any (releases_packet f) ys ≡ false → list_any (releases_packet f) (xs ++ ys) ≡ false
+none-both f xs ys a b = list_any-append (releases_packet f) xs ys ∙ (rw (a, b) refl)
 
 -- ---- one change
 
@@ -63,7 +63,7 @@ not_true : (b : Bool) → not b ≡ true → b ≡ false
 not_true true e = absurd cc
 not_true false e = refl
 
-stayed : (effects : List Effect) (fs : List InFlight) (f : InFlight) → among f (fold flight_after_effect fs effects) → among f fs × (list_any (releases f) effects ≡ false)
+stayed : (effects : List Effect) (fs : List InFlight) (f : InFlight) → among f (fold flight_after_effect fs effects) → among f fs × (list_any (releases_packet f) effects ≡ false)
 stayed [] fs f h = (h, refl)
 stayed (Write address bytes ∷ rest) fs f h = stayed rest fs f h
 stayed (Signal signal old new ∷ rest) fs f h = stayed rest fs f h
@@ -72,7 +72,7 @@ stayed (Release queue id ∷ rest) fs f h =
     let now = filtered (λ g. not (is_packet queue id g)) fs f later.0 in
     (now.0, rw (not_true (is_packet queue id f) now.1) later.1)
 
-stays : (effects : List Effect) (fs : List InFlight) (f : InFlight) → list_any (releases f) effects ≡ false → among f fs → among f (fold flight_after_effect fs effects)
+stays : (effects : List Effect) (fs : List InFlight) (f : InFlight) → list_any (releases_packet f) effects ≡ false → among f fs → among f (fold flight_after_effect fs effects)
 stays [] fs f none h = h
 stays (Write address bytes ∷ rest) fs f none h = stays rest fs f none h
 stays (Signal signal old new ∷ rest) fs f none h = stays rest fs f none h
@@ -114,7 +114,7 @@ effects_of-first : (e : Entry) (es : List Entry) → effects_of (e ∷ es) ≡ e
 unfolding effects_of
 effects_of-first e es = refl
 
-was_launched-before : (e : Entry) (es : List Entry) (f : InFlight) → WasLaunched es f → WasLaunched (e ∷ es) f
+was_launched-before : (e : Entry) (es : List Entry) (f : InFlight) → WasLaunchedAndStays es f → WasLaunchedAndStays (e ∷ es) f
 was_launched-before e es f w = record {
   before = e ∷ w.before;
   launch = w.launch;
@@ -124,7 +124,7 @@ was_launched-before e es f w = record {
   stays = w.stays;
 }
 
-flown : (entries : List Entry) (fs : List InFlight) (f : InFlight) → among f (fold flight_after fs entries) → (among f fs × (list_any (releases f) (effects_of entries) ≡ false)) ⊎ WasLaunched entries f
+flown : (entries : List Entry) (fs : List InFlight) (f : InFlight) → among f (fold flight_after fs entries) → (among f fs × (list_any (releases_packet f) (effects_of entries) ≡ false)) ⊎ WasLaunchedAndStays entries f
 unfolding effects_of
 flown [] fs f h = inl (h, refl)
 flown (e ∷ es) fs f h = elim (flown es (flight_after fs e) f h) [
@@ -138,15 +138,15 @@ flown (e ∷ es) fs f h = elim (flown es (flight_after fs e) f h) [
       ])
 ]
 
-flies : (entries : List Entry) (fs : List InFlight) (f : InFlight) → list_any (releases f) (effects_of entries) ≡ false → among f fs → among f (fold flight_after fs entries)
+flies : (entries : List Entry) (fs : List InFlight) (f : InFlight) → list_any (releases_packet f) (effects_of entries) ≡ false → among f fs → among f (fold flight_after fs entries)
 flies [] fs f none h = h
 flies (e ∷ es) fs f none h =
-    let both = none-split f e.effects (effects_of es) (sym (ap (list_any (releases f)) (effects_of-first e es)) ∙ none) in
+    let both = none-split f e.effects (effects_of es) (sym (ap (list_any (releases_packet f)) (effects_of-first e es)) ∙ none) in
     flies es (flight_after fs e) f both.1 (stays e.effects _ f both.0 (with_launched-left fs (launched_by e.event e.outcome) f h))
 
-launched-flies : (before since : List Entry) (e : Entry) (f : InFlight) → launched_by e.event e.outcome ≡ Some f → list_any (releases f) (effects_of (e ∷ since)) ≡ false → among f (fold flight_after [] (before ++ e ∷ since))
+launched-flies : (before since : List Entry) (e : Entry) (f : InFlight) → launched_by e.event e.outcome ≡ Some f → list_any (releases_packet f) (effects_of (e ∷ since)) ≡ false → among f (fold flight_after [] (before ++ e ∷ since))
 launched-flies before since e f launched none =
-    let both = none-split f e.effects (effects_of since) (sym (ap (list_any (releases f)) (effects_of-first e since)) ∙ none) in
+    let both = none-split f e.effects (effects_of since) (sym (ap (list_any (releases_packet f)) (effects_of-first e since)) ∙ none) in
     rw (fold-append flight_after [] before (e ∷ since))
     (flies since _ f both.1 (stays e.effects _ f both.0 (with_launched-last (fold flight_after [] before) _ f launched)))
 

@@ -33,10 +33,10 @@ use Rattle.core_model.specs.Grants.{in_force, in_force_after, is_named}
 use Rattle.core_model.specs.Queues.{Opening, owner, openings, opening_of, next_id}
 use Rattle.core_model.specs.Flight.{flight, in_flight, is_packet, launched_by}
 use Rattle.core_model.specs.Needs.{needs, object_of}
-use Rattle.core_model.specs.LaunchRules.{Facts, holds_rule, is_met, launch_rules, lies_whole}
+use Rattle.core_model.specs.LaunchRules.{Facts, holds_rule, need_is_met, launch_rules, lies_whole}
 use Rattle.core_model.specs.Kernels.{argument_block, kernel_of, wide_arguments}
 use Rattle.core_model.specs.Memory.{region_lengths}
-use Rattle.core_model.specs.Holds.{Held, all_in_force, arguments, arguments_if, arguments_of, as_held, from_launch, held, held_at_launch, held_by_arguments, held_by_needs, held_by_pointer, held_if, is_launch, holds_one_of, is_owned, is_up_to, least}
+use Rattle.core_model.specs.Holds.{ObjectRight, all_in_force, arguments, arguments_if, arguments_of, right_needed, from_launch, packet_rights, rights_at_launch, held_by_arguments, held_by_needs, held_by_pointer, rights_of_launch, is_launch, holds_one_of, is_queue_of, is_up_to, least_in_flight}
 use Rattle.core_model.specs.Owed.{owed, enters, facts_of}
 use Rattle.core_model.specs.Legal.{IsLegal, entry_of}
 use Rattle.core_model.specs.Headline.{HasItsRights, HoldsInForce, InFlightSince, Launch}
@@ -152,7 +152,7 @@ module _ (Q : InFlight → Type 0) where
       lower rest false up = record { one = rest.one; holds = rest.holds; up_to = and_from _ _ (up_to-turned f rest.one up) rest.up_to }
 
 -- where there is no least one, there is none
-least-none : (fs : List InFlight) → least fs ≡ None → fs ≡ []
+least-none : (fs : List InFlight) → least_in_flight fs ≡ None → fs ≡ []
 least-none [] none = refl
 least-none (f ∷ fs) none =
     let lowest = lowest-of (λ m. list_all (is_up_to m) (f ∷ fs) ≡ false) f fs (none-passes (λ m. list_all (is_up_to m) (f ∷ fs)) (f ∷ fs) none) in
@@ -192,7 +192,7 @@ same-turned (object.Kernel a) (object.Region b) = refl
 same-turned (object.Kernel a) (object.Signal b) = refl
 
 -- rights that are in force stay so where none of them is named
-unnamed-stay : (client named : ClientId) (on : Object) (rights : Rights) (before : Object → Right → Bool) (hs : List Held) →
+unnamed-stay : (client named : ClientId) (on : Object) (rights : Rights) (before : Object → Right → Bool) (hs : List ObjectRight) →
     (client.0 == named.0 && list_any (λ h. same_object on h.0 && has rights h.1) hs) ≡ false → All (λ h. before h.0 h.1 ≡ true) hs →
     All (λ h. (before h.0 h.1 && not (is_named client h.0 h.1 named on rights)) ≡ true) hs
 unnamed-stay client named on rights before [] none all = All-nil _
@@ -221,14 +221,14 @@ pub record HoldsNow (start : Start) (es : List Entry) (f : InFlight) : Type 0 wh
   pub launch : Launch start es f.queue f.id
   pub packet_is : launch.packet ≡ f.packet
   pub owner_is : owner start es f.queue ≡ Some launch.opening
-  pub held_is : held start es f.queue f.id ≡ held_at_launch start launch.before launch.opening f.packet
+  pub held_is : packet_rights start es f.queue f.id ≡ rights_at_launch start launch.before launch.opening f.packet
   pub arguments_are : arguments start es f.queue f.id ≡ arguments_of start launch.before f.packet
-  pub granted_then : All (λ h. in_force start launch.before launch.opening.client h.0 h.1 ≡ true) (held_at_launch start launch.before launch.opening f.packet)
-  pub granted : All (λ h. in_force start es launch.opening.client h.0 h.1 ≡ true) (held_at_launch start launch.before launch.opening f.packet)
+  pub granted_then : All (λ h. in_force start launch.before launch.opening.client h.0 h.1 ≡ true) (rights_at_launch start launch.before launch.opening f.packet)
+  pub granted : All (λ h. in_force start es launch.opening.client h.0 h.1 ≡ true) (rights_at_launch start launch.before launch.opening f.packet)
 
 -- what a launch behind these entries gives a packet of a queue to hold
-abbrev pub holds-from : Start → QueueId → List Entry → Option InFlight → List Held
-holds-from start queue before f = held_if start before (owner start before queue) f
+abbrev pub holds-from : Start → QueueId → List Entry → Option InFlight → List ObjectRight
+holds-from start queue before f = rights_of_launch start before (owner start before queue) f
 
 module _ (start : Start) (es : List Entry) (e : Entry) where
   abbrev later : List Entry
@@ -244,7 +244,7 @@ module _ (start : Start) (es : List Entry) (e : Entry) where
     allowed = l.allowed;
   }
 
-  pub was-launched : (queue : QueueId) (id : PacketId) (before : List Entry) (opening : Opening) (p : Packet) → held start es queue id ≡ held_at_launch start before opening p → was_launched es queue id ≡ true
+  pub was-launched : (queue : QueueId) (id : PacketId) (before : List Entry) (opening : Opening) (p : Packet) → packet_rights start es queue id ≡ rights_at_launch start before opening p → was_launched es queue id ≡ true
   was-launched queue id before opening p is = by_test (was_launched es queue id) refl
     where
       by_test : (b : Bool) → was_launched es queue id ≡ b → was_launched es queue id ≡ true
@@ -253,7 +253,7 @@ module _ (start : Start) (es : List Entry) (e : Entry) where
 
   -- one entry more, after which the rights are in force yet
   holds-more : (f : InFlight) (h : HoldsNow start es f) →
-      All (λ g. in_force_after h.launch.opening.client g.0 g.1 (in_force start es h.launch.opening.client g.0 g.1) e.event ≡ true) (held_at_launch start h.launch.before h.launch.opening f.packet) → HoldsNow start later f
+      All (λ g. in_force_after h.launch.opening.client g.0 g.1 (in_force start es h.launch.opening.client g.0 g.1) e.event ≡ true) (rights_at_launch start h.launch.before h.launch.opening f.packet) → HoldsNow start later f
   holds-more f h stays = record {
     launch = launch-more f.queue f.id h.launch;
     packet_is = h.packet_is;
@@ -262,20 +262,20 @@ module _ (start : Start) (es : List Entry) (e : Entry) where
     arguments_are = from_launch-kept (arguments_if start) [] es (e ∷ []) f.queue f.id (was-launched f.queue f.id h.launch.before h.launch.opening f.packet h.held_is) ∙ h.arguments_are;
     granted_then = h.granted_then;
     granted = All-weaker (λ g. in_force_after h.launch.opening.client g.0 g.1 (in_force start es h.launch.opening.client g.0 g.1) e.event ≡ true) (λ g. in_force start later h.launch.opening.client g.0 g.1 ≡ true)
-        (λ g is. in_force-more start es e h.launch.opening.client g.0 g.1 ∙ is) (held_at_launch start h.launch.before h.launch.opening f.packet) stays;
+        (λ g is. in_force-more start es e h.launch.opening.client g.0 g.1 ∙ is) (rights_at_launch start h.launch.before h.launch.opening f.packet) stays;
   }
 
   -- what an event does to rights in force that are held by none that it names
   kept-by : (event : Event) (f : InFlight) (h : HoldsNow start es f) →
-      ((client : ClientId) (on : Object) (rights : Rights) → event ≡ Revoke client on rights → (is_owned start es client f.queue && list_any (λ g. same_object on g.0 && has rights g.1) (held start es f.queue f.id)) ≡ false) →
-      All (λ g. in_force_after h.launch.opening.client g.0 g.1 (in_force start es h.launch.opening.client g.0 g.1) event ≡ true) (held_at_launch start h.launch.before h.launch.opening f.packet)
+      ((client : ClientId) (on : Object) (rights : Rights) → event ≡ Revoke client on rights → (is_queue_of start es client f.queue && list_any (λ g. same_object on g.0 && has rights g.1) (packet_rights start es f.queue f.id)) ≡ false) →
+      All (λ g. in_force_after h.launch.opening.client g.0 g.1 (in_force start es h.launch.opening.client g.0 g.1) event ≡ true) (rights_at_launch start h.launch.before h.launch.opening f.packet)
   kept-by (Grant c o rights) f h none =
       All-weaker (λ g. in_force start es h.launch.opening.client g.0 g.1 ≡ true) (λ g. (in_force start es h.launch.opening.client g.0 g.1 || is_named h.launch.opening.client g.0 g.1 c o rights) ≡ true)
-      (λ g is. rw is refl) (held_at_launch start h.launch.before h.launch.opening f.packet) h.granted
+      (λ g is. rw is refl) (rights_at_launch start h.launch.before h.launch.opening f.packet) h.granted
   kept-by (Revoke c o rights) f h none =
-      let own : is_owned start es c f.queue ≡ (h.launch.opening.client.0 == c.0) = ap (λ (found : Option Opening). elim found [ None ↦ false | Some opening ↦ opening.client.0 == c.0 ]) h.owner_is in
-      let named = λ (g : Held). same_object o g.0 && has rights g.1 in
-      unnamed-stay h.launch.opening.client c o rights (in_force start es h.launch.opening.client) (held_at_launch start h.launch.before h.launch.opening f.packet) (sym (λ i. own i && list_any named (h.held_is i)) ∙ none c o rights refl) h.granted
+      let own : is_queue_of start es c f.queue ≡ (h.launch.opening.client.0 == c.0) = ap (λ (found : Option Opening). elim found [ None ↦ false | Some opening ↦ opening.client.0 == c.0 ]) h.owner_is in
+      let named = λ (g : ObjectRight). same_object o g.0 && has rights g.1 in
+      unnamed-stay h.launch.opening.client c o rights (in_force start es h.launch.opening.client) (rights_at_launch start h.launch.before h.launch.opening f.packet) (sym (λ i. own i && list_any named (h.held_is i)) ∙ none c o rights refl) h.granted
   kept-by (OpenQueue _ _ _) f h none = h.granted
   kept-by (Stop _) f h none = h.granted
   kept-by (Take _ _ _) f h none = h.granted
@@ -287,10 +287,10 @@ module _ (start : Start) (es : List Entry) (e : Entry) where
 
   -- a revocation that was made names nothing that a packet in flight holds
   unheld : owed start es e.event ≡ enters e.outcome e.effects → (client : ClientId) (on : Object) (rights : Rights) → e.event ≡ Revoke client on rights →
-      All (λ f. (is_owned start es client f.queue && holds_one_of start es on rights f) ≡ false) (flight start es)
+      All (λ f. (is_queue_of start es client f.queue && holds_one_of start es on rights f) ≡ false) (flight start es)
   unheld owing client on rights is =
       let revoked = revoke-effects start es e.outcome e.effects client on rights (rw is at owing) in
-      filtered-none (λ f. is_owned start es client f.queue && holds_one_of start es on rights f) (flight start es) (least-none _ revoked.unheld)
+      filtered-none (λ f. is_queue_of start es client f.queue && holds_one_of start es on rights f) (flight start es) (least-none _ revoked.unheld)
 
   more : IsLegal start es → owed start es e.event ≡ enters e.outcome e.effects → All (HoldsNow start es) (flight start es) → All (HoldsNow start later) (flight start es)
   more legal owing all k d below =
@@ -299,12 +299,12 @@ module _ (start : Start) (es : List Entry) (e : Entry) where
 
   -- ---- at its launch
 
-  rights-met : (facts : Facts) (needed : List Need) → list_all (is_met facts) needed ≡ true → All (λ h. facts.in_force h.0 h.1 ≡ true) (map as_held needed)
+  rights-met : (facts : Facts) (needed : List Need) → list_all (need_is_met facts) needed ≡ true → All (λ h. facts.in_force h.0 h.1 ≡ true) (map right_needed needed)
   rights-met facts needed met =
-      All-map (λ h. facts.in_force h.0 h.1 ≡ true) as_held needed
-      (All-weaker (λ n. is_met facts n ≡ true) (λ n. facts.in_force (object_of n.subject) n.right ≡ true) (λ n is. (and_parts (lies_whole facts.lengths n.subject) _ is).1) needed (all-from_list_all (is_met facts) needed met))
+      All-map (λ h. facts.in_force h.0 h.1 ≡ true) right_needed needed
+      (All-weaker (λ n. need_is_met facts n ≡ true) (λ n. facts.in_force (object_of n.subject) n.right ≡ true) (λ n is. (and_parts (lies_whole facts.lengths n.subject) _ is).1) needed (all-from_list_all (need_is_met facts) needed met))
 
-  rules-met : (facts : Facts) (p : Packet) (rules : List Rule) → ((r : Rule) → list_all (is_met facts) (needs r facts.agent p) ≡ true) → All (λ h. facts.in_force h.0 h.1 ≡ true) (flat_map (λ r. map as_held (needs r facts.agent p)) rules)
+  rules-met : (facts : Facts) (p : Packet) (rules : List Rule) → ((r : Rule) → list_all (need_is_met facts) (needs r facts.agent p) ≡ true) → All (λ h. facts.in_force h.0 h.1 ≡ true) (flat_map (λ r. map right_needed (needs r facts.agent p)) rules)
   rules-met facts p [] each = All-nil _
   rules-met facts p (r ∷ rules) each = All-append (λ h. facts.in_force h.0 h.1 ≡ true) _ _ (rights-met facts (needs r facts.agent p) (each r)) (rules-met facts p rules each)
 
@@ -344,18 +344,18 @@ module _ (start : Start) (es : List Entry) (e : Entry) where
       let now : is_launch f.queue f.id (launched_by e.event e.outcome) ≡ true = rw launches itself in
       let facts : Facts = facts_of start es opening in
       let needed = rules-met facts granted.packet launch_rules (needs-met facts launch.bytes granted.packet granted.allowed.every_rule) in
-      let met : All (λ h. in_force start es opening.client h.0 h.1 ≡ true) (held_at_launch start es opening granted.packet) =
+      let met : All (λ h. in_force start es opening.client h.0 h.1 ≡ true) (rights_at_launch start es opening granted.packet) =
       All-append (λ h. in_force start es opening.client h.0 h.1 ≡ true) (held_by_needs opening granted.packet) (held_by_arguments start es opening.client granted.packet) needed (arguments-held opening.client granted.packet) in
       record {
         launch = record { before = es; bytes = launch.bytes; opening = opening; packet = granted.packet; place = record { after = []; whole = ap (λ x. es ++ x ∷ []) entry_is }; allowed = granted.allowed };
         packet_is = packet_is;
         owner_is = owner-more start es e f.queue opening granted.allowed.owner_is;
-        held_is = ◌∙◌ {b = held_if start es (owner start es f.queue) (launched_by e.event e.outcome)} (from_launch-launch (holds-from start f.queue) [] es e f.queue f.id none now) (λ i. held_if start es (granted.allowed.owner_is i) (launches i));
+        held_is = ◌∙◌ {b = rights_of_launch start es (owner start es f.queue) (launched_by e.event e.outcome)} (from_launch-launch (holds-from start f.queue) [] es e f.queue f.id none now) (λ i. rights_of_launch start es (granted.allowed.owner_is i) (launches i));
         arguments_are = from_launch-launch (arguments_if start) [] es e f.queue f.id none now ∙ ap (arguments_if start es) launches;
-        granted_then = subst (λ q. All (λ h. in_force start es opening.client h.0 h.1 ≡ true) (held_at_launch start es opening q)) packet_is met;
-        granted = subst (λ q. All (λ h. in_force start later opening.client h.0 h.1 ≡ true) (held_at_launch start es opening q)) packet_is
+        granted_then = subst (λ q. All (λ h. in_force start es opening.client h.0 h.1 ≡ true) (rights_at_launch start es opening q)) packet_is met;
+        granted = subst (λ q. All (λ h. in_force start later opening.client h.0 h.1 ≡ true) (rights_at_launch start es opening q)) packet_is
             (All-weaker (λ h. in_force start es opening.client h.0 h.1 ≡ true) (λ h. in_force start later opening.client h.0 h.1 ≡ true)
-            (λ h here. in_force-more start es e opening.client h.0 h.1 ∙ ap (in_force_after opening.client h.0 h.1 (in_force start es opening.client h.0 h.1)) event_is ∙ here) (held_at_launch start es opening granted.packet) met);
+            (λ h here. in_force-more start es e opening.client h.0 h.1 ∙ ap (in_force_after opening.client h.0 h.1 (in_force start es opening.client h.0 h.1)) event_is ∙ here) (rights_at_launch start es opening granted.packet) met);
       }
     where
       one-packet : (o : Option Packet) (p q : Packet) → o ≡ Some p → o ≡ Some q → p ≡ q
@@ -372,29 +372,29 @@ module _ (start : Start) (es : List Entry) (legal : IsLegal start es) where
   -- ---- the rights of a packet in flight, now
 
   -- needs that were met are met while the rights are in force
-  met-yet : (client : ClientId) (facts : Facts) (needed : List Need) → list_all (is_met facts) needed ≡ true → All (λ h. in_force start es client h.0 h.1 ≡ true) (map as_held needed) →
-      list_all (is_met (record facts { in_force = in_force start es client })) needed ≡ true
+  met-yet : (client : ClientId) (facts : Facts) (needed : List Need) → list_all (need_is_met facts) needed ≡ true → All (λ h. in_force start es client h.0 h.1 ≡ true) (map right_needed needed) →
+      list_all (need_is_met (record facts { in_force = in_force start es client })) needed ≡ true
   met-yet client facts [] met all = refl
   met-yet client facts (n ∷ ns) met all =
-      let both = and_parts (is_met facts n) (list_all (is_met facts) ns) met in
+      let both = and_parts (need_is_met facts n) (list_all (need_is_met facts) ns) met in
       let whole = and_parts (lies_whole facts.lengths n.subject) _ both.0 in
-      and_from _ _ (and_from _ _ whole.0 (All-head (λ h. in_force start es client h.0 h.1 ≡ true) (as_held n) (map as_held ns) all))
-      (met-yet client facts ns both.1 (All-tail (λ h. in_force start es client h.0 h.1 ≡ true) (as_held n) (map as_held ns) all))
+      and_from _ _ (and_from _ _ whole.0 (All-head (λ h. in_force start es client h.0 h.1 ≡ true) (right_needed n) (map right_needed ns) all))
+      (met-yet client facts ns both.1 (All-tail (λ h. in_force start es client h.0 h.1 ≡ true) (right_needed n) (map right_needed ns) all))
 
   rights-now : (queue : QueueId) (id : PacketId) (p : Packet) (l : Launch start es queue id) → l.packet ≡ p →
-      All (λ h. in_force start es l.opening.client h.0 h.1 ≡ true) (held_at_launch start l.before l.opening p) → HasItsRights start es l.opening p
+      All (λ h. in_force start es l.opening.client h.0 h.1 ≡ true) (rights_at_launch start l.before l.opening p) → HasItsRights start es l.opening p
   rights-now queue id p l packet_is granted = has-rights start es l.opening p each
     where
-      Granted : Held → Type 0
+      Granted : ObjectRight → Type 0
       Granted g = in_force start es l.opening.client g.0 g.1 ≡ true
 
-      asks : Rule → List Held
-      asks r = map as_held (needs r l.opening.agent p)
+      asks : Rule → List ObjectRight
+      asks r = map right_needed (needs r l.opening.agent p)
 
-      at_launch : (r : Rule) → list_all (is_met (facts_of start l.before l.opening)) (needs r l.opening.agent p) ≡ true
+      at_launch : (r : Rule) → list_all (need_is_met (facts_of start l.before l.opening)) (needs r l.opening.agent p) ≡ true
       at_launch r = needs-met (facts_of start l.before l.opening) l.bytes p (subst (λ q. All (λ s. holds_rule (facts_of start l.before l.opening) l.bytes q s ≡ true) launch_rules) packet_is l.allowed.every_rule) r
 
-      yet : (r : Rule) → All Granted (asks r) → list_all (is_met (facts_of start es l.opening)) (needs r l.opening.agent p) ≡ true
+      yet : (r : Rule) → All Granted (asks r) → list_all (need_is_met (facts_of start es l.opening)) (needs r l.opening.agent p) ≡ true
       yet r all = met-yet l.opening.client (facts_of start l.before l.opening) (needs r l.opening.agent p) (at_launch r) all
 
       needed : All Granted (held_by_needs l.opening p)
@@ -409,7 +409,7 @@ module _ (start : Start) (es : List Entry) (legal : IsLegal start es) where
       from_9 : All Granted (asks rule.L9 ++ (asks rule.L10 ++ []))
       from_9 = all-right Granted (asks rule.L8) _ from_8
 
-      each : (r : Rule) → list_all (is_met (facts_of start es l.opening)) (needs r l.opening.agent p) ≡ true
+      each : (r : Rule) → list_all (need_is_met (facts_of start es l.opening)) (needs r l.opening.agent p) ≡ true
       each rule.L4 = yet rule.L4 (all-left Granted (asks rule.L4) _ needed)
       each rule.L6 = yet rule.L6 (all-left Granted (asks rule.L6) _ from_6)
       each rule.L8 = yet rule.L8 (all-left Granted (asks rule.L8) _ from_8)
@@ -434,11 +434,11 @@ module _ (start : Start) (es : List Entry) (legal : IsLegal start es) where
 
   -- a launch of a packet, at which all was in force that it holds
   abbrev LaunchOf : QueueId → PacketId → Packet → Type 0
-  LaunchOf queue id p = (l : Launch start es queue id) × (l.packet ≡ p) × All (λ h. in_force start l.before l.opening.client h.0 h.1 ≡ true) (held start es queue id)
+  LaunchOf queue id p = (l : Launch start es queue id) × (l.packet ≡ p) × All (λ h. in_force start l.before l.opening.client h.0 h.1 ≡ true) (packet_rights start es queue id)
 
   -- a packet that is found in flight has a launch
   pub flying-since : (queue : QueueId) (id : PacketId) (f : InFlight) → in_flight start es queue id ≡ Some f →
-      (s : InFlightSince start es queue id) × (s.flying ≡ f) × All (λ h. in_force start s.launch.before s.launch.opening.client h.0 h.1 ≡ true) (held start es queue id)
+      (s : InFlightSince start es queue id) × (s.flying ≡ f) × All (λ h. in_force start s.launch.before s.launch.opening.client h.0 h.1 ≡ true) (packet_rights start es queue id)
   flying-since queue id f found =
       let named = named-found start es queue id f found in
       let h : HoldsNow start es f = found-all (HoldsNow start es) (is_packet queue id) (flight start es) f holding found in

@@ -16,7 +16,7 @@ use Rattle.core_model.specs.declared.entry.Entry.{Entry}
 use Rattle.core_model.specs.declared.entry.Effect.{Effect}
 use Rattle.core_model.specs.declared.refusal.Refusal.{Refusal}
 use Rattle.core_model.specs.History.{Start}
-use Rattle.core_model.specs.Queues.{Opening, owner, next_id, hands_over, is_down}
+use Rattle.core_model.specs.Queues.{Opening, owner, next_id, hands_over_packet_of, is_down}
 use Rattle.aql_packet.specs.declared.packet.Packet.{Packet}
 use Rattle.aql_packet.specs.Reading.{decoded}
 use Rattle.core_model.specs.declared.flight.InFlight.{InFlight}
@@ -113,7 +113,7 @@ was_launched-more : (entries : List Entry) (e : Entry) (queue : QueueId) (id : P
 was_launched-more entries e queue id = list_any-append (λ (entry : Entry). is_launch queue id (launched_by entry.event entry.outcome)) entries (e ∷ [])
 
 next_id-grows : (start : Start) (entries : List Entry) (e : Entry) (queue : QueueId) → next_id start entries queue ≤ next_id start (entries ++ e ∷ []) queue
-next_id-grows start entries e queue = by_test (hands_over queue e.event) (next_id-more start entries e queue)
+next_id-grows start entries e queue = by_test (hands_over_packet_of queue e.event) (next_id-more start entries e queue)
   where
     by_test : (b : Bool) → next_id start (entries ++ e ∷ []) queue ≡ (if b then next_id start entries queue + 1 else next_id start entries queue) → next_id start entries queue ≤ next_id start (entries ++ e ∷ []) queue
     by_test true is = omega arith
@@ -125,7 +125,7 @@ below_launch start entries e f queue id owing launch named =
     let queues : f.queue ≡ queue = ap (λ n. record { 0 = n }) (eqb-true _ _ both.0) in
     let ids : f.id.0 ≡ id.0 = eqb-true _ _ both.1 in
     let next = IsNext-from_owed start entries f.queue f.id launch.bytes e.outcome e.effects (rw launch.event_is at owing) in
-    let hands : hands_over f.queue e.event ≡ true = ap (hands_over f.queue) launch.event_is ∙ eq-eqb f.queue.0 f.queue.0 refl in
+    let hands : hands_over_packet_of f.queue e.event ≡ true = ap (hands_over_packet_of f.queue) launch.event_is ∙ eq-eqb f.queue.0 f.queue.0 refl in
     let more : next_id start (entries ++ e ∷ []) f.queue ≡ next_id start entries f.queue + 1 = next_id-more start entries e f.queue ∙ rw hands refl in
     let at = next.id_is in
     subst (λ q. id.0 < next_id start (entries ++ e ∷ []) q) queues (omega arith)

@@ -37,10 +37,10 @@ use Rattle.core_model.specs.History.{Start}
 use Rattle.core_model.specs.Grants.{in_force}
 use Rattle.core_model.specs.Memory.{region_lengths}
 use Rattle.core_model.specs.Queues.{Opening}
-use Rattle.core_model.specs.Needs.{needs, function_of, function_needs, range_need, signal_need, result_range, bytes_at, completion, dependencies, kernel_needs, memory_needs}
+use Rattle.core_model.specs.Needs.{needs, function_of, function_needs, range_need, signal_need, result_range, range_at, completion_signal, dependencies, kernel_needs, memory_needs}
 use Rattle.core_model.specs.Kernels.{kernel_of, no_kernel, segments_of}
-use Rattle.core_model.specs.LaunchRules.{Facts, first_failing, has_arguments, has_form, holds_rule, is_met, launch_rules}
-use Rattle.core_model.specs.Owed.{owed, enters, error_at, facts_of}
+use Rattle.core_model.specs.LaunchRules.{Facts, first_failing_rule, has_arguments, has_form, holds_rule, need_is_met, launch_rules}
+use Rattle.core_model.specs.Owed.{owed, enters, error_without_place, facts_of}
 use Rattle.core_model.specs.Legal.{IsLegal, IsLegalAfter}
 use Rattle.core_model.specs.Headline.{IsEntryBehind, MayBeLaunched, MayReachRange, MayUseSignal, HasItsRights, argument_ranges, kernels_of, ranges_read, ranges_written, reads_of, writes_of}
 use Rattle.core_model.proofs.Lists.{none-passes}
@@ -63,8 +63,8 @@ legal-at start entries before e legal stands = legal-split start [] before e sta
 -- ---- launches
 
 -- the rules hold where none fails
-every-rule : (facts : Facts) (bytes : List ℕ) → first_failing facts bytes ≡ None → All (λ r. holds_rule facts bytes (packet_at (packet_type bytes) bytes) r ≡ true) launch_rules
-unfolding first_failing
+every-rule : (facts : Facts) (bytes : List ℕ) → first_failing_rule facts bytes ≡ None → All (λ r. holds_rule facts bytes (packet_at (packet_type bytes) bytes) r ≡ true) launch_rules
+unfolding first_failing_rule
 every-rule facts bytes none = All-weaker Holds (λ r. holds_rule facts bytes p r ≡ true) (λ r is. held (holds_rule facts bytes p r) is) launch_rules all
   where
     p : Packet
@@ -92,7 +92,7 @@ decoded-passing facts bytes each =
 -- ---- the rights that the rules ask for
 
 -- what each rule needs is met where it holds
-pub needs-met : (facts : Facts) (bytes : List ℕ) (p : Packet) → All (λ r. holds_rule facts bytes p r ≡ true) launch_rules → (r : Rule) → list_all (is_met facts) (needs r facts.agent p) ≡ true
+pub needs-met : (facts : Facts) (bytes : List ℕ) (p : Packet) → All (λ r. holds_rule facts bytes p r ≡ true) launch_rules → (r : Rule) → list_all (need_is_met facts) (needs r facts.agent p) ≡ true
 needs-met facts bytes p each rule.L4 = let holds : holds_rule facts bytes p rule.L4 ≡ true = each 3 rule.L1 (omega arith) in (and_parts (has_form facts p rule.L4) _ holds).1
 needs-met facts bytes p each rule.L6 = each 5 rule.L1 (omega arith)
 needs-met facts bytes p each rule.L8 = let holds : holds_rule facts bytes p rule.L8 ≡ true = each 7 rule.L1 (omega arith) in (and_parts (has_form facts p rule.L8) _ holds).1
@@ -104,39 +104,39 @@ module _ (start : Start) (es : List Entry) (opening : Opening) where
   abbrev facts : Facts
   facts = facts_of start es opening
 
-  signal-met : (right : Right) (s : SignalHandle) → list_all (is_met facts) (signal_need right s) ≡ true → MayUseSignal start es opening.client right s
+  signal-met : (right : Right) (s : SignalHandle) → list_all (need_is_met facts) (signal_need right s) ≡ true → MayUseSignal start es opening.client right s
   signal-met right s met = by_test (s.0 == 0) refl met
     where
-      by_test : (b : Bool) → (s.0 == 0) ≡ b → list_all (is_met facts) (if b then [] else record { subject = subject.Object (object.Signal s); right = right } ∷ []) ≡ true → MayUseSignal start es opening.client right s
+      by_test : (b : Bool) → (s.0 == 0) ≡ b → list_all (need_is_met facts) (if b then [] else record { subject = subject.Object (object.Signal s); right = right } ∷ []) ≡ true → MayUseSignal start es opening.client right s
       by_test true is met = inl (eqb-true _ _ is)
       by_test false is met = inr (and_parts (in_force start es opening.client (object.Signal s) right) true met).0
 
-  signals-met : (right : Right) (ss : List SignalHandle) → list_all (is_met facts) (flat_map (signal_need right) ss) ≡ true → All (MayUseSignal start es opening.client right) ss
+  signals-met : (right : Right) (ss : List SignalHandle) → list_all (need_is_met facts) (flat_map (signal_need right) ss) ≡ true → All (MayUseSignal start es opening.client right) ss
   signals-met right [] met = All-nil _
   signals-met right (s ∷ ss) met =
-      let both = and_parts (list_all (is_met facts) (signal_need right s)) _ (sym (list_all-append (is_met facts) (signal_need right s) (flat_map (signal_need right) ss)) ∙ met) in
+      let both = and_parts (list_all (need_is_met facts) (signal_need right s)) _ (sym (list_all-append (need_is_met facts) (signal_need right s) (flat_map (signal_need right) ss)) ∙ met) in
       All-cons (MayUseSignal start es opening.client right) s ss (signal-met right s both.0) (signals-met right ss both.1)
 
-  range-met : (right : Right) (range : Range) → list_all (is_met facts) (range_need right range) ≡ true → MayReachRange start es opening.client right range
+  range-met : (right : Right) (range : Range) → list_all (need_is_met facts) (range_need right range) ≡ true → MayReachRange start es opening.client right range
   range-met right range met = by_test (range.size == 0) refl met
     where
-      by_test : (b : Bool) → (range.size == 0) ≡ b → list_all (is_met facts) (if b then [] else record { subject = subject.Range range; right = right } ∷ []) ≡ true → MayReachRange start es opening.client right range
+      by_test : (b : Bool) → (range.size == 0) ≡ b → list_all (need_is_met facts) (if b then [] else record { subject = subject.Range range; right = right } ∷ []) ≡ true → MayReachRange start es opening.client right range
       by_test true is met = inl (eqb-true _ _ is)
       by_test false is met =
-          let need = and_parts (is_met facts (record { subject = subject.Range range; right = right })) true met in
+          let need = and_parts (need_is_met facts (record { subject = subject.Range range; right = right })) true met in
           let both = and_parts (is_within (region_lengths start) range.address.0 range.size) _ need.0 in
           inr (record { lies_whole = both.0; granted = both.1 })
 
-  one-met : (right : Right) (range : Range) → list_all (is_met facts) (range_need right range) ≡ true → All (MayReachRange start es opening.client right) (range ∷ [])
+  one-met : (right : Right) (range : Range) → list_all (need_is_met facts) (range_need right range) ≡ true → All (MayReachRange start es opening.client right) (range ∷ [])
   one-met right range met = All-cons (MayReachRange start es opening.client right) range [] (range-met right range met) (All-nil _)
 
-  two-met : (range target : Range) → list_all (is_met facts) (range_need right.Read range ++ range_need right.Write target) ≡ true →
+  two-met : (range target : Range) → list_all (need_is_met facts) (range_need right.Read range ++ range_need right.Write target) ≡ true →
       All (MayReachRange start es opening.client right.Read) (range ∷ []) × All (MayReachRange start es opening.client right.Write) (target ∷ [])
   two-met range target met =
-      let both = and_parts (list_all (is_met facts) (range_need right.Read range)) _ (sym (list_all-append (is_met facts) (range_need right.Read range) (range_need right.Write target)) ∙ met) in
+      let both = and_parts (list_all (need_is_met facts) (range_need right.Read range)) _ (sym (list_all-append (need_is_met facts) (range_need right.Read range) (range_need right.Write target)) ∙ met) in
       (one-met right.Read range both.0, one-met right.Write target both.1)
 
-  function-met : (function : Option AgentFunction) → list_all (is_met facts) (function_needs function) ≡ true →
+  function-met : (function : Option AgentFunction) → list_all (need_is_met facts) (function_needs function) ≡ true →
       All (MayReachRange start es opening.client right.Read) (ranges_read function) × All (MayReachRange start es opening.client right.Write) (ranges_written function)
   function-met None met = (All-nil _, All-nil _)
   function-met (Some (Fill target byte)) met = (All-nil _, one-met right.Write target met)
@@ -144,17 +144,17 @@ module _ (start : Start) (es : List Entry) (opening : Opening) where
   function-met (Some (Add64 number addend)) met = two-met number number met
 
   -- a packet whose needs are met has its rights
-  pub has-rights : (p : Packet) → ((r : Rule) → list_all (is_met facts) (needs r opening.agent p) ≡ true) → HasItsRights start es opening p
+  pub has-rights : (p : Packet) → ((r : Rule) → list_all (need_is_met facts) (needs r opening.agent p) ≡ true) → HasItsRights start es opening p
   has-rights p met = record {
     agent = (and_parts (in_force start es opening.client (object.Agent opening.agent) right.Use) true (met rule.L4)).0;
     launches = kernels p (met rule.L6);
     waits = signals-met right.Wait (dependencies p) (met rule.L9);
-    completes = signal-met right.Change (completion p) (met rule.L10);
+    completes = signal-met right.Change (completion_signal p) (met rule.L10);
     reads = (memory p (met rule.L8)).0;
     writes = (memory p (met rule.L8)).1;
   }
     where
-      kernels : (p : Packet) → list_all (is_met facts) (kernel_needs p) ≡ true → All (λ kernel. in_force start es opening.client (object.Kernel kernel) right.Launch ≡ true) (kernels_of p)
+      kernels : (p : Packet) → list_all (need_is_met facts) (kernel_needs p) ≡ true → All (λ kernel. in_force start es opening.client (object.Kernel kernel) right.Launch ≡ true) (kernels_of p)
       kernels (packet.Kernel d) met =
           All-cons (λ kernel. in_force start es opening.client (object.Kernel kernel) right.Launch ≡ true) d.kernel_object []
           (and_parts (in_force start es opening.client (object.Kernel d.kernel_object) right.Launch) true met).0 (All-nil _)
@@ -162,9 +162,9 @@ module _ (start : Start) (es : List Entry) (opening : Opening) where
       kernels (packet.BarrierAnd _) met = All-nil _
       kernels (packet.BarrierOr _) met = All-nil _
 
-      memory : (p : Packet) → list_all (is_met facts) (memory_needs p) ≡ true → All (MayReachRange start es opening.client right.Read) (reads_of p) × All (MayReachRange start es opening.client right.Write) (writes_of p)
+      memory : (p : Packet) → list_all (need_is_met facts) (memory_needs p) ≡ true → All (MayReachRange start es opening.client right.Read) (reads_of p) × All (MayReachRange start es opening.client right.Write) (writes_of p)
       memory (packet.Agent d) met =
-          let both = and_parts (list_all (is_met facts) (function_needs (function_of d))) _ (sym (list_all-append (is_met facts) (function_needs (function_of d)) (range_need right.Write (result_range d))) ∙ met) in
+          let both = and_parts (list_all (need_is_met facts) (function_needs (function_of d))) _ (sym (list_all-append (need_is_met facts) (function_needs (function_of d)) (range_need right.Write (result_range d))) ∙ met) in
           let own = function-met (function_of d) both.0 in
           (own.0, All-append (MayReachRange start es opening.client right.Write) (ranges_written (function_of d)) (result_range d ∷ []) own.1 (one-met right.Write (result_range d) both.1))
       memory (packet.Kernel _) met = (All-nil _, All-nil _)
@@ -178,8 +178,8 @@ module _ (start : Start) (es : List Entry) (opening : Opening) where
 
   pub arguments-met : (p : Packet) → has_arguments facts p ≡ true → All (MayReachRange start es opening.client right.Read) (argument_ranges start p)
   arguments-met (packet.Kernel d) met =
-      let passes = λ (kernel : KernelSegments). list_all (is_met facts) (range_need right.Read (bytes_at d.kernarg_address.0 kernel.kernarg)) in
-      one-met right.Read (bytes_at d.kernarg_address.0 (kernel_of start d).argument_bytes)
+      let passes = λ (kernel : KernelSegments). list_all (need_is_met facts) (range_need right.Read (range_at d.kernarg_address.0 kernel.kernarg)) in
+      one-met right.Read (range_at d.kernarg_address.0 (kernel_of start d).argument_bytes)
       (passes-segments (numbered start.kernels d.kernel_object.0) passes
       (sym (ap (λ (o : Option KernelSegments). elim o [ None ↦ false | Some kernel ↦ passes kernel ]) (numbered-map segments_of start.kernels d.kernel_object.0)) ∙ met))
   arguments-met (packet.Agent _) met = All-nil _
@@ -222,6 +222,6 @@ launch-granted start es queue id bytes effects owing =
     readable : (facts : Facts) (p : Packet) → All (λ r. holds_rule facts bytes p r ≡ true) launch_rules → has_arguments facts p ≡ true
     readable facts p each = let holds : holds_rule facts bytes p rule.L8 ≡ true = each 7 rule.L1 (omega arith) in (and_parts (has_form facts p rule.L8) _ holds).0
 
-    none : {X : Option Rule} (verdict : Option Rule) → X ≡ verdict → outcome.Taken taken.Launched ≡ (elim verdict [ None ↦ outcome.Taken taken.Launched | Some r ↦ outcome.Taken (taken.Denied (error_at queue id.0 r)) ]) → X ≡ None
+    none : {X : Option Rule} (verdict : Option Rule) → X ≡ verdict → outcome.Taken taken.Launched ≡ (elim verdict [ None ↦ outcome.Taken taken.Launched | Some r ↦ outcome.Taken (taken.Denied (error_without_place queue id.0 r)) ]) → X ≡ None
     none None is same = is
     none (Some r) is same = absurd cc

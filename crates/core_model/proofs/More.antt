@@ -16,7 +16,7 @@ use Rattle.core_model.specs.declared.entry.Entry.{Entry}
 use Rattle.core_model.specs.History.{Start, effects_of}
 use Rattle.core_model.specs.Grants.{in_force, in_force_after}
 use Rattle.core_model.specs.Memory.{memory_at, byte_after, signals, signals_after, initial_values}
-use Rattle.core_model.specs.Queues.{Opening, openings, opening_of, next_id, hands_over, errors, error_of, is_stopped, stops}
+use Rattle.core_model.specs.Queues.{Opening, openings, opening_of, next_id, hands_over_packet_of, errors, error_of, is_stopped, stops_queue}
 use Rattle.aql_packet.specs.declared.ids.PacketId.{PacketId}
 use Rattle.core_model.specs.Flight.{flight, flight_after, progress, progress_after}
 use Rattle.queue_error.specs.declared.error.QueueError.{QueueError}
@@ -55,10 +55,10 @@ openings-more start es e =
     one None = refl
     one (Some x) = refl
 
-next-sum : (start : Start) (es : List Entry) (e : Entry) (queue : QueueId) → next_id start (es ++ e ∷ []) queue ≡ next_id start es queue + (if hands_over queue e.event then 1 else 0)
+next-sum : (start : Start) (es : List Entry) (e : Entry) (queue : QueueId) → next_id start (es ++ e ∷ []) queue ≡ next_id start es queue + (if hands_over_packet_of queue e.event then 1 else 0)
 unfolding next_id
 next-sum start es e queue =
-    let step : Entry → ℕ = λ entry. if hands_over queue entry.event then 1 else 0 in
+    let step : Entry → ℕ = λ entry. if hands_over_packet_of queue entry.event then 1 else 0 in
     let whole : sum_by step (es ++ e ∷ []) ≡ sum_by step es + sum_by step (e ∷ []) = sum_by-append step es (e ∷ []) in
     omega arith
 
@@ -66,8 +66,8 @@ by_one : (b : Bool) (n : ℕ) → n + (if b then 1 else 0) ≡ (if b then n + 1 
 by_one true n = refl
 by_one false n = add-zero n
 
-pub next_id-more : (start : Start) (es : List Entry) (e : Entry) (queue : QueueId) → next_id start (es ++ e ∷ []) queue ≡ (if hands_over queue e.event then next_id start es queue + 1 else next_id start es queue)
-next_id-more start es e queue = next-sum start es e queue ∙ by_one (hands_over queue e.event) (next_id start es queue)
+pub next_id-more : (start : Start) (es : List Entry) (e : Entry) (queue : QueueId) → next_id start (es ++ e ∷ []) queue ≡ (if hands_over_packet_of queue e.event then next_id start es queue + 1 else next_id start es queue)
+next_id-more start es e queue = next-sum start es e queue ∙ by_one (hands_over_packet_of queue e.event) (next_id start es queue)
 
 -- a queue's errors with one more, if there is one and it is the queue's
 abbrev pub with_error : QueueId → List QueueError → Option QueueError → List QueueError
@@ -96,15 +96,15 @@ errors-more start es e queue =
     last xs None = append-nil xs
     last xs (Some x) = decide (x.queue.0 == queue.0) xs x
 
-or_if : (b stops : Bool) → (b || (stops || false)) ≡ (if stops then true else b)
+or_if : (b stops_queue : Bool) → (b || (stops_queue || false)) ≡ (if stops_queue then true else b)
 or_if true true = refl
 or_if true false = refl
 or_if false true = refl
 or_if false false = refl
 
-pub is_stopped-more : (start : Start) (es : List Entry) (e : Entry) (queue : QueueId) → is_stopped start (es ++ e ∷ []) queue ≡ (if stops queue e.event then true else is_stopped start es queue)
+pub is_stopped-more : (start : Start) (es : List Entry) (e : Entry) (queue : QueueId) → is_stopped start (es ++ e ∷ []) queue ≡ (if stops_queue queue e.event then true else is_stopped start es queue)
 unfolding is_stopped
-is_stopped-more start es e queue = list_any-append _ es (e ∷ []) ∙ or_if (list_any (λ (entry : Entry). stops queue entry.event) es) (stops queue e.event)
+is_stopped-more start es e queue = list_any-append _ es (e ∷ []) ∙ or_if (list_any (λ (entry : Entry). stops_queue queue entry.event) es) (stops_queue queue e.event)
 
 pub flight-more : (start : Start) (es : List Entry) (e : Entry) → flight start (es ++ e ∷ []) ≡ flight_after (flight start es) e
 unfolding flight

@@ -36,7 +36,7 @@ use Rattle.core_model.specs.declared.flight.Progress.{Progress}
 use Rattle.core_model.specs.Flight.{flight_of, in_flight, progress}
 use Rattle.executor.specs.Items.{LentRegion}
 use Rattle.executor.specs.Results.{group_result}
-use Rattle.core_model.specs.Holds.{Held, held}
+use Rattle.core_model.specs.Holds.{ObjectRight, packet_rights}
 use Rattle.core_model.specs.View.{Given, given, group_input, held_regions}
 use Rattle.policy.specs.Rights.{has}
 use Rattle.core_model.proofs.Lists.{filter-passes}
@@ -53,11 +53,11 @@ use Rattle.core_model.specs.Grants.{in_force, rights_in_force}
 use Rattle.core_model.specs.Memory.{memory_from, region_lengths, signals}
 use Rattle.core_model.specs.Queues.{Opening, owner, is_down, next_id}
 use Rattle.core_model.specs.Needs.{function_of}
-use Rattle.core_model.specs.LaunchRules.{Facts, first_failing, holds_rule, launch_rules, may_start}
+use Rattle.core_model.specs.LaunchRules.{Facts, first_failing_rule, holds_rule, launch_rules, cause_to_wait}
 use Rattle.core_model.specs.Work.{groups_of, number_in_memory, write_of, function_writes, function_result, agent_writes}
-use Rattle.core_model.specs.Owed.{owed, answers, enters, error_at, facts_of, is_host_size, group_owed, owed_group}
+use Rattle.core_model.specs.Owed.{owed, answers, enters, error_without_place, facts_of, is_host_size, group_owed, owed_group}
 use Rattle.core_model.specs.Legal.{IsLegal}
-use Rattle.core_model.specs.Queries.{Replying, answer_if, answer_some, replied, has_some, listing, all_objects}
+use Rattle.core_model.specs.Queries.{AnswerOrRefusal, refused_unless, answer_some, query_answer, has_some_right, listing, all_objects}
 use Rattle.core_model.specs.Headline.{InFlightSince, IsDenied, IsListed, MayReach, MayReachRange, range_of, ranges_read, ranges_seen, reads_of}
 use Rattle.core_model.proofs.Entered.{GroupRan, KernelRan, take-decided, run-entered}
 use Rattle.core_model.proofs.Holding.{flying-since}
@@ -84,8 +84,8 @@ first-found holds (x ∷ xs) r found = by_test (holds x) refl found (first-found
         let rest = more same in
         record { earlier = x ∷ rest.earlier; later = rest.later; in_order = ap (λ ys. x ∷ ys) rest.in_order; hold = All-cons (λ y. holds y ≡ true) x rest.earlier is rest.hold; fails = rest.fails }
 
-first-failing : (facts : Facts) (bytes : List ℕ) (r : Rule) → first_failing facts bytes ≡ Some r → IsFirst (holds_rule facts bytes (packet_at (packet_type bytes) bytes)) launch_rules r
-unfolding first_failing
+first-failing : (facts : Facts) (bytes : List ℕ) (r : Rule) → first_failing_rule facts bytes ≡ Some r → IsFirst (holds_rule facts bytes (packet_at (packet_type bytes) bytes)) launch_rules r
+unfolding first_failing_rule
 first-failing facts bytes r found = first-found (holds_rule facts bytes (packet_at (packet_type bytes) bytes)) launch_rules r found
 
 pub denied : (start : Start) (es : List Entry) (queue : QueueId) (id : PacketId) (bytes : List ℕ) (error : QueueError) (effects : List Effect) →
@@ -94,12 +94,12 @@ denied start es queue id bytes error effects owing =
     let decided = take-decided start es (outcome.Taken (taken.Denied error)) effects queue id bytes owing in
     (by_rule decided.opening decided.owner_is decided.launches_yet decided.id_is_next decided.need_not_wait decided.verdict decided.verdict_is decided.outcome_is, decided.effects_are)
   where
-    by_rule : (opening : Opening) → owner start es queue ≡ Some opening → is_down start es queue ≡ false → id.0 ≡ next_id start es queue → may_start (map (λ f. f.packet) (flight_of start es queue)) (barrier_bit bytes) ≡ None → (verdict : Option Rule) → first_failing (facts_of start es opening) bytes ≡ verdict →
-        outcome.Taken (taken.Denied error) ≡ (elim verdict [ None ↦ outcome.Taken taken.Launched | Some r ↦ outcome.Taken (taken.Denied (error_at queue id.0 r)) ]) → IsDenied start es queue id bytes error
+    by_rule : (opening : Opening) → owner start es queue ≡ Some opening → is_down start es queue ≡ false → id.0 ≡ next_id start es queue → cause_to_wait (map (λ f. f.packet) (flight_of start es queue)) (barrier_bit bytes) ≡ None → (verdict : Option Rule) → first_failing_rule (facts_of start es opening) bytes ≡ verdict →
+        outcome.Taken (taken.Denied error) ≡ (elim verdict [ None ↦ outcome.Taken taken.Launched | Some r ↦ outcome.Taken (taken.Denied (error_without_place queue id.0 r)) ]) → IsDenied start es queue id bytes error
     by_rule opening opened up next free None is same = absurd cc
     by_rule opening opened up next free (Some r) is same =
         let first = first-failing (facts_of start es opening) bytes r is in
-        let error_is : error ≡ error_at queue id.0 r = cc in
+        let error_is : error ≡ error_without_place queue id.0 r = cc in
         record { opening = opening; owner_is = opened; launches_yet = up; id_is_next = next; need_not_wait = free; rule = r; error_is = error_is; earlier = first.earlier; later = first.later; in_order = first.in_order; hold = first.hold; fails = first.fails }
 
 -- ---- what groups read
@@ -110,17 +110,17 @@ all-both P Q R each (x ∷ xs) ps qs = All-cons R x xs (each x (All-head P x xs 
 
 -- a packet whose group runs is in flight, and may read what its work reads
 pub group-reads : (start : Start) (es : List Entry) (told : Outcome) (effects : List Effect) (queue : QueueId) (id : PacketId) → IsLegal start es → owed start es (RunNext queue id) ≡ enters told effects →
-    (s : InFlightSince start es queue id) × All (MayReachRange start s.launch.before s.launch.opening.client right.Read) (ranges_seen start (held start es queue id) s.flying.packet)
+    (s : InFlightSince start es queue id) × All (MayReachRange start s.launch.before s.launch.opening.client right.Read) (ranges_seen start (packet_rights start es queue id) s.flying.packet)
 group-reads start es told effects queue id legal owing =
     let ran = run-entered start es told effects queue id owing in
     let since = flying-since start es legal queue id ran.flying ran.found in
     let s = since.0 in (
       s,
-      by_kind start s.launch.before s.launch.opening.client (held start es queue id) since.2 s.flying.packet
+      by_kind start s.launch.before s.launch.opening.client (packet_rights start es queue id) since.2 s.flying.packet
           (subst (λ p. All (MayReachRange start s.launch.before s.launch.opening.client right.Read) (reads_of p)) s.packet_is s.launch.allowed.rights.reads),
     )
   where
-    by_kind : (start : Start) (before : List Entry) (client : ClientId) (hs : List Held) → All (λ h. in_force start before client h.0 h.1 ≡ true) hs → (p : Packet) →
+    by_kind : (start : Start) (before : List Entry) (client : ClientId) (hs : List ObjectRight) → All (λ h. in_force start before client h.0 h.1 ≡ true) hs → (p : Packet) →
         All (MayReachRange start before client right.Read) (reads_of p) → All (MayReachRange start before client right.Read) (ranges_seen start hs p)
     by_kind start before client hs granted (packet.Agent d) own = own
     by_kind start before client hs granted (packet.BarrierAnd _) own = own
@@ -200,18 +200,18 @@ module _ (start : Start) (one other : List Entry) where
 
 -- ---- what clients are told
 
-if-told : (test : Bool) (why : Refusal) (rest : Replying) (told : Answer) → answer_if test why rest ≡ Ok told → (test ≡ true) × (rest ≡ Ok told)
+if-told : (test : Bool) (why : Refusal) (rest : AnswerOrRefusal) (told : Answer) → refused_unless test why rest ≡ Ok told → (test ≡ true) × (rest ≡ Ok told)
 if-told true why rest told same = (refl, same)
 if-told false why rest told same = absurd cc
 
-some-told : {X : Type 0} (o : Option X) (why : Refusal) (rest : X → Replying) (told : Answer) → answer_some o why rest ≡ Ok told → (x : X) × (o ≡ Some x) × (rest x ≡ Ok told)
+some-told : {X : Type 0} (o : Option X) (why : Refusal) (rest : X → AnswerOrRefusal) (told : Answer) → answer_some o why rest ≡ Ok told → (x : X) × (o ≡ Some x) × (rest x ≡ Ok told)
 some-told None why rest told same = absurd cc
 some-told (Some x) why rest told same = (x, refl, same)
 
 module _ (start : Start) (es : List Entry) (client : ClientId) (told : Answer) where
-  pub read-told : (address : Address) (size : ℕ) → replied start es (query.HostRead client address size) ≡ Ok told →
+  pub read-told : (address : Address) (size : ℕ) → query_answer start es (query.HostRead client address size) ≡ Ok told →
       MayReach start es client right.Read address.0 size × (told ≡ answer.Bytes (memory_from start es address.0 size))
-  unfolding replied
+  unfolding query_answer
   read-told address size same =
       let one = if-told (declares_client start.policy client) _ _ told same in
       let two = if-told (is_host_size size) _ _ told one.1 in
@@ -220,9 +220,9 @@ module _ (start : Start) (es : List Entry) (client : ClientId) (told : Answer) w
       let last = three.1 in
       (record { lies_whole = both.0; granted = both.1 }, cc)
 
-  pub load-told : (signal : SignalHandle) → replied start es (query.LoadSignal client signal) ≡ Ok told →
+  pub load-told : (signal : SignalHandle) → query_answer start es (query.LoadSignal client signal) ≡ Ok told →
       (in_force start es client (object.Signal signal) right.Wait ≡ true) × (v : ℤ) × (value_of (signals start es) signal.0 ≡ Some v) × (told ≡ answer.Value v)
-  unfolding replied
+  unfolding query_answer
   load-told signal same =
       let one = if-told (declares_client start.policy client) _ _ told same in
       let two = if-told (in_force start es client (object.Signal signal) right.Wait) _ _ told one.1 in
@@ -230,9 +230,9 @@ module _ (start : Start) (es : List Entry) (client : ClientId) (told : Answer) w
       let last = three.2 in
       (two.0, three.0, three.1, cc)
 
-  pub test-told : (signal : SignalHandle) (condition : Condition) (value : ℤ) → replied start es (query.TestSignal client signal condition value) ≡ Ok told →
+  pub test-told : (signal : SignalHandle) (condition : Condition) (value : ℤ) → query_answer start es (query.TestSignal client signal condition value) ≡ Ok told →
       (in_force start es client (object.Signal signal) right.Wait ≡ true) × (v : ℤ) × (value_of (signals start es) signal.0 ≡ Some v) × (told ≡ answer.Test (meets condition v value))
-  unfolding replied
+  unfolding query_answer
   test-told signal condition value same =
       let one = if-told (declares_client start.policy client) _ _ told same in
       let two = if-told (in_force start es client (object.Signal signal) right.Wait) _ _ told one.1 in
@@ -241,17 +241,17 @@ module _ (start : Start) (es : List Entry) (client : ClientId) (told : Answer) w
       (two.0, three.0, three.1, cc)
 
   -- a listing has the objects that pass, each with its rights
-  listed : (objects : List Object) → All (IsListed start es client) (map (λ on. (on, rights_in_force start es client on)) (filter (has_some start es client) objects))
+  listed : (objects : List Object) → All (IsListed start es client) (map (λ on. (on, rights_in_force start es client on)) (filter (has_some_right start es client) objects))
   listed [] = All-nil _
-  listed (on ∷ objects) = by_test (has_some start es client on) refl (listed objects)
+  listed (on ∷ objects) = by_test (has_some_right start es client on) refl (listed objects)
     where
-      by_test : (b : Bool) → has_some start es client on ≡ b → All (IsListed start es client) (map (λ on. (on, rights_in_force start es client on)) (filter (has_some start es client) objects)) →
-          All (IsListed start es client) (map (λ on. (on, rights_in_force start es client on)) (if b then on ∷ filter (has_some start es client) objects else filter (has_some start es client) objects))
+      by_test : (b : Bool) → has_some_right start es client on ≡ b → All (IsListed start es client) (map (λ on. (on, rights_in_force start es client on)) (filter (has_some_right start es client) objects)) →
+          All (IsListed start es client) (map (λ on. (on, rights_in_force start es client on)) (if b then on ∷ filter (has_some_right start es client) objects else filter (has_some_right start es client) objects))
       by_test true is rest = All-cons (IsListed start es client) (on, rights_in_force start es client on) _ (record { some = is; rights = has-rights_that (in_force start es client on) }) rest
       by_test false is rest = rest
 
-  pub listing-told : replied start es (query.List client) ≡ Ok told → (rows : List (Object × Rights)) × (told ≡ answer.Listing rows) × All (IsListed start es client) rows
-  unfolding replied
+  pub listing-told : query_answer start es (query.List client) ≡ Ok told → (rows : List (Object × Rights)) × (told ≡ answer.Listing rows) × All (IsListed start es client) rows
+  unfolding query_answer
   listing-told same =
       let one = if-told (declares_client start.policy client) _ _ told same in
       let last = one.1 in

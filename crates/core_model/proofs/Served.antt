@@ -11,7 +11,7 @@ use Rattle.core_model.specs.declared.refusal.Refusal.TheVariants as refusal
 use Rattle.core_model.specs.History.{History}
 use Rattle.core_model.specs.Owed.{Owed, owed, refuses, answers, enters}
 use Rattle.core_model.specs.Legal.{IsLegal, IsServed, MeetsOrLacks, AreReplies, as_reply, reply_of, due, entry_of, history_after, lacks_room, within_room}
-use Rattle.core_model.specs.Queries.{Replying}
+use Rattle.core_model.specs.Queries.{AnswerOrRefusal}
 use Rattle.core_model.specs.Headline.{GoesOn}
 use Rattle.core_model.proofs.Legality.{IsLegal-more}
 
@@ -51,7 +51,7 @@ module _ (old : History) (legal : Legal old) (event : Event) where
   event-goes_on new reply (inl meets) = after-due new meets.history_is
   event-goes_on new reply (inr lacks) = stays old new legal lacks.history_is
 
-request-goes_on : (old new : History) (asked : Request) (reply : Replying) → Legal old → IsServed old asked reply new → GoesOn old new
+request-goes_on : (old new : History) (asked : Request) (reply : AnswerOrRefusal) → Legal old → IsServed old asked reply new → GoesOn old new
 request-goes_on old new (request.Event event) reply legal (inl served) = after-due old legal event new served.1
 request-goes_on old new (request.Query query) reply legal (inl served) = stays old new legal served.1
 request-goes_on old new asked reply legal (inr lacked) = stays old new legal lacked.2
@@ -65,7 +65,7 @@ through old mid new one two = record {
   legal = two.legal;
 }
 
-pub list-goes_on : (old new : History) (requests : List Request) (replies : List Replying) → IsLegal old.start old.entries → AreReplies old requests replies new → GoesOn old new
+pub list-goes_on : (old new : History) (requests : List Request) (replies : List AnswerOrRefusal) → IsLegal old.start old.entries → AreReplies old requests replies new → GoesOn old new
 list-goes_on old new [] [] legal is = stays old new legal is
 list-goes_on old new (asked ∷ requests) (reply ∷ replies) legal are =
     let one = request-goes_on old are.0 asked reply legal are.1 in

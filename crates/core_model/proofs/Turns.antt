@@ -20,7 +20,7 @@ use Rattle.core_model.specs.Queues.{Opening, openings, owner, next_id}
 use Rattle.core_model.specs.declared.flight.InFlight.{InFlight}
 use Rattle.core_model.specs.Flight.{launched_by}
 use Rattle.core_model.specs.Holds.{is_launch}
-use Rattle.core_model.specs.Owed.{owed, enters, error_at}
+use Rattle.core_model.specs.Owed.{owed, enters, error_without_place}
 use Rattle.core_model.specs.Legal.{IsLegal, IsLegalAfter, entry_of}
 use Rattle.core_model.specs.Headline.{Launch, IsOpened}
 use Rattle.std.proofs.lemmas.List.{append-nil}
@@ -47,10 +47,10 @@ taken-or-denied start es told effects queue id bytes owing =
     let decided = take-decided start es told effects queue id bytes owing in
     by_verdict decided.verdict decided.outcome_is
   where
-    by_verdict : (verdict : Option Rule) → told ≡ (elim verdict [ None ↦ outcome.Taken Launched | Some rule ↦ outcome.Taken (Denied (error_at queue id.0 rule)) ]) →
+    by_verdict : (verdict : Option Rule) → told ≡ (elim verdict [ None ↦ outcome.Taken Launched | Some rule ↦ outcome.Taken (Denied (error_without_place queue id.0 rule)) ]) →
         (told ≡ outcome.Taken Launched) ⊎ (error : QueueError) × (told ≡ outcome.Taken (Denied error))
     by_verdict None is = inl is
-    by_verdict (Some rule) is = inr (error_at queue id.0 rule, is)
+    by_verdict (Some rule) is = inr (error_without_place queue id.0 rule, is)
 
 -- ---- a packet is launched once
 

@@ -28,7 +28,7 @@ use Rattle.core_model.specs.declared.need.Range.{Range}
 use Rattle.core_model.specs.History.{Start}
 use Rattle.core_model.specs.Grants.{in_force}
 use Rattle.core_model.specs.Memory.{memory_at, memory_from, region_lengths}
-use Rattle.core_model.specs.Holds.{Held}
+use Rattle.core_model.specs.Holds.{ObjectRight}
 use Rattle.core_model.specs.View.{Given, HeldRegion, first_address, group_input, held_region, held_regions, lent, rights_held, view}
 use Rattle.core_model.specs.Headline.{MayReach, MayReachRange, range_of}
 use Rattle.core_model.proofs.Allowed.{same-is}
@@ -46,11 +46,11 @@ same-right right.Launch right.Launch e = refl
 same-right _ _ e = absurd cc
 
 module _ (start : Start) (before : List Entry) (client : ClientId) where
-  abbrev Granted : Held → Type 0
+  abbrev Granted : ObjectRight → Type 0
   Granted h = in_force start before client h.0 h.1 ≡ true
 
   -- a right that some packet holds is in force where all that it holds is
-  any-granted : (on : Object) (one : Right) (hs : List Held) → list_any (λ h. same_object on h.0 && (bit_of h.1 == bit_of one)) hs ≡ true → All Granted hs → in_force start before client on one ≡ true
+  any-granted : (on : Object) (one : Right) (hs : List ObjectRight) → list_any (λ h. same_object on h.0 && (bit_of h.1 == bit_of one)) hs ≡ true → All Granted hs → in_force start before client on one ≡ true
   any-granted on one [] some all = absurd cc
   any-granted on one (h ∷ hs) some all = by_test (same_object on h.0 && (bit_of h.1 == bit_of one)) refl some (λ rest. any-granted on one hs rest (All-tail Granted h hs all))
     where
@@ -63,7 +63,7 @@ module _ (start : Start) (before : List Entry) (client : ClientId) where
           ap (λ o. in_force start before client o one) on_is ∙ (ap (in_force start before client h.0) (sym one_is) ∙ All-head Granted h hs all)
       by_test false is some rest = rest some
 
-  right-granted : (hs : List Held) (on : Object) (one : Right) → All Granted hs → has (rights_held hs on) one ≡ true → in_force start before client on one ≡ true
+  right-granted : (hs : List ObjectRight) (on : Object) (one : Right) → All Granted hs → has (rights_held hs on) one ≡ true → in_force start before client on one ≡ true
   right-granted hs on one all has_it =
       any-granted on one hs (sym (has-rights_that (λ right. list_any (λ h. same_object on h.0 && (bit_of h.1 == bit_of right)) hs) one) ∙ has_it) all
 
@@ -95,7 +95,7 @@ small-region lengths fit (suc k) = small-at lengths (and_parts (nat_le (length l
 
 -- ---- the regions that are held
 
-module _ (start : Start) (before : List Entry) (client : ClientId) (hs : List Held) (granted : All (Granted start before client) hs) where
+module _ (start : Start) (before : List Entry) (client : ClientId) (hs : List ObjectRight) (granted : All (Granted start before client) hs) where
   -- what is known of a region that is held
   pub record IsKnown (region : HeldRegion) : Type 0 where
     pub size_is : region_length (region_lengths start) region.number ≡ region.size

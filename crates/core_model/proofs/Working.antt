@@ -17,10 +17,10 @@ use Rattle.core_model.specs.declared.entry.Effect.TheVariants as effect
 use Rattle.core_model.specs.declared.entry.Entry.{Entry}
 use Rattle.core_model.specs.History.{Start}
 use Rattle.core_model.specs.Memory.{signals}
-use Rattle.core_model.specs.Flight.{progress, seen_with}
-use Rattle.core_model.specs.Needs.{completion}
-use Rattle.core_model.specs.Work.{awaited, is_negative, is_ready, newly_seen}
-use Rattle.core_model.specs.Owed.{completed, enters, error_at, is_finished, owed}
+use Rattle.core_model.specs.Flight.{progress, seen_by_either}
+use Rattle.core_model.specs.Needs.{completion_signal}
+use Rattle.core_model.specs.Work.{seen_dependencies, is_negative, is_ready, newly_seen_positions}
+use Rattle.core_model.specs.Owed.{signal_decrement, enters, error_without_place, is_finished, owed}
 use Rattle.core_model.specs.Legal.{IsLegal}
 use Rattle.core_model.specs.Headline.{InFlightSince, IsCompleted, IsPolled}
 use Rattle.core_model.proofs.Holding.{flying-since}
@@ -35,7 +35,7 @@ module _ (start : Start) (es : List Entry) (legal : IsLegal start es) (told : Ou
         record {
           packet = since.0;
           is_done = ap (λ f. is_finished f.packet (progress start es queue id)) since.1 ∙ done.is_done;
-          effects_are = done.effects_are ∙ sym (ap (λ f. completed (signals start es) (completion f.packet) ++ effect.Release queue id ∷ []) since.1);
+          effects_are = done.effects_are ∙ sym (ap (λ f. signal_decrement (signals start es) (completion_signal f.packet) ++ effect.Release queue id ∷ []) since.1);
         },
       )
 
@@ -43,10 +43,10 @@ module _ (start : Start) (es : List Entry) (legal : IsLegal start es) (told : Ou
   satisfied = (progress start es queue id).satisfied
 
   abbrev sight : Packet → Seen
-  sight p = newly_seen (signals start es) p satisfied
+  sight p = newly_seen_positions (signals start es) p satisfied
 
   -- what was seen suffices or doesn't
-  as-polled : (p : Packet) (b : Bool) → is_ready p (seen_with satisfied (sight p)) ≡ b → IsPolled start es queue id p satisfied (if b then polled_as.Ready (sight p) else polled_as.Pending (sight p))
+  as-polled : (p : Packet) (b : Bool) → is_ready p (seen_by_either satisfied (sight p)) ≡ b → IsPolled start es queue id p satisfied (if b then polled_as.Ready (sight p) else polled_as.Pending (sight p))
   as-polled p true is = (refl, is)
   as-polled p false is = (refl, is)
 
@@ -60,14 +60,14 @@ module _ (start : Start) (es : List Entry) (legal : IsLegal start es) (told : Ou
           let since = flying-since start es legal queue id seen.flying seen.found in
           let p = since.0.flying.packet in (
             since.0,
-            (if is_ready p (seen_with satisfied (sight p)) then polled_as.Ready (sight p) else polled_as.Pending (sight p)),
-            seen.outcome_is ∙ sym (ap (λ f. outcome.Polled (if is_ready f.packet (seen_with satisfied (sight f.packet)) then polled_as.Ready (sight f.packet) else polled_as.Pending (sight f.packet))) since.1),
-            as-polled p (is_ready p (seen_with satisfied (sight p))) refl,
+            (if is_ready p (seen_by_either satisfied (sight p)) then polled_as.Ready (sight p) else polled_as.Pending (sight p)),
+            seen.outcome_is ∙ sym (ap (λ f. outcome.Polled (if is_ready f.packet (seen_by_either satisfied (sight f.packet)) then polled_as.Ready (sight f.packet) else polled_as.Pending (sight f.packet))) since.1),
+            as-polled p (is_ready p (seen_by_either satisfied (sight p))) refl,
           )
       by_end (inr failed) =
           let since = flying-since start es legal queue id failed.flying failed.found in (
             since.0,
-            polled_as.Failed (error_at queue id.0 B1),
+            polled_as.Failed (error_without_place queue id.0 B1),
             failed.outcome_is,
-            (refl, ap (λ f. list_any (is_negative (signals start es)) (awaited f.packet satisfied)) since.1 ∙ failed.negative),
+            (refl, ap (λ f. list_any (is_negative (signals start es)) (seen_dependencies f.packet satisfied)) since.1 ∙ failed.negative),
           )

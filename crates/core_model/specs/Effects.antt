@@ -5,8 +5,8 @@ use Rattle.core_model.specs.declared.effects.Kept.{Kept}
 use Rattle.core_model.specs.declared.effects.Kept.TheVariants.{Few0, Few1, Few2, Many}
 
 -- the changes, in order (own)
-abbrev pub listed : Kept → List Effect
-listed Few0 = []
-listed (Few1 few) = few
-listed (Few2 few) = few
-listed (Many many) = many.items
+abbrev pub effects_in_order : Kept → List Effect
+effects_in_order Few0 = []
+effects_in_order (Few1 few) = few
+effects_in_order (Few2 few) = few
+effects_in_order (Many many) = many.items

@@ -59,44 +59,44 @@ abbrev pub in_flight : Start → List Entry → QueueId → PacketId → Option 
 in_flight start entries queue id = find (is_packet queue id) (flight start entries)
 
 -- whether a change releases a packet (own)
-abbrev pub releases : InFlight → Effect → Bool
-releases f (Release queue id) = is_packet queue id f
-releases f _ = false
+abbrev pub releases_packet : InFlight → Effect → Bool
+releases_packet f (Release queue id) = is_packet queue id f
+releases_packet f _ = false
 
 -- a packet was launched by one of these entries, and neither that one nor any since released it (own)
-pub record WasLaunched (entries : List Entry) (f : InFlight) : Type 0 where
+pub record WasLaunchedAndStays (entries : List Entry) (f : InFlight) : Type 0 where
   pub before : List Entry
   pub launch : Entry
   pub since : List Entry
   pub entries_are : entries ≡ before ++ launch ∷ since
   pub launches : launched_by launch.event launch.outcome ≡ Some f
-  pub stays : list_any (releases f) (effects_of (launch ∷ since)) ≡ false
+  pub stays : list_any (releases_packet f) (effects_of (launch ∷ since)) ≡ false
 
 -- after any entries, in flight are just the packets that were launched and not released since (own)
 abbrev pub LawOfFlight : Type 0
 LawOfFlight = (start : Start) (entries : List Entry) (f : InFlight)
-    → (Contains (flight start entries) f → WasLaunched entries f) × (WasLaunched entries f → Contains (flight start entries) f)
+    → (Contains (flight start entries) f → WasLaunchedAndStays entries f) × (WasLaunchedAndStays entries f → Contains (flight start entries) f)
 
 -- no position seen (own)
 abbrev pub none_seen : Seen
 none_seen = record { 0 = false ∷ false ∷ false ∷ false ∷ false ∷ [] }
 
 -- the positions seen by either (own)
-abbrev pub seen_with : Seen → Seen → Seen
-seen_with a b = record { 0 = map (λ pair. pair.0 || pair.1) (zip a.0 b.0) }
+abbrev pub seen_by_either : Seen → Seen → Seen
+seen_by_either a b = record { 0 = map (λ pair. pair.0 || pair.1) (zip a.0 b.0) }
 
 -- a packet as it is launched: no group has run, and no dependency was seen (own)
-abbrev pub at_launch : Progress
-at_launch = record { groups_run = 0; satisfied = none_seen }
+abbrev pub launch_progress : Progress
+launch_progress = record { groups_run = 0; satisfied = none_seen }
 
 -- how far a packet has come after an event: one of its groups ran, or dependencies were seen (own)
 abbrev pub progress_after : QueueId → PacketId → Progress → Event → Outcome → Progress
-progress_after queue id p (Take q i _) (outcome.Taken Launched) = if same_packet queue id q i then at_launch else p
+progress_after queue id p (Take q i _) (outcome.Taken Launched) = if same_packet queue id q i then launch_progress else p
 progress_after queue id p (RunNext q i) (outcome.Worked (Ran _ _)) = if same_packet queue id q i then record p { groups_run = p.groups_run + 1 } else p
-progress_after queue id p (Poll q i) (outcome.Polled (Pending seen)) = if same_packet queue id q i then record p { satisfied = seen_with p.satisfied seen } else p
-progress_after queue id p (Poll q i) (outcome.Polled (Ready seen)) = if same_packet queue id q i then record p { satisfied = seen_with p.satisfied seen } else p
+progress_after queue id p (Poll q i) (outcome.Polled (Pending seen)) = if same_packet queue id q i then record p { satisfied = seen_by_either p.satisfied seen } else p
+progress_after queue id p (Poll q i) (outcome.Polled (Ready seen)) = if same_packet queue id q i then record p { satisfied = seen_by_either p.satisfied seen } else p
 progress_after queue id p _ _ = p
 
 -- how far a packet has come since its launch (own)
 unfoldable pub progress : Start → List Entry → QueueId → PacketId → Progress
-progress start entries queue id = fold (λ before entry. progress_after queue id before entry.event entry.outcome) at_launch entries
+progress start entries queue id = fold (λ before entry. progress_after queue id before entry.event entry.outcome) launch_progress entries

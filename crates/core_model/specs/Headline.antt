@@ -44,16 +44,16 @@ use Rattle.core_model.specs.History.{Start, History}
 use Rattle.core_model.specs.Grants.{in_force}
 use Rattle.core_model.specs.Memory.{region_lengths, signals}
 use Rattle.core_model.specs.Queues.{Opening, owner, is_down, next_id}
-use Rattle.core_model.specs.Flight.{flight, flight_of, in_flight, progress, seen_with}
+use Rattle.core_model.specs.Flight.{flight, flight_of, in_flight, progress, seen_by_either}
 use Rattle.core_model.specs.Kernels.{kernel_of}
-use Rattle.core_model.specs.Needs.{bytes_at, function_of, result_range, dependencies, completion}
-use Rattle.core_model.specs.LaunchRules.{holds_rule, launch_rules, may_start, is_barrier}
-use Rattle.core_model.specs.Work.{awaited, groups_of, is_negative, is_ready, newly_seen}
-use Rattle.core_model.specs.Holds.{Held, arguments, arguments_of, held, held_at_launch}
+use Rattle.core_model.specs.Needs.{range_at, function_of, result_range, dependencies, completion_signal}
+use Rattle.core_model.specs.LaunchRules.{holds_rule, launch_rules, cause_to_wait, is_barrier}
+use Rattle.core_model.specs.Work.{seen_dependencies, groups_of, is_negative, is_ready, newly_seen_positions}
+use Rattle.core_model.specs.Holds.{ObjectRight, arguments, arguments_of, packet_rights, rights_at_launch}
 use Rattle.core_model.specs.View.{HeldRegion, first_address, held_regions}
-use Rattle.core_model.specs.Owed.{completed, error_at, facts_of, is_finished}
+use Rattle.core_model.specs.Owed.{signal_decrement, error_without_place, facts_of, is_finished}
 use Rattle.core_model.specs.Legal.{IsLegal, entry_of}
-use Rattle.core_model.specs.Queries.{has_some}
+use Rattle.core_model.specs.Queries.{has_some_right}
 
 -- an entry of a history, right behind these others (own)
 pub record IsEntryBehind (entries before : List Entry) (entry : Entry) : Type 0 where
@@ -96,7 +96,7 @@ kernels_of _ = []
 
 -- where the argument block of a kernel dispatch lies; other packets have none (PRM, Kernarg Segment)
 abbrev pub argument_ranges : Start → Packet → List Range
-argument_ranges start (Kernel dispatch) = bytes_at dispatch.kernarg_address.0 (kernel_of start dispatch).argument_bytes ∷ []
+argument_ranges start (Kernel dispatch) = range_at dispatch.kernarg_address.0 (kernel_of start dispatch).argument_bytes ∷ []
 argument_ranges start _ = []
 
 -- the ranges that the function of a packet's dispatch reads (own)
@@ -108,13 +108,13 @@ reads_of (BarrierOr _) = []
 
 -- a held region as a range
 abbrev pub range_of : HeldRegion → Range
-range_of region = bytes_at (first_address region) region.size
+range_of region = range_at (first_address region) region.size
 
 -- the ranges that a packet's groups read: a kernel's are lent the regions that it holds with READ, an agent dispatch has those of its
 -- function (own)
-abbrev pub ranges_seen : Start → List Held → Packet → List Range
-ranges_seen start held (Kernel dispatch) = map range_of (filter (λ region. has region.rights right.Read) (held_regions start held))
-ranges_seen start held p = reads_of p
+abbrev pub ranges_seen : Start → List ObjectRight → Packet → List Range
+ranges_seen start packet_rights (Kernel dispatch) = map range_of (filter (λ region. has region.rights right.Read) (held_regions start packet_rights))
+ranges_seen start packet_rights p = reads_of p
 
 -- the ranges that the function of a packet's dispatch writes, and its result (own)
 abbrev pub writes_of : Packet → List Range
@@ -128,7 +128,7 @@ pub record HasItsRights (start : Start) (entries : List Entry) (opening : Openin
   pub agent : in_force start entries opening.client (object.Agent opening.agent) right.Use ≡ true
   pub launches : All (λ kernel. in_force start entries opening.client (object.Kernel kernel) right.Launch ≡ true) (kernels_of p)
   pub waits : All (MayUseSignal start entries opening.client right.Wait) (dependencies p)
-  pub completes : MayUseSignal start entries opening.client right.Change (completion p)
+  pub completes : MayUseSignal start entries opening.client right.Change (completion_signal p)
   pub reads : All (MayReachRange start entries opening.client right.Read) (reads_of p)
   pub writes : All (MayReachRange start entries opening.client right.Write) (writes_of p)
 
@@ -141,7 +141,7 @@ pub record MayBeLaunched (start : Start) (before : List Entry) (queue : QueueId)
   pub owner_is : owner start before queue ≡ Some opening
   pub launches_yet : is_down start before queue ≡ false
   pub id_is_next : id.0 ≡ next_id start before queue
-  pub need_not_wait : may_start (map (λ f. f.packet) (flight_of start before queue)) (barrier_bit bytes) ≡ None
+  pub need_not_wait : cause_to_wait (map (λ f. f.packet) (flight_of start before queue)) (barrier_bit bytes) ≡ None
   pub is_read : decoded bytes ≡ Some packet
   pub laid_out : Are64Bytes bytes → PacketOf bytes packet
   pub every_rule : All (λ rule. holds_rule (facts_of start before opening) bytes packet rule ≡ true) launch_rules
@@ -173,9 +173,9 @@ pub record IsDenied (start : Start) (before : List Entry) (queue : QueueId) (id 
   pub owner_is : owner start before queue ≡ Some opening
   pub launches_yet : is_down start before queue ≡ false
   pub id_is_next : id.0 ≡ next_id start before queue
-  pub need_not_wait : may_start (map (λ f. f.packet) (flight_of start before queue)) (barrier_bit bytes) ≡ None
+  pub need_not_wait : cause_to_wait (map (λ f. f.packet) (flight_of start before queue)) (barrier_bit bytes) ≡ None
   pub rule : Rule
-  pub error_is : error ≡ error_at queue id.0 rule
+  pub error_is : error ≡ error_without_place queue id.0 rule
   -- the rules before it hold, and it fails
   pub earlier : List Rule
   pub later : List Rule
@@ -225,7 +225,7 @@ pub record IsCompletion (start : Start) (before : List Entry) (event : Event) (s
   pub event_is : event ≡ Finish queue id
   pub result : new ≡ applied (Subtract (pos 1)) old
   pub packet : InFlightSince start before queue id
-  pub signal_is : completion packet.flying.packet ≡ signal
+  pub signal_is : completion_signal packet.flying.packet ≡ signal
   pub allowed : in_force start packet.launch.before packet.launch.opening.client (object.Signal signal) right.Change ≡ true
 
 -- who changed a signal, from the value that it had, and which grant allowed it (own)
@@ -258,17 +258,17 @@ ReleaseIsDue start before event told _ = Unit {0}
 pub record IsCompleted (start : Start) (before : List Entry) (queue : QueueId) (id : PacketId) (effects : List Effect) : Type 0 where
   pub packet : InFlightSince start before queue id
   pub is_done : is_finished packet.flying.packet (progress start before queue id) ≡ true
-  pub effects_are : effects ≡ completed (signals start before) (completion packet.flying.packet) ++ effect.Release queue id ∷ []
+  pub effects_are : effects ≡ signal_decrement (signals start before) (completion_signal packet.flying.packet) ++ effect.Release queue id ∷ []
 
 -- what a poll of a barrier packet tells, by the signals just before and by what polls since its launch have seen: it failed where a
 -- dependency still looked at is negative; else it saw those that are 0, and is ready where they suffice with those seen before (own)
 abbrev pub IsPolled : Start → List Entry → QueueId → PacketId → Packet → Seen → Polled → Type 0
 IsPolled start before queue id p satisfied (Failed error) =
-    (error ≡ error_at queue id.0 B1) × (list_any (is_negative (signals start before)) (awaited p satisfied) ≡ true)
+    (error ≡ error_without_place queue id.0 B1) × (list_any (is_negative (signals start before)) (seen_dependencies p satisfied) ≡ true)
 IsPolled start before queue id p satisfied (Pending new) =
-    (new ≡ newly_seen (signals start before) p satisfied) × (is_ready p (seen_with satisfied new) ≡ false)
+    (new ≡ newly_seen_positions (signals start before) p satisfied) × (is_ready p (seen_by_either satisfied new) ≡ false)
 IsPolled start before queue id p satisfied (Ready new) =
-    (new ≡ newly_seen (signals start before) p satisfied) × (is_ready p (seen_with satisfied new) ≡ true)
+    (new ≡ newly_seen_positions (signals start before) p satisfied) × (is_ready p (seen_by_either satisfied new) ≡ true)
 
 -- the packet that an event concerns, if it concerns one (own)
 abbrev pub packet_named : Event → Option (QueueId × PacketId)
@@ -286,9 +286,9 @@ pub record HoldsInForce (start : Start) (entries : List Entry) (f : InFlight) : 
   pub owner_is : owner start entries f.queue ≡ Some launch.opening
   pub rights : HasItsRights start entries launch.opening f.packet
   -- what it holds, and its arguments, are what its launch gave it
-  pub held_is : held start entries f.queue f.id ≡ held_at_launch start launch.before launch.opening f.packet
+  pub held_is : packet_rights start entries f.queue f.id ≡ rights_at_launch start launch.before launch.opening f.packet
   pub arguments_are : arguments start entries f.queue f.id ≡ arguments_of start launch.before f.packet
-  pub holds : All (λ h. in_force start entries launch.opening.client h.0 h.1 ≡ true) (held start entries f.queue f.id)
+  pub holds : All (λ h. in_force start entries launch.opening.client h.0 h.1 ≡ true) (packet_rights start entries f.queue f.id)
 
 -- ---- queues
 
@@ -305,7 +305,7 @@ pub record IsOpened (start : Start) (before : List Entry) (entry : Entry) (clien
 
 -- a row of a listing: an object on which the client has a right in force, with just those rights (own)
 pub record IsListed (start : Start) (entries : List Entry) (client : ClientId) (row : Object × Rights) : Type 0 where
-  pub some : has_some start entries client row.0 ≡ true
+  pub some : has_some_right start entries client row.0 ≡ true
   pub rights : (right : Right) → has row.1 right ≡ in_force start entries client row.0 right
 
 -- ---- histories

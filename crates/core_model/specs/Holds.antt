@@ -26,41 +26,41 @@ use Rattle.core_model.specs.Needs.{needs, object_of}
 use Rattle.core_model.specs.LaunchRules.{launch_rules}
 
 -- one right on one object (own)
-abbrev pub Held : Type 0
-Held = Object × Right
+abbrev pub ObjectRight : Type 0
+ObjectRight = Object × Right
 
 -- the right on the object that a need asks for (own)
-abbrev pub as_held : Need → Held
-as_held need = (object_of need.subject, need.right)
+abbrev pub right_needed : Need → ObjectRight
+right_needed need = (object_of need.subject, need.right)
 
 -- what a packet holds by what it needs for its agent
-abbrev pub held_by_needs : Opening → Packet → List Held
-held_by_needs opening p = flat_map (λ rule. map as_held (needs rule opening.agent p)) launch_rules
+abbrev pub held_by_needs : Opening → Packet → List ObjectRight
+held_by_needs opening p = flat_map (λ rule. map right_needed (needs rule opening.agent p)) launch_rules
 
 -- all rights that are in force on an object, each by itself
-abbrev pub all_in_force : (Object → Right → Bool) → Object → List Held
+abbrev pub all_in_force : (Object → Right → Bool) → Object → List ObjectRight
 all_in_force in_force on = map (λ right. (on, right)) (filter (in_force on) all_rights)
 
 -- all rights in force on the region in which an argument points, by the regions' lengths, if it points in one (own)
-abbrev pub held_by_pointer : (Object → Right → Bool) → List ℕ → ℕ → List Held
+abbrev pub held_by_pointer : (Object → Right → Bool) → List ℕ → ℕ → List ObjectRight
 held_by_pointer in_force lengths address =
     if lies_in_region lengths address then all_in_force in_force (object.Region (record { 0 = region_of address })) else []
 
 -- what a packet holds by its arguments: a kernel dispatch all rights in force on each region in which one of its arguments of 64
 -- bits points (own)
-abbrev pub held_by_arguments : Start → List Entry → ClientId → Packet → List Held
+abbrev pub held_by_arguments : Start → List Entry → ClientId → Packet → List ObjectRight
 held_by_arguments start entries client (packet.Kernel d) =
     flat_map (held_by_pointer (in_force start entries client) (region_lengths start)) (wide_arguments (kernel_of start d).wide (argument_block start entries d))
 held_by_arguments start entries client _ = []
 
 -- what a packet holds from its launch behind these entries on: all that it needs for its agent, and what its arguments have it hold (own)
-abbrev pub held_at_launch : Start → List Entry → Opening → Packet → List Held
-held_at_launch start entries opening p = held_by_needs opening p ++ held_by_arguments start entries opening.client p
+abbrev pub rights_at_launch : Start → List Entry → Opening → Packet → List ObjectRight
+rights_at_launch start entries opening p = held_by_needs opening p ++ held_by_arguments start entries opening.client p
 
 -- what a packet holds that is launched behind these entries in a queue with this opening, if there are both
-abbrev pub held_if : Start → List Entry → Option Opening → Option InFlight → List Held
-held_if start entries (Some opening) (Some f) = held_at_launch start entries opening f.packet
-held_if start entries _ _ = []
+abbrev pub rights_of_launch : Start → List Entry → Option Opening → Option InFlight → List ObjectRight
+rights_of_launch start entries (Some opening) (Some f) = rights_at_launch start entries opening f.packet
+rights_of_launch start entries _ _ = []
 
 -- the argument block of a packet that is launched behind these entries, if it is a kernel dispatch
 abbrev pub arguments_of : Start → List Entry → Packet → List ℕ
@@ -85,8 +85,8 @@ from_launch give before (entry ∷ entries) queue id =
     else from_launch give (before ++ entry ∷ []) entries queue id
 
 -- what a packet that was launched holds (own)
-abbrev pub held : Start → List Entry → QueueId → PacketId → List Held
-held start entries queue id = from_launch (λ before f. held_if start before (owner start before queue) f) [] entries queue id
+abbrev pub packet_rights : Start → List Entry → QueueId → PacketId → List ObjectRight
+packet_rights start entries queue id = from_launch (λ before f. rights_of_launch start before (owner start before queue) f) [] entries queue id
 
 -- the argument block of a packet that was launched, as it was at its launch
 abbrev pub arguments : Start → List Entry → QueueId → PacketId → List ℕ
@@ -94,25 +94,25 @@ arguments start entries queue id = from_launch (arguments_if start) [] entries q
 
 -- whether a packet in flight holds one of these rights on the object (own)
 abbrev pub holds_one_of : Start → List Entry → Object → Rights → InFlight → Bool
-holds_one_of start entries on rights f = list_any (λ h. same_object on h.0 && has rights h.1) (held start entries f.queue f.id)
+holds_one_of start entries on rights f = list_any (λ h. same_object on h.0 && has rights h.1) (packet_rights start entries f.queue f.id)
 
 -- whether a queue is the client's (own)
-abbrev pub is_owned : Start → List Entry → ClientId → QueueId → Bool
-is_owned start entries client queue = elim (owner start entries queue) [ None ↦ false | Some opening ↦ opening.client.0 == client.0 ]
+abbrev pub is_queue_of : Start → List Entry → ClientId → QueueId → Bool
+is_queue_of start entries client queue = elim (owner start entries queue) [ None ↦ false | Some opening ↦ opening.client.0 == client.0 ]
 
 -- the packets in flight, of the client's queues, that hold one of these rights on the object (own)
 abbrev pub holders : Start → List Entry → ClientId → Object → Rights → List InFlight
 holders start entries client on rights =
-    filter (λ f. is_owned start entries client f.queue && holds_one_of start entries on rights f) (flight start entries)
+    filter (λ f. is_queue_of start entries client f.queue && holds_one_of start entries on rights f) (flight start entries)
 
 -- whether a packet comes before another, or is it: by queue, then by id (own)
 abbrev pub is_up_to : InFlight → InFlight → Bool
 is_up_to f g = nat_lt f.queue.0 g.queue.0 || (f.queue.0 == g.queue.0 && nat_le f.id.0 g.id.0)
 
 -- the least of some packets: the one of them that comes before each, or is it (own)
-abbrev pub least : List InFlight → Option InFlight
-least all = find (λ f. list_all (is_up_to f) all) all
+abbrev pub least_in_flight : List InFlight → Option InFlight
+least_in_flight all = find (λ f. list_all (is_up_to f) all) all
 
 -- of all packets that hold one of these rights, the one with the least queue, then the least id (own)
 abbrev pub holder : Start → List Entry → ClientId → Object → Rights → Option InFlight
-holder start entries client on rights = least (holders start entries client on rights)
+holder start entries client on rights = least_in_flight (holders start entries client on rights)

@@ -23,7 +23,7 @@ use Rattle.core_model.specs.declared.need.Subject.{Subject}
 use Rattle.core_model.specs.declared.need.Subject.TheVariants as subject
 use Rattle.core_model.specs.declared.outcome.Cause.{Cause}
 use Rattle.core_model.specs.declared.outcome.Cause.TheVariants as cause
-use Rattle.core_model.specs.Needs.{bytes_at, function_of, needs, object_of, range_need}
+use Rattle.core_model.specs.Needs.{range_at, function_of, needs, object_of, range_need}
 use Rattle.core_model.specs.Kernels.{grid_size, group_size}
 
 -- What a packet is judged by (own).
@@ -45,10 +45,10 @@ lies_whole lengths (subject.Object on) = true
 lies_whole lengths (subject.Range range) = is_within lengths range.address.0 range.size
 
 -- the agent takes packets of this kind: barriers are taken by all (own)
-abbrev pub is_taken : Takes → Packet → Bool
-is_taken takes (packet.Kernel _) = takes.kernel
-is_taken takes (packet.Agent _) = takes.agent
-is_taken takes _ = true
+abbrev pub agent_takes_kind : Takes → Packet → Bool
+agent_takes_kind takes (packet.Kernel _) = takes.kernel
+agent_takes_kind takes (packet.Agent _) = takes.agent
+agent_takes_kind takes _ = true
 
 -- the sizes in one dimension: each is at least 1, the grid's no smaller than the work-group's, and in a dimension that isn't used
 -- both are 1 (PSA, Kernel Dispatch Packet; that a grid is no smaller than its work-groups is own)
@@ -87,19 +87,19 @@ has_segments facts (packet.Kernel d) =
 has_segments facts _ = true
 
 -- whether a right is in force that a packet needs, on an object, or on the region in which a range lies whole (own)
-abbrev pub is_met : Facts → Need → Bool
-is_met facts need = lies_whole facts.lengths need.subject && facts.in_force (object_of need.subject) need.right
+abbrev pub need_is_met : Facts → Need → Bool
+need_is_met facts need = lies_whole facts.lengths need.subject && facts.in_force (object_of need.subject) need.right
 
 -- the argument block of a kernel dispatch lies whole in a region that may be read; an empty one lies anywhere (own)
 abbrev pub has_arguments : Facts → Packet → Bool
 has_arguments facts (packet.Kernel d) =
-    kernel_passes facts d (λ kernel. list_all (is_met facts) (range_need Read (bytes_at d.kernarg_address.0 kernel.kernarg)))
+    kernel_passes facts d (λ kernel. list_all (need_is_met facts) (range_need Read (range_at d.kernarg_address.0 kernel.kernarg)))
 has_arguments facts _ = true
 
 -- what a launch rule asks of a packet beside the rights that it then holds: L4 that the agent takes the kind, L5 work that can be
 -- done, L7 segments, L8 an argument block that may be read (own)
 abbrev pub has_form : Facts → Packet → Rule → Bool
-has_form facts p L4 = is_taken facts.takes p
+has_form facts p L4 = agent_takes_kind facts.takes p
 has_form facts p L5 = asks_for_known_work p
 has_form facts p L7 = has_segments facts p
 has_form facts p L8 = has_arguments facts p
@@ -107,7 +107,7 @@ has_form facts p _ = true
 
 -- whether a packet's fields are as a launch rule asks, and the rights that it needs for the rule in force (own)
 abbrev pub meets_rule : Facts → Packet → Rule → Bool
-meets_rule facts p rule = has_form facts p rule && list_all (is_met facts) (needs rule facts.agent p)
+meets_rule facts p rule = has_form facts p rule && list_all (need_is_met facts) (needs rule facts.agent p)
 
 -- what each launch rule asks of a packet's bytes and the packet that they lay out (L1 to L3: PSA, Architected Queuing Language; the rest own)
 abbrev pub holds_rule : Facts → List ℕ → Packet → Rule → Bool
@@ -121,8 +121,8 @@ abbrev pub launch_rules : List Rule
 launch_rules = L1 ∷ L2 ∷ L3 ∷ L4 ∷ L5 ∷ L6 ∷ L7 ∷ L8 ∷ L9 ∷ L10 ∷ []
 
 -- the first launch rule that fails, if one does (own)
-unfoldable pub first_failing : Facts → List ℕ → Option Rule
-first_failing facts bytes = find (λ rule. not (holds_rule facts bytes (packet_at (packet_type bytes) bytes) rule)) launch_rules
+unfoldable pub first_failing_rule : Facts → List ℕ → Option Rule
+first_failing_rule facts bytes = find (λ rule. not (holds_rule facts bytes (packet_at (packet_type bytes) bytes) rule)) launch_rules
 
 -- whether a packet is a barrier packet (PSA, Architected Queuing Language: barrier-AND and barrier-OR packets)
 abbrev pub is_barrier : Packet → Bool
@@ -132,8 +132,8 @@ is_barrier _ = false
 
 -- why a packet may not start yet, by the packets in flight of its own queue; the barrier bit counts whatever the type
 -- (PSA, Architected Queuing Language: the barrier bit, barrier packets; the number of slots is own)
-unfoldable pub may_start : List Packet → Bool → Option Cause
-may_start flying barrier_bit =
+unfoldable pub cause_to_wait : List Packet → Bool → Option Cause
+cause_to_wait flying barrier_bit =
     if list_any is_barrier flying then Some cause.Barrier
     else if barrier_bit && nat_lt 0 (length flying) then Some cause.Active
     else if nat_le SLOTS (length flying) then Some cause.Slots

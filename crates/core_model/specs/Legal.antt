@@ -18,11 +18,11 @@ use Rattle.policy.specs.Policy.{Declared}
 use Rattle.core_model.specs.History.{Start, History}
 use Rattle.core_model.specs.Flight.{flight, flight_after}
 use Rattle.core_model.specs.Owed.{Owed, refuses, answers, enters, owed}
-use Rattle.core_model.specs.Queries.{Replying, replied}
+use Rattle.core_model.specs.Queries.{AnswerOrRefusal, query_answer}
 
 -- the history of a core that was just opened: no entry yet (own)
-abbrev pub opened : Declared → List Program → ℕ → History
-opened policy kernels capacity = record { start = record { policy = policy; kernels = kernels }; capacity = capacity; entries = [] }
+abbrev pub empty_history : Declared → List Program → ℕ → History
+empty_history policy kernels capacity = record { start = record { policy = policy; kernels = kernels }; capacity = capacity; entries = [] }
 
 -- the entries follow each other lawfully after those before: each is what its event was owed at that point (own)
 abbrev pub IsLegalAfter : Start → List Entry → List Entry → Type 0
@@ -76,13 +76,13 @@ abbrev pub history_after : History → Event → Owed → History
 history_after history event owing = record history { entries = entries_after history.entries event owing }
 
 -- what a call answers by itself, said as a variant of what all calls answer; a refusal stays (own)
-abbrev pub wrapped : {X Y : Type 0} → (X → Y) → Result X Refusal → Result Y Refusal
-wrapped say (Ok x) = Ok (say x)
-wrapped say (Err why) = Err why
+abbrev pub as_variant : {X Y : Type 0} → (X → Y) → Result X Refusal → Result Y Refusal
+as_variant say (Ok x) = Ok (say x)
+as_variant say (Err why) = Err why
 
 -- a call that answers nothing more than that it was made (own)
-abbrev pub accepted : Result (Unit {0}) Refusal → Result Outcome Refusal
-accepted made = wrapped (λ done. outcomes.Accepted) made
+abbrev pub as_accepted : Result (Unit {0}) Refusal → Result Outcome Refusal
+as_accepted made = as_variant (λ done. outcomes.Accepted) made
 
 -- an event got what was due, and left what was due (own)
 pub record Meets (event : Event) (old new : History) (reply : Result Outcome Refusal) : Type 0 where
@@ -109,48 +109,48 @@ abbrev pub MeetsOrLacks : Event → History → History → Result Outcome Refus
 MeetsOrLacks event old new reply = Meets event old new reply ⊎ Lacks event old new reply
 
 -- whether a query that is replied this may want memory: one that is answered by a list, never one that is refused (own)
-abbrev pub query_may_lack : Replying → Bool
+abbrev pub query_may_lack : AnswerOrRefusal → Bool
 query_may_lack (Err _) = false
 query_may_lack (Ok (answer.Value _)) = false
 query_may_lack (Ok (answer.Test _)) = false
 query_may_lack (Ok _) = true
 
 -- an event's reply as a reply to a request (own)
-abbrev pub as_reply : Result Outcome Refusal → Replying
-as_reply made = wrapped answer.Outcome made
+abbrev pub as_reply : Result Outcome Refusal → AnswerOrRefusal
+as_reply made = as_variant answer.Outcome made
 
 -- the reply that is due to a request (own)
-abbrev pub reply_due : History → Request → Replying
+abbrev pub reply_due : History → Request → AnswerOrRefusal
 reply_due history (request.Event event) = as_reply (reply_of (due history event))
-reply_due history (request.Query asked) = replied history.start history.entries asked
+reply_due history (request.Query asked) = query_answer history.start history.entries asked
 
 -- a query got its answer, or its refusal, and changed nothing (own)
-abbrev pub Replies : Query → History → Replying → Type 0
-Replies asked history reply = reply ≡ replied history.start history.entries asked
+abbrev pub Replies : Query → History → AnswerOrRefusal → Type 0
+Replies asked history reply = reply ≡ query_answer history.start history.entries asked
 
 -- it did, or it may want memory, and was told so (own)
-abbrev pub RepliesOrLacks : Query → History → Replying → Type 0
+abbrev pub RepliesOrLacks : Query → History → AnswerOrRefusal → Type 0
 RepliesOrLacks asked history reply =
-    Replies asked history reply ⊎ ((query_may_lack (replied history.start history.entries asked) ≡ true) × (reply ≡ Err refusal.OutOfMemory))
+    Replies asked history reply ⊎ ((query_may_lack (query_answer history.start history.entries asked) ≡ true) × (reply ≡ Err refusal.OutOfMemory))
 
 -- whether a request may want memory (own)
 abbrev pub request_may_lack : History → Request → Bool
 request_may_lack history (request.Event event) = may_lack event (due history event)
-request_may_lack history (request.Query asked) = query_may_lack (replied history.start history.entries asked)
+request_may_lack history (request.Query asked) = query_may_lack (query_answer history.start history.entries asked)
 
 -- the history that is due after a request: queries change nothing (own)
-abbrev pub after : History → Request → History
-after history (request.Event event) = history_after history event (due history event)
-after history (request.Query asked) = history
+abbrev pub history_due : History → Request → History
+history_due history (request.Event event) = history_after history event (due history event)
+history_due history (request.Query asked) = history
 
 -- a request was served: it got the reply that is due and left what is due, or was told that memory was wanted, and then it counts as not made (own)
-abbrev pub IsServed : History → Request → Replying → History → Type 0
+abbrev pub IsServed : History → Request → AnswerOrRefusal → History → Type 0
 IsServed old asked reply new =
-    ((reply ≡ reply_due old asked) × (new ≡ after old asked))
+    ((reply ≡ reply_due old asked) × (new ≡ history_due old asked))
     ⊎ ((request_may_lack old asked ≡ true) × (reply ≡ Err refusal.OutOfMemory) × (new ≡ old))
 
 -- these replies answer these requests in turn, and lead from one history to the other (own)
-abbrev pub AreReplies : History → List Request → List Replying → History → Type 0
+abbrev pub AreReplies : History → List Request → List AnswerOrRefusal → History → Type 0
 AreReplies old [] [] new = new ≡ old
 AreReplies old (asked ∷ requests) (reply ∷ replies) new = (mid : History) × IsServed old asked reply mid × AreReplies mid requests replies new
 AreReplies old [] (reply ∷ replies) new = ⊥

@@ -22,8 +22,8 @@ use Rattle.core_model.specs.declared.need.Subject.TheVariants as subject
 use Rattle.core_model.specs.declared.need.Need.{Need}
 
 -- so many bytes from an address on (own)
-abbrev pub bytes_at : ℕ → ℕ → Range
-bytes_at address size = record { address = record { 0 = address }; size = size }
+abbrev pub range_at : ℕ → ℕ → Range
+range_at address size = record { address = record { 0 = address }; size = size }
 
 -- an agent dispatch's argument number k, from 0 (PSA, Architected Queuing Language: the agent dispatch packet)
 abbrev pub argument : AgentDispatch → ℕ → ℕ
@@ -32,14 +32,14 @@ argument dispatch k = slice_index dispatch.arguments k
 -- the function that a dispatch names, and what it is to work on: FILL a range and a byte, COPY two ranges, ADD64 a number (own)
 abbrev pub function_of : AgentDispatch → Option AgentFunction
 function_of d =
-    if d.function == FILL then Some (Fill (bytes_at (argument d 0) (argument d 1)) (argument d 2 % 256))
-    else if d.function == COPY then Some (Copy (bytes_at (argument d 0) (argument d 2)) (bytes_at (argument d 1) (argument d 2)))
-    else if d.function == ADD64 then Some (Add64 (bytes_at (argument d 0) 8) (argument d 1))
+    if d.function == FILL then Some (Fill (range_at (argument d 0) (argument d 1)) (argument d 2 % 256))
+    else if d.function == COPY then Some (Copy (range_at (argument d 0) (argument d 2)) (range_at (argument d 1) (argument d 2)))
+    else if d.function == ADD64 then Some (Add64 (range_at (argument d 0) 8) (argument d 1))
     else None
 
 -- where a dispatch's result goes: 8 bytes at its return address, none where that is 0 (own)
 abbrev pub result_range : AgentDispatch → Range
-result_range d = bytes_at d.return_address.0 (if d.return_address.0 == 0 then 0 else 8)
+result_range d = range_at d.return_address.0 (if d.return_address.0 == 0 then 0 else 8)
 
 -- a right on a range; an empty one needs none (own)
 abbrev pub range_need : Right → Range → List Need
@@ -63,11 +63,11 @@ dependencies (packet.BarrierOr barrier) = barrier.dependencies
 dependencies _ = []
 
 -- the signal that is decremented when a packet completes (PSA, Architected Queuing Language: the completion signal)
-abbrev pub completion : Packet → SignalHandle
-completion (packet.Kernel dispatch) = dispatch.completion_signal
-completion (packet.Agent dispatch) = dispatch.completion_signal
-completion (packet.BarrierAnd barrier) = barrier.completion_signal
-completion (packet.BarrierOr barrier) = barrier.completion_signal
+abbrev pub completion_signal : Packet → SignalHandle
+completion_signal (packet.Kernel dispatch) = dispatch.completion_signal
+completion_signal (packet.Agent dispatch) = dispatch.completion_signal
+completion_signal (packet.BarrierAnd barrier) = barrier.completion_signal
+completion_signal (packet.BarrierOr barrier) = barrier.completion_signal
 
 -- what a packet needs of memory: an agent dispatch what its function needs, and to write its result (own)
 abbrev pub memory_needs : Packet → List Need
@@ -87,7 +87,7 @@ needs L4 agent p = record { subject = subject.Object (object.Agent agent); right
 needs L6 agent p = kernel_needs p
 needs L8 agent p = memory_needs p
 needs L9 agent p = flat_map (signal_need Wait) (dependencies p)
-needs L10 agent p = signal_need Change (completion p)
+needs L10 agent p = signal_need Change (completion_signal p)
 needs _ agent p = []
 
 -- the object that a right is needed on: of a range, its region (own)

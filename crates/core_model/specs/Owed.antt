@@ -41,11 +41,11 @@ use Rattle.core_model.specs.History.{Start}
 use Rattle.core_model.specs.Grants.{in_force}
 use Rattle.core_model.specs.Memory.{region_lengths, signals}
 use Rattle.core_model.specs.Queues.{Opening, openings, owner, next_id, is_stopped, is_down}
-use Rattle.core_model.specs.Flight.{flight_of, in_flight, none_seen, progress, seen_with}
+use Rattle.core_model.specs.Flight.{flight_of, in_flight, none_seen, progress, seen_by_either}
 use Rattle.core_model.specs.declared.limits.TheConstants.{MOST_HOST_BYTES, QUEUES}
-use Rattle.core_model.specs.Needs.{completion}
-use Rattle.core_model.specs.LaunchRules.{Facts, first_failing, may_start, is_barrier}
-use Rattle.core_model.specs.Work.{agent_writes, groups_of, write_of_run, is_ready, is_negative, newly_seen, awaited}
+use Rattle.core_model.specs.Needs.{completion_signal}
+use Rattle.core_model.specs.LaunchRules.{Facts, first_failing_rule, cause_to_wait, is_barrier}
+use Rattle.core_model.specs.Work.{agent_writes, groups_of, write_of_run, is_ready, is_negative, newly_seen_positions, seen_dependencies}
 use Rattle.core_model.specs.Holds.{holder}
 use Rattle.core_model.specs.Kernels.{segments_of}
 use Rattle.core_model.specs.View.{Given, given, group_input}
@@ -96,21 +96,21 @@ facts_of start entries opening = record {
 }
 
 -- a packet's error without a place (own)
-abbrev pub error_at : QueueId → ℕ → Rule → QueueError
-error_at queue id rule = record { queue = queue; packet = record { 0 = id }; rule = rule; place = None }
+abbrev pub error_without_place : QueueId → ℕ → Rule → QueueError
+error_without_place queue id rule = record { queue = queue; packet = record { 0 = id }; rule = rule; place = None }
 
 -- a packet that is next: it waits, or is launched, or denied by the first rule that fails (own)
-abbrev pub decided : QueueId → ℕ → Option Cause → Option Rule → Owed
-decided queue id (Some cause) verdict = answers (outcome.Taken (Waiting cause))
-decided queue id None None = enters (outcome.Taken Launched) []
-decided queue id None (Some rule) = enters (outcome.Taken (Denied (error_at queue id rule))) []
+abbrev pub owed_verdict : QueueId → ℕ → Option Cause → Option Rule → Owed
+owed_verdict queue id (Some cause) verdict = answers (outcome.Taken (Waiting cause))
+owed_verdict queue id None None = enters (outcome.Taken Launched) []
+owed_verdict queue id None (Some rule) = enters (outcome.Taken (Denied (error_without_place queue id rule))) []
 
 -- a packet that is handed over to an open queue (PSA, User Mode Queuing: packets are processed in order; the refusals are own)
 abbrev pub owed_take : Start → List Entry → QueueId → PacketId → List ℕ → Opening → Owed
 owed_take start entries queue id bytes opening =
     refuse_if (is_down start entries queue) refusal.QueueDown
     (refuse_unless (id.0 == next_id start entries queue) (refusal.OutOfStep (next_id start entries queue))
-    (decided queue id.0 (may_start (map (λ f. f.packet) (flight_of start entries queue)) (barrier_bit bytes)) (first_failing (facts_of start entries opening) bytes)))
+    (owed_verdict queue id.0 (cause_to_wait (map (λ f. f.packet) (flight_of start entries queue)) (barrier_bit bytes)) (first_failing_rule (facts_of start entries opening) bytes)))
 
 -- what a call about a packet in flight is owed: a refusal where there is no such queue or packet, else what is owed by the packet
 -- and by how far it has come (own)
@@ -144,10 +144,10 @@ owed_group start entries queue id own (packet.BarrierAnd _) so_far = refuses ref
 owed_group start entries queue id own (packet.BarrierOr _) so_far = refuses refusal.NotInFlight
 
 -- the outcome of a poll that sees something new, or nothing new (own)
-abbrev pub polled : Packet → Seen → Seen → Owed
-polled p seen new =
+abbrev pub owed_sight : Packet → Seen → Seen → Owed
+owed_sight p seen new =
     if list_any (λ at. at) new.0
-    then enters (outcome.Polled (if is_ready p (seen_with seen new) then Ready new else Pending new)) []
+    then enters (outcome.Polled (if is_ready p (seen_by_either seen new) then Ready new else Pending new)) []
     else answers (outcome.Polled (Pending none_seen))
 
 -- a poll of a barrier packet in flight: ready packets stay ready; then a negative dependency fails it, before what is newly seen
@@ -156,23 +156,23 @@ abbrev pub owed_poll : List ℤ → QueueId → PacketId → Packet → Progress
 owed_poll values queue id p so_far =
     refuse_unless (is_barrier p) refusal.NotInFlight
     (if is_ready p so_far.satisfied then answers (outcome.Polled (Ready none_seen))
-    else if list_any (is_negative values) (awaited p so_far.satisfied)
-    then enters (outcome.Polled (Failed (error_at queue id.0 B1))) (effect.Release queue id ∷ [])
-    else polled p so_far.satisfied (newly_seen values p so_far.satisfied))
+    else if list_any (is_negative values) (seen_dependencies p so_far.satisfied)
+    then enters (outcome.Polled (Failed (error_without_place queue id.0 B1))) (effect.Release queue id ∷ [])
+    else owed_sight p so_far.satisfied (newly_seen_positions values p so_far.satisfied))
 
 -- whether a packet's work is done: all its groups have run, or the barrier is ready (PSA, Architected Queuing Language: the packet process flow)
 abbrev pub is_finished : Packet → Progress → Bool
 is_finished p so_far = if is_barrier p then is_ready p so_far.satisfied else nat_le (groups_of p) so_far.groups_run
 
 -- the decrement of a completion signal that isn't null (PSA, Signals: the packet processor decrements it by 1)
-abbrev pub completed : List ℤ → SignalHandle → List Effect
-completed values signal = if signal.0 == 0 then [] else elim (value_of values signal.0) [ None ↦ [] | Some v ↦ effect.Signal signal v (applied (op.Subtract (pos 1)) v) ∷ [] ]
+abbrev pub signal_decrement : List ℤ → SignalHandle → List Effect
+signal_decrement values signal = if signal.0 == 0 then [] else elim (value_of values signal.0) [ None ↦ [] | Some v ↦ effect.Signal signal v (applied (op.Subtract (pos 1)) v) ∷ [] ]
 
 -- the completion of a packet in flight (PSA, Signals: the completion signal is decremented; the refusal is own)
 abbrev pub owed_finish : List ℤ → QueueId → PacketId → Packet → Progress → Owed
 owed_finish values queue id p so_far =
     refuse_unless (is_finished p so_far) refusal.NotFinished
-    (enters outcome.Accepted (completed values (completion p) ++ effect.Release queue id ∷ []))
+    (enters outcome.Accepted (signal_decrement values (completion_signal p) ++ effect.Release queue id ∷ []))
 
 -- the release of a packet, if there is one (own)
 abbrev pub release_of : QueueId → Option PacketId → List Effect

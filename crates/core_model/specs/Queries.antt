@@ -24,15 +24,15 @@ use Rattle.core_model.specs.Queues.{owner, errors}
 use Rattle.core_model.specs.Owed.{is_host_size}
 
 -- the reply to a query: an answer, or why it is refused (own)
-abbrev pub Replying : Type 0
-Replying = Result Answer Refusal
+abbrev pub AnswerOrRefusal : Type 0
+AnswerOrRefusal = Result Answer Refusal
 
 -- the rest where the test holds, else a refusal (own)
-abbrev pub answer_if : Bool → Refusal → Replying → Replying
-answer_if test why rest = if test then rest else Err why
+abbrev pub refused_unless : Bool → Refusal → AnswerOrRefusal → AnswerOrRefusal
+refused_unless test why rest = if test then rest else Err why
 
 -- a refusal where there is nothing, else the rest for what there is (own)
-abbrev pub answer_some : {X : Type 0} → Option X → Refusal → (X → Replying) → Replying
+abbrev pub answer_some : {X : Type 0} → Option X → Refusal → (X → AnswerOrRefusal) → AnswerOrRefusal
 answer_some None why rest = Err why
 answer_some (Some x) why rest = rest x
 
@@ -45,33 +45,33 @@ all_objects policy =
     ++ map (λ n. object.Kernel (record { 0 = n })) (range_with_len 1 (length policy.kernels))
 
 -- whether a client has some right in force on an object (own)
-abbrev pub has_some : Start → List Entry → ClientId → Object → Bool
-has_some start entries client on = list_any (in_force start entries client on) all_rights
+abbrev pub has_some_right : Start → List Entry → ClientId → Object → Bool
+has_some_right start entries client on = list_any (in_force start entries client on) all_rights
 
 -- the listing of a client: each object on which it has a right in force, with those rights, by kind and number (own)
 abbrev pub listing : Start → List Entry → ClientId → List (Object × Rights)
 listing start entries client =
-    map (λ on. (on, rights_in_force start entries client on)) (filter (has_some start entries client) (all_objects start.policy))
+    map (λ on. (on, rights_in_force start entries client on)) (filter (has_some_right start entries client) (all_objects start.policy))
 
 -- what a query is answered after these entries: its refusals in order, then its answer (own)
-unfoldable pub replied : Start → List Entry → Query → Replying
-replied start entries (query.HostRead client address size) =
-    answer_if (declares_client start.policy client) refusal.UnknownClient
-    (answer_if (is_host_size size) refusal.BadSize
-    (answer_if (is_within (region_lengths start) address.0 size && in_force start entries client (object.Region (record { 0 = region_of address.0 })) right.Read)
+unfoldable pub query_answer : Start → List Entry → Query → AnswerOrRefusal
+query_answer start entries (query.HostRead client address size) =
+    refused_unless (declares_client start.policy client) refusal.UnknownClient
+    (refused_unless (is_host_size size) refusal.BadSize
+    (refused_unless (is_within (region_lengths start) address.0 size && in_force start entries client (object.Region (record { 0 = region_of address.0 })) right.Read)
     (refusal.Denied right.Read)
     (Ok (answer.Bytes (memory_from start entries address.0 size)))))
-replied start entries (query.LoadSignal client signal) =
-    answer_if (declares_client start.policy client) refusal.UnknownClient
-    (answer_if (in_force start entries client (object.Signal signal) right.Wait) (refusal.Denied right.Wait)
+query_answer start entries (query.LoadSignal client signal) =
+    refused_unless (declares_client start.policy client) refusal.UnknownClient
+    (refused_unless (in_force start entries client (object.Signal signal) right.Wait) (refusal.Denied right.Wait)
     (answer_some (value_of (signals start entries) signal.0) (refusal.Denied right.Wait) (λ value. Ok (answer.Value value))))
-replied start entries (query.TestSignal client signal condition than) =
-    answer_if (declares_client start.policy client) refusal.UnknownClient
-    (answer_if (in_force start entries client (object.Signal signal) right.Wait) (refusal.Denied right.Wait)
+query_answer start entries (query.TestSignal client signal condition than) =
+    refused_unless (declares_client start.policy client) refusal.UnknownClient
+    (refused_unless (in_force start entries client (object.Signal signal) right.Wait) (refusal.Denied right.Wait)
     (answer_some (value_of (signals start entries) signal.0) (refusal.Denied right.Wait) (λ value. Ok (answer.Test (meets condition value than)))))
-replied start entries (query.List client) =
-    answer_if (declares_client start.policy client) refusal.UnknownClient
+query_answer start entries (query.List client) =
+    refused_unless (declares_client start.policy client) refusal.UnknownClient
     (Ok (answer.Listing (listing start entries client)))
-replied start entries (query.Errors queue) =
+query_answer start entries (query.Errors queue) =
     answer_some (owner start entries queue) refusal.UnknownQueue (λ opening. Ok (answer.Errors (errors start entries queue)))
-replied start entries query.Audit = Ok (answer.Audit entries)
+query_answer start entries query.Audit = Ok (answer.Audit entries)

@@ -35,13 +35,13 @@ abbrev pub owner : Start → List Entry → QueueId → Option Opening
 owner start entries queue = numbered (openings start entries) queue.0
 
 -- whether an event hands over a packet of a queue (own)
-abbrev pub hands_over : QueueId → Event → Bool
-hands_over queue (Take q _ _) = q.0 == queue.0
-hands_over queue _ = false
+abbrev pub hands_over_packet_of : QueueId → Event → Bool
+hands_over_packet_of queue (Take q _ _) = q.0 == queue.0
+hands_over_packet_of queue _ = false
 
 -- the id of a queue's next packet: how many of its packets were launched or denied (PSA, User Mode Queuing: packets are processed in order)
 unfoldable pub next_id : Start → List Entry → QueueId → ℕ
-next_id start entries queue = count_by (λ entry. hands_over queue entry.event) entries
+next_id start entries queue = count_by (λ entry. hands_over_packet_of queue entry.event) entries
 
 -- the error that an outcome tells (own)
 abbrev pub error_of : Outcome → Option QueueError
@@ -55,13 +55,13 @@ unfoldable pub errors : Start → List Entry → QueueId → List QueueError
 errors start entries queue = filter (λ error. error.queue.0 == queue.0) (filter_map (λ entry. error_of entry.outcome) entries)
 
 -- whether an event stops a queue (own)
-abbrev pub stops : QueueId → Event → Bool
-stops queue (Stop q) = q.0 == queue.0
-stops queue _ = false
+abbrev pub stops_queue : QueueId → Event → Bool
+stops_queue queue (Stop q) = q.0 == queue.0
+stops_queue queue _ = false
 
 -- whether a queue was stopped (own)
 unfoldable pub is_stopped : Start → List Entry → QueueId → Bool
-is_stopped start entries queue = list_any (λ entry. stops queue entry.event) entries
+is_stopped start entries queue = list_any (λ entry. stops_queue queue entry.event) entries
 
 -- whether a queue launches nothing more: it has an error, or was stopped (own)
 abbrev pub is_down : Start → List Entry → QueueId → Bool

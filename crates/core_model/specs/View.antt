@@ -16,18 +16,18 @@ use Rattle.core_model.specs.declared.entry.Entry.{Entry}
 use Rattle.core_model.specs.History.{Start}
 use Rattle.core_model.specs.Memory.{memory_from, region_lengths}
 use Rattle.core_model.specs.Kernels.{grid_size, group_size, kernel_of}
-use Rattle.core_model.specs.Holds.{Held, arguments, held}
+use Rattle.core_model.specs.Holds.{ObjectRight, arguments, packet_rights}
 
 -- what a packet was given at its launch: what it holds, and its argument block
 pub record Given : Type 0 where
-  pub held : List Held
+  pub packet_rights : List ObjectRight
   pub arguments : List ℕ
 
 abbrev pub given : Start → List Entry → QueueId → PacketId → Given
-given start entries queue id = record { held = held start entries queue id; arguments = arguments start entries queue id }
+given start entries queue id = record { packet_rights = packet_rights start entries queue id; arguments = arguments start entries queue id }
 
 -- the rights that are held on an object
-abbrev pub rights_held : List Held → Object → Rights
+abbrev pub rights_held : List ObjectRight → Object → Rights
 rights_held all on = rights_that (λ right. list_any (λ h. same_object on h.0 && (bit_of h.1 == bit_of right)) all)
 
 -- a region with the rights that are held on it
@@ -37,11 +37,11 @@ pub record HeldRegion : Type 0 where
   pub rights : Rights
 
 -- the region of a number, and of a size
-abbrev pub held_region : List Held → ℕ × ℕ → HeldRegion
+abbrev pub held_region : List ObjectRight → ℕ × ℕ → HeldRegion
 held_region all row = record { number = row.0; size = row.1; rights = rights_held all (object.Region (record { 0 = row.0 })) }
 
 -- the regions on which a right is held, by number
-abbrev pub held_regions : Start → List Held → List HeldRegion
+abbrev pub held_regions : Start → List ObjectRight → List HeldRegion
 held_regions start all =
     filter (λ region. not (region.rights.0 == 0))
     (map (held_region all) (zip (range_with_len 1 (length (region_lengths start))) (region_lengths start)))
@@ -59,7 +59,7 @@ lent start entries region = record {
 }
 
 -- the memory that a packet's groups see
-abbrev pub view : Start → List Entry → List Held → List LentRegion
+abbrev pub view : Start → List Entry → List ObjectRight → List LentRegion
 view start entries all = map (lent start entries) (held_regions start all)
 
 -- all that a group of a kernel dispatch is given to run on

@@ -68,12 +68,12 @@ abbrev pub write_of_run : Run → Effect
 write_of_run run = Write (record { 0 = run.address }) run.bytes
 
 -- a dependency with whether it was seen as 0 before (PSA, Architected Queuing Language: barrier packets)
-abbrev pub Awaited : Type 0
-Awaited = SignalHandle × Bool
+abbrev pub SeenDependency : Type 0
+SeenDependency = SignalHandle × Bool
 
 -- a barrier packet's dependencies, each with whether it was seen as 0 (PSA, Architected Queuing Language: barrier packets)
-abbrev pub awaited : Packet → Seen → List Awaited
-awaited p seen = zip (dependencies p) seen.0
+abbrev pub seen_dependencies : Packet → Seen → List SeenDependency
+seen_dependencies p seen = zip (dependencies p) seen.0
 
 -- a barrier-AND is ready when each of its dependencies that isn't null was seen as 0, a barrier-OR when one was
 -- (PSA, Architected Queuing Language; that a barrier-OR of nulls is never ready is own)
@@ -83,7 +83,7 @@ is_ready (packet.BarrierOr barrier) seen = list_any (λ a. not (a.0.0 == 0) && a
 is_ready _ seen = false
 
 -- whether a dependency is still looked at: it isn't null, and wasn't seen as 0 (PSA, Architected Queuing Language: barrier packets)
-abbrev pub is_awaited : Awaited → Bool
+abbrev pub is_awaited : SeenDependency → Bool
 is_awaited a = not (a.0.0 == 0) && not a.1
 
 -- a signal's value, 0 for a number that no signal has (own)
@@ -91,13 +91,13 @@ abbrev pub signal_value : List ℤ → SignalHandle → ℤ
 signal_value values signal = unwrap_or (value_of values signal.0) (pos 0)
 
 -- whether a dependency that is still looked at is negative (own)
-abbrev pub is_negative : List ℤ → Awaited → Bool
+abbrev pub is_negative : List ℤ → SeenDependency → Bool
 is_negative values a = is_awaited a && int_lt (signal_value values a.0) (pos 0)
 
 -- whether a dependency that is still looked at is 0 (PSA, Architected Queuing Language: barrier packets)
-abbrev pub is_zero : List ℤ → Awaited → Bool
+abbrev pub is_zero : List ℤ → SeenDependency → Bool
 is_zero values a = is_awaited a && int_eq (signal_value values a.0) (pos 0)
 
 -- the positions that a poll is the first to see as 0 (PSA, Architected Queuing Language: barrier packets; polls are own)
-abbrev pub newly_seen : List ℤ → Packet → Seen → Seen
-newly_seen values p seen = record { 0 = map (is_zero values) (awaited p seen) }
+abbrev pub newly_seen_positions : List ℤ → Packet → Seen → Seen
+newly_seen_positions values p seen = record { 0 = map (is_zero values) (seen_dependencies p seen) }

@@ -28,9 +28,9 @@ impl Model for Effects {
 
     ghost Value = { List Effect };
 
-    ghost use Rattle.core_model.specs.Effects.{listed};
+    ghost use Rattle.core_model.specs.Effects.{effects_in_order};
 
-    ghost view = { λ e. listed e.kept };
+    ghost view = { λ e. effects_in_order e.kept };
 }
 
 impl Effects {

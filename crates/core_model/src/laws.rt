@@ -44,14 +44,14 @@ ghost use Rattle.core_model.specs.History.{Start, History};
 ghost use Rattle.core_model.specs.Grants.{in_force};
 ghost use Rattle.core_model.specs.Memory.{memory_from, region_lengths, signals};
 ghost use Rattle.regions.specs.Memory.{are_region_lengths};
-ghost use Rattle.core_model.specs.Holds.{held};
+ghost use Rattle.core_model.specs.Holds.{packet_rights};
 ghost use Rattle.core_model.specs.View.{Given, given};
 ghost use Rattle.core_model.specs.Queues.{Opening, error_of, next_id};
 ghost use Rattle.core_model.specs.Flight.{LawOfFlight, flight, in_flight, progress};
 ghost use Rattle.core_model.specs.Work.{agent_writes};
 ghost use Rattle.core_model.specs.Owed.{enters, is_host_size, old_if_asked, owed, owed_group, refuses};
 ghost use Rattle.core_model.specs.Legal.{AreReplies, IsLegal, IsServed, MeetsOrLacks, entry_of};
-ghost use Rattle.core_model.specs.Queries.{Replying, replied};
+ghost use Rattle.core_model.specs.Queries.{AnswerOrRefusal, query_answer};
 ghost use Rattle.core_model.specs.Headline.{ChangeIsGranted, GoesOn, HoldsInForce, InFlightSince, IsCompleted, IsDenied, IsEntryBehind, IsListed, IsOpened, IsPolled, Launch, MayBeLaunched, MayReach, MayReachRange, ReleaseIsDue, WriteIsGranted, packet_named, ranges_seen};
 
 /// A launched packet is the next of a queue that is open and need not wait, is laid out by its bytes, and
@@ -194,17 +194,17 @@ pub fn each_host_call_was_granted()
 /// which READ is in force for it.
 pub fn each_read_of_a_client_is_granted()
     ensures { (start : Start) (entries : List Entry) (client : ClientId) (address : Address) (size : ℕ) (told : Answer) →
-        replied start entries (query.HostRead client address size) ≡ Ok told →
+        query_answer start entries (query.HostRead client address size) ≡ Ok told →
         MayReach start entries client right.Read address.0 size × (told ≡ answer.Bytes (memory_from start entries address.0 size)) }
 {}
 
 /// A client that is told a signal's value, or how it compares, has WAIT in force on it.
 pub fn each_look_at_a_signal_is_granted()
     ensures load { (start : Start) (entries : List Entry) (client : ClientId) (signal : SignalHandle) (told : Answer) →
-        replied start entries (query.LoadSignal client signal) ≡ Ok told →
+        query_answer start entries (query.LoadSignal client signal) ≡ Ok told →
         (in_force start entries client (object.Signal signal) right.Wait ≡ true) × (v : ℤ) × (value_of (signals start entries) signal.0 ≡ Some v) × (told ≡ answer.Value v) }
     ensures test { (start : Start) (entries : List Entry) (client : ClientId) (signal : SignalHandle) (condition : Condition) (value : ℤ) (told : Answer) →
-        replied start entries (query.TestSignal client signal condition value) ≡ Ok told →
+        query_answer start entries (query.TestSignal client signal condition value) ≡ Ok told →
         (in_force start entries client (object.Signal signal) right.Wait ≡ true) × (v : ℤ) × (value_of (signals start entries) signal.0 ≡ Some v)
         × (told ≡ answer.Test (meets condition v value)) }
 {}
@@ -213,7 +213,7 @@ pub fn each_look_at_a_signal_is_granted()
 /// those.
 pub fn each_listed_right_is_in_force()
     ensures { (start : Start) (entries : List Entry) (client : ClientId) (told : Answer) →
-        replied start entries (query.List client) ≡ Ok told →
+        query_answer start entries (query.List client) ≡ Ok told →
         (rows : List (Object × Rights)) × (told ≡ answer.Listing rows) × All (IsListed start entries client) rows }
 {}
 
@@ -237,13 +237,13 @@ pub fn calls_without_their_right_are_denied()
         owed start entries (OpenQueue client agent size) ≡ refuses (refusal.Denied right.Use) }
     ensures read { (start : Start) (entries : List Entry) (client : ClientId) (address : Address) (size : ℕ) →
         declares_client start.policy client ≡ true → is_host_size size ≡ true → (MayReach start entries client right.Read address.0 size → ⊥) →
-        replied start entries (query.HostRead client address size) ≡ Err (refusal.Denied right.Read) }
+        query_answer start entries (query.HostRead client address size) ≡ Err (refusal.Denied right.Read) }
     ensures load { (start : Start) (entries : List Entry) (client : ClientId) (signal : SignalHandle) →
         declares_client start.policy client ≡ true → in_force start entries client (object.Signal signal) right.Wait ≡ false →
-        replied start entries (query.LoadSignal client signal) ≡ Err (refusal.Denied right.Wait) }
+        query_answer start entries (query.LoadSignal client signal) ≡ Err (refusal.Denied right.Wait) }
     ensures test { (start : Start) (entries : List Entry) (client : ClientId) (signal : SignalHandle) (condition : Condition) (value : ℤ) →
         declares_client start.policy client ≡ true → in_force start entries client (object.Signal signal) right.Wait ≡ false →
-        replied start entries (query.TestSignal client signal condition value) ≡ Err (refusal.Denied right.Wait) }
+        query_answer start entries (query.TestSignal client signal condition value) ≡ Err (refusal.Denied right.Wait) }
 {}
 
 /// What is refused, an event or a query, for whatever cause, leaves the history as it was.
@@ -256,7 +256,7 @@ pub fn refusals_change_nothing()
 pub fn serving_keeps_a_history_legal()
     ensures call { (old new : History) (event : Event) (reply : Result Outcome Refusal) →
         IsLegal old.start old.entries → MeetsOrLacks event old new reply → GoesOn old new }
-    ensures list { (old new : History) (requests : List Request) (replies : List Replying) →
+    ensures list { (old new : History) (requests : List Request) (replies : List AnswerOrRefusal) →
         IsLegal old.start old.entries → AreReplies old requests replies new → GoesOn old new }
     ensures beginnings { (start : Start) (before more : List Entry) → IsLegal start (before ++ more) → IsLegal start before }
 {}

@@ -9,7 +9,7 @@ use Rattle.aql_packet.proofs.ReadingLemmas.{decoded_is}
 use Rattle.queue_error.specs.declared.rule.Rule.{Rule}
 use Rattle.queue_error.specs.declared.rule.Rule.TheVariants as rule
 use Rattle.queue_error.specs.Texts.{rule_of}
-use Rattle.core_model.specs.LaunchRules.{Facts, first_failing}
+use Rattle.core_model.specs.LaunchRules.{Facts, first_failing_rule}
 use Rattle.packet_processor.specs.Judged.{later_failing}
 
 -- the first codec rule that fails, by what each answers
@@ -35,8 +35,8 @@ passed_first true true false rest e = cc
 passed_first true true true rest e = refl
 
 -- the rules of the fields don't look at the bytes
-launch_is : (facts : Facts) (bytes : List ℕ) → first_failing facts bytes ≡ first_launch (passes codec.L1 bytes) (passes codec.L2 bytes) (passes codec.L3 bytes) (later_failing facts (packet_at (packet_type bytes) bytes))
-unfolding first_failing first_launch
+launch_is : (facts : Facts) (bytes : List ℕ) → first_failing_rule facts bytes ≡ first_launch (passes codec.L1 bytes) (passes codec.L2 bytes) (passes codec.L3 bytes) (later_failing facts (packet_at (packet_type bytes) bytes))
+unfolding first_failing_rule first_launch
 launch_is facts bytes = refl
 
 codec_is : (bytes : List ℕ) → refusal bytes ≡ first_codec (passes codec.L1 bytes) (passes codec.L2 bytes) (passes codec.L3 bytes)
@@ -44,7 +44,7 @@ unfolding refusal first_codec
 codec_is bytes = refl
 
 -- bytes that a rule of the layout refuses
-pub first_failing-refused : (facts : Facts) (bytes : List ℕ) (r : CodecRule) → refusal bytes ≡ Some r → first_failing facts bytes ≡ Some (rule_of r)
+pub first_failing-refused : (facts : Facts) (bytes : List ℕ) (r : CodecRule) → refusal bytes ≡ Some r → first_failing_rule facts bytes ≡ Some (rule_of r)
 first_failing-refused facts bytes r e =
     launch_is facts bytes ∙ refused_first (passes codec.L1 bytes) (passes codec.L2 bytes) (passes codec.L3 bytes) _ r (sym (codec_is bytes) ∙ e)
 
@@ -61,7 +61,7 @@ decoded-found bytes p e (Some r) same =
     let lost : decoded bytes ≡ None = decoded-refused bytes r same in cc
 
 -- bytes that lay out a packet are refused where the packet is
-pub first_failing-decoded : (facts : Facts) (bytes : List ℕ) (p : Packet) → decoded bytes ≡ Some p → first_failing facts bytes ≡ later_failing facts p
+pub first_failing-decoded : (facts : Facts) (bytes : List ℕ) (p : Packet) → decoded bytes ≡ Some p → first_failing_rule facts bytes ≡ later_failing facts p
 first_failing-decoded facts bytes p e =
     let found = decoded-found bytes p e (refusal bytes) refl in
     launch_is facts bytes ∙ passed_first (passes codec.L1 bytes) (passes codec.L2 bytes) (passes codec.L3 bytes) _ (sym (codec_is bytes) ∙ found.0) ∙ ap (later_failing facts) found.1

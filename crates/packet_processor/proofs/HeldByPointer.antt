@@ -6,7 +6,7 @@ use Rattle.std.specs.List.{flat_map}
 use Rattle.policy.specs.declared.object.Object.{Object}
 use Rattle.policy.specs.declared.rights.Right.{Right}
 use Rattle.policy.specs.declared.rights.Rights.{Rights}
-use Rattle.core_model.specs.Holds.{Held, held_by_pointer}
+use Rattle.core_model.specs.Holds.{ObjectRight, held_by_pointer}
 use Rattle.core_model.specs.Kernels.{wide_arguments}
 use Rattle.packet_processor.specs.Holding.{among, as_rights}
 
@@ -27,7 +27,7 @@ among-splits test on x xs = by_test (test x) refl
     by_test true is = rw is refl
     by_test false is = rw is refl
 
-map-joined : (xs ys : List Held) → map as_rights (xs ++ ys) ≡ map as_rights xs ++ map as_rights ys
+map-joined : (xs ys : List ObjectRight) → map as_rights (xs ++ ys) ≡ map as_rights xs ++ map as_rights ys
 map-joined [] ys = refl
 map-joined (x ∷ xs) ys = ap (λ zs. as_rights x ∷ zs) (map-joined xs ys)
 

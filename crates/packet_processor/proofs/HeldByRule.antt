@@ -11,7 +11,7 @@ use Rattle.queue_error.specs.declared.rule.Rule.TheVariants.{L4, L6, L8, L9, L10
 use Rattle.core_model.specs.declared.need.Need.{Need}
 use Rattle.core_model.specs.Queues.{Opening}
 use Rattle.core_model.specs.Needs.{needs}
-use Rattle.core_model.specs.Holds.{Held, as_held, held_by_needs}
+use Rattle.core_model.specs.Holds.{ObjectRight, right_needed, held_by_needs}
 use Rattle.packet_processor.specs.Holding.{as_rights}
 
 -- a test of what is there among some options is a test of each
@@ -21,11 +21,11 @@ all-options p (o ∷ os) = list_all-append p (option_to_list o) (flat_map option
 
 -- what some needs have a packet hold
 abbrev pub rights_of : List Need → List (Object × Rights)
-rights_of ns = map (λ need. as_rights (as_held need)) ns
+rights_of ns = map (λ need. as_rights (right_needed need)) ns
 
-rights_map : (ns : List Need) (rest : List Held) → map as_rights (map as_held ns ++ rest) ≡ rights_of ns ++ map as_rights rest
+rights_map : (ns : List Need) (rest : List ObjectRight) → map as_rights (map right_needed ns ++ rest) ≡ rights_of ns ++ map as_rights rest
 rights_map [] rest = refl
-rights_map (n ∷ ns) rest = ap (λ xs. as_rights (as_held n) ∷ xs) (rights_map ns rest)
+rights_map (n ∷ ns) rest = ap (λ xs. as_rights (right_needed n) ∷ xs) (rights_map ns rest)
 
 -- what the five rules that ask for rights have a packet hold, put behind each other, is all that it holds
 pub held_by_rule : (opening : Opening) (p : Packet) (none a k b c d : List (Object × Rights)) → none ≡ []
@@ -40,9 +40,9 @@ held_by_rule opening p none a k b c d empty first kernel second third fourth =
     let one = rights_of (needs L4 opening.agent p) in
     let joined : d ≡ (((one ++ rights_of l6) ++ rights_of l8) ++ rights_of l9) ++ rights_of l10 = rw (fourth, third, second, kernel, first, empty) refl in
     let turned : (((one ++ rights_of l6) ++ rights_of l8) ++ rights_of l9) ++ rights_of l10 ≡ one ++ (rights_of l6 ++ (rights_of l8 ++ (rights_of l9 ++ rights_of l10))) = simp append_assoc in
-    let ended : rights_of l10 ≡ map as_rights (map as_held l10 ++ []) = sym (rights_map l10 [] ∙ append-nil (rights_of l10)) in
+    let ended : rights_of l10 ≡ map as_rights (map right_needed l10 ++ []) = sym (rights_map l10 [] ∙ append-nil (rights_of l10)) in
     joined ∙ turned
     ∙ ap (λ rest. one ++ (rights_of l6 ++ (rights_of l8 ++ (rights_of l9 ++ rest)))) ended
-    ∙ ap (λ rest. one ++ (rights_of l6 ++ (rights_of l8 ++ rest))) (sym (rights_map l9 (map as_held l10 ++ [])))
-    ∙ ap (λ rest. one ++ (rights_of l6 ++ rest)) (sym (rights_map l8 (map as_held l9 ++ (map as_held l10 ++ []))))
-    ∙ ap (λ rest. one ++ rest) (sym (rights_map l6 (map as_held l8 ++ (map as_held l9 ++ (map as_held l10 ++ [])))))
+    ∙ ap (λ rest. one ++ (rights_of l6 ++ (rights_of l8 ++ rest))) (sym (rights_map l9 (map right_needed l10 ++ [])))
+    ∙ ap (λ rest. one ++ (rights_of l6 ++ rest)) (sym (rights_map l8 (map right_needed l9 ++ (map right_needed l10 ++ []))))
+    ∙ ap (λ rest. one ++ rest) (sym (rights_map l6 (map right_needed l8 ++ (map right_needed l9 ++ (map right_needed l10 ++ [])))))

@@ -6,7 +6,7 @@ use Rattle.regions.specs.Memory.{lengths_of}
 use Rattle.queue_error.specs.declared.rule.Rule.{Rule}
 use Rattle.queue_error.specs.declared.rule.Rule.TheVariants.{L4, L5, L6, L7, L8, L9, L10}
 use Rattle.grants.specs.Ledger.{in_force}
-use Rattle.core_model.specs.LaunchRules.{Facts, meets_rule, first_failing}
+use Rattle.core_model.specs.LaunchRules.{Facts, meets_rule, first_failing_rule}
 use Rattle.packet_processor.specs.declared.facts.Facts.{Facts as Lent}
 use Rattle.packet_processor.specs.declared.facts.Verdict.{Verdict}
 use Rattle.packet_processor.specs.declared.facts.Verdict.TheVariants.{Launch, Deny}
@@ -31,5 +31,5 @@ later_failing facts p = find (λ rule. not (meets_rule facts p rule)) rules_of_f
 
 -- bytes were judged: no rule fails and they lay out the packet, or this is the first rule that fails
 abbrev pub Judges : Facts → List ℕ → Verdict → Type 0
-Judges facts bytes (Launch packet) = (decoded bytes ≡ Some packet) × (first_failing facts bytes ≡ None)
-Judges facts bytes (Deny rule) = first_failing facts bytes ≡ Some rule
+Judges facts bytes (Launch packet) = (decoded bytes ≡ Some packet) × (first_failing_rule facts bytes ≡ None)
+Judges facts bytes (Deny rule) = first_failing_rule facts bytes ≡ Some rule

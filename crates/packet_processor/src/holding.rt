@@ -4,7 +4,7 @@ ghost use Rattle.std.specs.Prelude.{◌≡◌, ◌≤◌, ◌+◌, ◌++◌, ◌
 ghost use Rattle.std.specs.Int.{from_le_bytes, w64};
 ghost use Rattle.std.specs.List.{flat_map};
 ghost use Rattle.aql_packet.specs.declared.ids.ClientId.{ClientId};
-ghost use Rattle.core_model.specs.Holds.{all_in_force, as_held, held_by_needs, held_by_pointer};
+ghost use Rattle.core_model.specs.Holds.{all_in_force, right_needed, held_by_needs, held_by_pointer};
 ghost use Rattle.core_model.specs.Kernels.{wide_arguments};
 ghost use Rattle.packet_processor.specs.Judged.{facts_seen};
 ghost use Rattle.packet_processor.specs.Holding.{among, as_rights};
@@ -112,7 +112,7 @@ fn hold_if_in_force(
 // Puts what is needed behind what is held.
 fn hold_all(held: &mut Sequence<Held>, needs: Needs) -> Result<(), AllocError>
     ensures { OnOk result (held.new
-        ≡ held.old ++ map (λ need. as_rights (as_held need)) (flat_map option_to_list needs)) }
+        ≡ held.old ++ map (λ need. as_rights (right_needed need)) (flat_map option_to_list needs)) }
 {
     let [first, second, third, fourth, fifth] = needs;
     hold_one(held, first)?;
@@ -125,7 +125,7 @@ fn hold_all(held: &mut Sequence<Held>, needs: Needs) -> Result<(), AllocError>
 // Puts what is needed behind what is held, if it is anything.
 fn hold_one(held: &mut Sequence<Held>, need: Option<Need>) -> Result<(), AllocError>
     ensures { OnOk result (held.new
-        ≡ held.old ++ map (λ need. as_rights (as_held need)) (option_to_list need)) }
+        ≡ held.old ++ map (λ need. as_rights (right_needed need)) (option_to_list need)) }
 {
     if let Some(need) = need {
         held.push((object_of(&need.subject), Rights::of(need.right)))?;

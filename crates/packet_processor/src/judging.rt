@@ -63,7 +63,7 @@ fn has_form(facts: &Facts, packet: &Packet, rule: Rule) -> bool
     ensures { result ≡ rules.has_form (facts_seen facts.now) packet.now rule }
 {
     match rule {
-        Rule::L4 => is_taken(facts.takes, packet),
+        Rule::L4 => agent_takes_kind(facts.takes, packet),
         Rule::L5 => asks_for_known_work(packet),
         Rule::L7 => has_segments(facts, packet),
         Rule::L8 => has_arguments(facts, packet),
@@ -72,8 +72,8 @@ fn has_form(facts: &Facts, packet: &Packet, rule: Rule) -> bool
 }
 
 // Whether an agent takes a packet of this kind.
-fn is_taken(takes: Takes, packet: &Packet) -> bool
-    ensures { result ≡ rules.is_taken takes packet.now }
+fn agent_takes_kind(takes: Takes, packet: &Packet) -> bool
+    ensures { result ≡ rules.agent_takes_kind takes packet.now }
 {
     match packet {
         Packet::Kernel(_) => takes.kernel,
@@ -95,14 +95,14 @@ fn asks_for_known_work(packet: &Packet) -> bool
 
 // Whether all rights that are needed are in force.
 fn are_met(facts: &Facts, needs: &Needs) -> bool
-    ensures { result ≡ list_all (rules.is_met (facts_seen facts.now)) (flat_map option_to_list needs.now) }
+    ensures { result ≡ list_all (rules.need_is_met (facts_seen facts.now)) (flat_map option_to_list needs.now) }
 {
     needs.iter().all(|need| is_met_or_none(facts, need))
 }
 
 // Whether a right is in force, if one is needed.
 pub(crate) fn is_met_or_none(facts: &Facts, need: &Option<Need>) -> bool
-    ensures { result ≡ list_all (rules.is_met (facts_seen facts.now)) (option_to_list need.now) }
+    ensures { result ≡ list_all (rules.need_is_met (facts_seen facts.now)) (option_to_list need.now) }
 {
     match need {
         Some(need) => is_met(facts, need),
@@ -113,7 +113,7 @@ pub(crate) fn is_met_or_none(facts: &Facts, need: &Option<Need>) -> bool
 // Whether a right that is needed is in force, and where it is on a range, the range lies whole in one
 // region.
 fn is_met(facts: &Facts, need: &Need) -> bool
-    ensures { result ≡ rules.is_met (facts_seen facts.now) need.now }
+    ensures { result ≡ rules.need_is_met (facts_seen facts.now) need.now }
 {
     lies_whole(facts.regions, &need.subject)
         && facts

@@ -17,6 +17,6 @@ pub use facts::{Facts, TAKES_NOTHING, Verdict};
 pub use holding::{held_by_arguments, held_by_needs};
 pub use judging::verdict;
 pub use need_table::{Needs, function_of, needs, result_range};
-pub use packets::{completion, is_barrier, is_ready};
+pub use packets::{completion_signal, is_barrier, is_ready};
 pub use places::{Place, Places};
 pub use queue_state::{MayLaunch, QueueState, State};

@@ -4,7 +4,7 @@ ghost use Rattle.std.specs.Prelude.{◌≡◌, ◌∷◌, [], option_to_list};
 ghost use Rattle.std.specs.List.{flat_map};
 ghost use Rattle.core_model.specs.Needs as model;
 
-use crate::packets::completion;
+use crate::packets::completion_signal;
 use aql_packet::{Address, AgentDispatch, AgentHandle, KernelDispatch, Packet, SignalHandle};
 use core_model::{ADD64, AgentFunction, COPY, FILL, Need, Range, Subject};
 use policy::{Object, Right};
@@ -21,15 +21,15 @@ pub fn function_of(dispatch: &AgentDispatch) -> Option<AgentFunction>
     let [first, second, third, _] = dispatch.arguments;
     match dispatch.function {
         FILL => Some(AgentFunction::Fill {
-            target: bytes_at(first, second),
+            target: range_at(first, second),
             byte: (third % 256) as u8,
         }),
         COPY => Some(AgentFunction::Copy {
-            source: bytes_at(first, third),
-            target: bytes_at(second, third),
+            source: range_at(first, third),
+            target: range_at(second, third),
         }),
         ADD64 => Some(AgentFunction::Add64 {
-            number: bytes_at(first, 8),
+            number: range_at(first, 8),
             addend: second,
         }),
         _ => None,
@@ -41,7 +41,7 @@ pub fn result_range(dispatch: &AgentDispatch) -> Range
     ensures { result ≡ model.result_range dispatch.now }
 {
     let address = dispatch.return_address.0;
-    bytes_at(address, if address == 0 { 0 } else { 8 })
+    range_at(address, if address == 0 { 0 } else { 8 })
 }
 
 /// The rights that a launch rule asks of a packet for an agent, and on what: L4 the use of the agent,
@@ -55,7 +55,7 @@ pub fn needs(rule: Rule, agent: AgentHandle, packet: &Packet) -> Needs
         Rule::L6 => kernel_needs(packet),
         Rule::L8 => memory_needs(packet),
         Rule::L9 => wait_needs(packet),
-        Rule::L10 => one(on_signal(completion(packet), Right::Change)),
+        Rule::L10 => one(on_signal(completion_signal(packet), Right::Change)),
         _ => [None; 5],
     }
 }
@@ -83,10 +83,10 @@ fn kernel_needs(packet: &Packet) -> Needs
 /// What a kernel dispatch needs of its argument block: to read it, unless it is empty (PRM, Kernarg
 /// Segment; that it is read by a right is own).
 pub(crate) fn argument_need(dispatch: &KernelDispatch, size: u32) -> Option<Need>
-    ensures { option_to_list result ≡ model.range_need Right.Read (model.bytes_at dispatch.now.kernarg_address.0 size) }
+    ensures { option_to_list result ≡ model.range_need Right.Read (model.range_at dispatch.now.kernarg_address.0 size) }
 {
     on_range(
-        bytes_at(dispatch.kernarg_address.0, size as u64),
+        range_at(dispatch.kernarg_address.0, size as u64),
         Right::Read,
     )
 }
@@ -141,8 +141,8 @@ fn wait_needs(packet: &Packet) -> Needs
 }
 
 // So many bytes from an address on.
-fn bytes_at(address: u64, size: u64) -> Range
-    ensures { result ≡ model.bytes_at address size }
+fn range_at(address: u64, size: u64) -> Range
+    ensures { result ≡ model.range_at address size }
 {
     Range {
         address: Address(address),

@@ -2,7 +2,7 @@
 
 ghost use Rattle.std.specs.Prelude.{◌≡◌};
 ghost use Rattle.core_model.specs.LaunchRules.{is_barrier};
-ghost use Rattle.core_model.specs.Needs.{completion};
+ghost use Rattle.core_model.specs.Needs.{completion_signal};
 ghost use Rattle.core_model.specs.Work.{is_ready};
 
 use aql_packet::{Packet, SignalHandle};
@@ -10,8 +10,8 @@ use core_model::Seen;
 
 /// The signal that is decremented when a packet completes (PSA, Architected Queuing Language); 0 is
 /// the null signal.
-pub fn completion(packet: &Packet) -> SignalHandle
-    ensures { result ≡ completion packet.now }
+pub fn completion_signal(packet: &Packet) -> SignalHandle
+    ensures { result ≡ completion_signal packet.now }
 {
     match packet {
         Packet::Kernel(dispatch) => dispatch.completion_signal,

@@ -24,11 +24,11 @@ use Rattle.core_model.specs.declared.refusal.Refusal as cores
 use Rattle.core_model.specs.declared.refusal.Refusal.TheVariants as refusal
 use Rattle.core_model.specs.History.{Start, History}
 use Rattle.core_model.specs.Flight.{flight_of}
-use Rattle.core_model.specs.LaunchRules.{first_failing, may_start}
+use Rattle.core_model.specs.LaunchRules.{first_failing_rule, cause_to_wait}
 use Rattle.core_model.specs.Queues.{Opening, is_down, next_id, owner}
-use Rattle.core_model.specs.Owed.{Owed, owed, refuses, answers, enters, decided, error_at, facts_of, for_some, owed_take, refuse_if, refuse_unless}
+use Rattle.core_model.specs.Owed.{Owed, owed, refuses, answers, enters, owed_verdict, error_without_place, facts_of, for_some, owed_take, refuse_if, refuse_unless}
 use Rattle.core_model.specs.Legal as cores_law
-use Rattle.core_model.specs.Legal.{MeetsOrLacks, due, entry_of, history_after, reply_of, wrapped}
+use Rattle.core_model.specs.Legal.{MeetsOrLacks, due, entry_of, history_after, reply_of, as_variant}
 use Rattle.core_model.proofs.More.{next_id-more}
 use Rattle.core_model.proofs.Entered.{take-decided}
 use Rattle.ring_core.specs.declared.access.Access.{Access}
@@ -80,15 +80,15 @@ decided_put core core' rings queue r after found here next h other x at =
 
 -- ---- steps
 
-kept_after : (decided : Bool) (access : Access) → access ≢ RaiseReadIndex → decided_after decided access ≡ decided
-kept_after decided Reserve other = refl
-kept_after decided (LoadReadIndex ticket) other = refl
-kept_after decided (StoreBody ticket place w) other = refl
-kept_after decided (StoreHeader ticket w) other = refl
-kept_after decided LoadHeader other = refl
-kept_after decided (LoadBody place) other = refl
-kept_after decided ClearHeader other = refl
-kept_after decided RaiseReadIndex other = absurd (other refl)
+kept_after : (owed_verdict : Bool) (access : Access) → access ≢ RaiseReadIndex → decided_after owed_verdict access ≡ owed_verdict
+kept_after owed_verdict Reserve other = refl
+kept_after owed_verdict (LoadReadIndex ticket) other = refl
+kept_after owed_verdict (StoreBody ticket place w) other = refl
+kept_after owed_verdict (StoreHeader ticket w) other = refl
+kept_after owed_verdict LoadHeader other = refl
+kept_after owed_verdict (LoadBody place) other = refl
+kept_after owed_verdict ClearHeader other = refl
+kept_after owed_verdict RaiseReadIndex other = absurd (other refl)
 
 made_decided : (core : History) (queue : QueueId) (r : QueueRing) (step : Step) → IsInStep core queue r.ring → r.decided ≡ is_decided core queue r.ring → Moved r.ring step
     → (ring_made r step).decided ≡ is_decided core queue (made r.ring step)
@@ -128,7 +128,7 @@ through_if : (b : Bool) (why : cores.Refusal) (rest : Owed) (told : Outcome) →
 through_if true why rest told is = absurd (cc)
 through_if false why rest told is = is
 
-decided_waits : (queue : QueueId) (id : ℕ) (cause : Option Cause) (verdict : Option Rule) (told : Outcome) → decided queue id cause verdict ≡ answers told → (c : Cause) × (told ≡ outcome.Taken (taken.Waiting c))
+decided_waits : (queue : QueueId) (id : ℕ) (cause : Option Cause) (verdict : Option Rule) (told : Outcome) → owed_verdict queue id cause verdict ≡ answers told → (c : Cause) × (told ≡ outcome.Taken (taken.Waiting c))
 decided_waits queue id (Some cause) verdict told is = (cause, cc)
 decided_waits queue id None None told is = absurd (cc)
 decided_waits queue id None (Some rule) told is = absurd (cc)
@@ -143,12 +143,12 @@ take_waits start es queue id bytes told = by_owner (owner start es queue)
     by_owner (Some opening) is =
         let one = through_if (is_down start es queue) refusal.QueueDown _ told is in
         let two = through_unless (id.0 == next_id start es queue) (refusal.OutOfStep (next_id start es queue)) _ told one in
-        decided_waits queue id.0 (may_start (map (λ f. f.packet) (flight_of start es queue)) (barrier_bit bytes)) (first_failing (facts_of start es opening) bytes) told two
+        decided_waits queue id.0 (cause_to_wait (map (λ f. f.packet) (flight_of start es queue)) (barrier_bit bytes)) (first_failing_rule (facts_of start es opening) bytes) told two
 
 -- a hand-over that leaves an entry decides
 decides : (queue : QueueId) (id : ℕ) (verdict : Option Rule) (became : Result Taken cores.Refusal) (told : Outcome)
-    → told ≡ elim verdict [ None ↦ outcome.Taken taken.Launched | Some rule ↦ outcome.Taken (taken.Denied (error_at queue id rule)) ] → wrapped outcome.Taken became ≡ Ok told
-    → (r : QueueRing) → (ring_taken r became ≡ record { ring = r.ring; decided = true })
+    → told ≡ elim verdict [ None ↦ outcome.Taken taken.Launched | Some rule ↦ outcome.Taken (taken.Denied (error_without_place queue id rule)) ] → as_variant outcome.Taken became ≡ Ok told
+    → (r : QueueRing) → (ring_taken r became ≡ record { ring = r.ring; owed_verdict = true })
 decides queue id None (Ok taken.Launched) told is made r = refl
 decides queue id None (Ok (taken.Denied error)) told is made r = refl
 decides queue id None (Ok (taken.Waiting cause)) told is made r = absurd (cc)
@@ -158,13 +158,13 @@ decides queue id (Some rule) (Ok (taken.Denied error)) told is made r = refl
 decides queue id (Some rule) (Ok (taken.Waiting cause)) told is made r = absurd (cc)
 decides queue id (Some rule) (Err why) told is made r = absurd (cc)
 
-waits_stay : (r : QueueRing) (became : Result Taken cores.Refusal) (c : Cause) → wrapped outcome.Taken became ≡ Ok (outcome.Taken (taken.Waiting c)) → ring_taken r became ≡ r
+waits_stay : (r : QueueRing) (became : Result Taken cores.Refusal) (c : Cause) → as_variant outcome.Taken became ≡ Ok (outcome.Taken (taken.Waiting c)) → ring_taken r became ≡ r
 waits_stay r (Ok taken.Launched) c is = absurd (cc)
 waits_stay r (Ok (taken.Denied error)) c is = absurd (cc)
 waits_stay r (Ok (taken.Waiting cause)) c is = refl
 waits_stay r (Err why) c is = absurd (cc)
 
-refused_stays : (r : QueueRing) (became : Result Taken cores.Refusal) (why : cores.Refusal) → wrapped outcome.Taken became ≡ Err why → ring_taken r became ≡ r
+refused_stays : (r : QueueRing) (became : Result Taken cores.Refusal) (why : cores.Refusal) → as_variant outcome.Taken became ≡ Err why → ring_taken r became ≡ r
 refused_stays r (Ok became) why is = absurd (cc)
 refused_stays r (Err other) why is = refl
 
@@ -177,7 +177,7 @@ module _ (core : History) (rings : List QueueRing) (h : IsJoined (World core rin
   unmoved became is =
       decided_put core core rings queue r (ring_taken r became) found (subst (λ (x : QueueRing). x.decided ≡ is_decided core queue x.ring) (sym is) (d queue r found)) (λ other apart. refl) d
 
-  by_owing : (became : Result Taken cores.Refusal) (owing : Owed) → due core Taking ≡ owing → wrapped outcome.Taken became ≡ reply_of owing → AreDecided (history_after core Taking owing) (with_queue_ring rings queue (ring_taken r became))
+  by_owing : (became : Result Taken cores.Refusal) (owing : Owed) → due core Taking ≡ owing → as_variant outcome.Taken became ≡ reply_of owing → AreDecided (history_after core Taking owing) (with_queue_ring rings queue (ring_taken r became))
   by_owing became (refuses why) is made = unmoved became (refused_stays r became why made)
   by_owing became (answers told) is made =
       let waits = take_waits core.start core.entries queue (record { 0 = read_index r.ring }) (bytes_of words) told (due_answers core Taking told is) in
@@ -186,7 +186,7 @@ module _ (core : History) (rings : List QueueRing) (h : IsJoined (World core rin
       let entry : Entry = entry_of Taking told effects in
       let new : History = history_after core Taking (enters told effects) in
       let was = take-decided core.start core.entries told effects queue (record { 0 = read_index r.ring }) (bytes_of words) (due_enters core Taking told effects is) in
-      let put : ring_taken r became ≡ record { ring = r.ring; decided = true } = decides queue (read_index r.ring) was.verdict became told was.outcome_is made r in
+      let put : ring_taken r became ≡ record { ring = r.ring; owed_verdict = true } = decides queue (read_index r.ring) was.verdict became told was.outcome_is made r in
       let more : next_id core.start (core.entries ++ entry ∷ []) queue ≡ next_id core.start core.entries queue + 1 =
       next_id-more core.start core.entries entry queue ∙ ap (λ b. if b then next_id core.start core.entries queue + 1 else next_id core.start core.entries queue) (eq-eqb queue.0 queue.0 refl) in
       let next : read_index r.ring ≡ next_id core.start core.entries queue = was.id_is_next in
@@ -199,7 +199,7 @@ module _ (core : History) (rings : List QueueRing) (h : IsJoined (World core rin
       next_id-more core.start core.entries entry other ∙ ap (λ b. if b then next_id core.start core.entries other + 1 else next_id core.start core.entries other) differs)
       d
 
-  handed_decided : (core' : History) (became : Result Taken cores.Refusal) → MeetsOrLacks Taking core core' (wrapped outcome.Taken became) → AreDecided core' (with_queue_ring rings queue (ring_taken r became))
+  handed_decided : (core' : History) (became : Result Taken cores.Refusal) → MeetsOrLacks Taking core core' (as_variant outcome.Taken became) → AreDecided core' (with_queue_ring rings queue (ring_taken r became))
   handed_decided core' became (inl m) =
       subst (λ (x : History). AreDecided x (with_queue_ring rings queue (ring_taken r became))) (sym m.history_is) (by_owing became (due core Taking) refl m.reply_is)
   handed_decided core' became (inr l) =
@@ -255,7 +255,7 @@ module _ (core core' : History) (rings new : List QueueRing) (h : IsJoined (Worl
   opening_decided : (client : ClientId) (agent : AgentHandle) (size producers : ℕ) → Opens client agent size producers core rings reply core' new → AreDecided core' new
   opening_decided client agent size producers (made, meets, told, put) = subst (AreDecided core') (sym put) (opened_decided size producers made (by_due meets))
     where
-      by_due : MeetsOrLacks (OpenQueue client agent (asked_size size producers)) core core' (wrapped outcome.Opened made) → (queue : QueueId) → next_id core'.start core'.entries queue ≡ next_id core.start core.entries queue
+      by_due : MeetsOrLacks (OpenQueue client agent (asked_size size producers)) core core' (as_variant outcome.Opened made) → (queue : QueueId) → next_id core'.start core'.entries queue ≡ next_id core.start core.entries queue
       by_due (inl m) queue = ap (λ (x : History). next_id x.start x.entries queue) m.history_is ∙ opening_next core client agent (asked_size size producers) (due core (OpenQueue client agent (asked_size size producers))) queue
       by_due (inr l) queue = ap (λ (x : History). next_id x.start x.entries queue) l.history_is
 

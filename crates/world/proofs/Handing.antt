@@ -11,7 +11,7 @@ use Rattle.core_model.specs.declared.refusal.Refusal as cores
 use Rattle.core_model.specs.History.{History}
 use Rattle.core_model.specs.Owed as owed_size
 use Rattle.core_model.specs.Owed.{Owed, refuses, answers, enters}
-use Rattle.core_model.specs.Legal.{MeetsOrLacks, due, opened, reply_of}
+use Rattle.core_model.specs.Legal.{MeetsOrLacks, due, empty_history, reply_of}
 use Rattle.ring_core.specs.Parts.{collected_packet}
 use Rattle.ring_core.specs.Machine.{is_ring_size, read_index}
 use Rattle.ring_core.specs.Rule.{processor_of}
@@ -64,8 +64,8 @@ never_opened core core' client agent size producers asked told unfit is (inl mee
     by_owing (enters other effects) e reply = fits_not (opening_owed core.start core.entries client agent asked (enters other effects) (λ w x. cc) (due_enters core (OpenQueue client agent asked) other effects e)).0
 
 -- a world begins joined
-pub starts : (policy : Declared) (capacity : ℕ) (core : History) (rings : List QueueRing) → core ≡ opened policy capacity → rings ≡ [] → IsJoined (World core rings) × AreDecided core rings
+pub starts : (policy : Declared) (capacity : ℕ) (core : History) (rings : List QueueRing) → core ≡ empty_history policy capacity → rings ≡ [] → IsJoined (World core rings) × AreDecided core rings
 starts policy capacity core rings is none = (
-  subst (λ (h : History). IsJoined (World h rings)) (sym is) (subst (λ (rs : List QueueRing). IsJoined (World (opened policy capacity) rs)) (sym none) (begins policy capacity)),
+  subst (λ (h : History). IsJoined (World h rings)) (sym is) (subst (λ (rs : List QueueRing). IsJoined (World (empty_history policy capacity) rs)) (sym none) (begins policy capacity)),
   λ queue r found. absurd (let nothing = numbered_none rings queue.0 (ap length none) in cc),
 )

@@ -7,7 +7,7 @@ use Rattle.aql_packet.specs.declared.ids.QueueId.{QueueId}
 use Rattle.core_model.specs.declared.event.Event.{Event}
 use Rattle.core_model.specs.declared.entry.Entry.{Entry}
 use Rattle.core_model.specs.History.{History}
-use Rattle.core_model.specs.Queues.{hands_over, next_id, opening_of, openings}
+use Rattle.core_model.specs.Queues.{hands_over_packet_of, next_id, opening_of, openings}
 use Rattle.core_model.specs.Owed.{Owed, refuses, answers, enters}
 use Rattle.core_model.specs.Legal.{IsLegal, due, entry_of, history_after}
 use Rattle.core_model.proofs.More.{with_some, next_id-more, openings-more}
@@ -114,7 +114,7 @@ pub record IsAside (event : Event) : Type 0 where
   pub opens : opening_of event ≡ None
   pub sizes : size_of event ≡ None
   pub takes : (queue : QueueId) → taken_from queue event ≡ None
-  pub hands : (queue : QueueId) → hands_over queue event ≡ false
+  pub hands : (queue : QueueId) → hands_over_packet_of queue event ≡ false
 
 module _ (world : Joined) (h : IsJoined world) (event : Event) where
   abbrev After : Owed → Joined

@@ -4,7 +4,7 @@ use Rattle.std.proofs.Common.{ap}
 use Rattle.std.specs.Prelude.{◌&&◌, length, slice_get, if◌then◌else◌}
 use Rattle.aql_packet.specs.declared.ids.QueueId.{QueueId}
 use Rattle.policy.specs.Policy.{Declared}
-use Rattle.core_model.specs.Legal.{opened}
+use Rattle.core_model.specs.Legal.{empty_history}
 use Rattle.ring_core.specs.declared.access.Step.{Step}
 use Rattle.ring_core.specs.Parts.{collected_packet}
 use Rattle.ring_core.specs.Machine.{Machine, is_allowed, made, read_index}
@@ -94,12 +94,12 @@ replies_kept world new (asked ∷ requests) [] h are = absurd are
 
 -- ---- the opening
 
-pub begins : (policy : Declared) (capacity : ℕ) → IsJoined (joined (opened policy capacity) [])
+pub begins : (policy : Declared) (capacity : ℕ) → IsJoined (joined (empty_history policy capacity) [])
 begins policy capacity = record {
   legal = tt;
   count = sym (ap length (no_openings (record { policy = policy })));
   sizes = sym no_sizes;
   each = λ queue.
-      subst (Stands (opened policy capacity) queue) (sym (numbered_none (joined (opened policy capacity) []).rings queue.0 refl))
+      subst (Stands (empty_history policy capacity) queue) (sym (numbered_none (joined (empty_history policy capacity) []).rings queue.0 refl))
       (record { next = none_next (record { policy = policy }) queue; takes = no_takes queue });
 }

@@ -13,7 +13,7 @@ use Rattle.core_model.specs.History.{History}
 use Rattle.core_model.specs.Queues.{next_id}
 use Rattle.core_model.specs.Owed.{Owed}
 use Rattle.core_model.specs.Legal.{as_reply, due, history_after, may_lack, query_may_lack, reply_of}
-use Rattle.core_model.specs.Queries.{Replying, replied}
+use Rattle.core_model.specs.Queries.{AnswerOrRefusal, query_answer}
 use Rattle.ring_core.specs.declared.access.Access.{Access}
 use Rattle.ring_core.specs.declared.access.Access.TheVariants.{Reserve, LoadHeader, ClearHeader}
 use Rattle.ring_core.specs.declared.access.Step.{Step}
@@ -96,7 +96,7 @@ due_step world queue step (Some ring) = due_where world queue ring step (hindran
 -- ---- calls of the core
 
 -- the core's reply as the world's
-abbrev pub of_core : Replying → Reply
+abbrev pub of_core : AnswerOrRefusal → Reply
 of_core (Ok answered) = Ok (answer.Core answered)
 of_core (Err why) = Err (refusal.Core why)
 
@@ -111,9 +111,9 @@ due_event world event owing = record {
 -- a query
 abbrev pub due_query : Joined → Query → Due
 due_query world query = record {
-  reply = of_core (replied world.core.start world.core.entries query);
+  reply = of_core (query_answer world.core.start world.core.entries query);
   after = world;
-  may_lack = query_may_lack (replied world.core.start world.core.entries query);
+  may_lack = query_may_lack (query_answer world.core.start world.core.entries query);
 }
 
 -- ---- takes

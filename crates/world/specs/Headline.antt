@@ -28,8 +28,8 @@ use Rattle.core_model.specs.History.{Start}
 use Rattle.core_model.specs.Grants.{in_force}
 use Rattle.core_model.specs.Memory.{memory_from}
 use Rattle.core_model.specs.Queues.{Opening}
-use Rattle.core_model.specs.Legal.{IsLegal, entry_of, opened}
-use Rattle.core_model.specs.Queries.{replied}
+use Rattle.core_model.specs.Legal.{IsLegal, entry_of, empty_history}
+use Rattle.core_model.specs.Queries.{query_answer}
 use Rattle.core_model.specs.Headline.{ChangeIsGranted, InFlightSince, IsDenied, IsEntryBehind, IsListed, MayBeLaunched, MayReach, MayReachRange, WriteIsGranted, packet_named, reads_of}
 use Rattle.ring_core.specs.Machine.{Machine}
 use Rattle.world.specs.States.{Joined, joined, ring_of}
@@ -37,7 +37,7 @@ use Rattle.world.specs.InStep.{IsInStep}
 
 -- a world that was just opened: no entry, and no queue
 abbrev pub begun : Declared → ℕ → Joined
-begun policy capacity = joined (opened policy capacity) []
+begun policy capacity = joined (empty_history policy capacity) []
 
 -- each packet that was launched may be by the grants in force at that moment, and its launch changed nothing
 abbrev pub EachLaunchWasGranted : Start → List Entry → Type 0
@@ -80,19 +80,19 @@ EachGroupReadWasGranted start entries =
 -- each byte that a client is told is one of memory, with READ in force
 abbrev pub EachReadIsGranted : Start → List Entry → Type 0
 EachReadIsGranted start entries =
-    (client : ClientId) (address : Address) (size : ℕ) (told : Answer) → replied start entries (query.HostRead client address size) ≡ Ok told →
+    (client : ClientId) (address : Address) (size : ℕ) (told : Answer) → query_answer start entries (query.HostRead client address size) ≡ Ok told →
     MayReach start entries client right.Read address.0 size × (told ≡ answer.Bytes (memory_from start entries address.0 size))
 
 -- each signal whose value a client is told is one on which it has WAIT in force
 abbrev pub EachLookIsGranted : Start → List Entry → Type 0
 EachLookIsGranted start entries =
-    (client : ClientId) (signal : SignalHandle) (told : Answer) → replied start entries (query.LoadSignal client signal) ≡ Ok told →
+    (client : ClientId) (signal : SignalHandle) (told : Answer) → query_answer start entries (query.LoadSignal client signal) ≡ Ok told →
     in_force start entries client (object.Signal signal) right.Wait ≡ true
 
 -- each handle that a client is listed is one on which it has a right in force, with just those rights
 abbrev pub EachHandleListedIsGranted : Start → List Entry → Type 0
 EachHandleListedIsGranted start entries =
-    (client : ClientId) (told : Answer) → replied start entries (query.List client) ≡ Ok told →
+    (client : ClientId) (told : Answer) → query_answer start entries (query.List client) ≡ Ok told →
     (rows : List (Object × Rights)) × (told ≡ answer.Listing rows) × All (IsListed start entries client) rows
 
 -- the headline, of a world (own)

@@ -14,8 +14,8 @@ use Rattle.core_model.specs.declared.outcome.Outcome.TheVariants as outcome
 use Rattle.core_model.specs.declared.refusal.Refusal.{Refusal}
 use Rattle.core_model.specs.declared.refusal.Refusal.TheVariants as refusal
 use Rattle.core_model.specs.History.{History}
-use Rattle.core_model.specs.Legal.{MeetsOrLacks, IsServed, wrapped}
-use Rattle.core_model.specs.Queries.{Replying}
+use Rattle.core_model.specs.Legal.{MeetsOrLacks, IsServed, as_variant}
+use Rattle.core_model.specs.Queries.{AnswerOrRefusal}
 use Rattle.script.specs.declared.command.Command.{Command}
 use Rattle.script.specs.declared.command.Command.TheVariants as command
 use Rattle.script.specs.declared.command.Told.{Told}
@@ -73,7 +73,7 @@ RingLacks made old new = (made ≡ Err refusal.OutOfMemory) × (new.core ≡ old
 -- a queue was opened with its ring, or refused by the core, or memory for its ring was wanted (own)
 abbrev pub Opens : Event → Ring → Ringed → Told → Ringed → Type 0
 Opens event ring old reply new =
-    (made : Result QueueId Refusal) × (MeetsOrLacks event old.core new.core (wrapped outcome.Opened made) ⊎ RingLacks made old new)
+    (made : Result QueueId Refusal) × (MeetsOrLacks event old.core new.core (as_variant outcome.Opened made) ⊎ RingLacks made old new)
     × (reply ≡ told_opened made) × (new.rings ≡ rings_opened old.rings ring made)
 
 -- a request was served by the core, and no ring changed; a queue that is opened so has no producers, and only what stands in a ring is handed over (own)
@@ -81,7 +81,7 @@ abbrev pub AsksWhere : Asked → Request → Ringed → Told → Ringed → Type
 AsksWhere (asked.Opening client agent size) wanted old reply new = Opens (OpenQueue client agent size) (empty_ring size 0) old reply new
 AsksWhere asked.HandOver wanted old reply new = (reply ≡ told.NotAStep) × (new ≡ old)
 AsksWhere asked.Other wanted old reply new =
-    (replied : Replying) × IsServed old.core wanted replied new.core × (reply ≡ told.Core replied) × (new.rings ≡ old.rings)
+    (replied : AnswerOrRefusal) × IsServed old.core wanted replied new.core × (reply ≡ told.Core replied) × (new.rings ≡ old.rings)
 
 abbrev pub Asks : Request → Ringed → Told → Ringed → Type 0
 Asks wanted old reply new = AsksWhere (asked_of wanted) wanted old reply new
@@ -108,7 +108,7 @@ ring_after ring (Err why) = ring
 abbrev pub HandsOver : Option (List ℕ) → Ring → QueueId → Ringed → Told → Ringed → Type 0
 HandsOver None ring queue old reply new = (reply ≡ told.Empty) × (new ≡ old)
 HandsOver (Some bytes) ring queue old reply new =
-    (became : Result Taken Refusal) × MeetsOrLacks (Take queue (record { 0 = ring.read }) bytes) old.core new.core (wrapped outcome.Taken became)
+    (became : Result Taken Refusal) × MeetsOrLacks (Take queue (record { 0 = ring.read }) bytes) old.core new.core (as_variant outcome.Taken became)
     × (reply ≡ told_taken (record { 0 = ring.read }) became) × (new.rings ≡ with_ring old.rings queue (ring_after ring became))
 
 -- the packet processor looked at a queue, where it was opened

@@ -15,7 +15,7 @@ use Rattle.core_model.specs.Grants.{in_force}
 use Rattle.core_model.specs.Memory.{memory_at, signals, region_lengths}
 use Rattle.core_model.specs.Queues.{openings, owner}
 use Rattle.core_model.specs.Flight.{flight}
-use Rattle.core_model.specs.Holds.{arguments, held}
+use Rattle.core_model.specs.Holds.{arguments, packet_rights}
 use Rattle.core_model.specs.Kernels.{segments_of}
 use Rattle.core_model.specs.Legal.{IsLegal}
 use Rattle.access_core.specs.declared.access.AccessCore.TheInside.{Inside}
@@ -51,8 +51,8 @@ pub record IsCached (a : Inside) : Type 0 where
   -- what the policy declares and allows
   pub rules : ledger.rules_in a.grants ≡ rules_of a.policy
   -- the rights that packets in flight hold
-  pub held : (queue : QueueId) (id : PacketId) (client : ClientId) (on : Object) (right : Right)
-      → ledger.holds a.grants queue id client on right ≡ packet_holds (owner (start_of a) a.audit.items) (held (start_of a) a.audit.items) (flight (start_of a) a.audit.items) queue id client on right
+  pub packet_rights : (queue : QueueId) (id : PacketId) (client : ClientId) (on : Object) (right : Right)
+      → ledger.holds a.grants queue id client on right ≡ packet_holds (owner (start_of a) a.audit.items) (packet_rights (start_of a) a.audit.items) (flight (start_of a) a.audit.items) queue id client on right
   -- the argument blocks of packets in flight
   pub arguments : All (λ f. block_of a.blocks f.queue f.id ≡ arguments (start_of a) a.audit.items f.queue f.id) (flight (start_of a) a.audit.items)
   -- each kernel is one of its checked kernels, and has these segments

@@ -10,14 +10,14 @@ use Rattle.core_model.specs.History.{History}
 use Rattle.core_model.specs.Memory.{region_lengths}
 use Rattle.core_model.specs.Queues.{Opening, owner, is_down}
 use Rattle.core_model.specs.Flight.{flight_of}
-use Rattle.core_model.specs.Owed.{answers, enters, error_at}
+use Rattle.core_model.specs.Owed.{answers, enters, error_without_place}
 use Rattle.core_model.specs.Legal.{due}
 use Rattle.core_model.specs.declared.limits.TheConstants.{SLOTS}
 use Rattle.access_core.specs.inner.LiesInRegions.{lies_in_regions}
 use Rattle.std.specs.List.{list_all}
 use Rattle.aql_packet.specs.declared.packet.Packet.{Packet}
 use Rattle.core_model.specs.Grants.{in_force}
-use Rattle.core_model.specs.Holds.{held_at_launch}
+use Rattle.core_model.specs.Holds.{rights_at_launch}
 use Rattle.core_model.specs.Kernels.{kernel_of}
 use Rattle.aql_packet.specs.declared.packet.Packet.TheVariants as packet
 use Rattle.access_core.specs.inner.InPlace.{IsPlaced}
@@ -47,14 +47,14 @@ IsBlockPlaced history _ = Unit {0}
 
 -- all that a packet will hold is in force for the client
 abbrev pub MayHold : History → Opening → Packet → Type 0
-MayHold history opening p = list_all (λ h. in_force history.start history.entries opening.client h.0 h.1) (held_at_launch history.start history.entries opening p) ≡ true
+MayHold history opening p = list_all (λ h. in_force history.start history.entries opening.client h.0 h.1) (rights_at_launch history.start history.entries opening p) ≡ true
 
 -- what is due to the packet is what was decided; a packet that is launched is the one that the bytes lay out, has all its ranges
 -- within regions, and may hold what it needs
 abbrev pub Decides : History → QueueId → PacketId → List ℕ → Decision → Type 0
 Decides history queue id bytes (Wait cause) = due history (Take queue id bytes) ≡ answers (outcome.Taken (Waiting cause))
 Decides history queue id bytes (Deny rule) =
-    (due history (Take queue id bytes) ≡ enters (outcome.Taken (Denied (error_at queue id.0 rule))) [])
+    (due history (Take queue id bytes) ≡ enters (outcome.Taken (Denied (error_without_place queue id.0 rule))) [])
     × TakesNext history queue
 Decides history queue id bytes (Launch launching) =
     (due history (Take queue id bytes) ≡ enters (outcome.Taken Launched) [])

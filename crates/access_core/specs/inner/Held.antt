@@ -12,19 +12,19 @@ use Rattle.policy.specs.Rights.{has, bit_of}
 use Rattle.core_model.specs.declared.flight.InFlight.{InFlight}
 use Rattle.core_model.specs.Queues.{Opening}
 use Rattle.core_model.specs.Flight.{is_packet}
-use Rattle.core_model.specs.Holds.{Held}
+use Rattle.core_model.specs.Holds.{ObjectRight}
 
 -- the set of one right
 abbrev pub as_rights : Right → Rights
 as_rights right = record { 0 = bit_of right }
 
 -- whether a packet of a queue with this opening, which holds all these, holds a client's right on an object
-abbrev pub holds_by : Option Opening → ClientId → Object → Right → List Held → Bool
+abbrev pub holds_by : Option Opening → ClientId → Object → Right → List ObjectRight → Bool
 holds_by None client on right all = false
 holds_by (Some opening) client on right all =
     opening.client.0 == client.0 && list_any (λ h. same_object on h.0 && has (as_rights h.1) right) all
 
 -- whether the packet in flight with this queue and id holds a client's right on an object, by the openings of the queues and what
 -- each packet holds
-abbrev pub packet_holds : (QueueId → Option Opening) → (QueueId → PacketId → List Held) → List InFlight → QueueId → PacketId → ClientId → Object → Right → Bool
+abbrev pub packet_holds : (QueueId → Option Opening) → (QueueId → PacketId → List ObjectRight) → List InFlight → QueueId → PacketId → ClientId → Object → Right → Bool
 packet_holds owners helds fs queue id client on right = list_any (λ f. is_packet queue id f && holds_by (owners f.queue) client on right (helds f.queue f.id)) fs

@@ -13,11 +13,11 @@ use Rattle.core_model.specs.declared.refusal.Refusal.{Refusal}
 use Rattle.core_model.specs.History.{History}
 use Rattle.aql_packet.specs.declared.packet.Packet.TheVariants as packet
 use Rattle.core_model.specs.LaunchRules.{has_sizes}
-use Rattle.core_model.specs.Needs.{completion}
+use Rattle.core_model.specs.Needs.{completion_signal}
 use Rattle.core_model.specs.Queues.{Opening, owner}
 use Rattle.core_model.specs.Flight.{in_flight, progress}
 use Rattle.core_model.specs.Memory.{byte_after, region_lengths, signals}
-use Rattle.core_model.specs.Owed.{Owed, refuses, enters, completed, for_packet}
+use Rattle.core_model.specs.Owed.{Owed, refuses, enters, signal_decrement, for_packet}
 use Rattle.packet_processor.specs.declared.places.Place.{Place}
 
 -- a packet of an open queue is in flight, and this is its place
@@ -40,7 +40,7 @@ RefusedAt history queue id why = (rest : Packet → Progress → Owed) → for_p
 
 -- the changes of a completion: the decrement of its signal, if it has one, and its release (PSA, Signals)
 abbrev pub completion_of : List ℤ → QueueId → PacketId → Packet → List Effect
-completion_of values queue id p = completed values (completion p) ++ effect.Release queue id ∷ []
+completion_of values queue id p = signal_decrement values (completion_signal p) ++ effect.Release queue id ∷ []
 
 -- what the completion of a packet whose work is done is owed
 abbrev pub finish_owed : History → QueueId → PacketId → Packet → Owed

@@ -8,7 +8,7 @@ use Rattle.core_model.specs.declared.outcome.Seen.{Seen}
 use Rattle.core_model.specs.declared.outcome.Outcome.TheVariants as outcome
 use Rattle.core_model.specs.declared.outcome.Polled.{Polled}
 use Rattle.core_model.specs.declared.outcome.Polled.TheVariants.{Pending, Ready, Failed}
-use Rattle.core_model.specs.Owed.{Owed, answers, enters, error_at}
+use Rattle.core_model.specs.Owed.{Owed, answers, enters, error_without_place}
 use Rattle.access_core.specs.declared.access.polling.Look.{Look}
 use Rattle.access_core.specs.declared.access.polling.Look.TheVariants.{Still, Fails, Sees}
 
@@ -20,5 +20,5 @@ sight false new = Pending new
 -- what a poll is owed by what it finds
 abbrev pub look_owed : QueueId → PacketId → Look → Owed
 look_owed queue id (Still told) = answers (outcome.Polled told)
-look_owed queue id Fails = enters (outcome.Polled (Failed (error_at queue id.0 B1))) (effect.Release queue id ∷ [])
+look_owed queue id Fails = enters (outcome.Polled (Failed (error_without_place queue id.0 B1))) (effect.Release queue id ∷ [])
 look_owed queue id (Sees new ready) = enters (outcome.Polled (sight ready new)) []

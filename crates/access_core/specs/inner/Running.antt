@@ -10,7 +10,7 @@ use Rattle.core_model.specs.declared.outcome.Worked.TheVariants.{Faulted}
 use Rattle.core_model.specs.declared.flight.InFlight.{InFlight}
 use Rattle.core_model.specs.Flight.{in_flight}
 use Rattle.core_model.specs.History.{History, Start}
-use Rattle.core_model.specs.Holds.{Held}
+use Rattle.core_model.specs.Holds.{ObjectRight}
 use Rattle.core_model.specs.Memory.{memory_from}
 use Rattle.core_model.specs.View.{HeldRegion, first_address, held_regions}
 use Rattle.core_model.specs.declared.entry.Entry.{Entry}
@@ -39,5 +39,5 @@ lent_whole start entries region = record {
 }
 
 -- the regions that a packet's groups are lent, where it holds all these
-abbrev pub view_whole : Start → List Entry → List Held → List LentRegion
+abbrev pub view_whole : Start → List Entry → List ObjectRight → List LentRegion
 view_whole start entries all = map (lent_whole start entries) (held_regions start all)

@@ -1,7 +1,7 @@
 //! Grants and revocations.
 
 ghost use Rattle.std.specs.Prelude.{◌≡◌};
-ghost use Rattle.core_model.specs.Legal.{Meets, accepted};
+ghost use Rattle.core_model.specs.Legal.{Meets, as_accepted};
 ghost use Rattle.access_core.specs.inner.Deciding.{refusal_of};
 
 use crate::access::{AccessCore, enter};
@@ -12,7 +12,7 @@ use policy::{Object, Rights};
 impl AccessCore {
     /// Gives a client rights on an object. It takes no memory.
     pub fn grant(&mut self, client: ClientId, object: Object, rights: Rights) -> Result<(), Refusal>
-        ensures { Meets (Event.Grant client object rights) self.old self.new (accepted result) }
+        ensures { Meets (Event.Grant client object rights) self.old self.new (as_accepted result) }
     {
         if let Err(why) = self.grants.may_grant(client, object, rights) {
             return Err(refusal_of(why));
@@ -38,7 +38,7 @@ impl AccessCore {
         object: Object,
         rights: Rights,
     ) -> Result<(), Refusal>
-        ensures { Meets (Event.Revoke client object rights) self.old self.new (accepted result) }
+        ensures { Meets (Event.Revoke client object rights) self.old self.new (as_accepted result) }
     {
         if let Err(why) = self.grants.may_revoke(client, object, rights) {
             return Err(refusal_of(why));

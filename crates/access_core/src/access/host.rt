@@ -4,7 +4,7 @@ ghost use Rattle.std.specs.Prelude.{◌≡◌, ◌-◌, ◌∷◌, [], OnOk, IfO
 ghost use Rattle.regions.specs.Memory.{is_within};
 ghost use Rattle.signals.specs.Values.{applied, value_of};
 ghost use Rattle.core_model.specs.Owed.{enters, old_if_asked, refuses};
-ghost use Rattle.core_model.specs.Legal.{Meets, MeetsOrLacks, accepted, due, wrapped};
+ghost use Rattle.core_model.specs.Legal.{Meets, MeetsOrLacks, as_accepted, due, as_variant};
 ghost use Rattle.core_model.specs.Memory.{region_lengths, signals};
 
 use crate::access::{AccessCore, enter};
@@ -25,7 +25,7 @@ impl AccessCore {
         signal: SignalHandle,
         operation: SignalOp,
     ) -> Result<i64, Refusal>
-        ensures { Meets (Event.ChangeSignal client signal operation) self.old self.new (wrapped Outcome.Changed result) }
+        ensures { Meets (Event.ChangeSignal client signal operation) self.old self.new (as_variant Outcome.Changed result) }
     {
         let old = self.may_change(client, signal, operation)?;
         let new = change(&mut self.signals, signal, operation, old);
@@ -49,7 +49,7 @@ impl AccessCore {
         address: Address,
         bytes: Sequence<u8>,
     ) -> Result<(), Refusal>
-        ensures { MeetsOrLacks (Event.HostWrite client address bytes) self.old self.new (accepted result) }
+        ensures { MeetsOrLacks (Event.HostWrite client address bytes) self.old self.new (as_accepted result) }
     {
         self.may_write(client, address, &bytes)?;
         let written = bytes.copy(alloc)?;

@@ -5,10 +5,10 @@ ghost use Rattle.aql_packet.specs.declared.packet.Packet.TheVariants as kind;
 ghost use Rattle.executor.specs.Locations as locations;
 ghost use Rattle.core_model.specs.LaunchRules.{has_sizes};
 ghost use Rattle.core_model.specs.Work.{groups_of};
-ghost use Rattle.core_model.specs.Legal.{Meets, MeetsOrLacks, due, wrapped};
+ghost use Rattle.core_model.specs.Legal.{Meets, MeetsOrLacks, due, as_variant};
 ghost use Rattle.core_model.specs.Owed.{group_error};
 ghost use Rattle.policy.specs.declared.object.Object.TheVariants as object;
-ghost use Rattle.core_model.specs.Holds.{held};
+ghost use Rattle.core_model.specs.Holds.{packet_rights};
 ghost use Rattle.core_model.specs.View.{rights_held};
 ghost use Rattle.access_core.specs.inner.Running.{fault_owed, IsHolder};
 ghost use Rattle.access_core.specs.inner.InPlace.{IsInPlace};
@@ -37,7 +37,7 @@ impl AccessCore {
         requires found { IsInPlace self.old queue packet place }
         requires sized { has_sizes dispatch ≡ true }
         requires packet_is { place.packet ≡ kind.Kernel dispatch }
-        ensures { MeetsOrLacks (Event.RunNext queue packet) self.old self.new (wrapped Outcome.Worked result) }
+        ensures { MeetsOrLacks (Event.RunNext queue packet) self.old self.new (as_variant Outcome.Worked result) }
     {
         let count = group_count(&dispatch);
         if place.progress.groups_run >= count {
@@ -55,7 +55,7 @@ impl AccessCore {
         region: RegionHandle,
     ) -> Rights
         requires { IsHolder self.now queue packet client }
-        ensures { result ≡ rights_held (held self.now.start self.now.entries queue packet) (object.Region region) }
+        ensures { result ≡ rights_held (packet_rights self.now.start self.now.entries queue packet) (object.Region region) }
     {
         self.grants
             .rights_held(queue, packet, client, Object::Region(region))

@@ -4,7 +4,7 @@ ghost use Rattle.std.specs.Prelude.{◌≡◌, ◌+◌, ◌<◌, All, IfOk, IfSo
 ghost use Rattle.policy.specs.Policy.{initial_of, length_of};
 ghost use Rattle.regions.specs.Memory.{are_region_lengths, zeros};
 ghost use Rattle.core_model.specs.Kernels.{segments_of};
-ghost use Rattle.core_model.specs.Legal.{opened};
+ghost use Rattle.core_model.specs.Legal.{empty_history};
 ghost use Rattle.access_core.specs.Opening.{first_missing, has_entry, is_capacity, IsUntouched, lengths_of_rows, open_fault, Opens, program_of, values_of_rows};
 
 use crate::access::{AccessCore, OpenFault};
@@ -208,7 +208,7 @@ fn blank(
     requires untouched { IsUntouched policy kernels.items capacity parts }
     requires entries { All (λ kernel. has_entry kernel ≡ true) kernels.items }
     requires few { is_capacity capacity ≡ true }
-    ensures { result ≡ opened policy (map program_of kernels.items) capacity }
+    ensures { result ≡ empty_history policy (map program_of kernels.items) capacity }
 {
     let Parts {
         segments,

@@ -3,12 +3,12 @@
 ghost use Rattle.std.specs.Prelude.{◌≡◌, IfErr, IfOk, Ok, Some, is_some, map};
 ghost use Rattle.std.specs.List.{list_any, zip};
 ghost use Rattle.std.specs.Option.{IfSome};
-ghost use Rattle.core_model.specs.Flight.{seen_with};
+ghost use Rattle.core_model.specs.Flight.{seen_by_either};
 ghost use Rattle.core_model.specs.LaunchRules.{is_barrier};
 ghost use Rattle.core_model.specs.Needs.{dependencies};
 ghost use Rattle.core_model.specs.Work.{is_negative, is_zero, signal_value};
 ghost use Rattle.core_model.specs.Owed.{owed_poll, refuses};
-ghost use Rattle.core_model.specs.Legal.{Meets, due, wrapped};
+ghost use Rattle.core_model.specs.Legal.{Meets, due, as_variant};
 ghost use Rattle.access_core.specs.inner.QueueChanges.{CanFail, freed_by, with_failure, with_queue};
 ghost use Rattle.access_core.specs.inner.Polling.{look_owed, sight};
 ghost use Rattle.access_core.specs.inner.InPlace.{IsInPlace};
@@ -43,7 +43,7 @@ impl AccessCore {
     /// then on, whatever becomes of it (PSA, Architected Queuing Language: barrier packets). It takes
     /// no memory.
     pub fn poll(&mut self, queue: QueueId, packet: PacketId) -> Result<Polled, Refusal>
-        ensures { Meets (Event.Poll queue packet) self.old self.new (wrapped Outcome.Polled result) }
+        ensures { Meets (Event.Poll queue packet) self.old self.new (as_variant Outcome.Polled result) }
     {
         let (place, look) = self.may_poll(queue, packet)?;
         match look {
@@ -113,7 +113,7 @@ impl AccessCore {
         ensures { Meets (Event.Poll queue packet) self.old self.new (Ok (Outcome.Polled result)) }
     {
         let progress = Progress {
-            satisfied: seen_with(&place.progress.satisfied, &new),
+            satisfied: seen_by_either(&place.progress.satisfied, &new),
             ..place.progress
         };
         advance(&mut self.queues, queue, packet, progress);
@@ -152,11 +152,11 @@ fn look_at(
     if is_any_negative(signals, &dependencies, seen) {
         return Ok(Look::Fails);
     }
-    let new = newly_seen(signals, &dependencies, seen);
+    let new = newly_seen_positions(signals, &dependencies, seen);
     if !is_any(&new) {
         return Ok(Look::Still(Polled::Pending(NONE)));
     }
-    let ready = is_ready(&place.packet, &seen_with(seen, &new));
+    let ready = is_ready(&place.packet, &seen_by_either(seen, &new));
     Ok(Look::Sees { new, ready })
 }
 
@@ -206,7 +206,7 @@ fn is_any_negative(signals: &Signals, dependencies: &[SignalHandle; 5], seen: &S
 }
 
 // The positions that are seen as 0 for the first time.
-fn newly_seen(signals: &Signals, dependencies: &[SignalHandle; 5], seen: &Seen) -> Seen
+fn newly_seen_positions(signals: &Signals, dependencies: &[SignalHandle; 5], seen: &Seen) -> Seen
     ensures { result.0 ≡ map (is_zero signals.now) (zip dependencies.now seen.now.0) }
 {
     Seen([
@@ -226,8 +226,8 @@ fn is_any(seen: &Seen) -> bool
 }
 
 // The positions seen by either.
-fn seen_with(before: &Seen, new: &Seen) -> Seen
-    ensures { result ≡ seen_with before.now new.now }
+fn seen_by_either(before: &Seen, new: &Seen) -> Seen
+    ensures { result ≡ seen_by_either before.now new.now }
 {
     Seen([
         before.0[0] | new.0[0],

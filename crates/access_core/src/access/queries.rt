@@ -2,7 +2,7 @@
 
 ghost use Rattle.std.specs.Prelude.{◌≡◌};
 ghost use Rattle.core_model.specs.declared.answer.Answer.TheVariants as answer;
-ghost use Rattle.core_model.specs.Legal.{IsLegal, Replies, RepliesOrLacks, wrapped};
+ghost use Rattle.core_model.specs.Legal.{IsLegal, Replies, RepliesOrLacks, as_variant};
 
 use crate::access::AccessCore;
 use aql_packet::{Address, ClientId, QueueId, SignalHandle};
@@ -33,7 +33,7 @@ impl AccessCore {
     /// The `length` bytes of memory from an address on. Refused in this order: no client has the
     /// number; the length isn't 1 to 65,536; the range doesn't lie whole in a region on which the
     /// client's right to read is in force.
-    #[tactic(auto, unfolding(core_model::specs::Queries::replied))]
+    #[tactic(auto, unfolding(core_model::specs::Queries::query_answer))]
     pub fn host_read(
         &self,
         alloc: Global,
@@ -42,7 +42,7 @@ impl AccessCore {
         length: u64,
     ) -> Result<Sequence<u8>, Refusal>
         ensures { RepliesOrLacks
-            (Query.HostRead client address length) self.now (wrapped answer.Bytes result) }
+            (Query.HostRead client address length) self.now (as_variant answer.Bytes result) }
     {
         if !self.policy().declares_client(client) {
             return Err(Refusal::UnknownClient);
@@ -63,9 +63,9 @@ impl AccessCore {
 
     /// A signal's value. Refused in this order: no client has the number; the client's right to
     /// wait on the signal isn't in force.
-    #[tactic(auto, unfolding(core_model::specs::Queries::replied))]
+    #[tactic(auto, unfolding(core_model::specs::Queries::query_answer))]
     pub fn signal_load(&self, client: ClientId, signal: SignalHandle) -> Result<i64, Refusal>
-        ensures { Replies (Query.LoadSignal client signal) self.now (wrapped answer.Value result) }
+        ensures { Replies (Query.LoadSignal client signal) self.now (as_variant answer.Value result) }
     {
         if !self.policy().declares_client(client) {
             return Err(Refusal::UnknownClient);
@@ -80,7 +80,7 @@ impl AccessCore {
     }
 
     /// Whether a signal's value meets a condition against another value. Refused as a load is.
-    #[tactic(auto, unfolding(core_model::specs::Queries::replied))]
+    #[tactic(auto, unfolding(core_model::specs::Queries::query_answer))]
     pub fn signal_test(
         &self,
         client: ClientId,
@@ -89,7 +89,7 @@ impl AccessCore {
         value: i64,
     ) -> Result<bool, Refusal>
         ensures { Replies
-            (Query.TestSignal client signal condition value) self.now (wrapped answer.Test result) }
+            (Query.TestSignal client signal condition value) self.now (as_variant answer.Test result) }
     {
         let current = self.signal_load(client, signal)?;
         Ok(condition.is_met(current, value))
@@ -97,13 +97,13 @@ impl AccessCore {
 
     /// Each object on which a client has a right in force, with those rights: agents, regions,
     /// signals and kernels, each kind by number. Refused where no client has the number.
-    #[tactic(auto, unfolding(core_model::specs::Queries::replied))]
+    #[tactic(auto, unfolding(core_model::specs::Queries::query_answer))]
     pub fn list(
         &self,
         alloc: Global,
         client: ClientId,
     ) -> Result<Sequence<(Object, Rights)>, Refusal>
-        ensures { RepliesOrLacks (Query.List client) self.now (wrapped answer.Listing result) }
+        ensures { RepliesOrLacks (Query.List client) self.now (as_variant answer.Listing result) }
     {
         if !self.policy().declares_client(client) {
             return Err(Refusal::UnknownClient);
@@ -112,9 +112,9 @@ impl AccessCore {
     }
 
     /// The errors of a queue, in order. Refused where no queue has the number.
-    #[tactic(auto, unfolding(core_model::specs::Queries::replied))]
+    #[tactic(auto, unfolding(core_model::specs::Queries::query_answer))]
     pub fn errors(&self, alloc: Global, queue: QueueId) -> Result<Sequence<QueueError>, Refusal>
-        ensures { RepliesOrLacks (Query.Errors queue) self.now (wrapped answer.Errors result) }
+        ensures { RepliesOrLacks (Query.Errors queue) self.now (as_variant answer.Errors result) }
     {
         let Some(kept) = self.queue(queue) else {
             return Err(Refusal::UnknownQueue);

@@ -4,7 +4,7 @@ ghost use Rattle.std.specs.Prelude.{◌≡◌, ◌<◌, [], OnOk, IfErr, IfOk, l
 ghost use Rattle.core_model.specs.declared.limits.TheConstants.{QUEUES};
 ghost use Rattle.core_model.specs.Queues.{openings};
 ghost use Rattle.core_model.specs.Owed.{enters, refuses, is_ring_size};
-ghost use Rattle.core_model.specs.Legal.{MeetsOrLacks, due, wrapped};
+ghost use Rattle.core_model.specs.Legal.{MeetsOrLacks, due, as_variant};
 
 use crate::access::{AccessCore, enter};
 use crate::queue::Queue;
@@ -34,7 +34,7 @@ impl AccessCore {
         agent: AgentHandle,
         size: u64,
     ) -> Result<QueueId, Refusal>
-        ensures { MeetsOrLacks (Event.OpenQueue client agent size) self.old self.new (wrapped Outcome.Opened result) }
+        ensures { MeetsOrLacks (Event.OpenQueue client agent size) self.old self.new (as_variant Outcome.Opened result) }
     {
         let queue = self.may_open(client, agent, size)?;
         let errors = Reserved::with_room(alloc, SLOTS)?;

@@ -7,7 +7,7 @@ ghost use Rattle.regions.specs.Memory.{is_within, lengths_of};
 ghost use Rattle.core_model.specs.Memory.{memory_from, region_lengths};
 ghost use Rattle.core_model.specs.Needs.{function_of};
 ghost use Rattle.core_model.specs.Work.{function_result, function_writes, number_in_memory, result_writes, write_of};
-ghost use Rattle.core_model.specs.Legal.{MeetsOrLacks, wrapped};
+ghost use Rattle.core_model.specs.Legal.{MeetsOrLacks, as_variant};
 ghost use Rattle.access_core.specs.inner.QueueChanges.{IsThere, with_advance, with_queue};
 ghost use Rattle.access_core.specs.inner.LiesInRegions.{lies_in_regions};
 ghost use Rattle.access_core.specs.inner.InPlace.{IsChanged, IsInPlace, IsPlaced, is_placed};
@@ -41,7 +41,7 @@ impl AccessCore {
         queue: QueueId,
         packet: PacketId,
     ) -> Result<Worked, Refusal>
-        ensures { MeetsOrLacks (Event.RunNext queue packet) self.old self.new (wrapped Outcome.Worked result) }
+        ensures { MeetsOrLacks (Event.RunNext queue packet) self.old self.new (as_variant Outcome.Worked result) }
     {
         let place = self.place_of(queue, packet)?;
         match place.packet {
@@ -64,7 +64,7 @@ impl AccessCore {
         requires found { IsInPlace self.old queue packet place }
         requires within { lies_in_regions (region_lengths self.old.start) place.packet ≡ true }
         requires packet_is { place.packet ≡ kind.Agent dispatch }
-        ensures { MeetsOrLacks (Event.RunNext queue packet) self.old self.new (wrapped Outcome.Worked result) }
+        ensures { MeetsOrLacks (Event.RunNext queue packet) self.old self.new (as_variant Outcome.Worked result) }
     {
         if place.progress.groups_run >= 1 {
             return Ok(Worked::Done);

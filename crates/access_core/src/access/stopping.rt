@@ -4,7 +4,7 @@ ghost use Rattle.std.specs.Prelude.{◌≡◌, IfErr, IfNone, IfOk, IfSome, filt
 ghost use Rattle.access_core.specs.ArgumentBlocks.{is_block};
 ghost use Rattle.grants.specs.Ledger.{Releases};
 ghost use Rattle.core_model.specs.Owed.{enters, refuses, release_of};
-ghost use Rattle.core_model.specs.Legal.{Meets, accepted, due};
+ghost use Rattle.core_model.specs.Legal.{Meets, as_accepted, due};
 ghost use Rattle.access_core.specs.inner.QueueChanges.{IsThere, freed_by, with_queue, with_stop};
 
 use crate::access::lookups::queue_of;
@@ -20,7 +20,7 @@ impl AccessCore {
     /// Stops a queue: it launches nothing more, and its barrier packet in flight leaves flight with
     /// its completion signal as it is. Its other packets in flight go on (own). It takes no memory.
     pub fn stop(&mut self, queue: QueueId) -> Result<(), Refusal>
-        ensures { Meets (Event.Stop queue) self.old self.new (accepted result) }
+        ensures { Meets (Event.Stop queue) self.old self.new (as_accepted result) }
     {
         let barrier = self.may_stop(queue)?;
         self.flying -= halt(&mut self.queues, queue, barrier);

@@ -2,13 +2,13 @@
 
 ghost use Rattle.std.specs.Prelude.{◌≡◌, ◌++◌, IfErr, IfOk, Ok, OnOk, map};
 ghost use Rattle.aql_packet.specs.Reading.{barrier_bit};
-ghost use Rattle.core_model.specs.Holds.{arguments_of, held_at_launch};
+ghost use Rattle.core_model.specs.Holds.{arguments_of, rights_at_launch};
 ghost use Rattle.core_model.specs.Owed.{facts_of, refuses};
 ghost use Rattle.packet_processor.specs.Holding.{as_rights};
 ghost use Rattle.packet_processor.specs.Judged.{facts_seen, Judges};
 ghost use Rattle.access_core.specs.inner.Deciding.{Decides, IsBlockPlaced, opening_of};
 ghost use Rattle.access_core.specs.inner.QueueChanges.{CanFail, CanLaunch, with_denied, with_launched, with_queue};
-ghost use Rattle.core_model.specs.Legal.{Meets, MeetsOrLacks, due, wrapped};
+ghost use Rattle.core_model.specs.Legal.{Meets, MeetsOrLacks, due, as_variant};
 
 use crate::access::lookups::queue_of;
 use crate::access::{AccessCore, enter};
@@ -161,7 +161,7 @@ impl AccessCore {
         packet: PacketId,
         bytes: &[u8; 64],
     ) -> Result<Taken, Refusal>
-        ensures { MeetsOrLacks (Event.Take queue packet bytes.now) self.old self.new (wrapped Outcome.Taken result) }
+        ensures { MeetsOrLacks (Event.Take queue packet bytes.now) self.old self.new (as_variant Outcome.Taken result) }
     {
         match self.may_take(queue, packet, bytes)? {
             Decision::Wait(cause) => Ok(Taken::Waiting(cause)),
@@ -226,7 +226,7 @@ impl AccessCore {
     ) -> Result<Sequence<(Object, Rights)>, AllocError>
         requires { block.now ≡ arguments_of self.now.start self.now.entries launching.now.packet }
         ensures { IfOk result (λ rights. rights
-            ≡ map as_rights (held_at_launch self.now.start self.now.entries (opening_of launching.now) launching.now.packet)) }
+            ≡ map as_rights (rights_at_launch self.now.start self.now.entries (opening_of launching.now) launching.now.packet)) }
     {
         let mut rights = held_by_needs(alloc, launching.agent, &launching.packet)?;
         let Packet::Kernel(dispatch) = &launching.packet else {
@@ -251,7 +251,7 @@ impl AccessCore {
         launching: Launching,
     ) -> Result<Taken, Refusal>
         requires { Decides self.old queue packet bytes.now (Decision.Launch launching) }
-        ensures { MeetsOrLacks (Event.Take queue packet bytes.now) self.old self.new (wrapped Outcome.Taken result) }
+        ensures { MeetsOrLacks (Event.Take queue packet bytes.now) self.old self.new (as_variant Outcome.Taken result) }
     {
         let block = self.argument_block(alloc, &launching.packet)?;
         let rights = self.rights_at_launch(alloc, &launching, block.as_slice())?;

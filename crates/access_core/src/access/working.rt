@@ -4,9 +4,9 @@ ghost use Rattle.std.specs.Prelude.{◌≡◌, ◌++◌, ◌∷◌, [], ◌-◌,
 ghost use Rattle.core_model.specs.declared.entry.Effect.TheVariants as effect;
 ghost use Rattle.core_model.specs.Memory.{region_lengths, signals_after};
 ghost use Rattle.core_model.specs.Queues.{owner};
-ghost use Rattle.core_model.specs.Needs.{completion};
-ghost use Rattle.core_model.specs.Owed.{completed, refuses, is_finished};
-ghost use Rattle.core_model.specs.Legal.{Meets, accepted, due};
+ghost use Rattle.core_model.specs.Needs.{completion_signal};
+ghost use Rattle.core_model.specs.Owed.{signal_decrement, refuses, is_finished};
+ghost use Rattle.core_model.specs.Legal.{Meets, as_accepted, due};
 ghost use Rattle.access_core.specs.inner.QueueChanges.{IsThere, freed, freed_by, with_queue, with_release, without_one};
 ghost use Rattle.access_core.specs.inner.LiesInRegions.{lies_in_regions};
 ghost use Rattle.access_core.specs.inner.InPlace.{completion_of, finish_owed, IsInPlace, IsSized, RefusedAt};
@@ -17,7 +17,7 @@ use crate::access::{AccessCore, enter};
 use crate::queue::Queue;
 use aql_packet::{Packet, PacketId, QueueId};
 use core_model::{Effect, Effects, Event, Outcome, Refusal};
-use packet_processor::{Place, Places, completion, is_ready};
+use packet_processor::{Place, Places, completion_signal, is_ready};
 use signals::{SignalOp, Signals};
 
 impl AccessCore {
@@ -25,7 +25,7 @@ impl AccessCore {
     /// by 1, and the packet leaves flight (PSA, Signals). It takes no memory, and finds room in the
     /// audit.
     pub fn finish(&mut self, queue: QueueId, packet: PacketId) -> Result<(), Refusal>
-        ensures { Meets (Event.Finish queue packet) self.old self.new (accepted result) }
+        ensures { Meets (Event.Finish queue packet) self.old self.new (as_accepted result) }
     {
         let place = self.may_finish(queue, packet)?;
         let effects = complete(&mut self.signals, queue, packet, &place.packet);
@@ -100,7 +100,7 @@ fn complete(signals: &mut Signals, queue: QueueId, packet: PacketId, of: &Packet
     ensures values { signals.new ≡ fold signals_after signals.old result }
 {
     let release = Effect::Release { queue, packet };
-    let signal = completion(of);
+    let signal = completion_signal(of);
     if signal.0 == 0 {
         return Effects::one(release);
     }

@@ -3,7 +3,7 @@ use Rattle.std.proofs.Common.{refl, sym, subst, []}
 use Rattle.access_core.proofs.HeldAfter.{grants-still}
 use Rattle.access_core.proofs.CachedMore.{IsCached-more, memory-still}
 use Rattle.access_core.proofs.TakeLemmas.{can-deny, can-take, flight-denied, queues-denied}
-use Rattle.access_core.proofs.Terms.{Denied, Take, TakesNext, error_at}
+use Rattle.access_core.proofs.Terms.{Denied, Take, TakesNext, error_without_place}
 use Rattle.core_model.specs.declared.outcome.Outcome.TheVariants as outcome
 use Rattle.access_core.proofs.access.AccessCore.deny.Goals as goal
 
@@ -16,7 +16,7 @@ pub invariant_of-self : goal.invariant_of-self
 invariant_of-self c =
     let a = c.self.inside in
     let can = can-take a c.self.invariant c.args.queue (subst (λ h. TakesNext h c.args.queue) (sym c.self.view_is) c.requires.1) in
-    IsCached-more a _ (Take c.args.queue c.args.packet c.args.bytes.now) (outcome.Taken (Denied (error_at c.args.queue c.args.packet.0 c.args.rule))) [] c.self.invariant
+    IsCached-more a _ (Take c.args.queue c.args.packet c.args.bytes.now) (outcome.Taken (Denied (error_without_place c.args.queue c.args.packet.0 c.args.rule))) [] c.self.invariant
     (record {
       same = ((refl, refl, refl), refl);
       audit = rw c.none.ensures at c.enter.ensures;

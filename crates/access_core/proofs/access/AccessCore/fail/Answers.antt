@@ -7,13 +7,13 @@ use Rattle.access_core.proofs.CachedMore.{IsCached-more, has_place, memory-still
 use Rattle.access_core.proofs.QueueAt.{flight-released}
 use Rattle.access_core.proofs.TakeLemmas.{is-open, open-of}
 use Rattle.access_core.proofs.WorkLemmas.{failure-releases, can-fail, freed-below, place-inside, queues-released, sound-failed}
-use Rattle.access_core.proofs.Terms.{PacketId, Poll, QueueId, QueueView, error_at, start_of, with_failure, without}
+use Rattle.access_core.proofs.Terms.{PacketId, Poll, QueueId, QueueView, error_without_place, start_of, with_failure, without}
 use Rattle.core_model.specs.declared.entry.Effect.TheVariants as effect
 use Rattle.core_model.specs.declared.outcome.Outcome.TheVariants as outcome
 use Rattle.access_core.proofs.access.AccessCore.fail.Goals as goal
 
 abbrev failed : QueueId → PacketId → QueueView → QueueView
-failed queue id v = record v { errors = v.errors ++ error_at queue id.0 B1 ∷ []; places = without id v.places }
+failed queue id v = record v { errors = v.errors ++ error_without_place queue id.0 B1 ∷ []; places = without id v.places }
 
 pub fail_packet-requires : goal.fail_packet-requires
 fail_packet-requires c =
@@ -37,7 +37,7 @@ invariant_of-self c =
     let is = failure-releases c.args.queue c.args.packet in
     let found = place-inside a _ c.self.view_is c.args.queue c.args.packet c.args.place c.requires.found in
     let at = is-open a c.self.invariant c.args.queue found.opening found.owner_is in
-    IsCached-more a _ (Poll c.args.queue c.args.packet) (outcome.Polled (Failed (error_at c.args.queue c.args.packet.0 B1))) (effect.Release c.args.queue c.args.packet ∷ []) c.self.invariant
+    IsCached-more a _ (Poll c.args.queue c.args.packet) (outcome.Polled (Failed (error_without_place c.args.queue c.args.packet.0 B1))) (effect.Release c.args.queue c.args.packet ∷ []) c.self.invariant
     (record {
       same = ((refl, refl, refl), refl);
       audit = rw c.one-effects.ensures at c.enter.ensures;
@@ -45,7 +45,7 @@ invariant_of-self c =
           (flight-released (start_of a) a.audit.items _ _ _ c.args.queue c.args.packet is) c.release.ensures c.release-2.ensures;
       memory = memory-still a.memory _ (λ x byte. refl);
       values = refl;
-      queues = rw (c.fail_packet.ensures.queues, c.fail_packet.ensures.freed) (queues-released a c.self.invariant c.args.queue c.args.packet _ _ _ is refl at (with_failure c.args.packet (error_at c.args.queue c.args.packet.0 B1)) (failed c.args.queue c.args.packet)
-          refl (sound-failed a c.self.invariant c.args.queue c.args.packet at (error_at c.args.queue c.args.packet.0 B1) found.flying found.found) refl (λ m v. grind arith));
+      queues = rw (c.fail_packet.ensures.queues, c.fail_packet.ensures.freed) (queues-released a c.self.invariant c.args.queue c.args.packet _ _ _ is refl at (with_failure c.args.packet (error_without_place c.args.queue c.args.packet.0 B1)) (failed c.args.queue c.args.packet)
+          refl (sound-failed a c.self.invariant c.args.queue c.args.packet at (error_without_place c.args.queue c.args.packet.0 B1) found.flying found.found) refl (λ m v. grind arith));
     })
     _ c.self.view_is c.requires.may

@@ -9,15 +9,15 @@ use Rattle.access_core.proofs.HeldAfter.{grants-launched, launch-in_force}
 use Rattle.access_core.proofs.CachedMore.{IsCached-more, memory-still, owed-inside}
 use Rattle.access_core.proofs.QueueAt.{flight-launched}
 use Rattle.access_core.proofs.TakeLemmas.{block-placed, can-take, queues-launched}
-use Rattle.access_core.proofs.Terms.{History, Launched, MayHold, Packet, Take, entry_of, held_at_launch, launched_by, TakesNext, lies_in_regions, owner, region_lengths, start_of}
+use Rattle.access_core.proofs.Terms.{History, Launched, MayHold, Packet, Take, entry_of, rights_at_launch, launched_by, TakesNext, lies_in_regions, owner, region_lengths, start_of}
 use Rattle.core_model.specs.declared.outcome.Outcome.TheVariants as outcome
 use Rattle.access_core.proofs.access.AccessCore.launch.Goals as goal
 
 pub hold_reserved-requires-clause-in_force : goal.hold_reserved-requires-clause-in_force
 hold_reserved-requires-clause-in_force c =
-    launch-in_force c.self.inside c.self.invariant _ c.args.launching.client _ (held_at_launch (start_of c.self.inside) c.self.inside.audit.items (opening_of c.args.launching) c.args.launching.packet)
+    launch-in_force c.self.inside c.self.invariant _ c.args.launching.client _ (rights_at_launch (start_of c.self.inside) c.self.inside.audit.items (opening_of c.args.launching) c.args.launching.packet)
     c.in_ok-reserve.ensures.same
-    (c.as_slice-2.ensures ∙ c.in_ok-rights.ensures ∙ ap (λ (h : History). map as_rights (held_at_launch h.start h.entries (opening_of c.args.launching) c.args.launching.packet)) (sym c.self.view_is))
+    (c.as_slice-2.ensures ∙ c.in_ok-rights.ensures ∙ ap (λ (h : History). map as_rights (rights_at_launch h.start h.entries (opening_of c.args.launching) c.args.launching.packet)) (sym c.self.view_is))
     (subst (λ h. MayHold h (opening_of c.args.launching) c.args.launching.packet) (sym c.self.view_is) c.requires.5)
 
 pub place_next-requires : goal.place_next-requires
@@ -44,10 +44,10 @@ invariant_of-self-2 c =
       same = ((refl, refl, refl), refl);
       audit = rw c.none.ensures at c.enter.ensures;
       grants = grants-launched a c.self.invariant _ _ _ refl (λ client on right b. refl) _ _ _ (opening_of c.args.launching) c.args.queue c.args.packet p _
-          (held_at_launch (start_of a) a.audit.items (opening_of c.args.launching) p) _ launches
+          (rights_at_launch (start_of a) a.audit.items (opening_of c.args.launching) p) _ launches
           (flight-launched (start_of a) a.audit.items c.args.queue c.args.packet c.args.bytes.now p c.requires.1)
           c.in_ok-reserve.ensures.same
-          (c.as_slice-2.ensures ∙ c.in_ok-rights.ensures ∙ ap (λ (h : History). map as_rights (held_at_launch h.start h.entries (opening_of c.args.launching) p)) (sym c.self.view_is))
+          (c.as_slice-2.ensures ∙ c.in_ok-rights.ensures ∙ ap (λ (h : History). map as_rights (rights_at_launch h.start h.entries (opening_of c.args.launching) p)) (sym c.self.view_is))
           (held-launched (start_of a) a.audit.items (entry_of (Take c.args.queue c.args.packet c.args.bytes.now) (outcome.Taken Launched) []) c.self.invariant.legal owing
           (record { queue = c.args.queue; id = c.args.packet; packet = p }) (opening_of c.args.launching) launches owned)
           owned c.hold_reserved.ensures.holds

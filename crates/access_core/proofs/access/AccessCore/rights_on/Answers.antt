@@ -1,6 +1,6 @@
 -- What the grants hold is what the history says.
 use Rattle.std.proofs.Common.{◌≡◌, ◌∙◌, ap, sym, subst, Some}
-use Rattle.core_model.specs.Holds.{held}
+use Rattle.core_model.specs.Holds.{packet_rights}
 use Rattle.core_model.specs.View.{rights_held}
 use Rattle.policy.specs.declared.object.Object.TheVariants as object
 use Rattle.grants.specs.Ledger as ledger
@@ -17,4 +17,4 @@ returns c =
     c.rights_held.ensures
     ∙ ap (λ (client : ClientId). rights_that (ledger.holds a.grants c.args.queue c.args.packet client on)) (sym holder.client_is)
     ∙ rights-are a c.self.invariant c.args.queue c.args.packet holder.opening holder.flying holder.owner_is holder.found on
-    ∙ ap (λ (h : History). rights_held (held h.start h.entries c.args.queue c.args.packet) on) c.self.view_is
+    ∙ ap (λ (h : History). rights_held (packet_rights h.start h.entries c.args.queue c.args.packet) on) c.self.view_is

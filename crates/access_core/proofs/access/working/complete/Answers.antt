@@ -13,8 +13,8 @@ returns-in-Err-clause-values c =
 
 pub returns-in-Ok-clause-values : goal.returns-in-Ok-clause-values
 returns-in-Ok-clause-values c =
-    let told : c.two.result ≡ effect.Signal c.completion-signal.result c.in-Ok.old c.applied-new.result ∷ effect.Release c.args.queue c.args.packet ∷ [] = search rules in
+    let told : c.two.result ≡ effect.Signal c.completion_signal-signal.result c.in-Ok.old c.applied-new.result ∷ effect.Release c.args.queue c.args.packet ∷ [] = search rules in
     let new : c.applied-new.result ≡ applied (op.Subtract (pos 1)) c.in-Ok.old = search rules in
     c.apply.ensures.values
-    ∙ values-two c.args.signals.now c.completion-signal.result (op.Subtract (pos 1)) c.in-Ok.old c.applied-new.result c.args.queue c.args.packet (found-ok _ _ _ c.in-Ok.ensures.old) new
+    ∙ values-two c.args.signals.now c.completion_signal-signal.result (op.Subtract (pos 1)) c.in-Ok.old c.applied-new.result c.args.queue c.args.packet (found-ok _ _ _ c.in-Ok.ensures.old) new
     ∙ ap (fold signals_after c.args.signals.now) (sym told)
