@@ -1,25 +1,36 @@
 -- What is cached stays what the history says when an entry is put behind it and the fields follow.
 use Rattle.std.proofs.Common.{◌≡◌, ℕ, ◌+◌, ◌<◌, ◌≤◌, List, [], ◌∷◌, length, sym, ◌∙◌, ap, subst, refl, true, false, Some, None, arith, length-append, map, fold}
-use Rattle.std.proofs.Common.{All}
-use Rattle.std.proofs.lemmas.Bool.{ltb-false}
+use Rattle.std.proofs.Common.{All, Bool, get_or, if◌then◌else◌}
+use Rattle.std.proofs.lemmas.List.Elements.{All-weaker}
+use Rattle.std.proofs.lemmas.Bool.{and_from, eq-eqb, ltb-false}
 use Rattle.core_model.specs.Queues.{opening_of}
 use Rattle.core_model.proofs.Meeting.{entered-owed}
 use Rattle.core_model.proofs.Flying.{all-after}
 use Rattle.core_model.proofs.Legality.{IsLegal-more}
+use Rattle.core_model.specs.Holds.{arguments, arguments_if, packet_rights, is_launch}
+use Rattle.access_core.specs.ArgumentBlocks.{block_of}
+use Rattle.access_core.specs.declared.argument_blocks.ArgumentBlock.{ArgumentBlock}
+use Rattle.access_core.proofs.HeldMore.{arguments-more}
 use Rattle.access_core.proofs.QueueAt.{IsQuiet, flight-quiet, queue_at-quiet}
 use Rattle.access_core.proofs.Terms.{ClientId, Effect, Event, History, InFlight, Inside, IsCached, IsEntered, IsSound, Ledger, Object, Outcome, Owed, PacketId}
 use Rattle.access_core.proofs.Terms.{QUEUES, Queue, QueueId, Right, Start, byte_after, byte_at, cached, cached_opening, due, enters, entry_of, flight}
-use Rattle.access_core.proofs.Terms.{flight-more, history_of, in_force, in_force-more, in_force_after, lacks_room, launched_by, lengths_of, lies_in_region}
+use Rattle.access_core.proofs.Terms.{flight-more, history_of, in_force, in_force-more, in_force_after, is_packet, lacks_room, launched_by, lengths_of, lies_in_region}
 use Rattle.access_core.proofs.Terms.{lies_in_regions, memory_at, memory_at-more, numbered, openings-more, owed, owner, packet_holds, queue_at, region_lengths}
 use Rattle.access_core.proofs.Terms.{signals-more, signals_after, start_of, with_entry, with_some}
 use Rattle.grants.specs.Ledger as ledger
 
--- How the grants follow an entry.
-pub record GrantsAfter (a : Inside) (new : Ledger) (event : Event) (outcome : Outcome) (effects : List Effect) : Type 0 where
+-- the argument block of a packet behind an entry: what its launch gives it, or the block that is kept
+abbrev pub arguments_behind : Inside → Event → Outcome → QueueId → PacketId → List ℕ
+arguments_behind a event outcome queue id =
+    if is_launch queue id (launched_by event outcome) then arguments_if (start_of a) a.audit.items (launched_by event outcome) else block_of a.blocks queue id
+
+-- How the grants follow an entry, and with them the argument blocks.
+pub record GrantsAfter (a : Inside) (new : Ledger) (blocks : List ArgumentBlock) (event : Event) (outcome : Outcome) (effects : List Effect) : Type 0 where
   pub granted : (client : ClientId) (on : Object) (right : Right) → ledger.in_force new client on right ≡ in_force_after client on right (ledger.in_force a.grants client on right) event
   pub rules : ledger.rules_in new ≡ ledger.rules_in a.grants
-  pub held : (queue : QueueId) (id : PacketId) (client : ClientId) (on : Object) (right : Right)
-      → ledger.holds new queue id client on right ≡ packet_holds (owner (start_of a) (with_entry a.audit.items event outcome effects)) (flight (start_of a) (with_entry a.audit.items event outcome effects)) queue id client on right
+  pub packet_rights : (queue : QueueId) (id : PacketId) (client : ClientId) (on : Object) (right : Right)
+      → ledger.holds new queue id client on right ≡ packet_holds (owner (start_of a) (with_entry a.audit.items event outcome effects)) (packet_rights (start_of a) (with_entry a.audit.items event outcome effects)) (flight (start_of a) (with_entry a.audit.items event outcome effects)) queue id client on right
+  pub arguments : All (λ f. block_of blocks f.queue f.id ≡ arguments_behind a event outcome f.queue f.id) (flight (start_of a) (with_entry a.audit.items event outcome effects))
 
 -- How the memory does.
 pub record MemoryAfter (old new : List (List ℕ)) (effects : List Effect) : Type 0 where
@@ -37,9 +48,9 @@ pub record QueuesAfter (a : Inside) (new : List Queue) (count : ℕ) (event : Ev
 
 -- The audit has one entry more, and the other fields follow.
 pub record FieldsAfter (a b : Inside) (event : Event) (outcome : Outcome) (effects : List Effect) : Type 0 where
-  pub same : (b.policy ≡ a.policy) × (b.capacity ≡ a.capacity)
+  pub same : ((b.policy ≡ a.policy) × (b.kernels ≡ a.kernels) × (b.segments ≡ a.segments)) × (b.capacity ≡ a.capacity)
   pub audit : IsEntered a.audit b.audit (entry_of event outcome effects)
-  pub grants : GrantsAfter a b.grants event outcome effects
+  pub grants : GrantsAfter a b.grants b.blocks event outcome effects
   pub memory : MemoryAfter a.memory b.memory effects
   pub values : b.signals ≡ fold signals_after a.signals effects
   pub queues : QueuesAfter a b.queues.items b.flying event outcome effects
@@ -70,34 +81,67 @@ module _ (a b : Inside) (event : Event) (outcome : Outcome) (effects : List Effe
 
   granted-after : (client : ClientId) (on : Object) (right : Right) → ledger.in_force b.grants client on right ≡ in_force (start_of b) b.audit.items client on right
   granted-after client on right =
-      rw (after.same.0, after.audit.items, in_force-more)
+      rw (after.same.0.0, after.same.0.1, after.audit.items, in_force-more)
       (subst (λ before. ledger.in_force b.grants client on right ≡ in_force_after client on right before event) (was.granted client on right) (after.grants.granted client on right))
 
   memory-after : (x : ℕ) → lies_in_region (region_lengths (start_of b)) x ≡ true → byte_at b.memory x ≡ Some (memory_at (start_of b) b.audit.items x)
   memory-after x lies =
-      let inside : lies_in_region (region_lengths (start_of a)) x ≡ true = rw (← after.same.0) lies in
-      rw (after.same.0, after.audit.items, memory_at-more) (after.memory.memory x (memory_at (start_of a) a.audit.items x) (was.memory x inside))
+      let inside : lies_in_region (region_lengths (start_of a)) x ≡ true = rw (← after.same.0.0) lies in
+      rw (after.same.0.0, after.same.0.1, after.audit.items, memory_at-more) (after.memory.memory x (memory_at (start_of a) a.audit.items x) (was.memory x inside))
+
+  -- the argument blocks of packets in flight are those of their launches
+  arguments-after : owed (start_of a) a.audit.items event ≡ enters outcome effects
+      → All (λ f. block_of b.blocks f.queue f.id ≡ arguments (start_of a) (with_entry a.audit.items event outcome effects) f.queue f.id) (flight (start_of a) (with_entry a.audit.items event outcome effects))
+  arguments-after owing = λ k d below.
+      let f = get_or (flight (start_of a) (with_entry a.audit.items event outcome effects)) k d in
+      after.grants.arguments k d below ∙ same f (kept k d below) ∙ sym (arguments-more (start_of a) a.audit.items (entry_of event outcome effects) was.legal owing f.queue f.id)
+    where
+      Kept : InFlight → Type 0
+      Kept f = is_launch f.queue f.id (launched_by event outcome) ≡ false → block_of a.blocks f.queue f.id ≡ arguments (start_of a) a.audit.items f.queue f.id
+
+      launched : (f : InFlight) → launched_by event outcome ≡ Some f → Kept f
+      launched f is other =
+          let itself : is_packet f.queue f.id f ≡ true = and_from _ _ (eq-eqb f.queue.0 f.queue.0 refl) (eq-eqb f.id.0 f.id.0 refl) in
+          let now : is_launch f.queue f.id (launched_by event outcome) ≡ true = rw is itself in
+          absurd (cc)
+
+      kept : All Kept (flight (start_of a) (with_entry a.audit.items event outcome effects))
+      kept = rw flight-more (all-after Kept (entry_of event outcome effects) (flight (start_of a) a.audit.items) launched
+          (All-weaker (λ f. block_of a.blocks f.queue f.id ≡ arguments (start_of a) a.audit.items f.queue f.id) Kept (λ f is other. is) (flight (start_of a) a.audit.items) was.arguments))
+
+      same : (f : InFlight) → Kept f → arguments_behind a event outcome f.queue f.id
+          ≡ (if is_launch f.queue f.id (launched_by event outcome) then arguments_if (start_of a) a.audit.items (launched_by event outcome) else arguments (start_of a) a.audit.items f.queue f.id)
+      same f is = either (is_launch f.queue f.id (launched_by event outcome)) refl
+        where
+          either : (c : Bool) → is_launch f.queue f.id (launched_by event outcome) ≡ c
+              → (if c then arguments_if (start_of a) a.audit.items (launched_by event outcome) else block_of a.blocks f.queue f.id)
+              ≡ (if c then arguments_if (start_of a) a.audit.items (launched_by event outcome) else arguments (start_of a) a.audit.items f.queue f.id)
+          either true now = refl
+          either false other = is other
 
   pub IsCached-more : (old : History) → history_of a ≡ old → due old event ≡ enters outcome effects → IsCached b
   IsCached-more old seen_as is_due =
       let room = room-inside a was old seen_as event outcome effects is_due in
       record {
         granted = granted-after;
-        rules = rw after.same.0 (after.grants.rules ∙ was.rules);
-        held = λ queue id client on right. rw (after.same.0, after.audit.items) (after.grants.held queue id client on right);
-        lengths = rw after.same.0 (after.memory.lengths ∙ was.lengths);
+        rules = rw after.same.0.0 (after.grants.rules ∙ was.rules);
+        packet_rights = λ queue id client on right. rw (after.same.0.0, after.same.0.1, after.audit.items) (after.grants.held queue id client on right);
+        arguments = rw (after.same.0.0, after.same.0.1, after.audit.items) (arguments-after (owed-inside a was old seen_as event outcome effects is_due));
+        entries = rw after.same.0.1 was.entries;
+        segments = rw (after.same.0.1, after.same.0.2) was.segments;
+        lengths = rw after.same.0.0 (after.memory.lengths ∙ was.lengths);
         memory = memory-after;
-        values = rw (after.same.0, after.audit.items, signals-more, ← was.values) after.values;
-        openings = rw (after.same.0, after.audit.items, openings-more, ← was.openings) after.queues.openings;
-        queues = λ queue. rw (after.same.0, after.audit.items) (after.queues.queues queue);
+        values = rw (after.same.0.0, after.same.0.1, after.audit.items, signals-more, ← was.values) after.values;
+        openings = rw (after.same.0.0, after.same.0.1, after.audit.items, openings-more, ← was.openings) after.queues.openings;
+        queues = λ queue. rw (after.same.0.0, after.same.0.1, after.audit.items) (after.queues.queues queue);
         sound = after.queues.sound;
         few_queues = after.queues.few_queues;
-        flying = rw (after.same.0, after.audit.items) after.queues.flying;
-        within = rw (after.same.0, after.audit.items, flight-more) (all-after (λ f. lies_in_regions (region_lengths (start_of a)) f.packet ≡ true) (entry_of event outcome effects) (flight (start_of a) a.audit.items) after.queues.within was.within);
+        flying = rw (after.same.0.0, after.same.0.1, after.audit.items) after.queues.flying;
+        within = rw (after.same.0.0, after.same.0.1, after.audit.items, flight-more) (all-after (λ f. lies_in_regions (region_lengths (start_of a)) f.packet ≡ true) (entry_of event outcome effects) (flight (start_of a) a.audit.items) after.queues.within was.within);
         room = omega (arith, longer, room, after.queues.flying, after.same.1);
         places = omega (arith, longer, after.audit.room, after.same.1, was.places);
         few = omega (arith, after.same.1, was.few);
-        legal = rw (after.same.0, after.audit.items) (IsLegal-more (start_of a) a.audit.items event outcome effects was.legal (owed-inside a was old seen_as event outcome effects is_due));
+        legal = rw (after.same.0.0, after.same.0.1, after.audit.items) (IsLegal-more (start_of a) a.audit.items event outcome effects was.legal (owed-inside a was old seen_as event outcome effects is_due));
       }
 
 -- ---- what an entry leaves as it is

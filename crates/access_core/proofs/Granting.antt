@@ -3,7 +3,6 @@ use Rattle.std.proofs.Common.{arith, ◌≡◌, refl, sym, ◌∙◌, ap, Bool, 
 use Rattle.grants.specs.declared.refusal.Refusal.{Refusal as Why}
 use Rattle.core_model.specs.Owed.{owed}
 use Rattle.access_core.proofs.Calls.{due-by}
-use Rattle.access_core.proofs.HeldMore.{AreHeld-legal}
 use Rattle.access_core.proofs.HeldRights.{is_holder-history}
 use Rattle.access_core.proofs.Least.{passes, least-none, least-first}
 use Rattle.access_core.proofs.Terms.{ClientId, Grant, History, InFlight, Inside, IsCached, IsFirstTo, Object, PacketId, QueueId, Revoke, RevokeAnswers, Rights}
@@ -53,7 +52,7 @@ module _ (a : Inside) (kept : IsCached a) (client : ClientId) (on : Object) (rig
 
   same_test : (queue : QueueId) (id : PacketId) → is_holder a.grants client on rights queue id ≡ passes holding (flight (start_of a) a.audit.items) queue id
   same_test queue id =
-      is_holder-history client on rights (start_of a) a.audit.items a.grants (flight (start_of a) a.audit.items) (AreHeld-legal (start_of a) a.audit.items kept.legal) kept.held queue id
+      is_holder-history client on rights (start_of a) a.audit.items a.grants (flight (start_of a) a.audit.items) kept.held queue id
 
   first-test : (o : Option (QueueId × PacketId)) → IsFirstTo (is_holder a.grants client on rights) o → IsFirstTo (passes holding (flight (start_of a) a.audit.items)) o
   first-test None none = λ queue id. sym (same_test queue id) ∙ none queue id

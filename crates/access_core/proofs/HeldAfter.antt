@@ -1,6 +1,6 @@
 -- What packets hold moves along with what is in flight.
 use Rattle.std.proofs.Common.{◌≡◌, List, [], ◌∷◌, ◌++◌, refl, sym, ◌∙◌, ap, Bool, true, false, Option, Some, None, arith, All, ℕ, ◌&&◌, ◌||◌, ◌==◌, not, map}
-use Rattle.std.proofs.Common.{filter, if◌then◌else◌}
+use Rattle.std.proofs.Common.{filter, fold, get_or, if◌then◌else◌}
 use Rattle.std.specs.List.{list_all, list_any}
 use Rattle.std.proofs.lemmas.List.Elements.{All-head, All-tail}
 use Rattle.std.proofs.lemmas.List.Folds.{list_any-append}
@@ -12,11 +12,20 @@ use Rattle.aql_packet.specs.declared.ids.AgentHandle.{AgentHandle}
 use Rattle.core_model.proofs.Holding.{owner-more}
 use Rattle.packet_processor.specs.Holding.{as_rights}
 use Rattle.access_core.proofs.CachedMore.{GrantsAfter}
-use Rattle.access_core.proofs.HeldMore.{AreHeld-legal}
+use Rattle.std.proofs.lemmas.List.Elements.{All-weaker}
+use Rattle.std.proofs.lemmas.List.Sums.{fold-append}
+use Rattle.core_model.proofs.Holding.{holding-legal}
+use Rattle.core_model.proofs.Lists.{filter-passes}
+use Rattle.core_model.specs.Headline.{HoldsInForce}
+use Rattle.core_model.specs.Holds.{arguments_if, arguments_of, packet_rights}
+use Rattle.access_core.specs.ArgumentBlocks.{block_behind, block_of, is_block}
+use Rattle.access_core.specs.declared.argument_blocks.ArgumentBlock.{ArgumentBlock}
+use Rattle.access_core.proofs.CachedMore.{arguments_behind}
+use Rattle.access_core.proofs.HeldMore.{held-kept, held-unlaunched}
 use Rattle.access_core.proofs.HeldRights.{any-before}
-use Rattle.access_core.proofs.Terms.{ClientId, Effect, Entry, Event, ObjectRight, Holds, InFlight, Inside, IsCached, IsHeld, Ledger, Object, OpenQueue, Opening}
+use Rattle.access_core.proofs.Terms.{ClientId, Effect, Entry, Event, ObjectRight, Holds, InFlight, Inside, IsCached, Ledger, Object, OpenQueue, Opening}
 use Rattle.access_core.proofs.Terms.{Outcome, Packet, PacketId, QueueId, Releases, Right, Rights, Start, are_in_force, bit_of, each_right, entry_of, flight}
-use Rattle.access_core.proofs.Terms.{has, rights_at_launch, holds_by, in_force, in_force_after, is_packet, numbered, openings, openings-more, owner, packet_holds}
+use Rattle.access_core.proofs.Terms.{has, rights_at_launch, holds_by, in_force, in_force_after, is_launch, is_packet, launched_by, numbered, openings, openings-more, owner, packet_holds}
 use Rattle.access_core.proofs.Terms.{start_of, with_entry, with_some}
 use Rattle.policy.specs.declared.rights.Right.TheVariants as right
 use Rattle.grants.specs.Ledger as ledger
@@ -27,20 +36,55 @@ pub owners-still : (a : Inside) (event : Event) (outcome : Outcome) (effects : L
 owners-still a event outcome effects none = openings-more (start_of a) a.audit.items (entry_of event outcome effects) ∙ ap (with_some (openings (start_of a) a.audit.items)) none
 
 -- the same packets in flight hold the same after it
-pub held-still : (a : Inside) → IsCached a → (event : Event) (outcome : Outcome) (effects : List Effect) → opening_of event ≡ None → flight (start_of a) (with_entry a.audit.items event outcome effects) ≡ flight (start_of a) a.audit.items
+pub held-still : (a : Inside) → IsCached a → (event : Event) (outcome : Outcome) (effects : List Effect) → opening_of event ≡ None → launched_by event outcome ≡ None → flight (start_of a) (with_entry a.audit.items event outcome effects) ≡ flight (start_of a) a.audit.items
     → (queue : QueueId) (id : PacketId) (client : ClientId) (on : Object) (right : Right)
-    → ledger.holds a.grants queue id client on right ≡ packet_holds (owner (start_of a) (with_entry a.audit.items event outcome effects)) (flight (start_of a) (with_entry a.audit.items event outcome effects)) queue id client on right
-held-still a kept event outcome effects none same queue id client on right =
+    → ledger.holds a.grants queue id client on right ≡ packet_holds (owner (start_of a) (with_entry a.audit.items event outcome effects)) (packet_rights (start_of a) (with_entry a.audit.items event outcome effects)) (flight (start_of a) (with_entry a.audit.items event outcome effects)) queue id client on right
+held-still a kept event outcome effects none launches same queue id client on right =
     kept.held queue id client on right
-    ∙ (λ i. packet_holds (λ (q : QueueId). numbered (sym (owners-still a event outcome effects none) i) q.0) (sym same i) queue id client on right)
+    ∙ (λ i. packet_holds (λ (q : QueueId). numbered (sym (owners-still a event outcome effects none) i) q.0)
+    (λ q n. sym (held-unlaunched (start_of a) a.audit.items (entry_of event outcome effects) launches q n) i) (sym same i) queue id client on right)
+
+-- ---- argument blocks
+
+-- an entry that launches nothing leaves each block as it is
+pub blocks-still : (a : Inside) (event : Event) (outcome : Outcome) → launched_by event outcome ≡ None → (fs : List InFlight) → All (λ f. block_of a.blocks f.queue f.id ≡ arguments_behind a event outcome f.queue f.id) fs
+blocks-still a event outcome launches fs = λ k d below. rw launches refl
+
+-- a packet's block isn't touched where another's is dropped
+block-without : (q : QueueId) (i : PacketId) (f : InFlight) → not (is_packet q i f) ≡ true → (found : List ℕ) (bs : List ArgumentBlock) → fold (block_behind f.queue f.id) found (filter (λ b. not (is_block q i b)) bs) ≡ fold (block_behind f.queue f.id) found bs
+block-without q i f other found [] = refl
+block-without q i f other found (b ∷ bs) = either (is_block q i b) refl (λ g. block-without q i f other g bs)
+  where
+    either : (c : Bool) → is_block q i b ≡ c → ((g : List ℕ) → fold (block_behind f.queue f.id) g (filter (λ x. not (is_block q i x)) bs) ≡ fold (block_behind f.queue f.id) g bs)
+        → fold (block_behind f.queue f.id) found (if not c then b ∷ filter (λ x. not (is_block q i x)) bs else filter (λ x. not (is_block q i x)) bs)
+        ≡ fold (block_behind f.queue f.id) (block_behind f.queue f.id found b) bs
+    either false is rest = rest (block_behind f.queue f.id found b)
+    either true is rest =
+        let another : is_block f.queue f.id b ≡ false = grind arith in
+        rw another (rest found)
+
+blocks-dropped : (a : Inside) (event : Event) (outcome : Outcome) → launched_by event outcome ≡ None → (q : QueueId) (i : PacketId) (fs : List InFlight)
+    → All (λ f. block_of (filter (λ b. not (is_block q i b)) a.blocks) f.queue f.id ≡ arguments_behind a event outcome f.queue f.id) (filter (λ f. not (is_packet q i f)) fs)
+blocks-dropped a event outcome launches q i fs =
+    All-weaker (λ f. not (is_packet q i f) ≡ true) (λ f. block_of (filter (λ b. not (is_block q i b)) a.blocks) f.queue f.id ≡ arguments_behind a event outcome f.queue f.id)
+    (λ f other. rw launches (block-without q i f other [] a.blocks)) (filter (λ f. not (is_packet q i f)) fs) (filter-passes (λ f. not (is_packet q i f)) fs)
+
+-- a packet that is launched has its block behind the others
+blocks-launched : (a : Inside) (event : Event) (outcome : Outcome) (q : QueueId) (i : PacketId) (p : Packet) (bytes : List ℕ) → launched_by event outcome ≡ Some (record { queue = q; id = i; packet = p }) → bytes ≡ arguments_of (start_of a) a.audit.items p
+    → (fs : List InFlight) → All (λ f. block_of (a.blocks ++ record { queue = q; packet = i; bytes = bytes } ∷ []) f.queue f.id ≡ arguments_behind a event outcome f.queue f.id) fs
+blocks-launched a event outcome q i p bytes launches is fs = λ k d below.
+    let f = get_or fs k d in
+    fold-append (block_behind f.queue f.id) [] a.blocks (record { queue = q; packet = i; bytes = bytes } ∷ [])
+    ∙ (rw (launches, is) refl)
 
 -- so a call that doesn't touch the grants leaves them as the history says
-pub grants-still : (a : Inside) → IsCached a → (event : Event) (outcome : Outcome) (effects : List Effect) → opening_of event ≡ None → ((client : ClientId) (on : Object) (right : Right) (b : Bool) → in_force_after client on right b event ≡ b)
-    → flight (start_of a) (with_entry a.audit.items event outcome effects) ≡ flight (start_of a) a.audit.items → GrantsAfter a a.grants event outcome effects
-grants-still a kept event outcome effects none same flying = record {
+pub grants-still : (a : Inside) → IsCached a → (event : Event) (outcome : Outcome) (effects : List Effect) → opening_of event ≡ None → launched_by event outcome ≡ None → ((client : ClientId) (on : Object) (right : Right) (b : Bool) → in_force_after client on right b event ≡ b)
+    → flight (start_of a) (with_entry a.audit.items event outcome effects) ≡ flight (start_of a) a.audit.items → GrantsAfter a a.grants a.blocks event outcome effects
+grants-still a kept event outcome effects none launches same flying = record {
   granted = λ client on right. sym (same client on right _);
   rules = refl;
-  held = held-still a kept event outcome effects none flying;
+  packet_rights = held-still a kept event outcome effects none launches flying;
+  arguments = blocks-still a event outcome launches _;
 }
 
 -- ---- a packet that leaves flight
@@ -48,16 +92,16 @@ grants-still a kept event outcome effects none same flying = record {
 left_out : (k p s x r : Bool) → (k ≡ true → p ≡ s) → (k ≡ false → (p && s) ≡ false) → (if not k then ((p && x) || (r && not s)) else (r && not s)) ≡ (((p && x) || r) && not s)
 left_out k p s x r one two = grind arith
 
-module _ (owners : QueueId → Option Opening) (q : QueueId) (i : PacketId) (queue : QueueId) (id : PacketId) (client : ClientId) (on : Object) (right : Right) where
-  pub held-without : (fs : List InFlight) → packet_holds owners (filter (λ f. not (is_packet q i f)) fs) queue id client on right ≡ (packet_holds owners fs queue id client on right && not (same_packet queue id q i))
+module _ (owners : QueueId → Option Opening) (helds : QueueId → PacketId → List ObjectRight) (q : QueueId) (i : PacketId) (queue : QueueId) (id : PacketId) (client : ClientId) (on : Object) (right : Right) where
+  pub held-without : (fs : List InFlight) → packet_holds owners helds (filter (λ f. not (is_packet q i f)) fs) queue id client on right ≡ (packet_holds owners helds fs queue id client on right && not (same_packet queue id q i))
   held-without [] = refl
   held-without (f ∷ fs) =
       either (not (is_packet q i f))
-      ∙ ap (λ rest. if not (is_packet q i f) then ((is_packet queue id f && holds_by (owners f.queue) client on right f.packet) || rest) else rest) (held-without fs)
-      ∙ left_out (is_packet q i f) (is_packet queue id f) (same_packet queue id q i) (holds_by (owners f.queue) client on right f.packet) (packet_holds owners fs queue id client on right) named other
+      ∙ ap (λ rest. if not (is_packet q i f) then ((is_packet queue id f && holds_by (owners f.queue) client on right (helds f.queue f.id)) || rest) else rest) (held-without fs)
+      ∙ left_out (is_packet q i f) (is_packet queue id f) (same_packet queue id q i) (holds_by (owners f.queue) client on right (helds f.queue f.id)) (packet_holds owners helds fs queue id client on right) named other
     where
-      either : (b : Bool) → packet_holds owners (if b then f ∷ filter (λ g. not (is_packet q i g)) fs else filter (λ g. not (is_packet q i g)) fs) queue id client on right
-          ≡ (if b then ((is_packet queue id f && holds_by (owners f.queue) client on right f.packet) || packet_holds owners (filter (λ g. not (is_packet q i g)) fs) queue id client on right) else packet_holds owners (filter (λ g. not (is_packet q i g)) fs) queue id client on right)
+      either : (b : Bool) → packet_holds owners helds (if b then f ∷ filter (λ g. not (is_packet q i g)) fs else filter (λ g. not (is_packet q i g)) fs) queue id client on right
+          ≡ (if b then ((is_packet queue id f && holds_by (owners f.queue) client on right (helds f.queue f.id)) || packet_holds owners helds (filter (λ g. not (is_packet q i g)) fs) queue id client on right) else packet_holds owners helds (filter (λ g. not (is_packet q i g)) fs) queue id client on right)
       either true = refl
       either false = refl
 
@@ -89,62 +133,79 @@ names-held client c on right hs =
         ∙ ap (λ rest. (client.0 == c.0 && (same_object on h.0 && has (as_rights h).1 right)) || rest) (mapped hs)
 
 -- the packets in flight hold what they held, and the one that is launched what its launch gives it
-pub held-launched : (owners : QueueId → Option Opening) (fs : List InFlight) (opening : Opening) (q : QueueId) (i : PacketId) (p : Packet) → owners q ≡ Some opening
+pub held-with : (owners : QueueId → Option Opening) (helds : QueueId → PacketId → List ObjectRight) (fs : List InFlight) (opening : Opening) (q : QueueId) (i : PacketId) (p : Packet) (hs : List ObjectRight) → owners q ≡ Some opening → helds q i ≡ hs
     → (queue : QueueId) (id : PacketId) (client : ClientId) (on : Object) (right : Right)
-    → (packet_holds owners fs queue id client on right || (same_packet queue id q i && names (map as_rights (rights_at_launch opening p)) opening.client client on right))
-    ≡ packet_holds owners (fs ++ (record { queue = q; id = i; packet = p }) ∷ []) queue id client on right
-held-launched owners fs opening q i p is queue id client on right =
-    ap (λ b. packet_holds owners fs queue id client on right || b) (launched ∙ sym (or-false _))
-    ∙ sym (list_any-append (λ (f : InFlight). is_packet queue id f && holds_by (owners f.queue) client on right f.packet) fs ((record { queue = q; id = i; packet = p }) ∷ []))
+    → (packet_holds owners helds fs queue id client on right || (same_packet queue id q i && names (map as_rights hs) opening.client client on right))
+    ≡ packet_holds owners helds (fs ++ (record { queue = q; id = i; packet = p }) ∷ []) queue id client on right
+held-with owners helds fs opening q i p hs is gives queue id client on right =
+    ap (λ b. packet_holds owners helds fs queue id client on right || b) (launched ∙ sym (or-false _))
+    ∙ sym (list_any-append (λ (f : InFlight). is_packet queue id f && holds_by (owners f.queue) client on right (helds f.queue f.id)) fs ((record { queue = q; id = i; packet = p }) ∷ []))
   where
-    launched : (same_packet queue id q i && names (map as_rights (rights_at_launch opening p)) opening.client client on right) ≡ (is_packet queue id ((record { queue = q; id = i; packet = p })) && holds_by (owners q) client on right p)
+    launched : (same_packet queue id q i && names (map as_rights hs) opening.client client on right) ≡ (is_packet queue id ((record { queue = q; id = i; packet = p })) && holds_by (owners q) client on right (helds q i))
     launched =
-        ap (λ b. b && names (map as_rights (rights_at_launch opening p)) opening.client client on right) numbers
-        ∙ ap (λ b. is_packet queue id ((record { queue = q; id = i; packet = p })) && b) (names-held opening.client client on right (rights_at_launch opening p) ∙ ap (λ (o : Option Opening). holds_by o client on right p) (sym is))
+        ap (λ b. b && names (map as_rights hs) opening.client client on right) numbers
+        ∙ ap (λ b. is_packet queue id ((record { queue = q; id = i; packet = p })) && b)
+        (names-held opening.client client on right hs ∙ (λ j. holds_by (sym is j) client on right (sym gives j)))
       where
         numbers : same_packet queue id q i ≡ is_packet queue id ((record { queue = q; id = i; packet = p }))
         numbers = grind arith
 
+-- one entry more leaves what packets in flight hold
+held-left : (start : Start) (es : List Entry) (e : Entry) (owners : QueueId → Option Opening) (queue : QueueId) (id : PacketId) (client : ClientId) (on : Object) (right : Right) (fs : List InFlight) → All (HoldsInForce start es) fs
+    → packet_holds owners (packet_rights start es) fs queue id client on right ≡ packet_holds owners (packet_rights start (es ++ e ∷ [])) fs queue id client on right
+held-left start es e owners queue id client on right [] all = refl
+held-left start es e owners queue id client on right (f ∷ fs) all =
+    ap (λ (hs : List ObjectRight). (is_packet queue id f && holds_by (owners f.queue) client on right hs) || packet_holds owners (packet_rights start es) fs queue id client on right) (sym (held-kept start es e f (All-head (HoldsInForce start es) f fs all)))
+    ∙ ap (λ rest. (is_packet queue id f && holds_by (owners f.queue) client on right (packet_rights start (es ++ e ∷ []) f.queue f.id)) || rest) (held-left start es e owners queue id client on right fs (All-tail (HoldsInForce start es) f fs all))
+
 -- ---- the grants of a call
 
--- a packet that leaves flight holds nothing after it
-pub grants-released : (a : Inside) → IsCached a → (event : Event) (outcome : Outcome) (effects : List Effect) → opening_of event ≡ None → ((client : ClientId) (on : Object) (right : Right) (b : Bool) → in_force_after client on right b event ≡ b)
-    → (new : Ledger) (q : QueueId) (i : PacketId) → flight (start_of a) (with_entry a.audit.items event outcome effects) ≡ filter (λ f. not (is_packet q i f)) (flight (start_of a) a.audit.items) → Releases a.grants new q i → GrantsAfter a new event outcome effects
-grants-released a kept event outcome effects none same new q i flying releases = record {
+-- a packet that leaves flight holds nothing after it, and has no argument block
+pub grants-released : (a : Inside) → IsCached a → (event : Event) (outcome : Outcome) (effects : List Effect) → opening_of event ≡ None → launched_by event outcome ≡ None → ((client : ClientId) (on : Object) (right : Right) (b : Bool) → in_force_after client on right b event ≡ b)
+    → (new : Ledger) (blocks : List ArgumentBlock) (q : QueueId) (i : PacketId) → flight (start_of a) (with_entry a.audit.items event outcome effects) ≡ filter (λ f. not (is_packet q i f)) (flight (start_of a) a.audit.items) → Releases a.grants new q i
+    → blocks ≡ filter (λ b. not (is_block q i b)) a.blocks → GrantsAfter a new blocks event outcome effects
+grants-released a kept event outcome effects none launches same new blocks q i flying releases dropped = record {
   granted = λ client on right. releases.same_rights client on right ∙ sym (same client on right _);
   rules = releases.same_rules;
-  held = λ queue id client on right.
+  packet_rights = λ queue id client on right.
       releases.released queue id client on right
       ∙ ap (λ b. b && not (same_packet queue id q i)) (kept.held queue id client on right)
-      ∙ sym (held-without (owner (start_of a) a.audit.items) q i queue id client on right (flight (start_of a) a.audit.items))
-      ∙ (λ j. packet_holds (λ (n : QueueId). numbered (sym (owners-still a event outcome effects none) j) n.0) (sym flying j) queue id client on right);
+      ∙ sym (held-without (owner (start_of a) a.audit.items) (packet_rights (start_of a) a.audit.items) q i queue id client on right (flight (start_of a) a.audit.items))
+      ∙ (λ j. packet_holds (λ (n : QueueId). numbered (sym (owners-still a event outcome effects none) j) n.0)
+      (λ n m. sym (held-unlaunched (start_of a) a.audit.items (entry_of event outcome effects) launches n m) j) (sym flying j) queue id client on right);
+  arguments = rw (flying, dropped) (blocks-dropped a event outcome launches q i (flight (start_of a) a.audit.items));
 }
 
 -- a queue that is opened changes nothing of what packets in flight hold
-pub held-opened : (start : Start) (es : List Entry) (e : Entry) (queue : QueueId) (id : PacketId) (client : ClientId) (on : Object) (right : Right) (fs : List InFlight) → All (IsHeld start es) fs
-    → packet_holds (owner start es) fs queue id client on right ≡ packet_holds (owner start (es ++ e ∷ [])) fs queue id client on right
+pub held-opened : (start : Start) (es : List Entry) (e : Entry) (queue : QueueId) (id : PacketId) (client : ClientId) (on : Object) (right : Right) (fs : List InFlight) → All (HoldsInForce start es) fs
+    → packet_holds (owner start es) (packet_rights start es) fs queue id client on right ≡ packet_holds (owner start (es ++ e ∷ [])) (packet_rights start es) fs queue id client on right
 held-opened start es e queue id client on right [] all = refl
 held-opened start es e queue id client on right (f ∷ fs) all =
-    let before = All-head (IsHeld start es) f fs all in
-    let same : owner start es f.queue ≡ owner start (es ++ e ∷ []) f.queue = before.owner_is ∙ sym (owner-more start es e f.queue before.opening before.owner_is) in
-    ap (λ (o : Option Opening). (is_packet queue id f && holds_by o client on right f.packet) || packet_holds (owner start es) fs queue id client on right) same
-    ∙ ap (λ rest. (is_packet queue id f && holds_by (owner start (es ++ e ∷ []) f.queue) client on right f.packet) || rest) (held-opened start es e queue id client on right fs (All-tail (IsHeld start es) f fs all))
+    let before = All-head (HoldsInForce start es) f fs all in
+    let same : owner start es f.queue ≡ owner start (es ++ e ∷ []) f.queue = before.owner_is ∙ sym (owner-more start es e f.queue before.launch.opening before.owner_is) in
+    ap (λ (o : Option Opening). (is_packet queue id f && holds_by o client on right (packet_rights start es f.queue f.id)) || packet_holds (owner start es) (packet_rights start es) fs queue id client on right) same
+    ∙ ap (λ rest. (is_packet queue id f && holds_by (owner start (es ++ e ∷ []) f.queue) client on right (packet_rights start es f.queue f.id)) || rest) (held-opened start es e queue id client on right fs (All-tail (HoldsInForce start es) f fs all))
 
--- a packet that is launched holds what it needs
+-- a packet that is launched holds what its launch gives it
 pub grants-launched : (a : Inside) → IsCached a → (event : Event) (outcome : Outcome) (effects : List Effect) → opening_of event ≡ None → ((client : ClientId) (on : Object) (right : Right) (b : Bool) → in_force_after client on right b event ≡ b)
-    → (old new : Ledger) (opening : Opening) (q : QueueId) (i : PacketId) (p : Packet) (rights : List (Object × Rights))
+    → (old new : Ledger) (blocks : List ArgumentBlock) (opening : Opening) (q : QueueId) (i : PacketId) (p : Packet) (rights : List (Object × Rights)) (hs : List ObjectRight) (bytes : List ℕ)
+    → launched_by event outcome ≡ Some (record { queue = q; id = i; packet = p })
     → flight (start_of a) (with_entry a.audit.items event outcome effects) ≡ flight (start_of a) a.audit.items ++ record { queue = q; id = i; packet = p } ∷ []
-    → old ≡ record a.grants { room = old.room } → rights ≡ map as_rights (rights_at_launch opening p) → owner (start_of a) a.audit.items q ≡ Some opening → Holds old new opening.client q i rights → GrantsAfter a new event outcome effects
-grants-launched a kept event outcome effects none still old new opening q i p rights flying same are is holds = record {
+    → old ≡ record a.grants { room = old.room } → rights ≡ map as_rights hs → packet_rights (start_of a) (with_entry a.audit.items event outcome effects) q i ≡ hs → owner (start_of a) a.audit.items q ≡ Some opening → Holds old new opening.client q i rights
+    → bytes ≡ arguments_of (start_of a) a.audit.items p → blocks ≡ a.blocks ++ record { queue = q; packet = i; bytes = bytes } ∷ [] → GrantsAfter a new blocks event outcome effects
+grants-launched a kept event outcome effects none still old new blocks opening q i p rights hs bytes launches flying same are gives is holds block_is pushed = record {
   granted = λ client on right. holds.same_rights client on right ∙ ap (λ (g : Ledger). ledger.in_force g client on right) same ∙ sym (still client on right _);
   rules = holds.same_rules ∙ ap ledger.rules_in same;
-  held = λ queue id client on right.
+  packet_rights = λ queue id client on right.
       holds.held queue id client on right
       ∙ ap (λ (g : Ledger). ledger.holds g queue id client on right || (same_packet queue id q i && names rights opening.client client on right)) same
       ∙ ap (λ (rs : List (Object × Rights)). ledger.holds a.grants queue id client on right || (same_packet queue id q i && names rs opening.client client on right)) are
-      ∙ ap (λ b. b || (same_packet queue id q i && names (map as_rights (rights_at_launch opening p)) opening.client client on right)) (kept.held queue id client on right)
-      ∙ held-launched (owner (start_of a) a.audit.items) (flight (start_of a) a.audit.items) opening q i p is queue id client on right
-      ∙ (λ j. packet_holds (λ (n : QueueId). numbered (sym (owners-still a event outcome effects none) j) n.0) (sym flying j) queue id client on right);
+      ∙ ap (λ b. b || (same_packet queue id q i && names (map as_rights hs) opening.client client on right))
+      (kept.held queue id client on right
+      ∙ held-left (start_of a) a.audit.items (entry_of event outcome effects) (owner (start_of a) a.audit.items) queue id client on right (flight (start_of a) a.audit.items) (holding-legal (start_of a) a.audit.items kept.legal))
+      ∙ held-with (owner (start_of a) a.audit.items) (packet_rights (start_of a) (with_entry a.audit.items event outcome effects)) (flight (start_of a) a.audit.items) opening q i p hs is gives queue id client on right
+      ∙ (λ j. packet_holds (λ (n : QueueId). numbered (sym (owners-still a event outcome effects none) j) n.0) (packet_rights (start_of a) (with_entry a.audit.items event outcome effects)) (sym flying j) queue id client on right);
+  arguments = rw pushed (blocks-launched a event outcome q i p bytes launches block_is _);
 }
 
 -- a set of one right is in force where the right is
@@ -157,23 +218,27 @@ all-in_force grants client (h ∷ hs) =
     ap (λ b. b && are_in_force grants client (map as_rights hs)) (each-one h.1 (ledger.in_force grants client h.0))
     ∙ ap (λ rest. ledger.in_force grants client h.0 h.1 && rest) (all-in_force grants client hs)
 
--- what a packet that is launched needs is in force
-pub launch-in_force : (a : Inside) → IsCached a → (old : Ledger) (opening : Opening) (p : Packet) (rights : List (Object × Rights)) → old ≡ record a.grants { room = old.room } → rights ≡ map as_rights (rights_at_launch opening p)
-    → list_all (λ h. in_force (start_of a) a.audit.items opening.client h.0 h.1) (rights_at_launch opening p) ≡ true → are_in_force old opening.client rights ≡ true
-launch-in_force a kept old opening p rights same are forced =
-    ap (λ (g : Ledger). are_in_force g opening.client rights) same
-    ∙ ap (are_in_force a.grants opening.client) are
-    ∙ all-in_force a.grants opening.client (rights_at_launch opening p)
-    ∙ (λ i. list_all (λ (h : ObjectRight). kept.granted opening.client h.0 h.1 i) (rights_at_launch opening p))
+-- what a packet that is launched will hold is in force
+pub launch-in_force : (a : Inside) → IsCached a → (old : Ledger) (client : ClientId) (rights : List (Object × Rights)) (hs : List ObjectRight) → old ≡ record a.grants { room = old.room } → rights ≡ map as_rights hs
+    → list_all (λ h. in_force (start_of a) a.audit.items client h.0 h.1) hs ≡ true → are_in_force old client rights ≡ true
+launch-in_force a kept old client rights hs same are forced =
+    ap (λ (g : Ledger). are_in_force g client rights) same
+    ∙ ap (are_in_force a.grants client) are
+    ∙ all-in_force a.grants client hs
+    ∙ (λ i. list_all (λ (h : ObjectRight). kept.granted client h.0 h.1 i) hs)
     ∙ forced
 
 -- a queue that is opened leaves the grants as the history says
-pub grants-opened : (a : Inside) → IsCached a → (client : ClientId) (agent : AgentHandle) (size : ℕ) (told : Outcome) → flight (start_of a) (with_entry a.audit.items (OpenQueue client agent size) told []) ≡ flight (start_of a) a.audit.items → GrantsAfter a a.grants (OpenQueue client agent size) told []
-grants-opened a kept opener agent size told flying = record {
-  granted = λ client on right. refl;
-  rules = refl;
-  held = λ queue id client on right.
-      kept.held queue id client on right
-      ∙ held-opened (start_of a) a.audit.items (entry_of (OpenQueue opener agent size) told []) queue id client on right (flight (start_of a) a.audit.items) (AreHeld-legal (start_of a) a.audit.items kept.legal)
-      ∙ ap (λ fs. packet_holds (owner (start_of a) (with_entry a.audit.items (OpenQueue opener agent size) told [])) fs queue id client on right) (sym flying);
-}
+pub grants-opened : (a : Inside) → IsCached a → (client : ClientId) (agent : AgentHandle) (size : ℕ) (told : Outcome) → flight (start_of a) (with_entry a.audit.items (OpenQueue client agent size) told []) ≡ flight (start_of a) a.audit.items → GrantsAfter a a.grants a.blocks (OpenQueue client agent size) told []
+grants-opened a kept opener agent size told flying =
+    let e = entry_of (OpenQueue opener agent size) told [] in
+    record {
+      granted = λ client on right. refl;
+      rules = refl;
+      packet_rights = λ queue id client on right.
+          kept.held queue id client on right
+          ∙ held-opened (start_of a) a.audit.items e queue id client on right (flight (start_of a) a.audit.items) (holding-legal (start_of a) a.audit.items kept.legal)
+          ∙ (λ j. packet_holds (owner (start_of a) (with_entry a.audit.items (OpenQueue opener agent size) told []))
+          (λ n m. sym (held-unlaunched (start_of a) a.audit.items e refl n m) j) (sym flying j) queue id client on right);
+      arguments = blocks-still a (OpenQueue opener agent size) told refl _;
+    }

@@ -1,50 +1,68 @@
--- What packets in flight hold stays as it was at their launch, whatever entry comes behind.
-use Rattle.std.proofs.Common.{◌≡◌, ◌<◌, List, [], ◌∷◌, ◌++◌, refl, ◌∙◌, Bool, true, false, Some, arith, All}
-use Rattle.std.proofs.lemmas.Bool.{and_from, eq-eqb}
-use Rattle.std.proofs.lemmas.List.Elements.{All-weaker}
-use Rattle.core_model.proofs.Flying.{flying-legal}
-use Rattle.core_model.proofs.Holding.{held_from-kept, held_from-launch, held_from-none, owner-more}
+-- What their launches gave packets stays as it was, whatever entry comes behind.
+use Rattle.std.proofs.Common.{◌≡◌, ◌<◌, ◌==◌, List, [], ◌∷◌, ◌++◌, refl, ◌∙◌, ap, subst, Bool, true, false, Option, Some, None, arith, if◌then◌else◌}
+use Rattle.std.proofs.lemmas.Bool.{and_from, and_parts, eq-eqb, eqb-true}
+use Rattle.core_model.proofs.Holding.{from_launch-kept, from_launch-launch, from_launch-other, was-launched}
 use Rattle.core_model.proofs.Launches.{launched_by-is, was_launched, IsNext-from_owed, AreBelowNext-legal}
-use Rattle.access_core.proofs.Terms.{Entry, InFlight, IsHeld, IsLegal, Start, enters, flight, is_launch, is_packet, launched_by, next_id, owed}
+use Rattle.core_model.specs.Headline.{HoldsInForce}
+use Rattle.core_model.specs.Holds.{arguments, arguments_if, packet_rights, rights_of_launch}
+use Rattle.access_core.proofs.Terms.{Entry, ObjectRight, InFlight, IsLegal, Opening, PacketId, QueueId, Start, enters, rights_at_launch, is_launch, is_packet, launched_by}
+use Rattle.access_core.proofs.Terms.{next_id, owed, owner}
 
--- ---- one entry more
+-- what a launch behind these entries gives a packet of a queue to hold
+abbrev pub holds_given : Start → QueueId → List Entry → Option InFlight → List ObjectRight
+holds_given start queue before f = rights_of_launch start before (owner start before queue) f
 
--- what holds of a packet in flight holds with one entry more
-pub IsHeld-more : (start : Start) (es : List Entry) (e : Entry) (f : InFlight) → IsHeld start es f → IsHeld start (es ++ e ∷ []) f
-IsHeld-more start es e f h = record {
-  opening = h.opening;
-  owner_is = owner-more start es e f.queue h.opening h.owner_is;
-  held_is = held_from-kept start [] es (e ∷ []) f.queue f.id (by_test (was_launched es f.queue f.id) refl) ∙ h.held_is;
-}
-  where
-    by_test : (b : Bool) → was_launched es f.queue f.id ≡ b → was_launched es f.queue f.id ≡ true
-    by_test true is = is
-    by_test false is = let none = held_from-none start [] es f.queue f.id is in let some = h.held_is in absurd (cc)
+module _ (start : Start) (es : List Entry) (e : Entry) where
+  abbrev later : List Entry
+  later = es ++ e ∷ []
 
--- ---- the packets in flight after an entry
+  -- ---- what packets hold
 
--- a packet that is launched holds what its launch gives it
-IsHeld-launched : (start : Start) (es : List Entry) (e : Entry) (f : InFlight) → IsLegal start es → owed start es e.event ≡ enters e.outcome e.effects → launched_by e.event e.outcome ≡ Some f → IsHeld start (es ++ e ∷ []) f
-IsHeld-launched start es e f legal owing is =
-    let launch = launched_by-is e.event e.outcome f is in
-    let next = IsNext-from_owed start es f.queue f.id launch.bytes e.outcome e.effects (rw launch.event_is at owing) in
-    let none : was_launched es f.queue f.id ≡ false = by_test (was_launched es f.queue f.id) refl next.id_is in
-    let itself : is_packet f.queue f.id f ≡ true = and_from _ _ (eq-eqb f.queue.0 f.queue.0 refl) (eq-eqb f.id.0 f.id.0 refl) in
-    let now : is_launch f.queue f.id (launched_by e.event e.outcome) ≡ true = rw is itself in
-    record {
-      opening = next.opening;
-      owner_is = owner-more start es e f.queue next.opening next.owner_is;
-      held_is = held_from-launch start [] es e f.queue f.id none now ∙ rw (next.owner_is, is) refl;
-    }
-  where
-    by_test : (b : Bool) → was_launched es f.queue f.id ≡ b → f.id.0 ≡ next_id start es f.queue → was_launched es f.queue f.id ≡ false
-    by_test true was at = let below : f.id.0 < next_id start es f.queue = AreBelowNext-legal start es legal f.queue f.id was in absurd (omega arith)
-    by_test false was at = was
+  -- by an entry that launches nothing no packet holds more
+  pub held-unlaunched : launched_by e.event e.outcome ≡ None → (queue : QueueId) (id : PacketId) → packet_rights start later queue id ≡ packet_rights start es queue id
+  held-unlaunched none queue id = from_launch-other (holds_given start queue) [] es e queue id (ap (is_launch queue id) none)
 
--- ---- a legal history
+  -- a packet in flight holds what it held
+  pub held-kept : (f : InFlight) → HoldsInForce start es f → packet_rights start later f.queue f.id ≡ packet_rights start es f.queue f.id
+  held-kept f h =
+      from_launch-kept (holds_given start f.queue) [] es (e ∷ []) f.queue f.id
+      (was-launched start es e f.queue f.id h.launch.before h.launch.opening f.packet h.held_is)
 
--- in a legal history each packet in flight holds what its packet and its queue's opening tell
-pub AreHeld-legal : (start : Start) (es : List Entry) → IsLegal start es → All (IsHeld start es) (flight start es)
-AreHeld-legal start es legal = flying-legal start (IsHeld start)
-    (λ es e legal owing all. All-weaker (IsHeld start es) (IsHeld start (es ++ e ∷ [])) (IsHeld-more start es e) (flight start es) all)
-    (λ es e legal owing f is. IsHeld-launched start es e f legal owing is) es legal
+  -- ---- an entry of a legal history
+
+  module _ (legal : IsLegal start es) (owing : owed start es e.event ≡ enters e.outcome e.effects) where
+    -- a packet that an entry launches wasn't launched before
+    none-before : (f : InFlight) → launched_by e.event e.outcome ≡ Some f → was_launched es f.queue f.id ≡ false
+    none-before f is =
+        let launch = launched_by-is e.event e.outcome f is in
+        let next = IsNext-from_owed start es f.queue f.id launch.bytes e.outcome e.effects (rw launch.event_is at owing) in
+        by_test (was_launched es f.queue f.id) refl next.id_is
+      where
+        by_test : (b : Bool) → was_launched es f.queue f.id ≡ b → f.id.0 ≡ next_id start es f.queue → was_launched es f.queue f.id ≡ false
+        by_test true was at = let below : f.id.0 < next_id start es f.queue = AreBelowNext-legal start es legal f.queue f.id was in absurd (omega arith)
+        by_test false was at = was
+
+    none-at : (queue : QueueId) (id : PacketId) (o : Option InFlight) → launched_by e.event e.outcome ≡ o → is_launch queue id o ≡ true → was_launched es queue id ≡ false
+    none-at queue id None is launches = absurd cc
+    none-at queue id (Some f) is launches =
+        let both = and_parts (f.queue.0 == queue.0) (f.id.0 == id.0) launches in
+        let queues : f.queue ≡ queue = ap (λ n. record { 0 = n }) (eqb-true _ _ both.0) in
+        let ids : f.id ≡ id = ap (λ n. record { 0 = n }) (eqb-true _ _ both.1) in
+        subst (λ (q : QueueId). was_launched es q id ≡ false) queues (subst (λ (i : PacketId). was_launched es f.queue i ≡ false) ids (none-before f is))
+
+    -- a packet that is launched holds what its launch gives it
+    pub held-launched : (f : InFlight) (opening : Opening) → launched_by e.event e.outcome ≡ Some f → owner start es f.queue ≡ Some opening → packet_rights start later f.queue f.id ≡ rights_at_launch start es opening f.packet
+    held-launched f opening is owned =
+        let itself : is_packet f.queue f.id f ≡ true = and_from _ _ (eq-eqb f.queue.0 f.queue.0 refl) (eq-eqb f.id.0 f.id.0 refl) in
+        let now : is_launch f.queue f.id (launched_by e.event e.outcome) ≡ true = rw is itself in
+        ◌∙◌ {b = rights_of_launch start es (owner start es f.queue) (launched_by e.event e.outcome)}
+        (from_launch-launch (holds_given start f.queue) [] es e f.queue f.id (none-before f is) now) (λ i. rights_of_launch start es (owned i) (is i))
+
+    -- the arguments of a packet are those of its launch
+    pub arguments-more : (queue : QueueId) (id : PacketId) → arguments start later queue id
+        ≡ (if is_launch queue id (launched_by e.event e.outcome) then arguments_if start es (launched_by e.event e.outcome) else arguments start es queue id)
+    arguments-more queue id = either (is_launch queue id (launched_by e.event e.outcome)) refl
+      where
+        either : (b : Bool) → is_launch queue id (launched_by e.event e.outcome) ≡ b → arguments start later queue id ≡ (if b then arguments_if start es (launched_by e.event e.outcome) else arguments start es queue id)
+        either true is = from_launch-launch (arguments_if start) [] es e queue id (none-at queue id (launched_by e.event e.outcome) refl is) is
+        either false is = from_launch-other (arguments_if start) [] es e queue id is

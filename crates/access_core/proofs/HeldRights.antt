@@ -1,11 +1,11 @@
 -- Tests of rights that packets hold, taken right by right or packet by packet.
 use Rattle.std.proofs.Common.{arith, ◌≡◌, List, [], ◌∷◌, refl, sym, ◌∙◌, ap, Bool, false, Option, Some, None, All, ◌&&◌, ◌||◌, ◌==◌}
-use Rattle.std.proofs.lemmas.List.Elements.{All-head, All-tail}
 use Rattle.std.specs.List.{list_any}
 use Rattle.policy.specs.Object.{same_object}
 use Rattle.access_core.specs.inner.Held.{as_rights}
-use Rattle.access_core.proofs.Terms.{ClientId, Entry, ObjectRight, InFlight, IsHeld, Ledger, Object, Opening, Packet, PacketId, QueueId, Right, Rights, Start}
-use Rattle.access_core.proofs.Terms.{all_rights, has, rights_at_launch, holds, holds_by, holds_one_of, is_holder, is_queue_of, is_packet, owner, packet_holds}
+use Rattle.core_model.specs.Holds.{packet_rights}
+use Rattle.access_core.proofs.Terms.{ClientId, Entry, ObjectRight, InFlight, Ledger, Object, Opening, PacketId, QueueId, Right, Rights, Start}
+use Rattle.access_core.proofs.Terms.{all_rights, has, holds, holds_by, holds_one_of, is_holder, is_queue_of, is_packet, owner, packet_holds}
 
 -- ---- tests of lists
 
@@ -51,35 +51,20 @@ module _ (client : ClientId) (on : Object) (rights : Rights) where
       any-swap (has rights) (λ (h : ObjectRight) r. same_object on h.0 && has (as_rights h.1) r) hs all_rights
       ∙ (λ i. list_any (λ (h : ObjectRight). (any-constant (has rights) (has (as_rights h.1)) (same_object on h.0) all_rights ∙ ap (λ b. same_object on h.0 && b) (one-right (has rights) h.1)) i) hs)
 
-  one-by : (o : Option Opening) (p : Packet) → list_any (λ r. has rights r && holds_by o client on r p) all_rights ≡ (elim o [ None ↦ false | Some opening ↦ opening.client.0 == client.0 && list_any (λ h. same_object on h.0 && has rights h.1) (rights_at_launch opening p) ])
-  one-by None p = any-none (has rights) all_rights
-  one-by (Some opening) p =
-      any-constant (has rights) (λ r. list_any (λ h. same_object on h.0 && has (as_rights h.1) r) (rights_at_launch opening p)) (opening.client.0 == client.0) all_rights
-      ∙ ap (λ b. opening.client.0 == client.0 && b) (one-of_held (rights_at_launch opening p))
-
-  -- by the history
-  by_history : (start : Start) (es : List Entry) (f : InFlight) → IsHeld start es f → (elim (owner start es f.queue) [ None ↦ false | Some opening ↦ opening.client.0 == client.0 && list_any (λ h. same_object on h.0 && has rights h.1) (rights_at_launch opening f.packet) ]) ≡ (is_queue_of start es client f.queue && holds_one_of start es on rights f)
-  by_history start es f h =
-      ap (λ (o : Option Opening). elim o [ None ↦ false | Some opening ↦ opening.client.0 == client.0 && list_any (λ g. same_object on g.0 && has rights g.1) (rights_at_launch opening f.packet) ]) h.owner_is
-      ∙ sym (ap (λ (o : Option Opening). (elim o [ None ↦ false | Some opening ↦ opening.client.0 == client.0 ]) && holds_one_of start es on rights f) h.owner_is
-      ∙ ap (λ (l : List ObjectRight). h.opening.client.0 == client.0 && list_any (λ g. same_object on g.0 && has rights g.1) l) h.held_is)
+  one-by : (o : Option Opening) (hs : List ObjectRight) → list_any (λ r. has rights r && holds_by o client on r hs) all_rights
+      ≡ ((elim o [ None ↦ false | Some opening ↦ opening.client.0 == client.0 ]) && list_any (λ h. same_object on h.0 && has rights h.1) hs)
+  one-by None hs = any-none (has rights) all_rights
+  one-by (Some opening) hs =
+      any-constant (has rights) (λ r. list_any (λ h. same_object on h.0 && has (as_rights h.1) r) hs) (opening.client.0 == client.0) all_rights
+      ∙ ap (λ b. opening.client.0 == client.0 && b) (one-of_held hs)
 
   -- a packet is one that holds, by what is held right by right, where it holds by the history
   module _ (start : Start) (es : List Entry) (grants : Ledger) where
-    holder-test : (fs : List InFlight) → All (IsHeld start es) fs → (queue : QueueId) (id : PacketId)
-        → list_any (λ f. is_packet queue id f && list_any (λ r. has rights r && holds_by (owner start es f.queue) client on r f.packet) all_rights) fs
-        ≡ list_any (λ f. is_packet queue id f && (is_queue_of start es client f.queue && holds_one_of start es on rights f)) fs
-    holder-test [] all queue id = refl
-    holder-test (f ∷ fs) all queue id =
-        ap (λ b. (is_packet queue id f && b) || list_any (λ g. is_packet queue id g && list_any (λ r. has rights r && holds_by (owner start es g.queue) client on r g.packet) all_rights) fs)
-        (one-by (owner start es f.queue) f.packet ∙ by_history start es f (All-head (IsHeld start es) f fs all))
-        ∙ ap (λ rest. (is_packet queue id f && (is_queue_of start es client f.queue && holds_one_of start es on rights f)) || rest) (holder-test fs (All-tail (IsHeld start es) f fs all) queue id)
-
-    pub is_holder-history : (fs : List InFlight) → All (IsHeld start es) fs
-        → ((queue : QueueId) (id : PacketId) (c : ClientId) (o : Object) (r : Right) → holds grants queue id c o r ≡ packet_holds (owner start es) fs queue id c o r)
+    pub is_holder-history : (fs : List InFlight)
+        → ((queue : QueueId) (id : PacketId) (c : ClientId) (o : Object) (r : Right) → holds grants queue id c o r ≡ packet_holds (owner start es) (packet_rights start es) fs queue id c o r)
         → (queue : QueueId) (id : PacketId) → is_holder grants client on rights queue id ≡ list_any (λ f. is_packet queue id f && (is_queue_of start es client f.queue && holds_one_of start es on rights f)) fs
-    is_holder-history fs all kept queue id =
+    is_holder-history fs kept queue id =
         (λ i. list_any (λ r. has rights r && kept queue id client on r i) all_rights)
-        ∙ any-swap (has rights) (λ (f : InFlight) r. is_packet queue id f && holds_by (owner start es f.queue) client on r f.packet) fs all_rights
-        ∙ (λ i. list_any (λ (f : InFlight). any-constant (has rights) (λ r. holds_by (owner start es f.queue) client on r f.packet) (is_packet queue id f) all_rights i) fs)
-        ∙ holder-test fs all queue id
+        ∙ any-swap (has rights) (λ (f : InFlight) r. is_packet queue id f && holds_by (owner start es f.queue) client on r (packet_rights start es f.queue f.id)) fs all_rights
+        ∙ (λ i. list_any (λ (f : InFlight). any-constant (has rights) (λ r. holds_by (owner start es f.queue) client on r (packet_rights start es f.queue f.id)) (is_packet queue id f) all_rights i) fs)
+        ∙ (λ i. list_any (λ (f : InFlight). is_packet queue id f && one-by (owner start es f.queue) (packet_rights start es f.queue f.id) i) fs)

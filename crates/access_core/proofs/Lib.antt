@@ -3,6 +3,9 @@ pub mod CachedMore
 pub mod Calls
 pub mod QueueLemmas
 pub mod TakeLemmas
+pub mod LaunchLemmas
+pub mod GroupLemmas
+pub mod HeldOn
 pub mod QueueAt
 pub mod ChangedQueue
 pub mod PollLemmas
@@ -11,6 +14,7 @@ pub mod LookupLemmas
 pub mod WorkLemmas
 pub mod WorkReadLemmas
 pub mod RunLemmas
+pub mod KernelLemmas
 pub mod HostMemory
 pub mod HeldMore
 pub mod HeldRights

@@ -1,5 +1,11 @@
 -- What is kept of a core in which nothing has happened.
-use Rattle.std.proofs.Common.{◌≡◌, ℕ, ◌≤◌, [], ◌∙◌, Bool, true, false, None, arith, refl, ◌-◌, slice_get, nat_lt, if◌then◌else◌}
+use Rattle.core_model.specs.Kernels.{segments_of}
+use Rattle.policy.specs.Policy.{Declared}
+use Rattle.access_core.specs.declared.access.OpenFault.TheVariants as fault
+use Rattle.access_core.specs.declared.kernel.Kernel.{Kernel}
+use Rattle.std.proofs.Common.{List, Option, Some, ◌∷◌, length, ◌==◌, sym, ap, not}
+use Rattle.std.proofs.lemmas.List.Elements.{All-cons}
+use Rattle.std.proofs.Common.{All, map, ◌≡◌, ℕ, ◌≤◌, [], ◌∙◌, Bool, true, false, None, arith, refl, ◌-◌, slice_get, nat_lt, if◌then◌else◌}
 use Rattle.std.proofs.lemmas.List.Elements.{All-nil}
 use Rattle.std.proofs.lemmas.Bool.Decides.{nat_tests}
 use Rattle.regions.proofs.Laws.{lengths_of-zeros, byte_at-zeros}
@@ -8,7 +14,7 @@ use Rattle.core_model.specs.Grants.{in_force}
 use Rattle.core_model.specs.Memory.{memory_at, signals}
 use Rattle.core_model.specs.Queues.{openings, next_id, errors, is_stopped}
 use Rattle.core_model.specs.Flight.{flight}
-use Rattle.access_core.specs.Opening.{is_capacity, lengths_of_rows, values_of_rows}
+use Rattle.access_core.specs.Opening.{fault_behind, first_missing, has_entry, is_capacity, open_fault, lengths_of_rows, program_of, values_of_rows}
 use Rattle.access_core.proofs.Terms.{Inside, IsCached, IsNew, IsSound, MOST_ENTRIES, Queue, numbered, rules_in, rules_of, zeros}
 
 -- no queue has a number where there is none
@@ -21,12 +27,15 @@ numbered-none n = either (nat_lt 0 n)
 
 -- what is kept where nothing has happened is what the empty audit says
 pub IsCached-opened : (a : Inside) → IsNew a.grants → rules_in a.grants ≡ rules_of a.policy → a.memory ≡ zeros (lengths_of_rows a.policy) → a.signals ≡ values_of_rows a.policy
-    → a.queues.items ≡ [] → a.flying ≡ 0 → a.audit.items ≡ [] → a.capacity ≤ a.audit.room → a.capacity ≤ MOST_ENTRIES → IsCached a
+    → a.queues.items ≡ [] → a.flying ≡ 0 → a.audit.items ≡ [] → a.capacity ≤ a.audit.room → a.capacity ≤ MOST_ENTRIES → All (λ kernel. has_entry kernel ≡ true) a.kernels.items → a.segments ≡ map segments_of (map program_of a.kernels.items) → IsCached a
 unfolding in_force memory_at effects_of signals openings next_id errors is_stopped flight
-IsCached-opened a fresh ruled memory values queues flying entries places few = record {
+IsCached-opened a fresh ruled memory values queues flying entries places few kernels segments = record {
   granted = λ client on right. fresh.none_in_force client on right ∙ (rw entries refl);
   rules = ruled;
   held = λ queue id client on right. fresh.none_held queue id client on right ∙ (rw entries refl);
+  arguments = rw entries (All-nil _);
+  entries = kernels;
+  segments = segments;
   lengths = rw memory (lengths_of-zeros (lengths_of_rows a.policy));
   memory = λ x lies. rw (memory, entries) (byte_at-zeros (lengths_of_rows a.policy) x lies);
   values = rw entries values;
@@ -49,3 +58,20 @@ by_room capacity room is = omega (arith, is)
 -- a capacity is at most 2^20
 pub few_places : (capacity : ℕ) → is_capacity capacity ≡ true → capacity ≤ MOST_ENTRIES
 few_places capacity is = grind (arith, nat_tests)
+
+-- where no kernel is missing, each has its checked kernel
+none-missing : (kernels : List Kernel) → first_missing kernels ≡ None → All (λ kernel. has_entry kernel ≡ true) kernels
+none-missing [] none = All-nil (λ kernel. has_entry kernel ≡ true)
+none-missing (kernel ∷ kernels) none =
+    let this : has_entry kernel ≡ true = grind arith in
+    let rest : first_missing kernels ≡ None = grind arith in
+    All-cons (λ k. has_entry k ≡ true) kernel kernels this (none-missing kernels rest)
+
+-- so it is where a core can be opened
+pub entries-there : (policy : Declared) (kernels : List Kernel) (capacity : ℕ) → open_fault policy kernels capacity ≡ None → All (λ kernel. has_entry kernel ≡ true) kernels
+entries-there policy kernels capacity is = none-missing kernels (either (length kernels == length policy.kernels) (first_missing kernels) refl is)
+  where
+    either : (b : Bool) (o : Option ℕ) → first_missing kernels ≡ o → (if b then fault_behind capacity o else Some fault.KernelCount) ≡ None → first_missing kernels ≡ None
+    either true None found none = found
+    either true (Some i) found none = absurd cc
+    either false o found none = absurd cc

@@ -1,22 +1,22 @@
 -- Groups that ran: what their writes leave, and how many there can be.
-use Rattle.std.proofs.Common.{◌≡◌, ℕ, ◌+◌, ◌^◌, List, [], ◌++◌, length, refl, sym, ◌∙◌, ap, Bool, true, false, Option, Some, None, ℤ, ◌==◌, ◌%◌, fold, nat_lt}
+use Rattle.std.proofs.Common.{◌≡◌, ℕ, ◌+◌, ◌^◌, List, [], ◌++◌, length, refl, sym, ◌∙◌, ap, Bool, true, false, Option, Some, None, ℤ, ◌==◌, ◌%◌, fold, nat_le, nat_lt}
 use Rattle.std.proofs.Common.{replicate, if◌then◌else◌}
-use Rattle.std.specs.Option.{IfSome}
 use Rattle.std.specs.Int.{w64, to_le_bytes}
 use Rattle.std.proofs.lemmas.List.Sums.{fold-append}
 use Rattle.aql_packet.specs.declared.packet.AgentDispatch.{AgentDispatch}
-use Rattle.core_model.specs.declared.outcome.Worked.TheVariants.{Ran}
+use Rattle.core_model.specs.declared.outcome.Worked.TheVariants.{Done, Ran}
 use Rattle.core_model.specs.declared.need.AgentFunction.{AgentFunction}
 use Rattle.core_model.specs.declared.need.AgentFunction.TheVariants.{Fill, Copy, Add64}
 use Rattle.core_model.specs.Owed.{owed}
-use Rattle.access_core.specs.declared.access.running.Group.{Group}
+use Rattle.aql_packet.specs.declared.packet.Packet.TheVariants as packet
+use Rattle.core_model.specs.View.{Given, given}
 use Rattle.access_core.proofs.Calls.{due-as}
 use Rattle.access_core.proofs.QueueAt.{IsAdvance}
 use Rattle.access_core.proofs.WorkLemmas.{owed-in_place}
-use Rattle.access_core.proofs.Terms.{Effect, Entry, Event, History, InFlight, Inside, IsGroupOf, IsInPlace, IsNextGroup, PacketId, Place, Progress, QueueId}
+use Rattle.access_core.proofs.Terms.{Effect, Entry, Event, History, InFlight, Inside, IsInPlace, RefusedAt, PacketId, Place, Progress, QueueId}
 use Rattle.access_core.proofs.Terms.{Refusal, RunNext, Start, agent_writes, due, enters, flight, flight_after_effect, function_of, function_result}
 use Rattle.access_core.proofs.Terms.{function_writes, history_of, is_full, lies_in_regions, memory_from, number_in_memory, owed_group, refuses, region_lengths}
-use Rattle.access_core.proofs.Terms.{result_writes, run_owed, signals_after, start_of, write_of}
+use Rattle.access_core.proofs.Terms.{answers, result_writes, signals_after, start_of, write_of}
 use Rattle.core_model.specs.declared.outcome.Outcome.TheVariants as outcome
 use Rattle.core_model.specs.declared.refusal.Refusal.TheVariants as refusal
 
@@ -67,21 +67,9 @@ run-advances queue id start entries dispatch = record {
   views = λ m v places. refl;
 }
 
--- the next group, of the packet in its place
-pub next-group : (history : History) (queue : QueueId) (id : PacketId) (place : Place) → IsInPlace history queue id place → lies_in_regions (region_lengths history.start) place.packet ≡ true → (next : Option Group) → IfSome next (IsGroupOf place) → IfSome next (IsNextGroup history queue id)
-next-group history queue id place found within None h = h
-next-group history queue id place found within (Some group) h =
-    record { place = place; in_place = found; is_next = h; within = ap (lies_in_regions (region_lengths history.start)) (sym h.packet_is) ∙ within }
-
 -- ---- what is kept, and what is owed by it
 
 module _ (a : Inside) (old : History) (seen_as : history_of a ≡ old) where
-  -- the group that is due, as the fields have it
-  pub run-due : (event : Event) (next : Option Group) (group : Group) → due old event ≡ run_owed old.start old.entries next → next ≡ Some group →
-      due old event ≡ enters (outcome.Worked (Ran 0 0)) (agent_writes (start_of a) a.audit.items group.dispatch)
-  run-due event next group is found =
-      is ∙ ap (run_owed old.start old.entries) found ∙ ap (λ h. enters (outcome.Worked (Ran 0 0)) (agent_writes h.start h.entries group.dispatch)) (sym seen_as)
-
   pub pieces-inside : (dispatch : AgentDispatch) (target place : ℕ) (bytes result : List ℕ) → write_of target bytes ≡ function_writes old.start old.entries (function_of dispatch) → write_of place result ≡ result_writes old.start old.entries dispatch →
       write_of target bytes ++ write_of place result ≡ agent_writes (start_of a) a.audit.items dispatch
   pieces-inside dispatch target place bytes result first second =
@@ -89,25 +77,37 @@ module _ (a : Inside) (old : History) (seen_as : history_of a ≡ old) where
       ∙ ap (λ ys. function_writes old.start old.entries (function_of dispatch) ++ ys) second
       ∙ ap (λ h. agent_writes h.start h.entries dispatch) (sym seen_as)
 
--- ---- what the next group is due
+-- ---- what the group of an agent dispatch is due
 
-pub due-refused : (h : History) (queue : QueueId) (id : PacketId) (place : Place) → IsInPlace h queue id place → (why : Refusal) → owed_group h.start h.entries place.packet place.progress ≡ refuses why → due h (RunNext queue id) ≡ refuses why
-unfolding owed
-due-refused h queue id place found why is = due-as h (RunNext queue id) (refuses why) (owed-in_place h queue id place found (owed_group h.start h.entries) ∙ is)
-
-module _ (h : History) (queue : QueueId) (id : PacketId) (place : Place) (found : IsInPlace h queue id place) (next : Option Group)
-    (group_is : (start : Start) (entries : List Entry) → owed_group start entries place.packet place.progress ≡ run_owed start entries next) where
-  owed-next : (known : Option Group) → next ≡ known → owed h.start h.entries (RunNext queue id) ≡ run_owed h.start h.entries known
+module _ (h : History) (queue : QueueId) (id : PacketId) (place : Place) (found : IsInPlace h queue id place) (d : AgentDispatch) (packet_is : place.packet ≡ packet.Agent d) where
+  agent-owed : (ran : Bool) → nat_le 1 place.progress.groups_run ≡ ran → owed h.start h.entries (RunNext queue id)
+      ≡ (if ran then answers (outcome.Worked Done) else enters (outcome.Worked (Ran 0 0)) (agent_writes h.start h.entries d))
   unfolding owed
-  owed-next known is = owed-in_place h queue id place found (owed_group h.start h.entries) ∙ group_is h.start h.entries ∙ ap (run_owed h.start h.entries) is
+  agent-owed ran is =
+      owed-in_place h queue id place found (owed_group h.start h.entries queue id (given h.start h.entries queue id))
+      ∙ ap (λ p. owed_group h.start h.entries queue id (given h.start h.entries queue id) p place.progress) packet_is
+      ∙ ap (λ b. if b then answers (outcome.Worked Done) else enters (outcome.Worked (Ran 0 0)) (agent_writes h.start h.entries d)) is
 
-  pub due-done : next ≡ None → due h (RunNext queue id) ≡ run_owed h.start h.entries None
-  due-done is = due-as h (RunNext queue id) (run_owed h.start h.entries None) (owed-next None is)
+  pub agent-done : nat_le 1 place.progress.groups_run ≡ true → due h (RunNext queue id) ≡ answers (outcome.Worked Done)
+  agent-done ran = due-as h (RunNext queue id) (answers (outcome.Worked Done)) (agent-owed true ran)
 
-  pub due-group : (group : Group) → next ≡ Some group → (full : Bool) → is_full h ≡ full → due h (RunNext queue id) ≡ (if full then refuses refusal.AuditFull else run_owed h.start h.entries (Some group))
-  due-group group is full room =
-      let writes = agent_writes h.start h.entries group.dispatch in
-      due-as h (RunNext queue id) (run_owed h.start h.entries (Some group)) (owed-next (Some group) is)
+  pub agent-due : nat_le 1 place.progress.groups_run ≡ false → (full : Bool) → is_full h ≡ full
+      → due h (RunNext queue id) ≡ (if full then refuses refusal.AuditFull else enters (outcome.Worked (Ran 0 0)) (agent_writes h.start h.entries d))
+  agent-due ran full room =
+      let writes = agent_writes h.start h.entries d in
+      due-as h (RunNext queue id) (enters (outcome.Worked (Ran 0 0)) writes) (agent-owed false ran)
       ∙ ap (λ (fs : List InFlight). if nat_lt h.capacity (length h.entries + 1 + length fs) then refuses refusal.AuditFull else enters (outcome.Worked (Ran 0 0)) writes)
-      ((agent-writes h.start h.entries group.dispatch).flight (flight h.start h.entries))
+      ((agent-writes h.start h.entries d).flight (flight h.start h.entries))
       ∙ ap (λ b. if b then refuses refusal.AuditFull else enters (outcome.Worked (Ran 0 0)) writes) room
+
+-- barrier packets have no groups
+pub no-groups : (h : History) (queue : QueueId) (id : PacketId) (place : Place) → IsInPlace h queue id place → ((own : Given) → owed_group h.start h.entries queue id own place.packet place.progress ≡ refuses refusal.NotInFlight) → due h (RunNext queue id) ≡ refuses refusal.NotInFlight
+unfolding owed
+no-groups h queue id place found is =
+    due-as h (RunNext queue id) (refuses refusal.NotInFlight)
+    (owed-in_place h queue id place found (owed_group h.start h.entries queue id (given h.start h.entries queue id)) ∙ is (given h.start h.entries queue id))
+
+-- a packet that isn't in flight is refused
+pub run-refused : (h : History) (queue : QueueId) (id : PacketId) (why : Refusal) → RefusedAt h queue id why → due h (RunNext queue id) ≡ refuses why
+unfolding owed
+run-refused h queue id why refused = due-as h (RunNext queue id) (refuses why) (refused (owed_group h.start h.entries queue id (given h.start h.entries queue id)))

@@ -1,10 +1,12 @@
 -- Stops of queues: what is owed by what is kept, and the room that is left.
-use Rattle.std.proofs.Common.{◌≡◌, ℕ, ◌-◌, ◌≤◌, List, [], ◌∷◌, length, map, refl, sym, ◌∙◌, ap, subst, Bool, true, false, Option, Some, None, arith, ℤ, ◌==◌}
+use Rattle.std.proofs.Common.{filter, ◌≡◌, ℕ, ◌-◌, ◌≤◌, List, [], ◌∷◌, length, map, refl, sym, ◌∙◌, ap, subst, Bool, true, false, Option, Some, None, arith, ℤ, ◌==◌}
 use Rattle.std.proofs.Common.{IfNone, IfSome, find, fold, is_some, not, option_map, if◌then◌else◌}
 use Rattle.std.proofs.lemmas.Bool.{le-ltb}
 use Rattle.core_model.specs.Owed.{owed}
 use Rattle.access_core.proofs.Calls.{due-by}
 use Rattle.access_core.proofs.HeldAfter.{grants-released, grants-still}
+use Rattle.access_core.specs.ArgumentBlocks.{is_block}
+use Rattle.access_core.specs.declared.argument_blocks.ArgumentBlock.{ArgumentBlock}
 use Rattle.access_core.proofs.CachedMore.{GrantsAfter, QueuesAfter, none-launched}
 use Rattle.access_core.proofs.QueueAt.{IsRelease, flight-released, flight-unlaunched, queue_at-more}
 use Rattle.access_core.proofs.ChangedQueue.{freed-at}
@@ -115,13 +117,15 @@ module _ (a : Inside) (kept : IsCached a) (queue : QueueId) where
         sound = let less = sound-released at.q id at.sound in record { room = less.room; free = less.free; below = less.below }
 
   -- how the grants do
-  pub grants-stopped : (barrier : Option PacketId) (new : Ledger) → IfSome barrier (λ id. Releases a.grants new queue id) → IfNone barrier (new ≡ a.grants) → GrantsAfter a new (Stop queue) outcome.Accepted (release_of queue barrier)
-  grants-stopped None new released same =
-      subst (λ g. GrantsAfter a g (Stop queue) outcome.Accepted []) (sym same)
-      (grants-still a kept (Stop queue) outcome.Accepted [] refl (λ client on right b. refl) (flight-unlaunched (start_of a) a.audit.items (Stop queue) outcome.Accepted [] refl))
-  grants-stopped (Some id) new released same =
-      grants-released a kept (Stop queue) outcome.Accepted (effect.Release queue id ∷ []) refl (λ client on right b. refl) new queue id
-      (flight-released (start_of a) a.audit.items _ _ _ queue id (is_release queue id)) released
+  pub grants-stopped : (barrier : Option PacketId) (new : Ledger) (blocks : List ArgumentBlock) → IfSome barrier (λ id. Releases a.grants new queue id) → IfSome barrier (λ id. blocks ≡ filter (λ b. not (is_block queue id b)) a.blocks)
+      → IfNone barrier (new ≡ a.grants) → IfNone barrier (blocks ≡ a.blocks) → GrantsAfter a new blocks (Stop queue) outcome.Accepted (release_of queue barrier)
+  grants-stopped None new blocks released dropped same same_blocks =
+      subst (λ g. GrantsAfter a g blocks (Stop queue) outcome.Accepted []) (sym same)
+      (subst (λ bs. GrantsAfter a a.grants bs (Stop queue) outcome.Accepted []) (sym same_blocks)
+      (grants-still a kept (Stop queue) outcome.Accepted [] refl refl (λ client on right b. refl) (flight-unlaunched (start_of a) a.audit.items (Stop queue) outcome.Accepted [] refl)))
+  grants-stopped (Some id) new blocks released dropped same same_blocks =
+      grants-released a kept (Stop queue) outcome.Accepted (effect.Release queue id ∷ []) refl refl (λ client on right b. refl) new blocks queue id
+      (flight-released (start_of a) a.audit.items _ _ _ queue id (is_release queue id)) released dropped
 
   -- a stop is due its entry where a barrier packet leaves flight for it, or the audit has room
   pub may-stop : (q : Queue) (barrier : Option PacketId) (none : Bool) (old : History) → history_of a ≡ old → numbered a.queues.items queue.0 ≡ Some q → q.stopped ≡ false

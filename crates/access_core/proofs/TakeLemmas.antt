@@ -13,12 +13,26 @@ use Rattle.core_model.specs.declared.need.Need.{Need}
 use Rattle.core_model.specs.LaunchRules.{cause_to_wait}
 use Rattle.packet_processor.specs.Judged.{later_failing}
 use Rattle.core_model.specs.Owed.{owed}
-use Rattle.access_core.specs.inner.Judged.{facts_lent}
+use Rattle.std.proofs.Common.{◌⊎◌, inl, inr, not}
+use Rattle.std.proofs.lemmas.Bool.{or_right}
+use Rattle.std.proofs.lemmas.List.Elements.{All-head, All-tail}
+use Rattle.aql_packet.specs.declared.packet.Packet.TheVariants as packet
+use Rattle.policy.specs.declared.rights.Right.TheVariants.{Read}
+use Rattle.core_model.proofs.Holding.{arguments-held}
+use Rattle.core_model.proofs.Launching.{launch-granted}
+use Rattle.core_model.proofs.Lists.{none-passes}
+use Rattle.core_model.proofs.Meeting.{entered-owed}
+use Rattle.core_model.specs.Headline.{MayReach, MayReachRange, argument_ranges}
+use Rattle.core_model.specs.Holds.{held_by_arguments, held_by_needs}
+use Rattle.core_model.specs.Kernels.{kernel_of}
+use Rattle.core_model.specs.LaunchRules.{has_form, meets_rule}
+use Rattle.packet_processor.specs.Judged.{rules_of_fields}
+use Rattle.access_core.specs.inner.Deciding.{IsBlockPlaced}
 use Rattle.access_core.specs.inner.QueueChanges.{with_launched}
 use Rattle.access_core.proofs.CachedMore.{QueuesAfter, none-launched}
 use Rattle.access_core.proofs.QueueAt.{flight-launched, flight-unlaunched, map-map, denied, launched, queue_at-denied, queue_at-launched}
 use Rattle.access_core.proofs.ChangedQueue.{length-changed, openings-changed, queues-changed, sound-at, sound-changed}
-use Rattle.access_core.proofs.Terms.{IsInPlace, CanFail, ClientId, Denied, Effect, Entry, Event, Facts, ObjectRight, History, InFlight, Inside, IsCached, IsSound}
+use Rattle.access_core.proofs.Terms.{IsInPlace, in_force, due, enters, is_placed, CanFail, ClientId, Denied, Effect, Entry, Event, Facts, ObjectRight, History, InFlight, Inside, IsCached, IsSound}
 use Rattle.access_core.proofs.Terms.{Launched, MayHold, Opening, Outcome, Packet, PacketId, Place, Queue, QueueError, QueueId, QueueView, SLOTS, Start, Take}
 use Rattle.access_core.proofs.Terms.{TakesNext, right_needed, as_launched, barrier_bit, cached, cached_opening, owed_verdict, decoded, entry_of, error_without_place, errors}
 use Rattle.access_core.proofs.Terms.{facts_of, first_failing_rule, flight, flight_of, hands_over_packet_of, rights_at_launch, history_of, need_is_met, is_stopped, lacks_room}
@@ -32,14 +46,10 @@ use Rattle.core_model.specs.declared.outcome.Outcome.TheVariants as outcome
 pub owner-kept : (a : Inside) (queue : QueueId) → IsCached a → owner (start_of a) a.audit.items queue ≡ option_map cached_opening (numbered a.queues.items queue.0)
 owner-kept a queue kept = ap (λ (all : List Opening). numbered all queue.0) (sym kept.openings) ∙ numbered-map cached_opening a.queues.items queue.0
 
--- the facts by which the packets of a kept queue are judged
-pub facts-kept : (a : Inside) (q : Queue) → IsCached a → facts_of (start_of a) a.audit.items (cached_opening q) ≡ facts_lent a.policy a.grants a.memory q.client q.agent
-facts-kept a q kept = λ i. record {
-  agent = q.agent;
-  takes = (facts_of (start_of a) a.audit.items (cached_opening q)).takes;
-  in_force = λ on right. sym (kept.granted q.client on right) i;
-  lengths = sym kept.lengths i;
-}
+-- what is found of bytes by the facts of a history is found by those of the fields
+pub judged-inside : (a : Inside) (old : History) → history_of a ≡ old → (q : Queue) (bytes : List ℕ) (found : Option Rule) → first_failing_rule (facts_of old.start old.entries (cached_opening q)) bytes ≡ found
+    → first_failing_rule (facts_of (start_of a) a.audit.items (cached_opening q)) bytes ≡ found
+judged-inside a old seen_as q bytes found is = subst (λ (h : History). first_failing_rule (facts_of h.start h.entries (cached_opening q)) bytes ≡ found) (sym seen_as) is
 
 -- what is kept of a queue is what the history says of it
 pub view-kept : (a : Inside) (queue : QueueId) (q : Queue) → IsCached a → numbered a.queues.items queue.0 ≡ Some q → cached (Some q) ≡ queue_at (start_of a) a.audit.items queue
@@ -62,25 +72,41 @@ module _ (a : Inside) (kept : IsCached a) (queue : QueueId) (id : PacketId) (byt
       owed (start_of a) a.audit.items (Take queue id bytes) ≡
       refuse_if (nat_lt 0 (length q.errors.items) || q.stopped) refusal.QueueDown
       (refuse_unless (id.0 == q.next) (refusal.OutOfStep q.next)
-      (owed_verdict queue id.0 (cause_to_wait (map (λ (p : Place). p.packet) q.places) (barrier_bit bytes)) (first_failing_rule (facts_lent a.policy a.grants a.memory q.client q.agent) bytes)))
+      (owed_verdict queue id.0 (cause_to_wait (map (λ (p : Place). p.packet) q.places) (barrier_bit bytes)) (first_failing_rule (facts_of (start_of a) a.audit.items (cached_opening q)) bytes)))
   unfolding owed
   take-known q some =
       let view = view-kept a queue q kept some in
       let next : next_id (start_of a) a.audit.items queue ≡ q.next = ap (λ (v : QueueView). v.next) (sym view) in
       let errs : errors (start_of a) a.audit.items queue ≡ q.errors.items = ap (λ (v : QueueView). v.errors) (sym view) in
       let stopped : is_stopped (start_of a) a.audit.items queue ≡ q.stopped = ap (λ (v : QueueView). v.stopped) (sym view) in
-      rw (owner-kept a queue kept, some, errs, stopped, next, packets-kept a queue q kept some, facts-kept a q kept) refl
+      rw (owner-kept a queue kept, some, errs, stopped, next, packets-kept a queue q kept some) refl
 
 -- the rules that ask for rights
 pub record PassesRights (facts : Facts) (p : Packet) : Type 0 where
   pub agent : list_all (need_is_met facts) (needs rule.L4 facts.agent p) ≡ true
+  pub kernel : list_all (need_is_met facts) (needs rule.L6 facts.agent p) ≡ true
   pub memory : list_all (need_is_met facts) (memory_needs p) ≡ true
   pub waits : list_all (need_is_met facts) (needs rule.L9 facts.agent p) ≡ true
   pub completes : list_all (need_is_met facts) (needs rule.L10 facts.agent p) ≡ true
 
 -- a packet that no rule refuses passes them
 passed-rights : (facts : Facts) (p : Packet) → later_failing facts p ≡ None → PassesRights facts p
-passed-rights facts p none = record { agent = grind arith; memory = grind arith; waits = grind arith; completes = grind arith }
+passed-rights facts p none =
+    let met = none-passes (λ r. not (meets_rule facts p r)) rules_of_fields none in
+    record {
+      agent = (passed rule.L4 (met 0 rule.L4 (omega arith)));
+      kernel = (passed rule.L6 (met 2 rule.L6 (omega arith)));
+      memory = (passed rule.L8 (met 4 rule.L8 (omega arith)));
+      waits = (passed rule.L9 (met 5 rule.L9 (omega arith)));
+      completes = (passed rule.L10 (met 6 rule.L10 (omega arith)));
+    }
+  where
+    passed : (r : Rule) → not (meets_rule facts p r) ≡ false → list_all (need_is_met facts) (needs r facts.agent p) ≡ true
+    passed r is = (and_parts (has_form facts p r) (list_all (need_is_met facts) (needs r facts.agent p)) (from_not (meets_rule facts p r) is)).1
+      where
+        from_not : (b : Bool) → not b ≡ false → b ≡ true
+        from_not true e = refl
+        from_not false e = absurd cc
 
 -- what is needed and met is in force
 held-met : (facts : Facts) (all : List Need) (rest : List ObjectRight) → list_all (need_is_met facts) all ≡ true → list_all (λ h. facts.in_force h.0 h.1) rest ≡ true → list_all (λ h. facts.in_force h.0 h.1) (map right_needed all ++ rest) ≡ true
@@ -90,13 +116,14 @@ held-met facts (need ∷ all) rest met others =
     let forced = and_parts (lies_whole facts.lengths need.subject) _ both.0 in
     rw (forced.1, held-met facts all rest both.1 others) refl
 
--- so all that a packet will hold is in force
-held-passed : (facts : Facts) (p : Packet) (client : ClientId) → PassesRights facts p → list_all (λ h. facts.in_force h.0 h.1) (rights_at_launch (record { client = client; agent = facts.agent }) p) ≡ true
+-- so all that a packet will hold by its needs is in force
+held-passed : (facts : Facts) (p : Packet) (client : ClientId) → PassesRights facts p → list_all (λ h. facts.in_force h.0 h.1) (held_by_needs (record { client = client; agent = facts.agent }) p) ≡ true
 held-passed facts p client passes =
     held-met facts (needs rule.L4 facts.agent p) _ passes.agent
+    (held-met facts (needs rule.L6 facts.agent p) _ passes.kernel
     (held-met facts (memory_needs p) _ passes.memory
     (held-met facts (needs rule.L9 facts.agent p) _ passes.waits
-    (held-met facts (needs rule.L10 facts.agent p) [] passes.completes refl)))
+    (held-met facts (needs rule.L10 facts.agent p) [] passes.completes refl))))
 
 -- what is needed and met lies whole in regions
 lies-met : (facts : Facts) (all : List Need) → list_all (need_is_met facts) all ≡ true → list_all (λ need. lies_whole facts.lengths need.subject) all ≡ true
@@ -107,17 +134,45 @@ lies-met facts (need ∷ all) met =
     rw (lies.0, lies-met facts all both.1) refl
 
 -- a packet that is launched has all its ranges within regions
-pub within-launched : (a : Inside) (q : Queue) (bytes : List ℕ) (p : Packet) → IsCached a → decoded bytes ≡ Some p → first_failing_rule (facts_lent a.policy a.grants a.memory q.client q.agent) bytes ≡ None → lies_in_regions (region_lengths (start_of a)) p ≡ true
-within-launched a q bytes p kept found none =
-    rw (← kept.lengths) (lies-met (facts_lent a.policy a.grants a.memory q.client q.agent) (memory_needs p)
-    (passed-rights (facts_lent a.policy a.grants a.memory q.client q.agent) p (sym (first_failing-decoded _ bytes p found) ∙ none)).memory)
+pub within-launched : (start : Start) (es : List Entry) (opening : Opening) (bytes : List ℕ) (p : Packet) → decoded bytes ≡ Some p → first_failing_rule (facts_of start es opening) bytes ≡ None → lies_in_regions (region_lengths start) p ≡ true
+within-launched start es opening bytes p found none =
+    lies-met (facts_of start es opening) (memory_needs p) (passed-rights (facts_of start es opening) p (sym (first_failing-decoded _ bytes p found) ∙ none)).memory
 
--- a packet that is launched may hold what it needs
-pub may-hold : (a : Inside) (q : Queue) (bytes : List ℕ) (p : Packet) → IsCached a → decoded bytes ≡ Some p → first_failing_rule (facts_lent a.policy a.grants a.memory q.client q.agent) bytes ≡ None → MayHold (history_of a) (cached_opening q) p
-may-hold a q bytes p kept found none =
-    (λ i. list_all (λ (h : ObjectRight). sym (kept.granted q.client h.0 h.1) i) (rights_at_launch (cached_opening q) p))
-    ∙ held-passed (facts_lent a.policy a.grants a.memory q.client q.agent) p q.client
-    (passed-rights (facts_lent a.policy a.grants a.memory q.client q.agent) p (sym (first_failing-decoded _ bytes p found) ∙ none))
+-- tests of one list and of another that is put behind it
+all-behind : {X : Type 0} (test : X → Bool) (xs ys : List X) → list_all test xs ≡ true → All (λ x. test x ≡ true) ys → list_all test (xs ++ ys) ≡ true
+all-behind test [] [] met all = refl
+all-behind test [] (y ∷ ys) met all = rw (All-head (λ x. test x ≡ true) y ys all) (all-behind test [] ys refl (All-tail (λ x. test x ≡ true) y ys all))
+all-behind test (x ∷ xs) ys met all =
+    let both = and_parts (test x) (list_all test xs) met in
+    rw both.0 (all-behind test xs ys both.1 all)
+
+-- a packet that is launched may hold what it needs, and what its arguments have it hold
+pub may-hold : (start : Start) (es : List Entry) (e : Entry) (opening : Opening) (bytes : List ℕ) (p : Packet) → decoded bytes ≡ Some p → first_failing_rule (facts_of start es opening) bytes ≡ None
+    → list_all (λ h. in_force start es opening.client h.0 h.1) (rights_at_launch start es opening p) ≡ true
+may-hold start es e opening bytes p found none =
+    all-behind (λ h. in_force start es opening.client h.0 h.1) (held_by_needs opening p) (held_by_arguments start es opening.client p)
+    (held-passed (facts_of start es opening) p opening.client (passed-rights (facts_of start es opening) p (sym (first_failing-decoded _ bytes p found) ∙ none)))
+    (arguments-held start es e opening.client p)
+
+-- its argument block has its place
+placed-block : (h : History) (client : ClientId) (p : Packet) → All (MayReachRange h.start h.entries client Read) (argument_ranges h.start p) → IsBlockPlaced h p
+placed-block h client (packet.Kernel d) all = reached (All-head (MayReachRange h.start h.entries client Read) _ [] all)
+  where
+    size : ℕ
+    size = (kernel_of h.start d).argument_bytes
+
+    reached : (size ≡ 0) ⊎ MayReach h.start h.entries client Read d.kernarg_address.0 size → is_placed (region_lengths h.start) d.kernarg_address.0 size ≡ true
+    reached (inl empty) = rw empty refl
+    reached (inr reach) = or_right (size == 0) _ reach.lies_whole
+placed-block h client (packet.Agent _) all = tt
+placed-block h client (packet.BarrierAnd _) all = tt
+placed-block h client (packet.BarrierOr _) all = tt
+
+pub block-placed : (h : History) (queue : QueueId) (id : PacketId) (bytes : List ℕ) (p : Packet) → due h (Take queue id bytes) ≡ enters (outcome.Taken Launched) [] → decoded bytes ≡ Some p → IsBlockPlaced h p
+block-placed h queue id bytes p is found =
+    let granted = launch-granted h.start h.entries queue id bytes [] (entered-owed h (Take queue id bytes) (outcome.Taken Launched) [] is).0 in
+    let same : Some granted.packet ≡ Some p = sym granted.allowed.is_read ∙ found in
+    subst (IsBlockPlaced h) (cc) (placed-block h granted.opening.client granted.packet granted.allowed.arguments)
 
 -- a launch has room where there is some for an entry and one packet more in flight
 pub room-launched : (h : History) (queue : QueueId) (id : PacketId) (bytes : List ℕ) (p : Packet) → decoded bytes ≡ Some p

@@ -4,8 +4,8 @@ pub use Rattle.access_core.specs.declared.queue.Queue.{Queue}
 pub use Rattle.access_core.specs.inner.Cached.{IsCached, IsEntered, history_of, is_full, start_of}
 pub use Rattle.access_core.specs.inner.CachedQueue.{IsQueue, IsSound, QueueView, cached, cached_opening, place_of, queue_at}
 pub use Rattle.access_core.specs.inner.Deciding.{MayHold, TakesNext, refusal_of}
-pub use Rattle.access_core.specs.inner.Held.{IsHeld, holds_by, packet_holds}
-pub use Rattle.access_core.specs.inner.InPlace.{IsChanged, IsGroupOf, IsInPlace, IsNextGroup, RefusedAt, completion_of, finish_owed, is_placed, run_owed}
+pub use Rattle.access_core.specs.inner.Held.{holds_by, packet_holds}
+pub use Rattle.access_core.specs.inner.InPlace.{IsChanged, IsInPlace, RefusedAt, completion_of, finish_owed, is_placed}
 pub use Rattle.access_core.specs.inner.LiesInRegions.{lies_in_regions}
 pub use Rattle.access_core.specs.inner.Polling.{look_owed, sight}
 pub use Rattle.access_core.specs.inner.QueueChanges.{CanFail, freed, freed_by, with_advance, with_denied, with_failure, with_queue, with_release, with_stop}

@@ -11,6 +11,7 @@ use Rattle.aql_packet.specs.declared.ids.SignalHandle.{SignalHandle}
 use Rattle.core_model.specs.Flight.{with_launched}
 use Rattle.core_model.specs.Queues.{opening_of}
 use Rattle.core_model.specs.declared.outcome.Polled.TheVariants.{Failed}
+use Rattle.core_model.specs.declared.outcome.Worked.TheVariants.{Faulted}
 use Rattle.queue_error.specs.declared.rule.Rule.TheVariants.{B1}
 use Rattle.core_model.proofs.Lists.{found-all, found-passes}
 use Rattle.access_core.proofs.Calls.{due-as}
@@ -20,7 +21,7 @@ use Rattle.access_core.proofs.QueueAt.{flight-released, queue_at-advanced, queue
 use Rattle.access_core.proofs.ChangedQueue.{freed-at}
 use Rattle.access_core.proofs.TakeLemmas.{IsOpen, owner-kept, queues-after, view-kept}
 use Rattle.access_core.proofs.Terms.{CanFail, Effect, Event, Finish, History, InFlight, Inside, IsCached, IsInPlace, IsSound, Outcome, Owed, Packet, PacketId}
-use Rattle.access_core.proofs.Terms.{Place, Poll, Progress, Queue, QueueError, QueueId, QueueView, RefusedAt, applied, byte_after, cached, cached_opening}
+use Rattle.access_core.proofs.Terms.{Place, Poll, Progress, RunNext, Queue, QueueError, QueueId, QueueView, RefusedAt, applied, byte_after, cached, cached_opening}
 use Rattle.access_core.proofs.Terms.{signal_decrement, completion_signal, completion_of, due, enters, entry_of, error_without_place, finish_owed, flight, flight_after}
 use Rattle.access_core.proofs.Terms.{flight_after_effect, for_packet, freed_by, history_of, in_flight, is_at, is_packet, lacks_room, lies_in_regions, numbered}
 use Rattle.access_core.proofs.Terms.{owed, owner, place_of, progress, queue_at, refuses, region_lengths, signals, signals_after, start_of, value_of}
@@ -249,6 +250,9 @@ finish-releases values queue id p = record { launches = refl; progress = λ q i 
 
 pub failure-releases : (queue : QueueId) (id : PacketId) → IsRelease queue id (Poll queue id) (outcome.Polled (Failed (error_without_place queue id.0 B1))) (effect.Release queue id ∷ [])
 failure-releases queue id = record { launches = refl; progress = λ q i so_far. refl; releases = λ fs. refl }
+
+pub fault-releases : (queue : QueueId) (id : PacketId) (error : QueueError) → IsRelease queue id (RunNext queue id) (outcome.Worked (Faulted error)) (effect.Release queue id ∷ [])
+fault-releases queue id error = record { launches = refl; progress = λ q i so_far. refl; releases = λ fs. refl }
 
 pub release-due : (a : Inside) → IsCached a → (old : History) → history_of a ≡ old → (queue : QueueId) (id : PacketId) (place : Place) → IsInPlace old queue id place → (event : Event) (told : Outcome) (effects : List Effect)
     → IsRelease queue id event told effects → owed old.start old.entries event ≡ enters told effects → due old event ≡ enters told effects

@@ -1,2 +1,3 @@
+pub mod ArgumentBlocks
 pub mod Opening
 pub mod inner

@@ -1,8 +1,11 @@
 -- When a core is opened, and what a policy says of regions and signals, as lists.
-use Rattle.std.specs.Prelude.{ℕ, ℤ, ◌≡◌, ◌&&◌, Bool, true, false, nat_le, List, [], map, Result, Ok, Err}
+use Rattle.std.specs.Prelude.{ℕ, ℤ, ◌+◌, ◌==◌, ◌≡◌, ◌&&◌, Bool, true, false, not, nat_le, nat_lt, List, [], length, map, position, slice_get, Option, Some, None, Result, Ok, Err, if◌then◌else◌}
+use Rattle.std.specs.Option.{unwrap_or}
+use Rattle.kernel_check.specs.Programs.{Program}
 use Rattle.policy.specs.Policy.{Declared}
 use Rattle.core_model.specs.declared.limits.TheConstants.{MOST_ENTRIES}
 use Rattle.core_model.specs.History.{History}
+use Rattle.core_model.specs.Kernels.{no_kernel, segments_of}
 use Rattle.core_model.specs.Legal.{empty_history}
 use Rattle.regions.specs.Memory.{zeros}
 use Rattle.grants.specs.Rules.{rules_of}
@@ -10,6 +13,7 @@ use Rattle.grants.specs.Ledger.{IsNew, rules_in}
 use Rattle.access_core.specs.declared.access.opening.Parts.{Parts}
 use Rattle.access_core.specs.declared.access.OpenFault.{OpenFault}
 use Rattle.access_core.specs.declared.access.OpenFault.TheVariants as fault
+use Rattle.access_core.specs.declared.kernel.Kernel.{Kernel}
 
 -- the lengths of the regions, in order
 abbrev pub lengths_of_rows : Declared → List ℕ
@@ -19,21 +23,47 @@ lengths_of_rows policy = map (λ row. row.1) policy.regions
 abbrev pub values_of_rows : Declared → List ℤ
 values_of_rows policy = map (λ row. row.1) policy.signals
 
+-- whether a kernel's index is that of one of its checked kernels (own)
+abbrev pub has_entry : Kernel → Bool
+has_entry kernel = nat_lt kernel.entry (length kernel.checked)
+
+-- the checked kernel at a kernel's index
+abbrev pub program_of : Kernel → Program
+program_of kernel = unwrap_or (slice_get kernel.checked kernel.entry) no_kernel
+
+-- the index of the first kernel whose own index is that of no checked kernel, if there is one
+abbrev pub first_missing : List Kernel → Option ℕ
+first_missing kernels = position (λ kernel. not (has_entry kernel)) kernels
+
 -- how many entries an audit may have place for: at least 1 (own)
 abbrev pub is_capacity : ℕ → Bool
 is_capacity capacity = nat_le 1 capacity && nat_le capacity MOST_ENTRIES
 
--- a core is opened just where its audit's capacity is one, unless memory is wanted (own)
-abbrev pub Opens : Declared → ℕ → Result History OpenFault → Type 0
-Opens policy capacity (Ok core) = (is_capacity capacity ≡ true) × (core ≡ empty_history policy capacity)
-Opens policy capacity (Err fault.OutOfMemory) = is_capacity capacity ≡ true
-Opens policy capacity (Err fault.BadCapacity) = is_capacity capacity ≡ false
+-- what else is wrong, once the kernels are there
+abbrev pub fault_behind : ℕ → Option ℕ → Option OpenFault
+fault_behind capacity (Some index) = Some (fault.NoEntry (record { 0 = index + 1 }))
+fault_behind capacity None = if is_capacity capacity then None else Some fault.BadCapacity
 
--- what a core begins with: no right in force or held, memory of zeros, the policy's signal values, and an empty audit with room for its entries
-pub record IsUntouched (policy : Declared) (capacity : ℕ) (parts : Parts) : Type 0 where
+-- why a core can't be opened: by the first of these that stands, there isn't one kernel for each kernel of the policy; one has no checked
+-- kernel at its index, of which the least is named; the audit's capacity is none (own)
+abbrev pub open_fault : Declared → List Kernel → ℕ → Option OpenFault
+open_fault policy kernels capacity =
+    if length kernels == length policy.kernels then fault_behind capacity (first_missing kernels) else Some fault.KernelCount
+
+-- a core is opened just where there is no fault, unless memory is wanted (own)
+abbrev pub Opens : Declared → List Kernel → ℕ → Result History OpenFault → Type 0
+Opens policy kernels capacity (Ok core) =
+    (open_fault policy kernels capacity ≡ None) × (core ≡ empty_history policy (map program_of kernels) capacity)
+Opens policy kernels capacity (Err fault.OutOfMemory) = open_fault policy kernels capacity ≡ None
+Opens policy kernels capacity (Err why) = open_fault policy kernels capacity ≡ Some why
+
+-- what a core begins with: no right in force or held, memory of zeros, the policy's signal values, the kernels' segments, and an empty
+-- audit with room for its entries
+pub record IsUntouched (policy : Declared) (kernels : List Kernel) (capacity : ℕ) (parts : Parts) : Type 0 where
   pub rules : rules_in parts.grants ≡ rules_of policy
   pub grants : IsNew parts.grants
   pub memory : parts.memory ≡ zeros (lengths_of_rows policy)
   pub signals : parts.signals ≡ values_of_rows policy
+  pub segments : parts.segments ≡ map segments_of (map program_of kernels)
   pub empty : parts.audit.items ≡ []
   pub places : parts.audit.room ≡ capacity

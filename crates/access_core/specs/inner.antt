@@ -1,5 +1,4 @@
 -- What private clauses speak of: what is cached beside the history, how it changes, and what is decided by it.
-pub mod Judged
 pub mod CachedQueue
 pub mod QueueChanges
 pub mod LiesInRegions
@@ -7,4 +6,5 @@ pub mod Deciding
 pub mod Cached
 pub mod InPlace
 pub mod Polling
+pub mod Running
 pub mod Held

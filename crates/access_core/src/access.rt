@@ -7,6 +7,7 @@ ghost use Rattle.access_core.specs.inner.Cached.{IsEntered, is_full};
 
 mod granting;
 mod host;
+mod kernels;
 mod lookups;
 mod opening;
 mod polling;
@@ -18,12 +19,15 @@ mod stopping;
 mod taking;
 mod working;
 
+use crate::argument_blocks::ArgumentBlocks;
+use crate::kernel::Kernel;
 use crate::queue::Queue;
-use core_model::{Effects, Entry, Event, Outcome};
+use aql_packet::KernelObject;
+use core_model::{Effects, Entry, Event, KernelSegments, Outcome};
 use grants::Grants;
 use policy::Policy;
 use regions::Regions;
-use sequences::Reserved;
+use sequences::{Reserved, Sequence};
 use signals::Signals;
 use std::alloc::AllocError;
 use std::marker::Model;
@@ -33,6 +37,10 @@ use std::marker::Model;
 pub enum OpenFault {
     /// Memory was wanted and not to be had.
     OutOfMemory,
+    /// There isn't one kernel for each kernel of the policy.
+    KernelCount,
+    /// The index of this kernel, the least such, is that of none of its checked kernels.
+    NoEntry(KernelObject),
     /// The audit's capacity isn't 1 to 2^20 entries.
     BadCapacity,
 }
@@ -51,7 +59,13 @@ impl From<AllocError> for OpenFault {
 /// The broker's core. A contract sees its history: what it began from, and its audit's entries.
 pub struct AccessCore {
     policy: Policy,
+    /// The kernels, in order.
+    kernels: Vec<Kernel>,
+    /// How large their segments are.
+    segments: Sequence<KernelSegments>,
     grants: Grants,
+    /// The argument blocks of packets in flight.
+    blocks: ArgumentBlocks,
     memory: Regions,
     signals: Signals,
     queues: Vec<Queue>,
@@ -66,7 +80,10 @@ impl Drop for AccessCore {
     fn drop(self) {
         let AccessCore {
             policy: _,
+            kernels: _,
+            segments: _,
             grants: _,
+            blocks: _,
             memory: _,
             signals: _,
             queues: _,

@@ -5,6 +5,9 @@
 #![tactic(auto)]
 
 mod access;
+mod argument_blocks;
+mod kernel;
 mod queue;
 
 pub use access::{AccessCore, OpenFault};
+pub use kernel::Kernel;

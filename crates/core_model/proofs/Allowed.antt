@@ -24,7 +24,7 @@ use Rattle.core_model.specs.Legal.{IsLegal, IsLegalAfter}
 use Rattle.core_model.proofs.More.{in_force-more}
 use Rattle.core_model.proofs.Entered.{grant-effects}
 
-same-is : (a b : Object) → same_object a b ≡ true → a ≡ b
+pub same-is : (a b : Object) → same_object a b ≡ true → a ≡ b
 same-is (object.Agent a) (object.Agent b) e = ap (λ n. object.Agent (record { 0 = n })) (eqb-true _ _ e)
 same-is (object.Region a) (object.Region b) e = ap (λ n. object.Region (record { 0 = n })) (eqb-true _ _ e)
 same-is (object.Signal a) (object.Signal b) e = ap (λ n. object.Signal (record { 0 = n })) (eqb-true _ _ e)

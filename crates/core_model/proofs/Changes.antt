@@ -1,11 +1,11 @@
 -- The changes of each entry of a legal history, one by one: who asked for them, and which grants allowed them.
 use Rattle.std.proofs.Common.{◌≡◌, ◌<◌, ℕ, ℤ, ◌+◌, ◌^◌, pos, List, [], ◌∷◌, ◌++◌, length, refl, sym, ◌∙◌, ap, subst, Bool, true, false, Option, Some, None, ◌⊎◌, inl, inr, arith, zero, suc}
-use Rattle.std.specs.Prelude.{All, find, option_map, replicate, ◌%◌, ◌==◌, if◌then◌else◌}
+use Rattle.std.specs.Prelude.{All, find, map, option_map, replicate, ◌%◌, ◌==◌, if◌then◌else◌}
 use Rattle.std.specs.List.{Contains}
 use Rattle.std.specs.Int.{w64, to_le_bytes}
 use Rattle.std.proofs.lemmas.Bool.{eqb-true}
 use Rattle.std.proofs.lemmas.List.{length-replicate}
-use Rattle.std.proofs.lemmas.List.Elements.{All-nil, All-head, All-append, All-filter, All-contains_itself}
+use Rattle.std.proofs.lemmas.List.Elements.{All-nil, All-head, All-append, All-filter, All-map, All-weaker, All-contains_itself}
 use Rattle.std.proofs.lemmas.List.FromFn.{length-map-range_with_len}
 use Rattle.aql_packet.specs.declared.ids.Address.{Address}
 use Rattle.aql_packet.specs.declared.ids.ClientId.{ClientId}
@@ -13,7 +13,12 @@ use Rattle.aql_packet.specs.declared.ids.QueueId.{QueueId}
 use Rattle.aql_packet.specs.declared.ids.PacketId.{PacketId}
 use Rattle.aql_packet.specs.declared.ids.SignalHandle.{SignalHandle}
 use Rattle.aql_packet.specs.declared.packet.AgentDispatch.{AgentDispatch}
+use Rattle.aql_packet.specs.declared.packet.KernelDispatch.{KernelDispatch}
+use Rattle.aql_packet.specs.declared.packet.Packet.{Packet}
 use Rattle.aql_packet.specs.declared.packet.Packet.TheVariants as packet
+use Rattle.executor.specs.Results.{GroupResult, group_result, wrote}
+use Rattle.executor.specs.declared.run.Run.{Run}
+use Rattle.regions.specs.Memory.{are_region_lengths}
 use Rattle.policy.specs.declared.object.Object.TheVariants as object
 use Rattle.policy.specs.declared.rights.Right.TheVariants as right
 use Rattle.signals.specs.Values.{applied, value_of}
@@ -33,24 +38,28 @@ use Rattle.core_model.specs.declared.entry.Effect.{Effect}
 use Rattle.core_model.specs.declared.entry.Effect.TheVariants as effect
 use Rattle.core_model.specs.declared.entry.Entry.{Entry}
 use Rattle.core_model.specs.declared.flight.InFlight.{InFlight}
+use Rattle.core_model.specs.declared.flight.Progress.{Progress}
 use Rattle.core_model.specs.declared.need.AgentFunction.{AgentFunction}
 use Rattle.core_model.specs.declared.need.AgentFunction.TheVariants.{Fill, Copy, Add64}
 use Rattle.core_model.specs.declared.need.Range.{Range}
 use Rattle.core_model.specs.declared.need.TheConstants.{FILL, COPY, ADD64}
 use Rattle.core_model.specs.History.{Start}
 use Rattle.core_model.specs.Grants.{in_force}
-use Rattle.core_model.specs.Memory.{memory_at, memory_from, signals}
+use Rattle.core_model.specs.Memory.{memory_at, memory_from, region_lengths, signals}
 use Rattle.core_model.specs.Queues.{error_of}
 use Rattle.core_model.specs.Flight.{flight, flight_of, in_flight, is_packet, progress}
 use Rattle.core_model.specs.Needs.{argument, range_at, completion_signal, function_of, result_range}
 use Rattle.core_model.specs.LaunchRules.{is_barrier}
-use Rattle.core_model.specs.Work.{groups_of, number_in_memory, write_of, function_writes, function_result, result_writes, agent_writes}
-use Rattle.core_model.specs.Owed.{owed, enters, error_without_place, barrier_in, signal_decrement, release_of}
+use Rattle.core_model.specs.Work.{groups_of, number_in_memory, write_of, write_of_run, function_writes, function_result, result_writes, agent_writes}
+use Rattle.core_model.specs.Holds.{packet_rights}
+use Rattle.core_model.specs.View.{given, group_input}
+use Rattle.core_model.proofs.Viewing.{IsWithinGrant, runs-granted}
+use Rattle.core_model.specs.Owed.{owed, enters, error_without_place, group_error, barrier_in, signal_decrement, release_of}
 use Rattle.core_model.specs.Legal.{IsLegal}
 use Rattle.core_model.specs.Headline.{ChangeIsGranted, InFlightSince, MayReach, MayReachRange, MayUseSignal, IsReleasedBy, ReleaseIsDue, WriteIsGranted, packet_named, ranges_written, writes_of}
 use Rattle.core_model.proofs.Lists.{all-left, all-one, all-right, filter-passes, found-all, found-passes}
 use Rattle.core_model.proofs.Holding.{flying-since}
-use Rattle.core_model.proofs.Entered.{named-found, IsQuiet, HasSeen, HasFailed, grant-effects, revoke-effects, open-effects, stop-effects, take-decided, run-entered, poll-entered, finish-entered, write-entered, change-entered}
+use Rattle.core_model.proofs.Entered.{named-found, IsQuiet, HasSeen, HasFailed, HasRun, GroupRan, KernelRan, GroupWrote, GroupFaulted, kernel-ended, grant-effects, revoke-effects, open-effects, stop-effects, take-decided, run-entered, poll-entered, finish-entered, write-entered, change-entered}
 
 -- ---- the ranges that a function names
 
@@ -139,14 +148,14 @@ module _ (P : Effect → Type 0) where
       by_test false (Some v) null is = all-one P _ (changed v null is)
 
   agent-writes : ((address : ℕ) (bytes : List ℕ) → P (effect.Write (record { 0 = address }) bytes)) → (start : Start) (es : List Entry) (d : AgentDispatch) → All P (agent_writes start es d)
-  agent-writes wrote start es d = All-append P _ _ (function-of (function_of d)) (by_test (d.return_address.0 == 0))
+  agent-writes written start es d = All-append P _ _ (function-of (function_of d)) (by_test (d.return_address.0 == 0))
     where
       write-of : (address : ℕ) (bytes : List ℕ) → All P (write_of address bytes)
       write-of address bytes = some (length bytes == 0)
         where
           some : (b : Bool) → All P (if b then [] else effect.Write (record { 0 = address }) bytes ∷ [])
           some true = All-nil P
-          some false = all-one P _ (wrote address bytes)
+          some false = all-one P _ (written address bytes)
 
       function-of : (function : Option AgentFunction) → All P (function_writes start es function)
       function-of None = All-nil P
@@ -173,10 +182,13 @@ module _ (start : Start) (es : List Entry) (legal : IsLegal start es) where
   -- the changes of an event, given what holds of each kind of change
   module _ (P : Event → Outcome → Effect → Type 0)
       (ran : (told : Outcome) (queue : QueueId) (id : PacketId) (s : InFlightSince start es queue id) (d : AgentDispatch) → s.flying.packet ≡ packet.Agent d → (progress start es queue id).groups_run < groups_of s.flying.packet → All (P (RunNext queue id) told) (agent_writes start es d))
+      (kernel_ran : (told : Outcome) (queue : QueueId) (id : PacketId) (s : InFlightSince start es queue id) → All (λ h. in_force start s.launch.before s.launch.opening.client h.0 h.1 ≡ true) (packet_rights start es queue id) →
+      (d : KernelDispatch) → s.flying.packet ≡ packet.Kernel d → (progress start es queue id).groups_run < groups_of s.flying.packet → (runs : List Run) →
+      group_result (group_input start es (given start es queue id) d (progress start es queue id).groups_run) ≡ wrote runs → All (P (RunNext queue id) told) (map write_of_run runs))
       (completed_so : (told : Outcome) (queue : QueueId) (id : PacketId) (s : InFlightSince start es queue id) (v : ℤ) → ((completion_signal s.flying.packet).0 == 0) ≡ false → value_of (signals start es) (completion_signal s.flying.packet).0 ≡ Some v →
       P (Finish queue id) told (effect.Signal (completion_signal s.flying.packet) v (applied (Subtract (pos 1)) v)))
       (released : (event : Event) (told : Outcome) (queue : QueueId) (id : PacketId) → ReleaseIsDue start es event told (effect.Release queue id) → P event told (effect.Release queue id))
-      (wrote : (told : Outcome) (client : ClientId) (address : Address) (bytes : List ℕ) → 0 < length bytes → MayReach start es client right.Write address.0 (length bytes) → P (HostWrite client address bytes) told (effect.Write address bytes))
+      (written : (told : Outcome) (client : ClientId) (address : Address) (bytes : List ℕ) → 0 < length bytes → MayReach start es client right.Write address.0 (length bytes) → P (HostWrite client address bytes) told (effect.Write address bytes))
       (changed : (told : Outcome) (client : ClientId) (signal : SignalHandle) (operation : SignalOp) (old : ℤ) → value_of (signals start es) signal.0 ≡ Some old → in_force start es client (object.Signal signal) right.Change ≡ true →
       P (ChangeSignal client signal operation) told (effect.Signal signal old (applied operation old)))
     where
@@ -202,6 +214,31 @@ module _ (start : Start) (es : List Entry) (legal : IsLegal start es) where
       abbrev failing : QueueId → PacketId → Outcome
       failing queue id = outcome.Polled (polled_as.Failed (error_without_place queue id.0 B1))
 
+      -- a group that ran, of an agent dispatch or of a kernel, or that faulted
+      kernel-changes : (told : Outcome) (effects : List Effect) (queue : QueueId) (id : PacketId) (flying : InFlight) → in_flight start es queue id ≡ Some flying →
+          (s : InFlightSince start es queue id) → All (λ h. in_force start s.launch.before s.launch.opening.client h.0 h.1 ≡ true) (packet_rights start es queue id) →
+          (d : KernelDispatch) → s.flying.packet ≡ packet.Kernel d → (progress start es queue id).groups_run < groups_of s.flying.packet →
+          (result : GroupResult) → group_result (group_input start es (given start es queue id) d (progress start es queue id).groups_run) ≡ result →
+          GroupWrote start es told effects queue id d (progress start es queue id).groups_run result ⊎ GroupFaulted start es told effects queue id d (progress start es queue id).groups_run result → All (P (RunNext queue id) told) effects
+      kernel-changes told effects queue id flying found s granted d is left result is_result (inl ended) =
+          subst (All (P (RunNext queue id) told)) (sym ended.effects_are) (kernel_ran told queue id s granted d is left ended.runs (is_result ∙ ended.result_is))
+      kernel-changes told effects queue id flying found s granted d is left result is_result (inr fault) =
+          subst (All (P (RunNext queue id) told)) (sym fault.effects_are) (all-one (P (RunNext queue id) told) (effect.Release queue id)
+          (subst (λ o. P (RunNext queue id) o (effect.Release queue id)) (sym fault.outcome_is)
+          (released (RunNext queue id) (outcome.Worked (worked.Faulted (group_error queue id (progress start es queue id).groups_run fault.item fault.line fault.rule))) queue id
+          (named-release (RunNext queue id) (outcome.Worked (worked.Faulted (group_error queue id (progress start es queue id).groups_run fault.item fault.line fault.rule))) queue id (λ f q i. (q, i)) flying found))))
+
+      group-changes : (told : Outcome) (effects : List Effect) (queue : QueueId) (id : PacketId) (flying : InFlight) → in_flight start es queue id ≡ Some flying →
+          (since : (s : InFlightSince start es queue id) × (s.flying ≡ flying) × All (λ h. in_force start s.launch.before s.launch.opening.client h.0 h.1 ≡ true) (packet_rights start es queue id)) →
+          GroupRan start es told effects flying.packet (progress start es queue id) ⊎ KernelRan start es told effects queue id (given start es queue id) flying.packet (progress start es queue id) → All (P (RunNext queue id) told) effects
+      group-changes told effects queue id flying found since (inl group) =
+          subst (All (P (RunNext queue id) told)) (sym group.effects_are)
+          (ran told queue id since.0 group.dispatch (ap (λ f. f.packet) since.1 ∙ group.is_agent) (subst (λ f. (progress start es queue id).groups_run < groups_of f.packet) (sym since.1) group.is_left))
+      group-changes told effects queue id flying found since (inr group) =
+          kernel-changes told effects queue id flying found since.0 since.2 group.dispatch (ap (λ f. f.packet) since.1 ∙ group.is_kernel) (subst (λ f. (progress start es queue id).groups_run < groups_of f.packet) (sym since.1) group.is_left)
+          (group_result (group_input start es (given start es queue id) group.dispatch (progress start es queue id).groups_run)) refl
+          (kernel-ended start es told effects queue id group.dispatch (progress start es queue id).groups_run _ group.owed_is)
+
       pub each-change : (event : Event) (told : Outcome) (effects : List Effect) → owed start es event ≡ enters told effects → All (P event told) effects
       each-change (Grant client on rights) told effects owing = quietly _ told effects (grant-effects start es told effects client on rights owing).0
       each-change (Revoke client on rights) told effects owing = quietly _ told effects (revoke-effects start es told effects client on rights owing).is_quiet
@@ -212,10 +249,8 @@ module _ (start : Start) (es : List Entry) (legal : IsLegal start es) where
       each-change (Take queue id bytes) told effects owing = subst (All (P (Take queue id bytes) told)) (sym (take-decided start es told effects queue id bytes owing).effects_are) (All-nil _)
       each-change (RunNext queue id) told effects owing =
           let has_run = run-entered start es told effects queue id owing in
-          let group = has_run.group in
           let since = flying-since start es legal queue id has_run.flying has_run.found in
-          subst (All (P (RunNext queue id) told)) (sym group.effects_are)
-          (ran told queue id since.0 group.dispatch (ap (λ f. f.packet) since.1 ∙ group.is_agent) (subst (λ f. (progress start es queue id).groups_run < groups_of f.packet) (sym since.1) group.is_left))
+          group-changes told effects queue id has_run.flying has_run.found since has_run.group
       each-change (Poll queue id) told effects owing =
           poll-all (P (Poll queue id) told) start es told effects queue id (λ f found is. subst (λ o. P (Poll queue id) o (effect.Release queue id)) (sym is)
           (released (Poll queue id) (failing queue id) queue id (named-release (Poll queue id) (failing queue id) queue id (λ f q i. (q, i)) f found))) (poll-entered start es told effects queue id owing)
@@ -224,7 +259,7 @@ module _ (start : Start) (es : List Entry) (legal : IsLegal start es) where
           subst (λ o. All (P (Finish queue id) o) effects) (sym done.outcome_is) (subst (All (P (Finish queue id) outcome.Accepted)) (sym done.effects_are) (finished queue id done.flying done.found))
       each-change (HostWrite client address bytes) told effects owing =
           let w = write-entered start es told effects client address bytes owing in
-          subst (All (P (HostWrite client address bytes) told)) (sym w.effects_are) (all-one (P (HostWrite client address bytes) told) (effect.Write address bytes) (wrote told client address bytes w.some (record { lies_whole = w.whole; granted = w.granted })))
+          subst (All (P (HostWrite client address bytes) told)) (sym w.effects_are) (all-one (P (HostWrite client address bytes) told) (effect.Write address bytes) (written told client address bytes w.some (record { lies_whole = w.whole; granted = w.granted })))
       each-change (ChangeSignal client signal operation) told effects owing =
           let c = change-entered start es told effects client signal operation owing in
           subst (All (P (ChangeSignal client signal operation) told)) (sym c.effects_are) (all-one (P (ChangeSignal client signal operation) told) (effect.Signal signal c.old (applied operation c.old)) (changed told client signal operation c.old c.was c.granted))
@@ -241,12 +276,23 @@ module _ (start : Start) (es : List Entry) (legal : IsLegal start es) where
       reached target bytes long some (inl empty) = absurd (omega (arith, long, some, empty))
       reached target bytes long some (inr reach) = rw long reach
 
-  pub write-granted : (event : Event) (told : Outcome) (effects : List Effect) → owed start es event ≡ enters told effects → All (WriteIsGranted start es event) effects
-  write-granted = each-change (λ event told. WriteIsGranted start es event) (λ told. group-writes) (λ told queue id s v null is. tt) (λ event told queue id due. tt)
+  -- a kernel's group writes where its packet holds WRITE, which was in force at its launch
+  kernel-writes : are_region_lengths (region_lengths start) ≡ true → (queue : QueueId) (id : PacketId) (s : InFlightSince start es queue id) →
+      All (λ h. in_force start s.launch.before s.launch.opening.client h.0 h.1 ≡ true) (packet_rights start es queue id) → (d : KernelDispatch) → (progress start es queue id).groups_run < groups_of s.flying.packet → (runs : List Run) →
+      group_result (group_input start es (given start es queue id) d (progress start es queue id).groups_run) ≡ wrote runs → All (WriteIsGranted start es (RunNext queue id)) (map write_of_run runs)
+  kernel-writes fit queue id s granted d left runs is =
+      All-map (WriteIsGranted start es (RunNext queue id)) write_of_run runs
+      (All-weaker (IsWithinGrant start s.launch.before s.launch.opening.client) (λ run. WriteIsGranted start es (RunNext queue id) (write_of_run run))
+      (λ run may. (may.0, inr (record { queue = queue; id = id; event_is = refl; packet = s; is_left = left; allowed = may.1 })))
+      runs (runs-granted start es s.launch.before s.launch.opening.client (given start es queue id) d (progress start es queue id).groups_run fit granted runs is))
+
+  pub write-granted : are_region_lengths (region_lengths start) ≡ true → (event : Event) (told : Outcome) (effects : List Effect) → owed start es event ≡ enters told effects → All (WriteIsGranted start es event) effects
+  write-granted fit = each-change (λ event told. WriteIsGranted start es event) (λ told. group-writes) (λ told queue id s granted d is left runs wrote_so. kernel-writes fit queue id s granted d left runs wrote_so) (λ told queue id s v null is. tt) (λ event told queue id due. tt)
       (λ told client address bytes some reach. (some, inl (record { client = client; event_is = refl; allowed = reach }))) (λ told client signal operation old was granted. tt)
 
   pub change-granted : (event : Event) (told : Outcome) (effects : List Effect) → owed start es event ≡ enters told effects → All (ChangeIsGranted start es event) effects
   change-granted = each-change (λ event told. ChangeIsGranted start es event) (λ told queue id s d is left. agent-writes (ChangeIsGranted start es (RunNext queue id)) (λ address bytes. tt) start es d)
+      (λ told queue id s granted d is left runs wrote_so. All-map (ChangeIsGranted start es (RunNext queue id)) write_of_run runs (λ k run below. tt))
       (λ told queue id s v null is. (is, inr (record { queue = queue; id = id; event_is = refl; result = refl; packet = s; signal_is = refl; allowed = may_change queue id s null })))
       (λ event told queue id due. tt) (λ told client address bytes some reach. tt)
       (λ told client signal operation old was granted. (was, inl (record { client = client; operation = operation; event_is = refl; result = refl; allowed = granted })))
@@ -260,6 +306,7 @@ module _ (start : Start) (es : List Entry) (legal : IsLegal start es) where
 
   pub release-due : (event : Event) (told : Outcome) (effects : List Effect) → owed start es event ≡ enters told effects → All (ReleaseIsDue start es event told) effects
   release-due = each-change (ReleaseIsDue start es) (λ told queue id s d is left. agent-writes (ReleaseIsDue start es (RunNext queue id) told) (λ address bytes. tt) start es d)
+      (λ told queue id s granted d is left runs wrote_so. All-map (ReleaseIsDue start es (RunNext queue id) told) write_of_run runs (λ k run below. tt))
       (λ told queue id s v null is. tt) (λ event told queue id due. due) (λ told client address bytes some reach. tt) (λ told client signal operation old was granted. tt)
 
   -- ---- errors
@@ -293,7 +340,21 @@ module _ (start : Start) (es : List Entry) (legal : IsLegal start es) where
       denied : (verdict : Option Rule) → error_of (elim verdict [ None ↦ outcome.Taken taken.Launched | Some rule ↦ outcome.Taken (taken.Denied (error_without_place queue id.0 rule)) ]) ≡ Some error → named queue id ≡ named error.queue error.packet
       denied None same = absurd cc
       denied (Some rule) same = let e : error_without_place queue id.0 rule ≡ error = cc in ap (λ x. named x.queue x.packet) e
-  error-named (RunNext queue id) told effects error owing is = none-told told error is (ap error_of (run-entered start es told effects queue id owing).group.outcome_is)
+  error-named (RunNext queue id) told effects error owing is = by_group (run-entered start es told effects queue id owing)
+    where
+      by_end : (d : KernelDispatch) (group : ℕ) (result : GroupResult) → GroupWrote start es told effects queue id d group result ⊎ GroupFaulted start es told effects queue id d group result → named queue id ≡ named error.queue error.packet
+      by_end d group result (inl ran) = none-told told error is (ap error_of ran.outcome_is)
+      by_end d group result (inr fault) =
+          let same : Some (group_error queue id group fault.item fault.line fault.rule) ≡ Some error = sym (ap error_of fault.outcome_is) ∙ is in
+          let e : group_error queue id group fault.item fault.line fault.rule ≡ error = cc in
+          ap (λ x. named x.queue x.packet) e
+
+      by_kind : (p : Packet) (so_far : Progress) → GroupRan start es told effects p so_far ⊎ KernelRan start es told effects queue id (given start es queue id) p so_far → named queue id ≡ named error.queue error.packet
+      by_kind p so_far (inl ran) = none-told told error is (ap error_of ran.outcome_is)
+      by_kind p so_far (inr ran) = by_end ran.dispatch so_far.groups_run _ (kernel-ended start es told effects queue id ran.dispatch so_far.groups_run _ ran.owed_is)
+
+      by_group : HasRun start es told effects queue id → named queue id ≡ named error.queue error.packet
+      by_group has_run = by_kind has_run.flying.packet (progress start es queue id) has_run.group
   error-named (Poll queue id) told effects error owing is = by_poll (poll-entered start es told effects queue id owing)
     where
       by_poll : HasSeen start es told effects queue id ⊎ HasFailed start es told effects queue id → named queue id ≡ named error.queue error.packet
@@ -315,7 +376,21 @@ module _ (start : Start) (es : List Entry) (legal : IsLegal start es) where
       decided_so None is (inr was) = let e : outcome.Taken taken.Launched ≡ outcome.Polled (polled_as.Failed error) = sym is ∙ was in absurd cc
       decided_so (Some rule) is (inl was) = let e : outcome.Taken (taken.Denied (error_without_place queue id.0 rule)) ≡ outcome.Worked (worked.Faulted error) = sym is ∙ was in absurd cc
       decided_so (Some rule) is (inr was) = let e : outcome.Taken (taken.Denied (error_without_place queue id.0 rule)) ≡ outcome.Polled (polled_as.Failed error) = sym is ∙ was in absurd cc
-  fault-released (RunNext queue id) told effects error owing faults = none-told told error (error-told told error faults) (ap error_of (run-entered start es told effects queue id owing).group.outcome_is)
+  fault-released (RunNext queue id) told effects error owing faults = by_group (run-entered start es told effects queue id owing)
+    where
+      by_end : (d : KernelDispatch) (group : ℕ) (result : GroupResult) → GroupWrote start es told effects queue id d group result ⊎ GroupFaulted start es told effects queue id d group result → effects ≡ effect.Release error.queue error.packet ∷ []
+      by_end d group result (inl ran) = none-told told error (error-told told error faults) (ap error_of ran.outcome_is)
+      by_end d group result (inr fault) =
+          let same : Some (group_error queue id group fault.item fault.line fault.rule) ≡ Some error = sym (ap error_of fault.outcome_is) ∙ error-told told error faults in
+          let e : group_error queue id group fault.item fault.line fault.rule ≡ error = cc in
+          fault.effects_are ∙ ap (λ x. effect.Release x.queue x.packet ∷ []) e
+
+      by_kind : (p : Packet) (so_far : Progress) → GroupRan start es told effects p so_far ⊎ KernelRan start es told effects queue id (given start es queue id) p so_far → effects ≡ effect.Release error.queue error.packet ∷ []
+      by_kind p so_far (inl ran) = none-told told error (error-told told error faults) (ap error_of ran.outcome_is)
+      by_kind p so_far (inr ran) = by_end ran.dispatch so_far.groups_run _ (kernel-ended start es told effects queue id ran.dispatch so_far.groups_run _ ran.owed_is)
+
+      by_group : HasRun start es told effects queue id → effects ≡ effect.Release error.queue error.packet ∷ []
+      by_group has_run = by_kind has_run.flying.packet (progress start es queue id) has_run.group
   fault-released (Poll queue id) told effects error owing faults = by_poll (poll-entered start es told effects queue id owing)
     where
       by_poll : HasSeen start es told effects queue id ⊎ HasFailed start es told effects queue id → effects ≡ effect.Release error.queue error.packet ∷ []

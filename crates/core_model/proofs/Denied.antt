@@ -1,5 +1,5 @@
 -- A client's own calls are denied where the right that they need is not in force.
-use Rattle.std.proofs.Common.{◌≡◌, ℕ, ℤ, List, length, refl, ap, Bool, true, false, Option, Some, None, Err}
+use Rattle.std.proofs.Common.{◌≡◌, ℕ, ℤ, List, length, refl, Bool, true, false, Err}
 use Rattle.std.specs.Prelude.{◌&&◌}
 use Rattle.aql_packet.specs.declared.ids.Address.{Address}
 use Rattle.aql_packet.specs.declared.ids.AgentHandle.{AgentHandle}

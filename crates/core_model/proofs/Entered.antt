@@ -1,5 +1,5 @@
 -- What an entry that was owed tells of its event: its outcome, its changes, and the tests that it passed.
-use Rattle.std.proofs.Common.{◌≡◌, ◌<◌, ℕ, ℤ, ◌+◌, List, [], ◌∷◌, ◌++◌, length, refl, sym, ap, subst, Bool, true, false, Option, Some, None, ◌⊎◌, inl, inr}
+use Rattle.std.proofs.Common.{◌≡◌, ◌<◌, ℕ, ℤ, ◌+◌, ◌-◌, List, [], ◌∷◌, ◌++◌, length, refl, sym, ap, subst, Bool, true, false, Option, Some, None, ◌⊎◌, inl, inr}
 use Rattle.std.specs.Prelude.{map, nat_le, ◌&&◌, ◌==◌, if◌then◌else◌}
 use Rattle.std.specs.List.{list_any}
 use Rattle.std.proofs.lemmas.Bool.{and_parts, eqb-true, leb-true, leb-false}
@@ -10,9 +10,12 @@ use Rattle.aql_packet.specs.declared.ids.QueueId.{QueueId}
 use Rattle.aql_packet.specs.declared.ids.PacketId.{PacketId}
 use Rattle.aql_packet.specs.declared.ids.SignalHandle.{SignalHandle}
 use Rattle.aql_packet.specs.declared.packet.AgentDispatch.{AgentDispatch}
+use Rattle.aql_packet.specs.declared.packet.KernelDispatch.{KernelDispatch}
 use Rattle.aql_packet.specs.declared.packet.Packet.{Packet}
 use Rattle.aql_packet.specs.declared.packet.Packet.TheVariants as packet
 use Rattle.aql_packet.specs.Reading.{barrier_bit}
+use Rattle.executor.specs.Results.{GroupResult, broke_rule, group_result, wrote}
+use Rattle.executor.specs.declared.run.Run.{Run}
 use Rattle.policy.specs.Policy.{declares_client, declares, allows}
 use Rattle.policy.specs.declared.object.Object.{Object}
 use Rattle.policy.specs.declared.object.Object.TheVariants as object
@@ -46,8 +49,9 @@ use Rattle.core_model.specs.Holds.{holder}
 use Rattle.core_model.specs.declared.limits.TheConstants.{QUEUES}
 use Rattle.core_model.specs.Needs.{completion_signal}
 use Rattle.core_model.specs.LaunchRules.{first_failing_rule, cause_to_wait, is_barrier}
-use Rattle.core_model.specs.Work.{groups_of, agent_writes, is_ready, is_negative, seen_dependencies, newly_seen_positions}
-use Rattle.core_model.specs.Owed.{refuse_if, Owed, owed, answers, enters, refuse_if_held, owed_verdict, for_packet, error_without_place, facts_of, is_host_size, is_ring_size, is_finished, signal_decrement, owed_take, owed_group, owed_poll, owed_finish, owed_sight, barrier_in, release_of, old_if_asked}
+use Rattle.core_model.specs.View.{Given, given, group_input}
+use Rattle.core_model.specs.Work.{groups_of, write_of_run, agent_writes, is_ready, is_negative, seen_dependencies, newly_seen_positions}
+use Rattle.core_model.specs.Owed.{refuse_if, Owed, owed, answers, enters, refuse_if_held, owed_verdict, for_packet, error_without_place, facts_of, is_host_size, is_ring_size, is_finished, signal_decrement, owed_take, group_error, group_owed, owed_group, owed_poll, owed_finish, owed_sight, barrier_in, release_of, old_if_asked}
 use Rattle.core_model.proofs.Lists.{found-passes}
 use Rattle.core_model.proofs.Launches.{refuse_if-passed, refuse_unless-passed, for_some-found}
 
@@ -192,26 +196,66 @@ module _ (start : Start) (es : List Entry) (told : Outcome) (effects : List Effe
     pub effects_are : effects ≡ agent_writes start es dispatch
     pub outcome_is : told ≡ outcome.Worked (worked.Ran 0 0)
 
-  group-entered : (p : Packet) (so_far : Progress) → owed_group start es p so_far ≡ enters told effects → GroupRan p so_far
-  group-entered (packet.Agent dispatch) so_far same = ran (nat_le 1 so_far.groups_run) refl same
+  -- a kernel dispatch with a group left, which is run
+  pub record KernelRan (queue : QueueId) (id : PacketId) (own : Given) (p : Packet) (so_far : Progress) : Type 0 where
+    pub dispatch : KernelDispatch
+    pub is_kernel : p ≡ packet.Kernel dispatch
+    pub is_left : so_far.groups_run < groups_of p
+    pub owed_is : group_owed queue id dispatch so_far.groups_run (group_result (group_input start es own dispatch so_far.groups_run)) ≡ enters told effects
+
+  group-entered : (queue : QueueId) (id : PacketId) (own : Given) (p : Packet) (so_far : Progress) → owed_group start es queue id own p so_far ≡ enters told effects → GroupRan p so_far ⊎ KernelRan queue id own p so_far
+  group-entered queue id own (packet.Agent dispatch) so_far same = ran (nat_le 1 so_far.groups_run) refl same
     where
-      ran : (b : Bool) → nat_le 1 so_far.groups_run ≡ b → (if b then answers (outcome.Worked worked.Done) else enters (outcome.Worked (worked.Ran 0 0)) (agent_writes start es dispatch)) ≡ enters told effects → GroupRan (packet.Agent dispatch) so_far
+      ran : (b : Bool) → nat_le 1 so_far.groups_run ≡ b → (if b then answers (outcome.Worked worked.Done) else enters (outcome.Worked (worked.Ran 0 0)) (agent_writes start es dispatch)) ≡ enters told effects →
+          GroupRan (packet.Agent dispatch) so_far ⊎ KernelRan queue id own (packet.Agent dispatch) so_far
       ran true has same = absurd cc
-      ran false has same = record { dispatch = dispatch; is_agent = refl; is_left = leb-false 1 so_far.groups_run has; effects_are = cc; outcome_is = cc }
-  group-entered (packet.Kernel _) so_far same = absurd cc
-  group-entered (packet.BarrierAnd _) so_far same = absurd cc
-  group-entered (packet.BarrierOr _) so_far same = absurd cc
+      ran false has same = inl (record { dispatch = dispatch; is_agent = refl; is_left = leb-false 1 so_far.groups_run has; effects_are = cc; outcome_is = cc })
+  group-entered queue id own (packet.Kernel d) so_far same = ran (nat_le (groups_of (packet.Kernel d)) so_far.groups_run) refl same
+    where
+      ran : (b : Bool) → nat_le (groups_of (packet.Kernel d)) so_far.groups_run ≡ b →
+          (if b then answers (outcome.Worked worked.Done) else group_owed queue id d so_far.groups_run (group_result (group_input start es own d so_far.groups_run))) ≡ enters told effects →
+          GroupRan (packet.Kernel d) so_far ⊎ KernelRan queue id own (packet.Kernel d) so_far
+      ran true has same = absurd cc
+      ran false has same = inr (record { dispatch = d; is_kernel = refl; is_left = leb-false (groups_of (packet.Kernel d)) so_far.groups_run has; owed_is = same })
+  group-entered queue id own (packet.BarrierAnd _) so_far same = absurd cc
+  group-entered queue id own (packet.BarrierOr _) so_far same = absurd cc
+
+  -- a group of a kernel leaves its writes, or faults and releases its packet
+  pub record GroupWrote (queue : QueueId) (id : PacketId) (d : KernelDispatch) (group : ℕ) (result : GroupResult) : Type 0 where
+    pub runs : List Run
+    pub result_is : result ≡ wrote runs
+    pub effects_are : effects ≡ map write_of_run runs
+    pub outcome_is : told ≡ outcome.Worked (worked.Ran group (groups_of (packet.Kernel d) - (group + 1)))
+
+  pub record GroupFaulted (queue : QueueId) (id : PacketId) (d : KernelDispatch) (group : ℕ) (result : GroupResult) : Type 0 where
+    pub item : ℕ
+    pub line : ℕ
+    pub rule : Rule
+    pub effects_are : effects ≡ effect.Release queue id ∷ []
+    pub outcome_is : told ≡ outcome.Worked (worked.Faulted (group_error queue id group item line rule))
+
+  pub kernel-ended : (queue : QueueId) (id : PacketId) (d : KernelDispatch) (group : ℕ) (result : GroupResult) → group_owed queue id d group result ≡ enters told effects →
+      GroupWrote queue id d group result ⊎ GroupFaulted queue id d group result
+  kernel-ended queue id d group (wrote runs) same = inl (record { runs = runs; result_is = refl; effects_are = cc; outcome_is = cc })
+  kernel-ended queue id d group (broke_rule item line rule) same = inr (record { item = item; line = line; rule = rule; effects_are = cc; outcome_is = cc })
 
   pub record HasRun (queue : QueueId) (id : PacketId) : Type 0 where
     pub flying : InFlight
     pub found : in_flight start es queue id ≡ Some flying
-    pub group : GroupRan flying.packet (progress start es queue id)
+    pub owed_is : owed_group start es queue id (given start es queue id) flying.packet (progress start es queue id) ≡ enters told effects
+    pub group : GroupRan flying.packet (progress start es queue id) ⊎ KernelRan queue id (given start es queue id) flying.packet (progress start es queue id)
 
   pub run-entered : (queue : QueueId) (id : PacketId) → owed start es (RunNext queue id) ≡ enters told effects → HasRun queue id
   unfolding owed
   run-entered queue id owing =
-      let there = flying-found queue id (owed_group start es) owing in
-      record { flying = there.flying; found = there.found; group = group-entered there.flying.packet (progress start es queue id) there.rest_is }
+      let own = given start es queue id in
+      let there = flying-found queue id (owed_group start es queue id own) owing in
+      record {
+        flying = there.flying;
+        found = there.found;
+        owed_is = there.rest_is;
+        group = group-entered queue id own there.flying.packet (progress start es queue id) there.rest_is;
+      }
 
   -- ---- a poll fails, or changes nothing
 

@@ -9,6 +9,8 @@ use Rattle.aql_packet.specs.declared.ids.ClientId.{ClientId}
 use Rattle.aql_packet.specs.declared.ids.QueueId.{QueueId}
 use Rattle.aql_packet.specs.declared.ids.PacketId.{PacketId}
 use Rattle.aql_packet.specs.declared.packet.Packet.{Packet}
+use Rattle.aql_packet.specs.declared.packet.Packet.TheVariants as packet
+use Rattle.regions.specs.Memory.{lies_in_region, region_of}
 use Rattle.aql_packet.specs.Reading.{decoded}
 use Rattle.policy.specs.Policy.{numbered}
 use Rattle.policy.specs.declared.object.Object.{Object}
@@ -16,7 +18,7 @@ use Rattle.policy.specs.declared.object.Object.TheVariants as object
 use Rattle.policy.specs.declared.rights.Right.{Right}
 use Rattle.policy.specs.declared.rights.Rights.{Rights}
 use Rattle.policy.specs.Object.{same_object}
-use Rattle.policy.specs.Rights.{has}
+use Rattle.policy.specs.Rights.{all_rights, has}
 use Rattle.queue_error.specs.declared.rule.Rule.{Rule}
 use Rattle.queue_error.specs.declared.rule.Rule.TheVariants as rule
 use Rattle.core_model.specs.declared.event.Event.{Event}
@@ -32,11 +34,13 @@ use Rattle.core_model.specs.Queues.{Opening, owner, openings, opening_of, next_i
 use Rattle.core_model.specs.Flight.{flight, in_flight, is_packet, launched_by}
 use Rattle.core_model.specs.Needs.{needs, object_of}
 use Rattle.core_model.specs.LaunchRules.{Facts, holds_rule, need_is_met, launch_rules, lies_whole}
-use Rattle.core_model.specs.Holds.{ObjectRight, right_needed, packet_rights, rights_at_launch, packet_rights_after, rights_of_launch, is_launch, holds_one_of, is_queue_of, is_up_to, least_in_flight}
+use Rattle.core_model.specs.Kernels.{argument_block, kernel_of, wide_arguments}
+use Rattle.core_model.specs.Memory.{region_lengths}
+use Rattle.core_model.specs.Holds.{ObjectRight, all_in_force, arguments, arguments_if, arguments_of, right_needed, from_launch, packet_rights, rights_at_launch, held_by_arguments, held_by_needs, held_by_pointer, rights_of_launch, is_launch, holds_one_of, is_queue_of, is_up_to, least_in_flight}
 use Rattle.core_model.specs.Owed.{owed, enters, facts_of}
 use Rattle.core_model.specs.Legal.{IsLegal, entry_of}
 use Rattle.core_model.specs.Headline.{HasItsRights, HoldsInForce, InFlightSince, Launch}
-use Rattle.core_model.proofs.Lists.{found-all, none-passes, all-from_list_all, all-left, all-right}
+use Rattle.core_model.proofs.Lists.{filter-passes, found-all, none-passes, all-from_list_all, all-left, all-right}
 use Rattle.core_model.proofs.More.{openings-more, with_some, in_force-more}
 use Rattle.core_model.proofs.Launches.{launched_by-is, was_launched, AreBelowNext-legal}
 use Rattle.core_model.proofs.Flying.{flying-legal}
@@ -45,43 +49,56 @@ use Rattle.core_model.proofs.Launching.{launch-granted, has-rights, needs-met}
 
 -- ---- what a packet holds stays what its launch gave it
 
--- a packet that was launched holds what it held
-pub held_from-kept : (start : Start) (before es more : List Entry) (queue : QueueId) (id : PacketId) → was_launched es queue id ≡ true → packet_rights_after start before (es ++ more) queue id ≡ packet_rights_after start before es queue id
-held_from-kept start before [] more queue id launched = absurd (cc)
-held_from-kept start before (x ∷ xs) more queue id launched =
-    by_test (is_launch queue id (launched_by x.event x.outcome)) refl (held_from-kept start (before ++ x ∷ []) xs more queue id)
-  where
-    by_test : (b : Bool) → is_launch queue id (launched_by x.event x.outcome) ≡ b
-        → (was_launched xs queue id ≡ true → packet_rights_after start (before ++ x ∷ []) (xs ++ more) queue id ≡ packet_rights_after start (before ++ x ∷ []) xs queue id)
-        → packet_rights_after start before (x ∷ (xs ++ more)) queue id ≡ packet_rights_after start before (x ∷ xs) queue id
-    by_test true is rest = rw is refl
-    by_test false is rest = rw is (rest (rw is at launched))
+module _ {X : Type 0} (give : List Entry → Option InFlight → List X) where
+  -- what a packet's launch gave it stays
+  pub from_launch-kept : (before es more : List Entry) (queue : QueueId) (id : PacketId) → was_launched es queue id ≡ true → from_launch give before (es ++ more) queue id ≡ from_launch give before es queue id
+  from_launch-kept before [] more queue id launched = absurd (cc)
+  from_launch-kept before (x ∷ xs) more queue id launched =
+      by_test (is_launch queue id (launched_by x.event x.outcome)) refl (from_launch-kept (before ++ x ∷ []) xs more queue id)
+    where
+      by_test : (b : Bool) → is_launch queue id (launched_by x.event x.outcome) ≡ b
+          → (was_launched xs queue id ≡ true → from_launch give (before ++ x ∷ []) (xs ++ more) queue id ≡ from_launch give (before ++ x ∷ []) xs queue id)
+          → from_launch give before (x ∷ (xs ++ more)) queue id ≡ from_launch give before (x ∷ xs) queue id
+      by_test true is rest = rw is refl
+      by_test false is rest = rw is (rest (rw is at launched))
 
--- one that wasn't holds nothing
-pub held_from-none : (start : Start) (before es : List Entry) (queue : QueueId) (id : PacketId) → was_launched es queue id ≡ false → packet_rights_after start before es queue id ≡ []
-held_from-none start before [] queue id none = refl
-held_from-none start before (x ∷ xs) queue id none =
-    by_test (is_launch queue id (launched_by x.event x.outcome)) refl (held_from-none start (before ++ x ∷ []) xs queue id)
-  where
-    by_test : (b : Bool) → is_launch queue id (launched_by x.event x.outcome) ≡ b
-        → (was_launched xs queue id ≡ false → packet_rights_after start (before ++ x ∷ []) xs queue id ≡ [])
-        → packet_rights_after start before (x ∷ xs) queue id ≡ []
-    by_test true is rest = absurd (cc (rw is at none))
-    by_test false is rest = rw is (rest (rw is at none))
+  -- an entry that launches another, or none, gives it nothing
+  pub from_launch-other : (before es : List Entry) (e : Entry) (queue : QueueId) (id : PacketId) → is_launch queue id (launched_by e.event e.outcome) ≡ false → from_launch give before (es ++ e ∷ []) queue id ≡ from_launch give before es queue id
+  from_launch-other before [] e queue id other = rw other refl
+  from_launch-other before (x ∷ xs) e queue id other =
+      by_test (is_launch queue id (launched_by x.event x.outcome)) refl (from_launch-other (before ++ x ∷ []) xs e queue id other)
+    where
+      by_test : (b : Bool) → is_launch queue id (launched_by x.event x.outcome) ≡ b
+          → from_launch give (before ++ x ∷ []) (xs ++ e ∷ []) queue id ≡ from_launch give (before ++ x ∷ []) xs queue id
+          → from_launch give before (x ∷ (xs ++ e ∷ [])) queue id ≡ from_launch give before (x ∷ xs) queue id
+      by_test true is rest = rw is refl
+      by_test false is rest = rw is rest
 
--- and holds, from the entry that launches it on, what its launch gives it
-pub held_from-launch : (start : Start) (before es : List Entry) (e : Entry) (queue : QueueId) (id : PacketId) → was_launched es queue id ≡ false → is_launch queue id (launched_by e.event e.outcome) ≡ true → packet_rights_after start before (es ++ e ∷ []) queue id ≡ rights_of_launch (owner start (before ++ es) queue) (launched_by e.event e.outcome)
-held_from-launch start before [] e queue id none now = rw (now, append-nil) refl
-held_from-launch start before (x ∷ xs) e queue id none now =
-    by_test (is_launch queue id (launched_by x.event x.outcome)) refl (λ others. held_from-launch start (before ++ x ∷ []) xs e queue id others now)
-  where
-    by_test : (b : Bool) → is_launch queue id (launched_by x.event x.outcome) ≡ b
-        → (was_launched xs queue id ≡ false → packet_rights_after start (before ++ x ∷ []) (xs ++ e ∷ []) queue id ≡ rights_of_launch (owner start ((before ++ x ∷ []) ++ xs) queue) (launched_by e.event e.outcome))
-        → packet_rights_after start before (x ∷ (xs ++ e ∷ [])) queue id ≡ rights_of_launch (owner start (before ++ x ∷ xs) queue) (launched_by e.event e.outcome)
-    by_test true is rest = absurd (cc (rw is at none))
-    by_test false is rest =
-        rw is (rest (rw is at none))
-        ∙ ap (λ (es : List Entry). rights_of_launch (owner start es queue) (launched_by e.event e.outcome)) (append_assoc before (x ∷ []) xs)
+  -- one that wasn't launched has nothing
+  pub from_launch-none : (before es : List Entry) (queue : QueueId) (id : PacketId) → was_launched es queue id ≡ false → from_launch give before es queue id ≡ []
+  from_launch-none before [] queue id none = refl
+  from_launch-none before (x ∷ xs) queue id none =
+      by_test (is_launch queue id (launched_by x.event x.outcome)) refl (from_launch-none (before ++ x ∷ []) xs queue id)
+    where
+      by_test : (b : Bool) → is_launch queue id (launched_by x.event x.outcome) ≡ b
+          → (was_launched xs queue id ≡ false → from_launch give (before ++ x ∷ []) xs queue id ≡ [])
+          → from_launch give before (x ∷ xs) queue id ≡ []
+      by_test true is rest = absurd (cc (rw is at none))
+      by_test false is rest = rw is (rest (rw is at none))
+
+  -- and it has, from the entry that launches it on, what its launch gives it
+  pub from_launch-launch : (before es : List Entry) (e : Entry) (queue : QueueId) (id : PacketId) → was_launched es queue id ≡ false → is_launch queue id (launched_by e.event e.outcome) ≡ true → from_launch give before (es ++ e ∷ []) queue id ≡ give (before ++ es) (launched_by e.event e.outcome)
+  from_launch-launch before [] e queue id none now = rw (now, append-nil) refl
+  from_launch-launch before (x ∷ xs) e queue id none now =
+      by_test (is_launch queue id (launched_by x.event x.outcome)) refl (λ others. from_launch-launch (before ++ x ∷ []) xs e queue id others now)
+    where
+      by_test : (b : Bool) → is_launch queue id (launched_by x.event x.outcome) ≡ b
+          → (was_launched xs queue id ≡ false → from_launch give (before ++ x ∷ []) (xs ++ e ∷ []) queue id ≡ give ((before ++ x ∷ []) ++ xs) (launched_by e.event e.outcome))
+          → from_launch give before (x ∷ (xs ++ e ∷ [])) queue id ≡ give (before ++ x ∷ xs) (launched_by e.event e.outcome)
+      by_test true is rest = absurd (cc (rw is at none))
+      by_test false is rest =
+          rw is (rest (rw is at none))
+          ∙ ap (λ (es : List Entry). give es (launched_by e.event e.outcome)) (append_assoc before (x ∷ []) xs)
 
 -- a queue stays whose it is
 slice_get-more : {X : Type 0} (xs : List X) (x y : X) (k : ℕ) → slice_get xs k ≡ Some x → slice_get (xs ++ y ∷ []) k ≡ Some x
@@ -204,8 +221,14 @@ pub record HoldsNow (start : Start) (es : List Entry) (f : InFlight) : Type 0 wh
   pub launch : Launch start es f.queue f.id
   pub packet_is : launch.packet ≡ f.packet
   pub owner_is : owner start es f.queue ≡ Some launch.opening
-  pub held_is : packet_rights start es f.queue f.id ≡ rights_at_launch launch.opening f.packet
-  pub granted : All (λ h. in_force start es launch.opening.client h.0 h.1 ≡ true) (rights_at_launch launch.opening f.packet)
+  pub held_is : packet_rights start es f.queue f.id ≡ rights_at_launch start launch.before launch.opening f.packet
+  pub arguments_are : arguments start es f.queue f.id ≡ arguments_of start launch.before f.packet
+  pub granted_then : All (λ h. in_force start launch.before launch.opening.client h.0 h.1 ≡ true) (rights_at_launch start launch.before launch.opening f.packet)
+  pub granted : All (λ h. in_force start es launch.opening.client h.0 h.1 ≡ true) (rights_at_launch start launch.before launch.opening f.packet)
+
+-- what a launch behind these entries gives a packet of a queue to hold
+abbrev pub holds-from : Start → QueueId → List Entry → Option InFlight → List ObjectRight
+holds-from start queue before f = rights_of_launch start before (owner start before queue) f
 
 module _ (start : Start) (es : List Entry) (e : Entry) where
   abbrev later : List Entry
@@ -221,36 +244,38 @@ module _ (start : Start) (es : List Entry) (e : Entry) where
     allowed = l.allowed;
   }
 
-  was-launched : (queue : QueueId) (id : PacketId) (opening : Opening) (p : Packet) → packet_rights start es queue id ≡ rights_at_launch opening p → was_launched es queue id ≡ true
-  was-launched queue id opening p is = by_test (was_launched es queue id) refl
+  pub was-launched : (queue : QueueId) (id : PacketId) (before : List Entry) (opening : Opening) (p : Packet) → packet_rights start es queue id ≡ rights_at_launch start before opening p → was_launched es queue id ≡ true
+  was-launched queue id before opening p is = by_test (was_launched es queue id) refl
     where
       by_test : (b : Bool) → was_launched es queue id ≡ b → was_launched es queue id ≡ true
       by_test true was = was
-      by_test false was = let none = held_from-none start [] es queue id was in absurd (cc)
+      by_test false was = let none = from_launch-none (holds-from start queue) [] es queue id was in absurd (cc)
 
   -- one entry more, after which the rights are in force yet
   holds-more : (f : InFlight) (h : HoldsNow start es f) →
-      All (λ g. in_force_after h.launch.opening.client g.0 g.1 (in_force start es h.launch.opening.client g.0 g.1) e.event ≡ true) (rights_at_launch h.launch.opening f.packet) → HoldsNow start later f
+      All (λ g. in_force_after h.launch.opening.client g.0 g.1 (in_force start es h.launch.opening.client g.0 g.1) e.event ≡ true) (rights_at_launch start h.launch.before h.launch.opening f.packet) → HoldsNow start later f
   holds-more f h stays = record {
     launch = launch-more f.queue f.id h.launch;
     packet_is = h.packet_is;
     owner_is = owner-more start es e f.queue h.launch.opening h.owner_is;
-    held_is = held_from-kept start [] es (e ∷ []) f.queue f.id (was-launched f.queue f.id h.launch.opening f.packet h.held_is) ∙ h.held_is;
+    held_is = from_launch-kept (holds-from start f.queue) [] es (e ∷ []) f.queue f.id (was-launched f.queue f.id h.launch.before h.launch.opening f.packet h.held_is) ∙ h.held_is;
+    arguments_are = from_launch-kept (arguments_if start) [] es (e ∷ []) f.queue f.id (was-launched f.queue f.id h.launch.before h.launch.opening f.packet h.held_is) ∙ h.arguments_are;
+    granted_then = h.granted_then;
     granted = All-weaker (λ g. in_force_after h.launch.opening.client g.0 g.1 (in_force start es h.launch.opening.client g.0 g.1) e.event ≡ true) (λ g. in_force start later h.launch.opening.client g.0 g.1 ≡ true)
-        (λ g is. in_force-more start es e h.launch.opening.client g.0 g.1 ∙ is) (rights_at_launch h.launch.opening f.packet) stays;
+        (λ g is. in_force-more start es e h.launch.opening.client g.0 g.1 ∙ is) (rights_at_launch start h.launch.before h.launch.opening f.packet) stays;
   }
 
   -- what an event does to rights in force that are held by none that it names
   kept-by : (event : Event) (f : InFlight) (h : HoldsNow start es f) →
       ((client : ClientId) (on : Object) (rights : Rights) → event ≡ Revoke client on rights → (is_queue_of start es client f.queue && list_any (λ g. same_object on g.0 && has rights g.1) (packet_rights start es f.queue f.id)) ≡ false) →
-      All (λ g. in_force_after h.launch.opening.client g.0 g.1 (in_force start es h.launch.opening.client g.0 g.1) event ≡ true) (rights_at_launch h.launch.opening f.packet)
+      All (λ g. in_force_after h.launch.opening.client g.0 g.1 (in_force start es h.launch.opening.client g.0 g.1) event ≡ true) (rights_at_launch start h.launch.before h.launch.opening f.packet)
   kept-by (Grant c o rights) f h none =
       All-weaker (λ g. in_force start es h.launch.opening.client g.0 g.1 ≡ true) (λ g. (in_force start es h.launch.opening.client g.0 g.1 || is_named h.launch.opening.client g.0 g.1 c o rights) ≡ true)
-      (λ g is. rw is refl) (rights_at_launch h.launch.opening f.packet) h.granted
+      (λ g is. rw is refl) (rights_at_launch start h.launch.before h.launch.opening f.packet) h.granted
   kept-by (Revoke c o rights) f h none =
       let own : is_queue_of start es c f.queue ≡ (h.launch.opening.client.0 == c.0) = ap (λ (found : Option Opening). elim found [ None ↦ false | Some opening ↦ opening.client.0 == c.0 ]) h.owner_is in
       let named = λ (g : ObjectRight). same_object o g.0 && has rights g.1 in
-      unnamed-stay h.launch.opening.client c o rights (in_force start es h.launch.opening.client) (rights_at_launch h.launch.opening f.packet) (sym (λ i. own i && list_any named (h.held_is i)) ∙ none c o rights refl) h.granted
+      unnamed-stay h.launch.opening.client c o rights (in_force start es h.launch.opening.client) (rights_at_launch start h.launch.before h.launch.opening f.packet) (sym (λ i. own i && list_any named (h.held_is i)) ∙ none c o rights refl) h.granted
   kept-by (OpenQueue _ _ _) f h none = h.granted
   kept-by (Stop _) f h none = h.granted
   kept-by (Take _ _ _) f h none = h.granted
@@ -283,6 +308,27 @@ module _ (start : Start) (es : List Entry) (e : Entry) where
   rules-met facts p [] each = All-nil _
   rules-met facts p (r ∷ rules) each = All-append (λ h. facts.in_force h.0 h.1 ≡ true) _ _ (rights-met facts (needs r facts.agent p) (each r)) (rules-met facts p rules each)
 
+  -- what arguments have a packet hold is in force
+  object-met : (client : ClientId) (on : Object) → All (λ h. in_force start es client h.0 h.1 ≡ true) (all_in_force (in_force start es client) on)
+  object-met client on = All-map (λ h. in_force start es client h.0 h.1 ≡ true) (λ right. (on, right)) _ (filter-passes (in_force start es client on) all_rights)
+
+  pointer-met : (client : ClientId) (address : ℕ) → All (λ h. in_force start es client h.0 h.1 ≡ true) (held_by_pointer (in_force start es client) (region_lengths start) address)
+  pointer-met client address = by_test (lies_in_region (region_lengths start) address)
+    where
+      by_test : (b : Bool) → All (λ h. in_force start es client h.0 h.1 ≡ true) (if b then all_in_force (in_force start es client) (object.Region (record { 0 = region_of address })) else [])
+      by_test true = object-met client (object.Region (record { 0 = region_of address }))
+      by_test false = All-nil _
+
+  pointers-met : (client : ClientId) (addresses : List ℕ) → All (λ h. in_force start es client h.0 h.1 ≡ true) (flat_map (held_by_pointer (in_force start es client) (region_lengths start)) addresses)
+  pointers-met client [] = All-nil _
+  pointers-met client (x ∷ xs) = All-append (λ h. in_force start es client h.0 h.1 ≡ true) _ _ (pointer-met client x) (pointers-met client xs)
+
+  pub arguments-held : (client : ClientId) (p : Packet) → All (λ h. in_force start es client h.0 h.1 ≡ true) (held_by_arguments start es client p)
+  arguments-held client (packet.Kernel d) = pointers-met client (wide_arguments (kernel_of start d).wide (argument_block start es d))
+  arguments-held client (packet.Agent _) = All-nil _
+  arguments-held client (packet.BarrierAnd _) = All-nil _
+  arguments-held client (packet.BarrierOr _) = All-nil _
+
   -- whatever packet a launch is told of, it holds what its launch gives it
   launched : IsLegal start es → owed start es e.event ≡ enters e.outcome e.effects → (f : InFlight) → launched_by e.event e.outcome ≡ Some f → HoldsNow start later f
   launched legal owing f launches =
@@ -297,15 +343,19 @@ module _ (start : Start) (es : List Entry) (e : Entry) where
       let itself : is_packet f.queue f.id f ≡ true = and_from _ _ (eq-eqb f.queue.0 f.queue.0 refl) (eq-eqb f.id.0 f.id.0 refl) in
       let now : is_launch f.queue f.id (launched_by e.event e.outcome) ≡ true = rw launches itself in
       let facts : Facts = facts_of start es opening in
-      let met = rules-met facts granted.packet launch_rules (needs-met facts launch.bytes granted.packet granted.allowed.every_rule) in
+      let needed = rules-met facts granted.packet launch_rules (needs-met facts launch.bytes granted.packet granted.allowed.every_rule) in
+      let met : All (λ h. in_force start es opening.client h.0 h.1 ≡ true) (rights_at_launch start es opening granted.packet) =
+      All-append (λ h. in_force start es opening.client h.0 h.1 ≡ true) (held_by_needs opening granted.packet) (held_by_arguments start es opening.client granted.packet) needed (arguments-held opening.client granted.packet) in
       record {
         launch = record { before = es; bytes = launch.bytes; opening = opening; packet = granted.packet; place = record { after = []; whole = ap (λ x. es ++ x ∷ []) entry_is }; allowed = granted.allowed };
         packet_is = packet_is;
         owner_is = owner-more start es e f.queue opening granted.allowed.owner_is;
-        held_is = ◌∙◌ {b = rights_of_launch (owner start es f.queue) (launched_by e.event e.outcome)} (held_from-launch start [] es e f.queue f.id none now) (λ i. rights_of_launch (granted.allowed.owner_is i) (launches i));
-        granted = subst (λ q. All (λ h. in_force start later opening.client h.0 h.1 ≡ true) (rights_at_launch opening q)) packet_is
+        held_is = ◌∙◌ {b = rights_of_launch start es (owner start es f.queue) (launched_by e.event e.outcome)} (from_launch-launch (holds-from start f.queue) [] es e f.queue f.id none now) (λ i. rights_of_launch start es (granted.allowed.owner_is i) (launches i));
+        arguments_are = from_launch-launch (arguments_if start) [] es e f.queue f.id none now ∙ ap (arguments_if start es) launches;
+        granted_then = subst (λ q. All (λ h. in_force start es opening.client h.0 h.1 ≡ true) (rights_at_launch start es opening q)) packet_is met;
+        granted = subst (λ q. All (λ h. in_force start later opening.client h.0 h.1 ≡ true) (rights_at_launch start es opening q)) packet_is
             (All-weaker (λ h. in_force start es opening.client h.0 h.1 ≡ true) (λ h. in_force start later opening.client h.0 h.1 ≡ true)
-            (λ h here. in_force-more start es e opening.client h.0 h.1 ∙ ap (in_force_after opening.client h.0 h.1 (in_force start es opening.client h.0 h.1)) event_is ∙ here) (rights_at_launch opening granted.packet) met);
+            (λ h here. in_force-more start es e opening.client h.0 h.1 ∙ ap (in_force_after opening.client h.0 h.1 (in_force start es opening.client h.0 h.1)) event_is ∙ here) (rights_at_launch start es opening granted.packet) met);
       }
     where
       one-packet : (o : Option Packet) (p q : Packet) → o ≡ Some p → o ≡ Some q → p ≡ q
@@ -332,7 +382,7 @@ module _ (start : Start) (es : List Entry) (legal : IsLegal start es) where
       (met-yet client facts ns both.1 (All-tail (λ h. in_force start es client h.0 h.1 ≡ true) (right_needed n) (map right_needed ns) all))
 
   rights-now : (queue : QueueId) (id : PacketId) (p : Packet) (l : Launch start es queue id) → l.packet ≡ p →
-      All (λ h. in_force start es l.opening.client h.0 h.1 ≡ true) (rights_at_launch l.opening p) → HasItsRights start es l.opening p
+      All (λ h. in_force start es l.opening.client h.0 h.1 ≡ true) (rights_at_launch start l.before l.opening p) → HasItsRights start es l.opening p
   rights-now queue id p l packet_is granted = has-rights start es l.opening p each
     where
       Granted : ObjectRight → Type 0
@@ -347,14 +397,21 @@ module _ (start : Start) (es : List Entry) (legal : IsLegal start es) where
       yet : (r : Rule) → All Granted (asks r) → list_all (need_is_met (facts_of start es l.opening)) (needs r l.opening.agent p) ≡ true
       yet r all = met-yet l.opening.client (facts_of start l.before l.opening) (needs r l.opening.agent p) (at_launch r) all
 
+      needed : All Granted (held_by_needs l.opening p)
+      needed = all-left Granted (held_by_needs l.opening p) (held_by_arguments start l.before l.opening.client p) granted
+
+      from_6 : All Granted (asks rule.L6 ++ (asks rule.L8 ++ (asks rule.L9 ++ (asks rule.L10 ++ []))))
+      from_6 = all-right Granted (asks rule.L4) _ needed
+
       from_8 : All Granted (asks rule.L8 ++ (asks rule.L9 ++ (asks rule.L10 ++ [])))
-      from_8 = all-right Granted (asks rule.L4) _ granted
+      from_8 = all-right Granted (asks rule.L6) _ from_6
 
       from_9 : All Granted (asks rule.L9 ++ (asks rule.L10 ++ []))
       from_9 = all-right Granted (asks rule.L8) _ from_8
 
       each : (r : Rule) → list_all (need_is_met (facts_of start es l.opening)) (needs r l.opening.agent p) ≡ true
-      each rule.L4 = yet rule.L4 (all-left Granted (asks rule.L4) _ granted)
+      each rule.L4 = yet rule.L4 (all-left Granted (asks rule.L4) _ needed)
+      each rule.L6 = yet rule.L6 (all-left Granted (asks rule.L6) _ from_6)
       each rule.L8 = yet rule.L8 (all-left Granted (asks rule.L8) _ from_8)
       each rule.L9 = yet rule.L9 (all-left Granted (asks rule.L9) _ from_9)
       each rule.L10 = yet rule.L10 (all-left Granted (asks rule.L10) _ (all-right Granted (asks rule.L9) _ from_9))
@@ -369,15 +426,23 @@ module _ (start : Start) (es : List Entry) (legal : IsLegal start es) where
         packet_is = h.packet_is;
         owner_is = h.owner_is;
         rights = rights-now f.queue f.id f.packet h.launch h.packet_is h.granted;
+        held_is = h.held_is;
+        arguments_are = h.arguments_are;
         holds = subst (All (λ g. in_force start es h.launch.opening.client g.0 g.1 ≡ true)) (sym h.held_is) h.granted;
       })
       (flight start es) holding
 
+  -- a launch of a packet, at which all was in force that it holds
+  abbrev LaunchOf : QueueId → PacketId → Packet → Type 0
+  LaunchOf queue id p = (l : Launch start es queue id) × (l.packet ≡ p) × All (λ h. in_force start l.before l.opening.client h.0 h.1 ≡ true) (packet_rights start es queue id)
+
   -- a packet that is found in flight has a launch
-  pub flying-since : (queue : QueueId) (id : PacketId) (f : InFlight) → in_flight start es queue id ≡ Some f → (s : InFlightSince start es queue id) × (s.flying ≡ f)
+  pub flying-since : (queue : QueueId) (id : PacketId) (f : InFlight) → in_flight start es queue id ≡ Some f →
+      (s : InFlightSince start es queue id) × (s.flying ≡ f) × All (λ h. in_force start s.launch.before s.launch.opening.client h.0 h.1 ≡ true) (packet_rights start es queue id)
   flying-since queue id f found =
       let named = named-found start es queue id f found in
       let h : HoldsNow start es f = found-all (HoldsNow start es) (is_packet queue id) (flight start es) f holding found in
-      let l : (l : Launch start es queue id) × (l.packet ≡ f.packet) =
-      subst (λ i. (l : Launch start es queue i) × (l.packet ≡ f.packet)) named.1 (subst (λ q. (l : Launch start es q f.id) × (l.packet ≡ f.packet)) named.0 (h.launch, h.packet_is)) in
-      (record { flying = f; is_found = found; launch = l.0; packet_is = l.1 }, refl)
+      let own : LaunchOf f.queue f.id f.packet =
+      (h.launch, h.packet_is, subst (All (λ g. in_force start h.launch.before h.launch.opening.client g.0 g.1 ≡ true)) (sym h.held_is) h.granted_then) in
+      let l : LaunchOf queue id f.packet = subst (λ i. LaunchOf queue i f.packet) named.1 (subst (λ q. LaunchOf q f.id f.packet) named.0 own) in
+      (record { flying = f; is_found = found; launch = l.0; packet_is = l.1 }, refl, l.2)

@@ -1,6 +1,7 @@
 -- Launches: what the launch rules say of a packet that was launched, and the rights that it has then.
-use Rattle.std.proofs.Common.{◌≡◌, ℕ, List, [], ◌∷◌, ◌++◌, refl, sym, ◌∙◌, subst, Bool, true, false, Option, Some, None, inl, inr, append_assoc, arith}
-use Rattle.std.specs.Prelude.{All, not, ◌==◌, if◌then◌else◌}
+use Rattle.std.proofs.Common.{◌≡◌, ℕ, List, [], ◌∷◌, ◌++◌, refl, sym, ◌∙◌, ap, subst, Bool, true, false, Option, Some, None, inl, inr, append_assoc, arith}
+use Rattle.std.specs.Prelude.{All, not, ◌==◌, if◌then◌else◌, option_map}
+use Rattle.std.specs.Option.{unwrap_or}
 use Rattle.std.specs.List.{flat_map, list_all}
 use Rattle.std.proofs.lemmas.Bool.{and_parts, eqb-true}
 use Rattle.std.proofs.lemmas.List.{append-nil}
@@ -13,6 +14,9 @@ use Rattle.aql_packet.specs.declared.packet.Packet.{Packet}
 use Rattle.aql_packet.specs.declared.packet.Packet.TheVariants as packet
 use Rattle.aql_packet.specs.Reading.{packet_at, packet_type, refusal, decoded}
 use Rattle.aql_packet.proofs.ReadingLemmas.{decoded_is, decoded_is_laid}
+use Rattle.kernel_check.specs.Programs.{Program}
+use Rattle.policy.proofs.NameLemmas.{numbered-map}
+use Rattle.policy.specs.Policy.{numbered}
 use Rattle.policy.specs.declared.object.Object.TheVariants as object
 use Rattle.policy.specs.declared.rights.Right.{Right}
 use Rattle.policy.specs.declared.rights.Right.TheVariants as right
@@ -26,17 +30,19 @@ use Rattle.core_model.specs.declared.entry.Effect.{Effect}
 use Rattle.core_model.specs.declared.entry.Entry.{Entry}
 use Rattle.core_model.specs.declared.need.AgentFunction.{AgentFunction}
 use Rattle.core_model.specs.declared.need.AgentFunction.TheVariants.{Fill, Copy, Add64}
+use Rattle.core_model.specs.declared.kernel.KernelSegments.{KernelSegments}
 use Rattle.core_model.specs.declared.need.Range.{Range}
 use Rattle.core_model.specs.declared.need.Subject.TheVariants as subject
 use Rattle.core_model.specs.History.{Start}
 use Rattle.core_model.specs.Grants.{in_force}
 use Rattle.core_model.specs.Memory.{region_lengths}
 use Rattle.core_model.specs.Queues.{Opening}
-use Rattle.core_model.specs.Needs.{needs, function_of, function_needs, range_need, signal_need, result_range, completion_signal, dependencies, memory_needs}
-use Rattle.core_model.specs.LaunchRules.{Facts, first_failing_rule, has_form, holds_rule, need_is_met, launch_rules}
+use Rattle.core_model.specs.Needs.{needs, function_of, function_needs, range_need, signal_need, result_range, range_at, completion_signal, dependencies, kernel_needs, memory_needs}
+use Rattle.core_model.specs.Kernels.{kernel_of, no_kernel, segments_of}
+use Rattle.core_model.specs.LaunchRules.{Facts, first_failing_rule, has_arguments, has_form, holds_rule, need_is_met, launch_rules}
 use Rattle.core_model.specs.Owed.{owed, enters, error_without_place, facts_of}
 use Rattle.core_model.specs.Legal.{IsLegal, IsLegalAfter}
-use Rattle.core_model.specs.Headline.{IsEntryBehind, MayBeLaunched, MayReachRange, MayUseSignal, HasItsRights, ranges_read, ranges_written, reads_of, writes_of}
+use Rattle.core_model.specs.Headline.{IsEntryBehind, MayBeLaunched, MayReachRange, MayUseSignal, HasItsRights, argument_ranges, kernels_of, ranges_read, ranges_written, reads_of, writes_of}
 use Rattle.core_model.proofs.Lists.{none-passes}
 use Rattle.core_model.proofs.Entered.{take-decided}
 
@@ -88,7 +94,8 @@ decoded-passing facts bytes each =
 -- what each rule needs is met where it holds
 pub needs-met : (facts : Facts) (bytes : List ℕ) (p : Packet) → All (λ r. holds_rule facts bytes p r ≡ true) launch_rules → (r : Rule) → list_all (need_is_met facts) (needs r facts.agent p) ≡ true
 needs-met facts bytes p each rule.L4 = let holds : holds_rule facts bytes p rule.L4 ≡ true = each 3 rule.L1 (omega arith) in (and_parts (has_form facts p rule.L4) _ holds).1
-needs-met facts bytes p each rule.L8 = each 7 rule.L1 (omega arith)
+needs-met facts bytes p each rule.L6 = each 5 rule.L1 (omega arith)
+needs-met facts bytes p each rule.L8 = let holds : holds_rule facts bytes p rule.L8 ≡ true = each 7 rule.L1 (omega arith) in (and_parts (has_form facts p rule.L8) _ holds).1
 needs-met facts bytes p each rule.L9 = each 8 rule.L1 (omega arith)
 needs-met facts bytes p each rule.L10 = each 9 rule.L1 (omega arith)
 needs-met facts bytes p each _ = refl
@@ -140,12 +147,21 @@ module _ (start : Start) (es : List Entry) (opening : Opening) where
   pub has-rights : (p : Packet) → ((r : Rule) → list_all (need_is_met facts) (needs r opening.agent p) ≡ true) → HasItsRights start es opening p
   has-rights p met = record {
     agent = (and_parts (in_force start es opening.client (object.Agent opening.agent) right.Use) true (met rule.L4)).0;
+    launches = kernels p (met rule.L6);
     waits = signals-met right.Wait (dependencies p) (met rule.L9);
     completes = signal-met right.Change (completion_signal p) (met rule.L10);
     reads = (memory p (met rule.L8)).0;
     writes = (memory p (met rule.L8)).1;
   }
     where
+      kernels : (p : Packet) → list_all (need_is_met facts) (kernel_needs p) ≡ true → All (λ kernel. in_force start es opening.client (object.Kernel kernel) right.Launch ≡ true) (kernels_of p)
+      kernels (packet.Kernel d) met =
+          All-cons (λ kernel. in_force start es opening.client (object.Kernel kernel) right.Launch ≡ true) d.kernel_object []
+          (and_parts (in_force start es opening.client (object.Kernel d.kernel_object) right.Launch) true met).0 (All-nil _)
+      kernels (packet.Agent _) met = All-nil _
+      kernels (packet.BarrierAnd _) met = All-nil _
+      kernels (packet.BarrierOr _) met = All-nil _
+
       memory : (p : Packet) → list_all (need_is_met facts) (memory_needs p) ≡ true → All (MayReachRange start es opening.client right.Read) (reads_of p) × All (MayReachRange start es opening.client right.Write) (writes_of p)
       memory (packet.Agent d) met =
           let both = and_parts (list_all (need_is_met facts) (function_needs (function_of d))) _ (sym (list_all-append (need_is_met facts) (function_needs (function_of d)) (range_need right.Write (result_range d))) ∙ met) in
@@ -154,6 +170,21 @@ module _ (start : Start) (es : List Entry) (opening : Opening) where
       memory (packet.Kernel _) met = (All-nil _, All-nil _)
       memory (packet.BarrierAnd _) met = (All-nil _, All-nil _)
       memory (packet.BarrierOr _) met = (All-nil _, All-nil _)
+
+  -- the argument block of a kernel dispatch may be read
+  passes-segments : (o : Option Program) (test : KernelSegments → Bool) → (elim (option_map segments_of o) [ None ↦ false | Some kernel ↦ test kernel ]) ≡ true → test (segments_of (unwrap_or o no_kernel)) ≡ true
+  passes-segments None test met = absurd cc
+  passes-segments (Some kernel) test met = met
+
+  pub arguments-met : (p : Packet) → has_arguments facts p ≡ true → All (MayReachRange start es opening.client right.Read) (argument_ranges start p)
+  arguments-met (packet.Kernel d) met =
+      let passes = λ (kernel : KernelSegments). list_all (need_is_met facts) (range_need right.Read (range_at d.kernarg_address.0 kernel.kernarg)) in
+      one-met right.Read (range_at d.kernarg_address.0 (kernel_of start d).argument_bytes)
+      (passes-segments (numbered start.kernels d.kernel_object.0) passes
+      (sym (ap (λ (o : Option KernelSegments). elim o [ None ↦ false | Some kernel ↦ passes kernel ]) (numbered-map segments_of start.kernels d.kernel_object.0)) ∙ met))
+  arguments-met (packet.Agent _) met = All-nil _
+  arguments-met (packet.BarrierAnd _) met = All-nil _
+  arguments-met (packet.BarrierOr _) met = All-nil _
 
 -- ---- a launch that was owed was granted
 
@@ -183,10 +214,14 @@ launch-granted start es queue id bytes effects owing =
         laid_out = λ are. decoded_is_laid bytes p are found;
         every_rule = each;
         rights = has-rights start es opening p (needs-met (facts_of start es opening) bytes p each);
+        arguments = arguments-met start es opening p (readable (facts_of start es opening) p each);
       };
       effects_are = decided.effects_are;
     }
   where
+    readable : (facts : Facts) (p : Packet) → All (λ r. holds_rule facts bytes p r ≡ true) launch_rules → has_arguments facts p ≡ true
+    readable facts p each = let holds : holds_rule facts bytes p rule.L8 ≡ true = each 7 rule.L1 (omega arith) in (and_parts (has_form facts p rule.L8) _ holds).0
+
     none : {X : Option Rule} (verdict : Option Rule) → X ≡ verdict → outcome.Taken taken.Launched ≡ (elim verdict [ None ↦ outcome.Taken taken.Launched | Some r ↦ outcome.Taken (taken.Denied (error_without_place queue id.0 r)) ]) → X ≡ None
     none None is same = is
     none (Some r) is same = absurd cc

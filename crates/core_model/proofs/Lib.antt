@@ -7,6 +7,7 @@ pub mod Entered
 pub mod Flying
 pub mod Launching
 pub mod Holding
+pub mod Viewing
 pub mod Changes
 pub mod Turns
 pub mod Seeing

@@ -1,9 +1,9 @@
 -- What clients are told and what groups read, with the grants that allow it; and why a packet is denied.
-use Rattle.std.proofs.Common.{◌≡◌, ℕ, ℤ, ◌+◌, ◌^◌, List, [], ◌∷◌, ◌++◌, refl, sym, ◌∙◌, ap, subst, Bool, true, false, Option, Some, None, Ok}
+use Rattle.std.proofs.Common.{◌≡◌, ℕ, ℤ, ◌+◌, ◌^◌, List, [], ◌∷◌, ◌++◌, refl, sym, ◌∙◌, ap, subst, Bool, true, false, Option, Some, None, Ok, ◌⊎◌, inl, inr}
 use Rattle.std.specs.Prelude.{All, nat_le, ◌%◌, find, filter, map, not, ◌&&◌, ◌==◌, if◌then◌else◌}
 use Rattle.std.specs.Int.{w64, to_le_bytes, from_le_bytes}
 use Rattle.std.proofs.lemmas.Bool.{and_parts}
-use Rattle.std.proofs.lemmas.List.Elements.{All-nil, All-cons, All-head}
+use Rattle.std.proofs.lemmas.List.Elements.{All-nil, All-cons, All-head, All-tail, All-filter, All-map}
 use Rattle.aql_packet.specs.declared.ids.Address.{Address}
 use Rattle.aql_packet.specs.declared.ids.SignalHandle.{SignalHandle}
 use Rattle.aql_packet.specs.declared.ids.ClientId.{ClientId}
@@ -33,7 +33,15 @@ use Rattle.core_model.specs.declared.outcome.Taken.TheVariants as taken
 use Rattle.core_model.specs.declared.outcome.Worked.TheVariants as worked
 use Rattle.core_model.specs.declared.flight.InFlight.{InFlight}
 use Rattle.core_model.specs.declared.flight.Progress.{Progress}
-use Rattle.core_model.specs.Flight.{flight_of, in_flight}
+use Rattle.core_model.specs.Flight.{flight_of, in_flight, progress}
+use Rattle.executor.specs.Items.{LentRegion}
+use Rattle.executor.specs.Results.{group_result}
+use Rattle.core_model.specs.Holds.{ObjectRight, packet_rights}
+use Rattle.core_model.specs.View.{Given, given, group_input, held_regions}
+use Rattle.policy.specs.Rights.{has}
+use Rattle.core_model.proofs.Lists.{filter-passes}
+use Rattle.core_model.proofs.Viewing as alike
+use Rattle.core_model.proofs.Viewing.{IsKnown, all-known, may-read}
 use Rattle.core_model.specs.declared.refusal.Refusal.{Refusal}
 use Rattle.core_model.specs.declared.entry.Effect.{Effect}
 use Rattle.core_model.specs.declared.entry.Entry.{Entry}
@@ -46,12 +54,12 @@ use Rattle.core_model.specs.Memory.{memory_from, region_lengths, signals}
 use Rattle.core_model.specs.Queues.{Opening, owner, is_down, next_id}
 use Rattle.core_model.specs.Needs.{function_of}
 use Rattle.core_model.specs.LaunchRules.{Facts, first_failing_rule, holds_rule, launch_rules, cause_to_wait}
-use Rattle.core_model.specs.Work.{number_in_memory, write_of, function_writes, function_result, agent_writes}
-use Rattle.core_model.specs.Owed.{owed, answers, enters, error_without_place, facts_of, is_host_size, owed_group}
+use Rattle.core_model.specs.Work.{groups_of, number_in_memory, write_of, function_writes, function_result, agent_writes}
+use Rattle.core_model.specs.Owed.{owed, answers, enters, error_without_place, facts_of, is_host_size, group_owed, owed_group}
 use Rattle.core_model.specs.Legal.{IsLegal}
 use Rattle.core_model.specs.Queries.{AnswerOrRefusal, refused_unless, answer_some, query_answer, has_some_right, listing, all_objects}
-use Rattle.core_model.specs.Headline.{InFlightSince, IsDenied, IsListed, MayReach, MayReachRange, ranges_read, reads_of}
-use Rattle.core_model.proofs.Entered.{take-decided, run-entered}
+use Rattle.core_model.specs.Headline.{InFlightSince, IsDenied, IsListed, MayReach, MayReachRange, range_of, ranges_read, ranges_seen, reads_of}
+use Rattle.core_model.proofs.Entered.{GroupRan, KernelRan, take-decided, run-entered}
 use Rattle.core_model.proofs.Holding.{flying-since}
 use Rattle.core_model.proofs.Changes.{add-size}
 use Rattle.policy.proofs.RightsLemmas.{has-rights_that}
@@ -96,13 +104,42 @@ denied start es queue id bytes error effects owing =
 
 -- ---- what groups read
 
+all-both : {X : Type 0} (P Q R : X → Type 0) → ((x : X) → P x → Q x → R x) → (xs : List X) → All P xs → All Q xs → All R xs
+all-both P Q R each [] ps qs = All-nil R
+all-both P Q R each (x ∷ xs) ps qs = All-cons R x xs (each x (All-head P x xs ps) (All-head Q x xs qs)) (all-both P Q R each xs (All-tail P x xs ps) (All-tail Q x xs qs))
+
 -- a packet whose group runs is in flight, and may read what its work reads
 pub group-reads : (start : Start) (es : List Entry) (told : Outcome) (effects : List Effect) (queue : QueueId) (id : PacketId) → IsLegal start es → owed start es (RunNext queue id) ≡ enters told effects →
-    (s : InFlightSince start es queue id) × All (MayReachRange start s.launch.before s.launch.opening.client right.Read) (reads_of s.flying.packet)
+    (s : InFlightSince start es queue id) × All (MayReachRange start s.launch.before s.launch.opening.client right.Read) (ranges_seen start (packet_rights start es queue id) s.flying.packet)
 group-reads start es told effects queue id legal owing =
     let ran = run-entered start es told effects queue id owing in
-    let s = (flying-since start es legal queue id ran.flying ran.found).0 in
-    (s, subst (λ p. All (MayReachRange start s.launch.before s.launch.opening.client right.Read) (reads_of p)) s.packet_is s.launch.allowed.rights.reads)
+    let since = flying-since start es legal queue id ran.flying ran.found in
+    let s = since.0 in (
+      s,
+      by_kind start s.launch.before s.launch.opening.client (packet_rights start es queue id) since.2 s.flying.packet
+          (subst (λ p. All (MayReachRange start s.launch.before s.launch.opening.client right.Read) (reads_of p)) s.packet_is s.launch.allowed.rights.reads),
+    )
+  where
+    by_kind : (start : Start) (before : List Entry) (client : ClientId) (hs : List ObjectRight) → All (λ h. in_force start before client h.0 h.1 ≡ true) hs → (p : Packet) →
+        All (MayReachRange start before client right.Read) (reads_of p) → All (MayReachRange start before client right.Read) (ranges_seen start hs p)
+    by_kind start before client hs granted (packet.Agent d) own = own
+    by_kind start before client hs granted (packet.BarrierAnd _) own = own
+    by_kind start before client hs granted (packet.BarrierOr _) own = own
+    by_kind start before client hs granted (packet.Kernel d) own =
+        All-map (MayReachRange start before client right.Read) range_of (filter (λ region. has region.rights right.Read) (held_regions start hs))
+        (all-both (IsKnown start before client hs granted) (λ region. has region.rights right.Read ≡ true) (λ region. MayReachRange start before client right.Read (range_of region))
+        (may-read start before client hs granted) (filter (λ region. has region.rights right.Read) (held_regions start hs))
+        (All-filter (λ region. has region.rights right.Read) (IsKnown start before client hs granted) (held_regions start hs) (all-known start before client hs granted))
+        (filter-passes (λ region. has region.rights right.Read) (held_regions start hs)))
+
+-- what a group of a kernel dispatch comes to is its meaning, on what its packet holds
+pub group-means : (start : Start) (es : List Entry) (told : Outcome) (effects : List Effect) (queue : QueueId) (id : PacketId) (f : InFlight) → owed start es (RunNext queue id) ≡ enters told effects →
+    in_flight start es queue id ≡ Some f → owed_group start es queue id (given start es queue id) f.packet (progress start es queue id) ≡ enters told effects
+group-means start es told effects queue id f owing found =
+    let ran = run-entered start es told effects queue id owing in
+    let both : Some ran.flying ≡ Some f = sym ran.found ∙ found in
+    let same : ran.flying ≡ f = cc in
+    subst (λ (g : InFlight). owed_group start es queue id (given start es queue id) g.packet (progress start es queue id) ≡ enters told effects) same ran.owed_is
 
 -- what a group of an agent dispatch changes is what its dispatch writes
 pub group-effects : (start : Start) (es : List Entry) (told : Outcome) (effects : List Effect) (queue : QueueId) (id : PacketId) (f : InFlight) (d : AgentDispatch) → owed start es (RunNext queue id) ≡ enters told effects →
@@ -111,14 +148,19 @@ group-effects start es told effects queue id f d owing found is =
     let ran = run-entered start es told effects queue id owing in
     let both : Some ran.flying ≡ Some f = sym ran.found ∙ found in
     let same : ran.flying ≡ f = cc in
-    let agents : packet.Agent ran.group.dispatch ≡ packet.Agent d = sym ran.group.is_agent ∙ ap (λ g. g.packet) same ∙ is in
-    let dispatches : ran.group.dispatch ≡ d = cc in
-    ran.group.effects_are ∙ ap (agent_writes start es) dispatches
+    by_kind ran.flying.packet (progress start es queue id) (ap (λ g. g.packet) same ∙ is) ran.group
+  where
+    by_kind : (p : Packet) (so_far : Progress) → p ≡ packet.Agent d → GroupRan start es told effects p so_far ⊎ KernelRan start es told effects queue id (given start es queue id) p so_far → effects ≡ agent_writes start es d
+    by_kind p so_far is (inl group) =
+        let agents : packet.Agent group.dispatch ≡ packet.Agent d = sym group.is_agent ∙ is in
+        let dispatches : group.dispatch ≡ d = cc in
+        group.effects_are ∙ ap (agent_writes start es) dispatches
+    by_kind p so_far is (inr group) = let kinds : packet.Kernel group.dispatch ≡ packet.Agent d = sym group.is_kernel ∙ is in absurd cc
 
 -- the same bytes read, the same bytes written
 module _ (start : Start) (one other : List Entry) where
   abbrev Same : Range → Type 0
-  Same range = memory_from start one range.address.0 range.size ≡ memory_from start other range.address.0 range.size
+  Same range = alike.Same start one other range
 
   -- a function that adds adds to 8 bytes
   abbrev Adds8 : Option AgentFunction → Type 0
@@ -146,11 +188,15 @@ module _ (start : Start) (one other : List Entry) where
       ++ (if d.return_address.0 == 0 then [] else write_of d.return_address.0 (to_le_bytes w64 (same-result (function_of d) (add-size d) all i)))
 
   -- so a group is owed the same
-  pub same-group : (p : Packet) (so_far : Progress) → All Same (reads_of p) → owed_group start one p so_far ≡ owed_group start other p so_far
-  same-group (packet.Agent d) so_far all = ap (λ es. if nat_le 1 so_far.groups_run then answers (outcome.Worked worked.Done) else enters (outcome.Worked (worked.Ran 0 0)) es) (same-agent d all)
-  same-group (packet.Kernel _) so_far all = refl
-  same-group (packet.BarrierAnd _) so_far all = refl
-  same-group (packet.BarrierOr _) so_far all = refl
+  pub same-group : (queue : QueueId) (id : PacketId) (own : Given) (p : Packet) (so_far : Progress) → All Same (ranges_seen start own.held p) →
+      owed_group start one queue id own p so_far ≡ owed_group start other queue id own p so_far
+  same-group queue id own (packet.Agent d) so_far all = ap (λ es. if nat_le 1 so_far.groups_run then answers (outcome.Worked worked.Done) else enters (outcome.Worked (worked.Ran 0 0)) es) (same-agent d all)
+  same-group queue id own (packet.Kernel d) so_far all =
+      ap (λ (seen : List LentRegion). if nat_le (groups_of (packet.Kernel d)) so_far.groups_run then answers (outcome.Worked worked.Done)
+      else group_owed queue id d so_far.groups_run (group_result (record (group_input start one own d so_far.groups_run) { view = seen })))
+      (alike.same-lent start one other (held_regions start own.held) all)
+  same-group queue id own (packet.BarrierAnd _) so_far all = refl
+  same-group queue id own (packet.BarrierOr _) so_far all = refl
 
 -- ---- what clients are told
 

@@ -10,7 +10,7 @@ use Rattle.core_model.specs.declared.refusal.Refusal.{Refusal}
 use Rattle.core_model.specs.declared.refusal.Refusal.TheVariants as refusal
 use Rattle.core_model.specs.History.{History}
 use Rattle.core_model.specs.Owed.{Owed, owed, refuses, answers, enters}
-use Rattle.core_model.specs.Legal.{IsLegal, IsServed, MeetsOrLacks, AreReplies, as_reply, reply_of, due, entry_of, history_after, lacks_room, with_entry, within_room}
+use Rattle.core_model.specs.Legal.{IsLegal, IsServed, MeetsOrLacks, AreReplies, as_reply, reply_of, due, entry_of, history_after, lacks_room, within_room}
 use Rattle.core_model.specs.Queries.{AnswerOrRefusal}
 use Rattle.core_model.specs.Headline.{GoesOn}
 use Rattle.core_model.proofs.Legality.{IsLegal-more}

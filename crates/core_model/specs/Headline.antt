@@ -1,10 +1,11 @@
 -- What a legal history shows: for each thing that it tells, who asked for it and which grant in force allowed it.
-use Rattle.std.specs.Prelude.{ℕ, ℤ, pos, ◌≡◌, ◌<◌, ◌⊎◌, true, false, List, [], ◌∷◌, ◌++◌, length, map, Option, Some, None, All}
+use Rattle.std.specs.Prelude.{ℕ, ℤ, pos, ◌≡◌, ◌<◌, ◌⊎◌, true, false, List, [], ◌∷◌, ◌++◌, length, map, filter, Option, Some, None, All}
 use Rattle.std.specs.List.{Contains, list_any}
 use Rattle.aql_packet.specs.declared.ids.AgentHandle.{AgentHandle}
 use Rattle.aql_packet.specs.declared.ids.ClientId.{ClientId}
 use Rattle.aql_packet.specs.declared.ids.QueueId.{QueueId}
 use Rattle.aql_packet.specs.declared.ids.PacketId.{PacketId}
+use Rattle.aql_packet.specs.declared.ids.KernelObject.{KernelObject}
 use Rattle.aql_packet.specs.declared.ids.SignalHandle.{SignalHandle}
 use Rattle.aql_packet.specs.declared.packet.Packet.{Packet}
 use Rattle.aql_packet.specs.declared.packet.Packet.TheVariants.{Kernel, Agent, BarrierAnd, BarrierOr}
@@ -44,10 +45,12 @@ use Rattle.core_model.specs.Grants.{in_force}
 use Rattle.core_model.specs.Memory.{region_lengths, signals}
 use Rattle.core_model.specs.Queues.{Opening, owner, is_down, next_id}
 use Rattle.core_model.specs.Flight.{flight, flight_of, in_flight, progress, seen_by_either}
-use Rattle.core_model.specs.Needs.{function_of, result_range, dependencies, completion_signal}
+use Rattle.core_model.specs.Kernels.{kernel_of}
+use Rattle.core_model.specs.Needs.{range_at, function_of, result_range, dependencies, completion_signal}
 use Rattle.core_model.specs.LaunchRules.{holds_rule, launch_rules, cause_to_wait, is_barrier}
 use Rattle.core_model.specs.Work.{seen_dependencies, groups_of, is_negative, is_ready, newly_seen_positions}
-use Rattle.core_model.specs.Holds.{packet_rights}
+use Rattle.core_model.specs.Holds.{ObjectRight, arguments, arguments_of, packet_rights, rights_at_launch}
+use Rattle.core_model.specs.View.{HeldRegion, first_address, held_regions}
 use Rattle.core_model.specs.Owed.{signal_decrement, error_without_place, facts_of, is_finished}
 use Rattle.core_model.specs.Legal.{IsLegal, entry_of}
 use Rattle.core_model.specs.Queries.{has_some_right}
@@ -86,14 +89,34 @@ ranges_written (Some (Fill target byte)) = target ∷ []
 ranges_written (Some (Copy source target)) = target ∷ []
 ranges_written (Some (Add64 number addend)) = number ∷ []
 
--- the ranges that a packet's work reads: of an agent dispatch those of its function (own)
+-- the kernels that a packet launches: a kernel dispatch its own
+abbrev pub kernels_of : Packet → List KernelObject
+kernels_of (Kernel dispatch) = dispatch.kernel_object ∷ []
+kernels_of _ = []
+
+-- where the argument block of a kernel dispatch lies; other packets have none (PRM, Kernarg Segment)
+abbrev pub argument_ranges : Start → Packet → List Range
+argument_ranges start (Kernel dispatch) = range_at dispatch.kernarg_address.0 (kernel_of start dispatch).argument_bytes ∷ []
+argument_ranges start _ = []
+
+-- the ranges that the function of a packet's dispatch reads (own)
 abbrev pub reads_of : Packet → List Range
 reads_of (Agent dispatch) = ranges_read (function_of dispatch)
 reads_of (Kernel _) = []
 reads_of (BarrierAnd _) = []
 reads_of (BarrierOr _) = []
 
--- the ranges that a packet's work writes: of an agent dispatch those of its function, and its result (own)
+-- a held region as a range
+abbrev pub range_of : HeldRegion → Range
+range_of region = range_at (first_address region) region.size
+
+-- the ranges that a packet's groups read: a kernel's are lent the regions that it holds with READ, an agent dispatch has those of its
+-- function (own)
+abbrev pub ranges_seen : Start → List ObjectRight → Packet → List Range
+ranges_seen start packet_rights (Kernel dispatch) = map range_of (filter (λ region. has region.rights right.Read) (held_regions start packet_rights))
+ranges_seen start packet_rights p = reads_of p
+
+-- the ranges that the function of a packet's dispatch writes, and its result (own)
 abbrev pub writes_of : Packet → List Range
 writes_of (Agent dispatch) = ranges_written (function_of dispatch) ++ result_range dispatch ∷ []
 writes_of (Kernel _) = []
@@ -103,6 +126,7 @@ writes_of (BarrierOr _) = []
 -- each right that a packet works with is in force for the owner of its queue (own)
 pub record HasItsRights (start : Start) (entries : List Entry) (opening : Opening) (p : Packet) : Type 0 where
   pub agent : in_force start entries opening.client (object.Agent opening.agent) right.Use ≡ true
+  pub launches : All (λ kernel. in_force start entries opening.client (object.Kernel kernel) right.Launch ≡ true) (kernels_of p)
   pub waits : All (MayUseSignal start entries opening.client right.Wait) (dependencies p)
   pub completes : MayUseSignal start entries opening.client right.Change (completion_signal p)
   pub reads : All (MayReachRange start entries opening.client right.Read) (reads_of p)
@@ -111,7 +135,8 @@ pub record HasItsRights (start : Start) (entries : List Entry) (opening : Openin
 -- ---- launches
 
 -- a packet may be launched from these bytes, behind these entries: it is the next of a queue that is open, the bytes lay it out
--- (PSA, Architected Queuing Language), it need not wait, every launch rule holds, and it has its rights by the grants in force (own)
+-- (PSA, Architected Queuing Language), it need not wait, every launch rule holds, and by the grants in force it has its rights and may
+-- read its arguments (own)
 pub record MayBeLaunched (start : Start) (before : List Entry) (queue : QueueId) (id : PacketId) (bytes : List ℕ) (opening : Opening) (packet : Packet) : Type 0 where
   pub owner_is : owner start before queue ≡ Some opening
   pub launches_yet : is_down start before queue ≡ false
@@ -121,6 +146,7 @@ pub record MayBeLaunched (start : Start) (before : List Entry) (queue : QueueId)
   pub laid_out : Are64Bytes bytes → PacketOf bytes packet
   pub every_rule : All (λ rule. holds_rule (facts_of start before opening) bytes packet rule ≡ true) launch_rules
   pub rights : HasItsRights start before opening packet
+  pub arguments : All (MayReachRange start before opening.client right.Read) (argument_ranges start packet)
 
 -- a packet's launch in a history (own)
 pub record Launch (start : Start) (entries : List Entry) (queue : QueueId) (id : PacketId) : Type 0 where
@@ -259,6 +285,9 @@ pub record HoldsInForce (start : Start) (entries : List Entry) (f : InFlight) : 
   pub packet_is : launch.packet ≡ f.packet
   pub owner_is : owner start entries f.queue ≡ Some launch.opening
   pub rights : HasItsRights start entries launch.opening f.packet
+  -- what it holds, and its arguments, are what its launch gave it
+  pub held_is : packet_rights start entries f.queue f.id ≡ rights_at_launch start launch.before launch.opening f.packet
+  pub arguments_are : arguments start entries f.queue f.id ≡ arguments_of start launch.before f.packet
   pub holds : All (λ h. in_force start entries launch.opening.client h.0 h.1 ≡ true) (packet_rights start entries f.queue f.id)
 
 -- ---- queues

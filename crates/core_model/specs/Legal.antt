@@ -10,10 +10,10 @@ use Rattle.core_model.specs.declared.entry.Effect.{Effect}
 use Rattle.core_model.specs.declared.outcome.Outcome.{Outcome}
 use Rattle.core_model.specs.declared.outcome.Outcome.TheVariants as outcomes
 use Rattle.core_model.specs.declared.outcome.Taken.TheVariants.{Launched}
-use Rattle.core_model.specs.declared.answer.Answer.{Answer}
 use Rattle.core_model.specs.declared.answer.Answer.TheVariants as answer
 use Rattle.core_model.specs.declared.refusal.Refusal.{Refusal}
 use Rattle.core_model.specs.declared.refusal.Refusal.TheVariants as refusal
+use Rattle.kernel_check.specs.Programs.{Program}
 use Rattle.policy.specs.Policy.{Declared}
 use Rattle.core_model.specs.History.{Start, History}
 use Rattle.core_model.specs.Flight.{flight, flight_after}
@@ -21,8 +21,8 @@ use Rattle.core_model.specs.Owed.{Owed, refuses, answers, enters, owed}
 use Rattle.core_model.specs.Queries.{AnswerOrRefusal, query_answer}
 
 -- the history of a core that was just opened: no entry yet (own)
-abbrev pub empty_history : Declared → ℕ → History
-empty_history policy capacity = record { start = record { policy = policy }; capacity = capacity; entries = [] }
+abbrev pub empty_history : Declared → List Program → ℕ → History
+empty_history policy kernels capacity = record { start = record { policy = policy; kernels = kernels }; capacity = capacity; entries = [] }
 
 -- the entries follow each other lawfully after those before: each is what its event was owed at that point (own)
 abbrev pub IsLegalAfter : Start → List Entry → List Entry → Type 0

@@ -5,9 +5,11 @@ pub mod Memory
 pub mod Queues
 pub mod Flight
 pub mod Needs
+pub mod Kernels
 pub mod LaunchRules
 pub mod Work
 pub mod Holds
+pub mod View
 pub mod Owed
 pub mod Queries
 pub mod Legal

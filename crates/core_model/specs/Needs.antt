@@ -9,9 +9,9 @@ use Rattle.aql_packet.specs.declared.packet.Packet.TheVariants as packet
 use Rattle.policy.specs.declared.object.Object.{Object}
 use Rattle.policy.specs.declared.object.Object.TheVariants as object
 use Rattle.policy.specs.declared.rights.Right.{Right}
-use Rattle.policy.specs.declared.rights.Right.TheVariants.{Use, Read, Write, Wait, Change}
+use Rattle.policy.specs.declared.rights.Right.TheVariants.{Use, Read, Write, Wait, Change, Launch}
 use Rattle.queue_error.specs.declared.rule.Rule.{Rule}
-use Rattle.queue_error.specs.declared.rule.Rule.TheVariants.{L4, L8, L9, L10}
+use Rattle.queue_error.specs.declared.rule.Rule.TheVariants.{L4, L6, L8, L9, L10}
 use Rattle.regions.specs.Memory.{region_of}
 use Rattle.core_model.specs.declared.need.TheConstants.{FILL, COPY, ADD64}
 use Rattle.core_model.specs.declared.need.Range.{Range}
@@ -74,10 +74,17 @@ abbrev pub memory_needs : Packet → List Need
 memory_needs (packet.Agent d) = function_needs (function_of d) ++ range_need Write (result_range d)
 memory_needs _ = []
 
--- The rights that a launch rule asks of a packet for an agent: L4 the use of the agent, L8 ranges of memory,
--- L9 to wait on dependencies, L10 to change the completion signal; the other rules ask for none (own).
+-- what a packet needs of kernels: a kernel dispatch to launch its own (own)
+abbrev pub kernel_needs : Packet → List Need
+kernel_needs (packet.Kernel d) = record { subject = subject.Object (object.Kernel d.kernel_object); right = Launch } ∷ []
+kernel_needs _ = []
+
+-- The rights that a launch rule asks of a packet for an agent, and that it holds while it is in flight: L4 the use of the agent,
+-- L6 to launch a kernel, L8 ranges of memory, L9 to wait on dependencies, L10 to change the completion signal; the other rules ask
+-- for none (own).
 abbrev pub needs : Rule → AgentHandle → Packet → List Need
 needs L4 agent p = record { subject = subject.Object (object.Agent agent); right = Use } ∷ []
+needs L6 agent p = kernel_needs p
 needs L8 agent p = memory_needs p
 needs L9 agent p = flat_map (signal_need Wait) (dependencies p)
 needs L10 agent p = signal_need Change (completion_signal p)

@@ -1,13 +1,15 @@
 -- What each event is owed: its refusal, or its outcome with the changes that it makes. It is a function of the history alone.
-use Rattle.std.specs.Prelude.{ℕ, ℤ, pos, ◌+◌, ◌==◌, ◌&&◌, Bool, false, nat_le, List, [], ◌∷◌, ◌++◌, length, Option, Some, None, if◌then◌else◌, map, find, option_map}
+use Rattle.std.specs.Prelude.{ℕ, ℤ, pos, ◌+◌, ◌-◌, ◌==◌, ◌&&◌, Bool, false, nat_le, List, [], ◌∷◌, ◌++◌, length, Option, Some, None, if◌then◌else◌, map, find, option_map}
 use Rattle.std.specs.List.{list_any}
 use Rattle.std.specs.Option.{option_map_or}
 use Rattle.aql_packet.specs.declared.ids.QueueId.{QueueId}
 use Rattle.aql_packet.specs.declared.ids.PacketId.{PacketId}
 use Rattle.aql_packet.specs.declared.ids.SignalHandle.{SignalHandle}
+use Rattle.aql_packet.specs.declared.packet.KernelDispatch.{KernelDispatch}
 use Rattle.aql_packet.specs.declared.packet.Packet.{Packet}
 use Rattle.aql_packet.specs.declared.packet.Packet.TheVariants as packet
 use Rattle.aql_packet.specs.Reading.{barrier_bit}
+use Rattle.executor.specs.Results.{GroupResult, broke_rule, group_result, wrote}
 use Rattle.regions.specs.Memory.{is_within, region_of}
 use Rattle.signals.specs.Values.{applied, value_of}
 use Rattle.signals.specs.declared.operation.SignalOp.{SignalOp}
@@ -31,7 +33,7 @@ use Rattle.core_model.specs.declared.outcome.Seen.{Seen}
 use Rattle.core_model.specs.declared.outcome.Outcome.{Outcome}
 use Rattle.core_model.specs.declared.outcome.Outcome.TheVariants as outcome
 use Rattle.core_model.specs.declared.outcome.Taken.TheVariants.{Launched, Denied, Waiting}
-use Rattle.core_model.specs.declared.outcome.Worked.TheVariants.{Ran, Done}
+use Rattle.core_model.specs.declared.outcome.Worked.TheVariants.{Ran, Faulted, Done}
 use Rattle.core_model.specs.declared.outcome.Polled.TheVariants.{Pending, Ready, Failed}
 use Rattle.core_model.specs.declared.refusal.Refusal.{Refusal}
 use Rattle.core_model.specs.declared.refusal.Refusal.TheVariants as refusal
@@ -43,8 +45,10 @@ use Rattle.core_model.specs.Flight.{flight_of, in_flight, none_seen, progress, s
 use Rattle.core_model.specs.declared.limits.TheConstants.{MOST_HOST_BYTES, QUEUES}
 use Rattle.core_model.specs.Needs.{completion_signal}
 use Rattle.core_model.specs.LaunchRules.{Facts, first_failing_rule, cause_to_wait, is_barrier}
-use Rattle.core_model.specs.Work.{agent_writes, groups_of, is_ready, is_negative, newly_seen_positions, seen_dependencies}
+use Rattle.core_model.specs.Work.{agent_writes, groups_of, write_of_run, is_ready, is_negative, newly_seen_positions, seen_dependencies}
 use Rattle.core_model.specs.Holds.{holder}
+use Rattle.core_model.specs.Kernels.{segments_of}
+use Rattle.core_model.specs.View.{Given, given, group_input}
 
 -- What an event is owed (own).
 pub data Owed : Type 0 where
@@ -88,6 +92,7 @@ facts_of start entries opening = record {
   takes = option_map_or (λ takes. takes) (takes_of start.policy opening.agent.0) takes_nothing;
   in_force = in_force start entries opening.client;
   lengths = region_lengths start;
+  kernels = map segments_of start.kernels;
 }
 
 -- a packet's error without a place (own)
@@ -114,14 +119,29 @@ for_packet start entries queue id rest =
     for_some (owner start entries queue) refusal.UnknownQueue (λ opening.
     for_some (in_flight start entries queue id) refusal.NotInFlight (λ f. rest f.packet (progress start entries queue id)))
 
--- the next group of a packet in flight: an agent dispatch has one group, number 0, and never faults (own)
-abbrev pub owed_group : Start → List Entry → Packet → Progress → Owed
-owed_group start entries (packet.Agent dispatch) so_far =
+-- the error of a packet whose group broke a rule: it names the group, the item and the line
+abbrev pub group_error : QueueId → PacketId → ℕ → ℕ → ℕ → Rule → QueueError
+group_error queue id group item line rule =
+    record { queue = queue; packet = id; rule = rule; place = Some (record { group = group; item = item; line = line }) }
+
+-- what a group of a kernel dispatch comes to: it leaves its writes, or it faults, leaves nothing and releases its packet (own)
+abbrev pub group_owed : QueueId → PacketId → KernelDispatch → ℕ → GroupResult → Owed
+group_owed queue id d group (wrote runs) =
+    enters (outcome.Worked (Ran group (groups_of (packet.Kernel d) - (group + 1)))) (map write_of_run runs)
+group_owed queue id d group (broke_rule item line rule) =
+    enters (outcome.Worked (Faulted (group_error queue id group item line rule))) (effect.Release queue id ∷ [])
+
+-- the next group of a packet in flight, in order, by what the packet was given at its launch: a kernel's work-groups are run one at a
+-- time; an agent dispatch has one group, number 0, and never faults
+abbrev pub owed_group : Start → List Entry → QueueId → PacketId → Given → Packet → Progress → Owed
+owed_group start entries queue id own (packet.Agent dispatch) so_far =
     if nat_le 1 so_far.groups_run then answers (outcome.Worked Done)
     else enters (outcome.Worked (Ran 0 0)) (agent_writes start entries dispatch)
-owed_group start entries (packet.Kernel _) so_far = answers (outcome.Worked Done)
-owed_group start entries (packet.BarrierAnd _) so_far = refuses refusal.NotInFlight
-owed_group start entries (packet.BarrierOr _) so_far = refuses refusal.NotInFlight
+owed_group start entries queue id own (packet.Kernel d) so_far =
+    if nat_le (groups_of (packet.Kernel d)) so_far.groups_run then answers (outcome.Worked Done)
+    else group_owed queue id d so_far.groups_run (group_result (group_input start entries own d so_far.groups_run))
+owed_group start entries queue id own (packet.BarrierAnd _) so_far = refuses refusal.NotInFlight
+owed_group start entries queue id own (packet.BarrierOr _) so_far = refuses refusal.NotInFlight
 
 -- the outcome of a poll that sees something new, or nothing new (own)
 abbrev pub owed_sight : Packet → Seen → Seen → Owed
@@ -198,7 +218,7 @@ owed start entries (Stop queue) =
     (enters outcome.Accepted (release_of queue (barrier_in (flight_of start entries queue)))))
 owed start entries (Take queue id bytes) =
     for_some (owner start entries queue) refusal.UnknownQueue (owed_take start entries queue id bytes)
-owed start entries (RunNext queue id) = for_packet start entries queue id (owed_group start entries)
+owed start entries (RunNext queue id) = for_packet start entries queue id (owed_group start entries queue id (given start entries queue id))
 owed start entries (Poll queue id) = for_packet start entries queue id (owed_poll (signals start entries) queue id)
 owed start entries (Finish queue id) = for_packet start entries queue id (owed_finish (signals start entries) queue id)
 owed start entries (HostWrite client address bytes) =

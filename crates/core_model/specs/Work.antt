@@ -8,6 +8,9 @@ use Rattle.aql_packet.specs.declared.ids.SignalHandle.{SignalHandle}
 use Rattle.aql_packet.specs.declared.packet.AgentDispatch.{AgentDispatch}
 use Rattle.aql_packet.specs.declared.packet.Packet.{Packet}
 use Rattle.aql_packet.specs.declared.packet.Packet.TheVariants as packet
+use Rattle.executor.specs.Locations as locations
+use Rattle.executor.specs.Locations.{count_of}
+use Rattle.executor.specs.declared.run.Run.{Run}
 use Rattle.signals.specs.Values.{value_of}
 use Rattle.core_model.specs.declared.entry.Effect.{Effect}
 use Rattle.core_model.specs.declared.entry.Effect.TheVariants.{Write}
@@ -17,6 +20,7 @@ use Rattle.core_model.specs.History.{Start}
 use Rattle.core_model.specs.Memory.{memory_from}
 use Rattle.core_model.specs.declared.need.AgentFunction.{AgentFunction}
 use Rattle.core_model.specs.declared.need.AgentFunction.TheVariants.{Fill, Copy, Add64}
+use Rattle.core_model.specs.Kernels.{grid_size, group_size}
 use Rattle.core_model.specs.Needs.{function_of, dependencies}
 
 -- a change of memory: none for no bytes (own)
@@ -52,10 +56,16 @@ result_writes start entries dispatch =
 abbrev pub agent_writes : Start → List Entry → AgentDispatch → List Effect
 agent_writes start entries dispatch = function_writes start entries (function_of dispatch) ++ result_writes start entries dispatch
 
--- how many groups a packet has: an agent dispatch has one; barrier packets have no work (own)
+-- how many groups a packet has: a kernel dispatch the work-groups of its grid (PRM, Work-Group), an agent dispatch one; barrier
+-- packets have no work (own)
 abbrev pub groups_of : Packet → ℕ
+groups_of (packet.Kernel d) = count_of (locations.groups_of (grid_size d) (group_size d))
 groups_of (packet.Agent _) = 1
 groups_of _ = 0
+
+-- the change of memory that a run of written bytes is
+abbrev pub write_of_run : Run → Effect
+write_of_run run = Write (record { 0 = run.address }) run.bytes
 
 -- a dependency with whether it was seen as 0 before (PSA, Architected Queuing Language: barrier packets)
 abbrev pub SeenDependency : Type 0

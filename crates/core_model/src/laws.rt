@@ -42,14 +42,17 @@ ghost use Rattle.core_model.specs.declared.refusal.Refusal.{Refusal};
 ghost use Rattle.core_model.specs.declared.refusal.Refusal.TheVariants as refusal;
 ghost use Rattle.core_model.specs.History.{Start, History};
 ghost use Rattle.core_model.specs.Grants.{in_force};
-ghost use Rattle.core_model.specs.Memory.{memory_from, signals};
+ghost use Rattle.core_model.specs.Memory.{memory_from, region_lengths, signals};
+ghost use Rattle.regions.specs.Memory.{are_region_lengths};
+ghost use Rattle.core_model.specs.Holds.{packet_rights};
+ghost use Rattle.core_model.specs.View.{Given, given};
 ghost use Rattle.core_model.specs.Queues.{Opening, error_of, next_id};
 ghost use Rattle.core_model.specs.Flight.{LawOfFlight, flight, in_flight, progress};
 ghost use Rattle.core_model.specs.Work.{agent_writes};
-ghost use Rattle.core_model.specs.Owed.{is_host_size, old_if_asked, owed, owed_group, refuses};
+ghost use Rattle.core_model.specs.Owed.{enters, is_host_size, old_if_asked, owed, owed_group, refuses};
 ghost use Rattle.core_model.specs.Legal.{AreReplies, IsLegal, IsServed, MeetsOrLacks, entry_of};
 ghost use Rattle.core_model.specs.Queries.{AnswerOrRefusal, query_answer};
-ghost use Rattle.core_model.specs.Headline.{ChangeIsGranted, GoesOn, HoldsInForce, InFlightSince, IsCompleted, IsDenied, IsEntryBehind, IsListed, IsOpened, IsPolled, Launch, MayBeLaunched, MayReach, MayReachRange, ReleaseIsDue, WriteIsGranted, packet_named, reads_of};
+ghost use Rattle.core_model.specs.Headline.{ChangeIsGranted, GoesOn, HoldsInForce, InFlightSince, IsCompleted, IsDenied, IsEntryBehind, IsListed, IsOpened, IsPolled, Launch, MayBeLaunched, MayReach, MayReachRange, ReleaseIsDue, WriteIsGranted, packet_named, ranges_seen};
 
 /// A launched packet is the next of a queue that is open and need not wait, is laid out by its bytes, and
 /// meets every launch rule by the grants in force just before; its launch has no effect.
@@ -81,9 +84,9 @@ pub fn denials_name_the_first_rule()
 
 /// Each write has bytes, and is a client's own, with WRITE in force on the region in which it lies
 /// whole; or a group's, of a packet in flight that was launched with WRITE in force there for the
-/// owner of its queue.
+/// owner of its queue. The regions are as many and as long as there may be.
 pub fn each_write_was_granted()
-    ensures { (start : Start) (entries before : List Entry) (entry : Entry) →
+    ensures { (start : Start) (entries before : List Entry) (entry : Entry) → are_region_lengths (region_lengths start) ≡ true →
         IsLegal start entries → IsEntryBehind entries before entry → All (WriteIsGranted start before entry.event) entry.effects }
 {}
 
@@ -121,21 +124,25 @@ pub fn each_poll_is_by_the_signals()
 
 /// A packet whose group runs is in flight, and was launched with READ in force, for the owner of its
 /// queue, on all that its work reads; a group of an agent dispatch changes just its function's target and
-/// its result's 8 bytes, as the function says.
+/// its result's 8 bytes, as the function says, and what comes of a kernel's group is its meaning.
 pub fn each_read_of_a_group_was_granted()
     ensures reads { (start : Start) (entries before : List Entry) (queue : QueueId) (id : PacketId) (told : Outcome) (effects : List Effect) →
         IsLegal start entries → IsEntryBehind entries before (entry_of (RunNext queue id) told effects) →
-        (s : InFlightSince start before queue id) × All (MayReachRange start s.launch.before s.launch.opening.client right.Read) (reads_of s.flying.packet) }
+        (s : InFlightSince start before queue id) × All (MayReachRange start s.launch.before s.launch.opening.client right.Read) (ranges_seen start (held start before queue id) s.flying.packet) }
     ensures agents { (start : Start) (entries before : List Entry) (queue : QueueId) (id : PacketId) (told : Outcome) (effects : List Effect) (flying : InFlight) (dispatch : AgentDispatch) →
         IsLegal start entries → IsEntryBehind entries before (entry_of (RunNext queue id) told effects) →
         in_flight start before queue id ≡ Some flying → flying.packet ≡ packet.Agent dispatch → effects ≡ agent_writes start before dispatch }
+    ensures means { (start : Start) (entries before : List Entry) (queue : QueueId) (id : PacketId) (told : Outcome) (effects : List Effect) (flying : InFlight) →
+        IsLegal start entries → IsEntryBehind entries before (entry_of (RunNext queue id) told effects) →
+        in_flight start before queue id ≡ Some flying → owed_group start before queue id (given start before queue id) flying.packet (progress start before queue id) ≡ enters told effects }
 {}
 
-/// What a group is owed depends on memory by the ranges that its packet's work reads alone.
+/// What a group is owed depends, beside what its packet was given at its launch, on memory alone, by the
+/// ranges that its packet's work reads.
 pub fn groups_depend_on_what_they_read()
-    ensures { (start : Start) (one other : List Entry) (p : Packet) (so_far : Progress) →
-        All (λ range. memory_from start one range.address.0 range.size ≡ memory_from start other range.address.0 range.size) (reads_of p) →
-        owed_group start one p so_far ≡ owed_group start other p so_far }
+    ensures { (start : Start) (one other : List Entry) (queue : QueueId) (id : PacketId) (own : Given) (p : Packet) (so_far : Progress) →
+        All (λ range. memory_from start one range.address.0 range.size ≡ memory_from start other range.address.0 range.size) (ranges_seen start own.held p) →
+        owed_group start one queue id own p so_far ≡ owed_group start other queue id own p so_far }
 {}
 
 /// An error names the packet that its event concerns; a packet that faults is released, and its fault

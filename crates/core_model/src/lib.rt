@@ -7,6 +7,7 @@ mod effects;
 mod entry;
 mod event;
 mod flight;
+mod kernel;
 mod laws;
 mod limits;
 mod need;
@@ -18,6 +19,7 @@ pub use effects::Effects;
 pub use entry::{Effect, Entry};
 pub use event::{Event, Query, Request};
 pub use flight::{InFlight, Progress};
+pub use kernel::KernelSegments;
 pub use laws::{
     calls_without_their_right_are_denied, denials_name_the_first_rule,
     each_completion_comes_after_the_work, each_grant_is_allowed, each_host_call_was_granted,
@@ -28,7 +30,9 @@ pub use laws::{
     faults_release_alone, groups_depend_on_what_they_read, held_rights_are_in_force, law_of_flight,
     refusals_change_nothing, serving_keeps_a_history_legal,
 };
-pub use limits::{MOST_ENTRIES, MOST_HOST_BYTES, QUEUES, SLOTS};
+pub use limits::{
+    MOST_ENTRIES, MOST_GROUP_ITEMS, MOST_HOST_BYTES, MOST_SEGMENT_BYTES, QUEUES, SLOTS,
+};
 pub use need::{ADD64, AgentFunction, COPY, FILL, Need, Range, Subject};
 pub use outcome::{Cause, Outcome, Polled, Seen, Taken, Worked};
 pub use refusal::Refusal;

@@ -12,3 +12,9 @@ pub const MOST_HOST_BYTES: u64 = 65_536;
 
 /// How many entries an audit has place for at the most.
 pub const MOST_ENTRIES: usize = 1 << 20;
+
+/// How many work-items a work-group has at the most.
+pub const MOST_GROUP_ITEMS: u64 = 1_024;
+
+/// How many bytes a group segment, and a private segment, has at the most.
+pub const MOST_SEGMENT_BYTES: u32 = 65_536;

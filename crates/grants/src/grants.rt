@@ -2,12 +2,12 @@
 
 ghost use Rattle.std.specs.Prelude.{◌≡◌, ◌+◌, ◌<◌, ◌≤◌, ◌++◌, ◌∷◌, [], true, IfOk, OnOk, OnErr, Ok, length};
 ghost use Rattle.policy.specs.declared.rights.Right.{Right};
-ghost use Rattle.policy.specs.Rights.{has, each_right};
+ghost use Rattle.policy.specs.Rights.{has, each_right, rights_that};
 ghost use Rattle.grants.specs.Rules.{rules_of, objects_of};
 
 use crate::cells::Cells;
 use crate::counting::{put_holds, uncount_packet};
-use crate::hold::{Hold, drop_holds, first_holder};
+use crate::hold::{Hold, drop_holds, first_holder, is_held};
 use crate::refusal::Refusal;
 use crate::sets::known;
 use aql_packet::{ClientId, PacketId, QueueId};
@@ -43,7 +43,7 @@ impl Model for Grants {
 }
 
 impl Grants {
-    ghost use Rattle.grants.specs.Ledger.{IsNew, Gives, Takes, Holds, Releases, RevokeAnswers, rules_in, in_force, grant_due, rights_on, are_in_force, listing, listing_by};
+    ghost use Rattle.grants.specs.Ledger.{IsNew, Gives, Takes, Holds, Releases, RevokeAnswers, rules_in, in_force, holds, grant_due, rights_on, are_in_force, listing, listing_by};
 
     /// No right is in force yet, and no packet holds one.
     pub fn new(alloc: Global, policy: &Policy) -> Result<Grants, AllocError>
@@ -246,6 +246,27 @@ impl Grants {
     {
         uncount_packet(&mut self.table, self.holds.as_slice(), queue, packet);
         drop_holds(&mut self.holds, queue, packet);
+    }
+
+    /// The rights on an object that a packet holds, of a queue of a client.
+    pub fn rights_held(
+        &self,
+        queue: QueueId,
+        packet: PacketId,
+        client: ClientId,
+        object: Object,
+    ) -> Rights
+        ensures { result ≡ rights_that (holds self.now queue packet client object) }
+    {
+        let holds = self.holds.as_slice();
+        Rights::from_each(
+            is_held(holds, queue, packet, client, object, Right::Use),
+            is_held(holds, queue, packet, client, object, Right::Read),
+            is_held(holds, queue, packet, client, object, Right::Write),
+            is_held(holds, queue, packet, client, object, Right::Wait),
+            is_held(holds, queue, packet, client, object, Right::Change),
+            is_held(holds, queue, packet, client, object, Right::Launch),
+        )
     }
 
     /// The objects on which a client has a right, with its rights: agents, regions, signals, kernels,

@@ -3,7 +3,7 @@
 ghost use Rattle.std.specs.Prelude.{◌≡◌, ◌≤◌, ◌⊎◌, ◌&&◌, not, filter, vec_len, vec_capacity};
 ghost use Rattle.grants.specs.Pairs.{same_pair};
 ghost use Rattle.grants.specs.Holders.{IsUpTo, IsFirstTo};
-ghost use Rattle.grants.specs.Holds.{is_of, meet, holds_one};
+ghost use Rattle.grants.specs.Holds.{held, holds_one, is_of, is_on, meet};
 
 use aql_packet::{ClientId, PacketId, QueueId};
 use policy::{Object, Right, Rights};
@@ -31,6 +31,16 @@ impl Hold {
         self.queue == queue && self.packet == packet
     }
 
+    // Whether it is the packet's, on the client's object.
+    fn is_on(&self, queue: QueueId, packet: PacketId, client: ClientId, object: Object) -> bool
+        ensures { result ≡ is_on queue packet client object self.now }
+    {
+        queue == self.queue
+            && packet == self.packet
+            && client == self.client
+            && object == self.object
+    }
+
     // Whether it is on one of the client's rights on the object.
     fn blocks(&self, client: ClientId, object: Object, rights: Rights) -> bool
         ensures { result ≡ (same_pair client object self.now.client self.now.object && meet rights self.now.rights) }
@@ -46,6 +56,20 @@ fn meet(a: Rights, b: Rights) -> bool
     Right::ALL
         .iter()
         .any(|right| a.has(*right) && b.has(*right))
+}
+
+/// Whether a packet holds a client's right on an object.
+pub fn is_held(
+    holds: &[Hold],
+    queue: QueueId,
+    packet: PacketId,
+    client: ClientId,
+    object: Object,
+    right: Right,
+) -> bool
+    ensures { result ≡ held holds.now queue packet client object right }
+{
+    holds.iter().any(|hold| hold.is_on(queue, packet, client, object) && hold.rights.has(right))
 }
 
 /// Takes a packet's holds out of the list.

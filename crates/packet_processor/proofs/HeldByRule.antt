@@ -7,11 +7,11 @@ use Rattle.std.proofs.lemmas.List.Folds.{list_all-append}
 use Rattle.aql_packet.specs.declared.packet.Packet.{Packet}
 use Rattle.policy.specs.declared.object.Object.{Object}
 use Rattle.policy.specs.declared.rights.Rights.{Rights}
-use Rattle.queue_error.specs.declared.rule.Rule.TheVariants.{L4, L8, L9, L10}
+use Rattle.queue_error.specs.declared.rule.Rule.TheVariants.{L4, L6, L8, L9, L10}
 use Rattle.core_model.specs.declared.need.Need.{Need}
 use Rattle.core_model.specs.Queues.{Opening}
 use Rattle.core_model.specs.Needs.{needs}
-use Rattle.core_model.specs.Holds.{ObjectRight, right_needed, rights_at_launch}
+use Rattle.core_model.specs.Holds.{ObjectRight, right_needed, held_by_needs}
 use Rattle.packet_processor.specs.Holding.{as_rights}
 
 -- a test of what is there among some options is a test of each
@@ -27,20 +27,22 @@ rights_map : (ns : List Need) (rest : List ObjectRight) → map as_rights (map r
 rights_map [] rest = refl
 rights_map (n ∷ ns) rest = ap (λ xs. as_rights (right_needed n) ∷ xs) (rights_map ns rest)
 
--- what the four rules that ask for rights have a packet hold, put behind each other, is all that it holds
-pub held_by_rule : (opening : Opening) (p : Packet) (none a b c d : List (Object × Rights)) → none ≡ []
-    → a ≡ none ++ rights_of (needs L4 opening.agent p) → b ≡ a ++ rights_of (needs L8 opening.agent p)
+-- what the five rules that ask for rights have a packet hold, put behind each other, is all that it holds
+pub held_by_rule : (opening : Opening) (p : Packet) (none a k b c d : List (Object × Rights)) → none ≡ []
+    → a ≡ none ++ rights_of (needs L4 opening.agent p) → k ≡ a ++ rights_of (needs L6 opening.agent p) → b ≡ k ++ rights_of (needs L8 opening.agent p)
     → c ≡ b ++ rights_of (needs L9 opening.agent p) → d ≡ c ++ rights_of (needs L10 opening.agent p)
-    → d ≡ map as_rights (rights_at_launch opening p)
-held_by_rule opening p none a b c d empty first second third fourth =
+    → d ≡ map as_rights (held_by_needs opening p)
+held_by_rule opening p none a k b c d empty first kernel second third fourth =
+    let l6 : List Need = needs L6 opening.agent p in
     let l8 : List Need = needs L8 opening.agent p in
     let l9 : List Need = needs L9 opening.agent p in
     let l10 : List Need = needs L10 opening.agent p in
     let one = rights_of (needs L4 opening.agent p) in
-    let joined : d ≡ ((one ++ rights_of l8) ++ rights_of l9) ++ rights_of l10 = rw (fourth, third, second, first, empty) refl in
-    let turned : ((one ++ rights_of l8) ++ rights_of l9) ++ rights_of l10 ≡ one ++ (rights_of l8 ++ (rights_of l9 ++ rights_of l10)) = simp append_assoc in
+    let joined : d ≡ (((one ++ rights_of l6) ++ rights_of l8) ++ rights_of l9) ++ rights_of l10 = rw (fourth, third, second, kernel, first, empty) refl in
+    let turned : (((one ++ rights_of l6) ++ rights_of l8) ++ rights_of l9) ++ rights_of l10 ≡ one ++ (rights_of l6 ++ (rights_of l8 ++ (rights_of l9 ++ rights_of l10))) = simp append_assoc in
     let ended : rights_of l10 ≡ map as_rights (map right_needed l10 ++ []) = sym (rights_map l10 [] ∙ append-nil (rights_of l10)) in
     joined ∙ turned
-    ∙ ap (λ rest. one ++ (rights_of l8 ++ (rights_of l9 ++ rest))) ended
-    ∙ ap (λ rest. one ++ (rights_of l8 ++ rest)) (sym (rights_map l9 (map right_needed l10 ++ [])))
-    ∙ ap (λ rest. one ++ rest) (sym (rights_map l8 (map right_needed l9 ++ (map right_needed l10 ++ []))))
+    ∙ ap (λ rest. one ++ (rights_of l6 ++ (rights_of l8 ++ (rights_of l9 ++ rest)))) ended
+    ∙ ap (λ rest. one ++ (rights_of l6 ++ (rights_of l8 ++ rest))) (sym (rights_map l9 (map right_needed l10 ++ [])))
+    ∙ ap (λ rest. one ++ (rights_of l6 ++ rest)) (sym (rights_map l8 (map right_needed l9 ++ (map right_needed l10 ++ []))))
+    ∙ ap (λ rest. one ++ rest) (sym (rights_map l6 (map right_needed l8 ++ (map right_needed l9 ++ (map right_needed l10 ++ [])))))

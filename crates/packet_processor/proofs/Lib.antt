@@ -2,3 +2,4 @@ pub mod FirstFailing
 pub mod HeldByRule
 pub mod QueueingLemmas
 pub mod PlaceLemmas
+mod HeldByPointer

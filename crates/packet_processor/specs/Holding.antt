@@ -1,5 +1,7 @@
 -- What a packet holds, as sets of rights on objects.
+use Rattle.std.specs.Prelude.{Bool, List, filter, map}
 use Rattle.policy.specs.declared.object.Object.{Object}
+use Rattle.policy.specs.declared.rights.Right.{Right}
 use Rattle.policy.specs.declared.rights.Rights.{Rights}
 use Rattle.policy.specs.Rights.{bit_of}
 use Rattle.core_model.specs.Holds.{ObjectRight}
@@ -7,3 +9,7 @@ use Rattle.core_model.specs.Holds.{ObjectRight}
 -- the set of a right that is held
 abbrev pub as_rights : ObjectRight → Object × Rights
 as_rights h = (h.0, record { 0 = bit_of h.1 })
+
+-- those of some rights on an object that pass a test, each as a set
+abbrev pub among : (Right → Bool) → Object → List Right → List (Object × Rights)
+among test on rights = map as_rights (map (λ right. (on, right)) (filter test rights))

@@ -18,6 +18,7 @@ facts_seen lent = record {
   takes = lent.takes;
   in_force = in_force lent.grants.now lent.client;
   lengths = lengths_of lent.regions.now;
+  kernels = lent.kernels.now;
 }
 
 -- the rules that look at a packet's fields, in the order in which they are tried

@@ -1,6 +1,7 @@
 //! What a packet is judged by, and the verdict.
 
 use aql_packet::{AgentHandle, ClientId, Packet};
+use core_model::KernelSegments;
 use grants::Grants;
 use policy::Takes;
 use queue_error::Rule;
@@ -25,6 +26,8 @@ pub struct Facts<'a> {
     pub grants: &'a Grants,
     /// The memory, for its regions' lengths.
     pub regions: &'a Regions,
+    /// The segments of the kernels, in order.
+    pub kernels: &'a [KernelSegments],
 }
 
 /// What is found of 64 bytes that are to be launched.

@@ -8,6 +8,7 @@ ghost use Rattle.regions.specs.Memory.{lengths_of};
 ghost use Rattle.packet_processor.specs.Judged.{facts_seen, later_failing, Judges};
 
 use crate::facts::{Facts, Verdict};
+use crate::kernels::{has_arguments, has_segments, has_sizes};
 use crate::need_table::{Needs, function_of, needs};
 use aql_packet::{Packet, decode};
 use core_model::{Need, Subject};
@@ -57,33 +58,36 @@ fn meets_rule(facts: &Facts, packet: &Packet, rule: Rule) -> bool
     has_form(facts, packet, rule) && are_met(facts, &needs(rule, facts.agent, packet))
 }
 
-// Whether a packet's fields are as a rule asks, beside the rights that it needs.
+// Whether a packet is as a rule asks, beside the rights that it then holds.
 fn has_form(facts: &Facts, packet: &Packet, rule: Rule) -> bool
     ensures { result ≡ rules.has_form (facts_seen facts.now) packet.now rule }
 {
     match rule {
         Rule::L4 => agent_takes_kind(facts.takes, packet),
-        Rule::L5 => names_known_function(packet),
+        Rule::L5 => asks_for_known_work(packet),
+        Rule::L7 => has_segments(facts, packet),
+        Rule::L8 => has_arguments(facts, packet),
         _ => true,
     }
 }
 
-// Whether an agent takes a packet of this kind: no agent takes kernel dispatches yet.
+// Whether an agent takes a packet of this kind.
 fn agent_takes_kind(takes: Takes, packet: &Packet) -> bool
     ensures { result ≡ rules.agent_takes_kind takes packet.now }
 {
     match packet {
-        Packet::Kernel(_) => false,
+        Packet::Kernel(_) => takes.kernel,
         Packet::Agent(_) => takes.agent,
         _ => true,
     }
 }
 
-// Whether an agent dispatch names a function that agents have.
-fn names_known_function(packet: &Packet) -> bool
-    ensures { result ≡ rules.names_known_function packet.now }
+// Whether what a dispatch asks for can be done.
+fn asks_for_known_work(packet: &Packet) -> bool
+    ensures { result ≡ rules.asks_for_known_work packet.now }
 {
     match packet {
+        Packet::Kernel(dispatch) => has_sizes(dispatch),
         Packet::Agent(dispatch) => function_of(dispatch).is_some(),
         _ => true,
     }
@@ -97,7 +101,7 @@ fn are_met(facts: &Facts, needs: &Needs) -> bool
 }
 
 // Whether a right is in force, if one is needed.
-fn is_met_or_none(facts: &Facts, need: &Option<Need>) -> bool
+pub(crate) fn is_met_or_none(facts: &Facts, need: &Option<Need>) -> bool
     ensures { result ≡ list_all (rules.need_is_met (facts_seen facts.now)) (option_to_list need.now) }
 {
     match need {

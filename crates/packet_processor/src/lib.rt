@@ -7,13 +7,14 @@
 mod facts;
 mod holding;
 mod judging;
+mod kernels;
 mod need_table;
 mod packets;
 mod places;
 mod queue_state;
 
 pub use facts::{Facts, TAKES_NOTHING, Verdict};
-pub use holding::held;
+pub use holding::{held_by_arguments, held_by_needs};
 pub use judging::verdict;
 pub use need_table::{Needs, function_of, needs, result_range};
 pub use packets::{completion_signal, is_barrier, is_ready};

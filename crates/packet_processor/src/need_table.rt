@@ -5,7 +5,7 @@ ghost use Rattle.std.specs.List.{flat_map};
 ghost use Rattle.core_model.specs.Needs as model;
 
 use crate::packets::completion_signal;
-use aql_packet::{Address, AgentDispatch, AgentHandle, Packet, SignalHandle};
+use aql_packet::{Address, AgentDispatch, AgentHandle, KernelDispatch, Packet, SignalHandle};
 use core_model::{ADD64, AgentFunction, COPY, FILL, Need, Range, Subject};
 use policy::{Object, Right};
 use queue_error::Rule;
@@ -45,12 +45,14 @@ pub fn result_range(dispatch: &AgentDispatch) -> Range
 }
 
 /// The rights that a launch rule asks of a packet for an agent, and on what: L4 the use of the agent,
-/// L8 ranges of memory, L9 to wait on dependencies, L10 to change the completion signal (own).
+/// L6 to launch a kernel, L8 ranges of memory, L9 to wait on dependencies, L10 to change the completion
+/// signal (own).
 pub fn needs(rule: Rule, agent: AgentHandle, packet: &Packet) -> Needs
     ensures { flat_map option_to_list result ≡ model.needs rule agent packet.now }
 {
     match rule {
         Rule::L4 => one(on_object(Object::Agent(agent), Right::Use)),
+        Rule::L6 => kernel_needs(packet),
         Rule::L8 => memory_needs(packet),
         Rule::L9 => wait_needs(packet),
         Rule::L10 => one(on_signal(completion_signal(packet), Right::Change)),
@@ -63,6 +65,30 @@ fn one(need: Option<Need>) -> Needs
     ensures { flat_map option_to_list result ≡ option_to_list need }
 {
     [need, None, None, None, None]
+}
+
+// What a packet needs of kernels: a kernel dispatch to launch its own.
+fn kernel_needs(packet: &Packet) -> Needs
+    ensures { flat_map option_to_list result ≡ model.kernel_needs packet.now }
+{
+    match packet {
+        Packet::Kernel(dispatch) => one(on_object(
+            Object::Kernel(dispatch.kernel_object),
+            Right::Launch,
+        )),
+        _ => [None; 5],
+    }
+}
+
+/// What a kernel dispatch needs of its argument block: to read it, unless it is empty (PRM, Kernarg
+/// Segment; that it is read by a right is own).
+pub(crate) fn argument_need(dispatch: &KernelDispatch, size: u32) -> Option<Need>
+    ensures { option_to_list result ≡ model.range_need Right.Read (model.range_at dispatch.now.kernarg_address.0 size) }
+{
+    on_range(
+        range_at(dispatch.kernarg_address.0, size as u64),
+        Right::Read,
+    )
 }
 
 // What a packet needs of memory.

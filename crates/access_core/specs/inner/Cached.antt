@@ -15,17 +15,21 @@ use Rattle.core_model.specs.Grants.{in_force}
 use Rattle.core_model.specs.Memory.{memory_at, signals, region_lengths}
 use Rattle.core_model.specs.Queues.{openings, owner}
 use Rattle.core_model.specs.Flight.{flight}
+use Rattle.core_model.specs.Holds.{arguments, packet_rights}
+use Rattle.core_model.specs.Kernels.{segments_of}
 use Rattle.core_model.specs.Legal.{IsLegal}
 use Rattle.access_core.specs.declared.access.AccessCore.TheInside.{Inside}
 use Rattle.grants.specs.Ledger as ledger
 use Rattle.grants.specs.Rules.{rules_of}
+use Rattle.access_core.specs.ArgumentBlocks.{block_of}
+use Rattle.access_core.specs.Opening.{has_entry, program_of}
 use Rattle.access_core.specs.inner.Held.{packet_holds}
 pub use Rattle.access_core.specs.inner.CachedQueue.{IsSound, cached, cached_opening, queue_at}
 use Rattle.access_core.specs.inner.LiesInRegions.{lies_in_regions}
 
 -- what the history begins from
 abbrev pub start_of : Inside → Start
-start_of a = record { policy = a.policy }
+start_of a = record { policy = a.policy; kernels = map program_of a.kernels.items }
 
 -- the history that the fields tell
 abbrev pub history_of : Inside → History
@@ -47,8 +51,13 @@ pub record IsCached (a : Inside) : Type 0 where
   -- what the policy declares and allows
   pub rules : ledger.rules_in a.grants ≡ rules_of a.policy
   -- the rights that packets in flight hold
-  pub held : (queue : QueueId) (id : PacketId) (client : ClientId) (on : Object) (right : Right)
-      → ledger.holds a.grants queue id client on right ≡ packet_holds (owner (start_of a) a.audit.items) (flight (start_of a) a.audit.items) queue id client on right
+  pub packet_rights : (queue : QueueId) (id : PacketId) (client : ClientId) (on : Object) (right : Right)
+      → ledger.holds a.grants queue id client on right ≡ packet_holds (owner (start_of a) a.audit.items) (packet_rights (start_of a) a.audit.items) (flight (start_of a) a.audit.items) queue id client on right
+  -- the argument blocks of packets in flight
+  pub arguments : All (λ f. block_of a.blocks f.queue f.id ≡ arguments (start_of a) a.audit.items f.queue f.id) (flight (start_of a) a.audit.items)
+  -- each kernel is one of its checked kernels, and has these segments
+  pub entries : All (λ kernel. has_entry kernel ≡ true) a.kernels.items
+  pub segments : a.segments ≡ map segments_of (map program_of a.kernels.items)
   -- the regions' lengths, and each byte in them
   pub lengths : lengths_of a.memory ≡ region_lengths (start_of a)
   pub memory : (x : ℕ) → lies_in_region (region_lengths (start_of a)) x ≡ true → byte_at a.memory x ≡ Some (memory_at (start_of a) a.audit.items x)

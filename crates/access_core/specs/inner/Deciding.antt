@@ -18,6 +18,9 @@ use Rattle.std.specs.List.{list_all}
 use Rattle.aql_packet.specs.declared.packet.Packet.{Packet}
 use Rattle.core_model.specs.Grants.{in_force}
 use Rattle.core_model.specs.Holds.{rights_at_launch}
+use Rattle.core_model.specs.Kernels.{kernel_of}
+use Rattle.aql_packet.specs.declared.packet.Packet.TheVariants as packet
+use Rattle.access_core.specs.inner.InPlace.{IsPlaced}
 use Rattle.access_core.specs.declared.access.taking.Launching.{Launching}
 use Rattle.access_core.specs.declared.access.taking.Decision.{Decision}
 use Rattle.access_core.specs.declared.access.taking.Decision.TheVariants.{Wait, Deny, Launch}
@@ -37,9 +40,14 @@ TakesNext history queue =
 abbrev pub opening_of : Launching → Opening
 opening_of launching = record { client = launching.client; agent = launching.agent }
 
+-- the argument block of a packet has its place in memory: it is empty, or lies whole in one region; only kernel dispatches have one
+abbrev pub IsBlockPlaced : History → Packet → Type 0
+IsBlockPlaced history (packet.Kernel d) = IsPlaced history d.kernarg_address.0 (kernel_of history.start d).argument_bytes
+IsBlockPlaced history _ = Unit {0}
+
 -- all that a packet will hold is in force for the client
 abbrev pub MayHold : History → Opening → Packet → Type 0
-MayHold history opening p = list_all (λ h. in_force history.start history.entries opening.client h.0 h.1) (rights_at_launch opening p) ≡ true
+MayHold history opening p = list_all (λ h. in_force history.start history.entries opening.client h.0 h.1) (rights_at_launch history.start history.entries opening p) ≡ true
 
 -- what is due to the packet is what was decided; a packet that is launched is the one that the bytes lay out, has all its ranges
 -- within regions, and may hold what it needs

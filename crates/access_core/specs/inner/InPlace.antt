@@ -3,26 +3,22 @@ use Rattle.std.specs.Prelude.{◌≡◌, ℕ, ℤ, ◌+◌, ◌==◌, ◌||◌, 
 use Rattle.aql_packet.specs.declared.ids.QueueId.{QueueId}
 use Rattle.aql_packet.specs.declared.ids.PacketId.{PacketId}
 use Rattle.aql_packet.specs.declared.packet.Packet.{Packet}
-use Rattle.aql_packet.specs.declared.packet.Packet.TheVariants as packet
 use Rattle.regions.specs.Memory.{byte_at, is_within}
 use Rattle.core_model.specs.declared.entry.Effect.{Effect}
 use Rattle.core_model.specs.declared.entry.Effect.TheVariants as effect
-use Rattle.core_model.specs.declared.entry.Entry.{Entry}
 use Rattle.core_model.specs.declared.flight.InFlight.{InFlight}
 use Rattle.core_model.specs.declared.flight.Progress.{Progress}
 use Rattle.core_model.specs.declared.outcome.Outcome.TheVariants as outcome
-use Rattle.core_model.specs.declared.outcome.Worked.TheVariants.{Ran, Done}
 use Rattle.core_model.specs.declared.refusal.Refusal.{Refusal}
-use Rattle.core_model.specs.History.{Start, History}
+use Rattle.core_model.specs.History.{History}
+use Rattle.aql_packet.specs.declared.packet.Packet.TheVariants as packet
+use Rattle.core_model.specs.LaunchRules.{has_sizes}
 use Rattle.core_model.specs.Needs.{completion_signal}
 use Rattle.core_model.specs.Queues.{Opening, owner}
 use Rattle.core_model.specs.Flight.{in_flight, progress}
 use Rattle.core_model.specs.Memory.{byte_after, region_lengths, signals}
-use Rattle.core_model.specs.Work.{agent_writes}
-use Rattle.core_model.specs.Owed.{Owed, refuses, answers, enters, signal_decrement, for_packet}
+use Rattle.core_model.specs.Owed.{Owed, refuses, enters, signal_decrement, for_packet}
 use Rattle.packet_processor.specs.declared.places.Place.{Place}
-use Rattle.access_core.specs.declared.access.running.Group.{Group}
-use Rattle.access_core.specs.inner.LiesInRegions.{lies_in_regions}
 
 -- a packet of an open queue is in flight, and this is its place
 pub record IsInPlace (history : History) (queue : QueueId) (id : PacketId) (place : Place) : Type 0 where
@@ -32,6 +28,11 @@ pub record IsInPlace (history : History) (queue : QueueId) (id : PacketId) (plac
   pub found : in_flight history.start history.entries queue id ≡ Some flying
   pub packet_is : flying.packet ≡ place.packet
   pub progress_is : progress history.start history.entries queue id ≡ place.progress
+
+-- a kernel dispatch has sizes that may be
+abbrev pub IsSized : Packet → Type 0
+IsSized (packet.Kernel d) = has_sizes d ≡ true
+IsSized _ = Unit {0}
 
 -- a call about this packet is refused, whatever it asks
 abbrev pub RefusedAt : History → QueueId → PacketId → Refusal → Type 0
@@ -44,23 +45,6 @@ completion_of values queue id p = signal_decrement values (completion_signal p) 
 -- what the completion of a packet whose work is done is owed
 abbrev pub finish_owed : History → QueueId → PacketId → Packet → Owed
 finish_owed history queue id p = enters outcome.Accepted (completion_of (signals history.start history.entries) queue id p)
-
--- what the next group is owed: the writes of its agent dispatch, or where there is none, that all groups ran (own)
-abbrev pub run_owed : Start → List Entry → Option Group → Owed
-run_owed start entries (Some group) = enters (outcome.Worked (Ran 0 0)) (agent_writes start entries group.dispatch)
-run_owed start entries None = answers (outcome.Worked Done)
-
--- the group of a place's packet, after which one more of its groups has run
-pub record IsGroupOf (place : Place) (group : Group) : Type 0 where
-  pub packet_is : place.packet ≡ packet.Agent group.dispatch
-  pub after_is : group.after ≡ record { groups_run = place.progress.groups_run + 1; satisfied = place.progress.satisfied }
-
--- a packet in flight has this group next, and its dispatch has all its ranges within regions
-pub record IsNextGroup (history : History) (queue : QueueId) (id : PacketId) (group : Group) : Type 0 where
-  pub place : Place
-  pub in_place : IsInPlace history queue id place
-  pub is_next : IsGroupOf place group
-  pub within : lies_in_regions (region_lengths history.start) (packet.Agent group.dispatch) ≡ true
 
 -- whether bytes have their place in memory: there are none, or they lie whole in one region
 abbrev pub is_placed : List ℕ → ℕ → ℕ → Bool

@@ -9,8 +9,10 @@ ghost use Rattle.core_model.specs.Memory.{signals};
 ghost use Rattle.access_core.specs.inner.CachedQueue.{IsQueue};
 
 use crate::access::AccessCore;
+use crate::kernel::kernel_named;
 use crate::queue::Queue;
-use aql_packet::{ClientId, QueueId, SignalHandle};
+use aql_packet::{ClientId, KernelDispatch, QueueId, SignalHandle};
+use kernel_check::Program;
 use policy::{Object, Right};
 
 impl AccessCore {
@@ -26,6 +28,13 @@ impl AccessCore {
         ensures { result ≡ value_of (signals self.now.start self.now.entries) signal.0 }
     {
         self.signals.load(signal).ok()
+    }
+
+    // The kernel that a dispatch names, if there is one of its number.
+    pub(crate) fn kernel(&self, dispatch: &KernelDispatch) -> Option<&Program>
+        ensures { option_copied result ≡ numbered self.now.start.kernels dispatch.now.kernel_object.0 }
+    {
+        Some(kernel_named(self.kernels.as_slice(), dispatch.kernel_object)?.program())
     }
 
     // What is kept of a queue, if it was opened.

@@ -1,14 +1,17 @@
 //! A core is opened.
 
-ghost use Rattle.std.specs.Prelude.{◌≡◌, ◌+◌, ◌<◌, IfOk, IsTrue, Some, length, true};
+ghost use Rattle.std.specs.Prelude.{◌≡◌, ◌+◌, ◌<◌, All, IfOk, IfSome, IsTrue, Some, length, map, true};
 ghost use Rattle.policy.specs.Policy.{initial_of, length_of};
 ghost use Rattle.regions.specs.Memory.{are_region_lengths, zeros};
+ghost use Rattle.core_model.specs.Kernels.{segments_of};
 ghost use Rattle.core_model.specs.Legal.{empty_history};
-ghost use Rattle.access_core.specs.Opening.{is_capacity, IsUntouched, lengths_of_rows, Opens, values_of_rows};
+ghost use Rattle.access_core.specs.Opening.{first_missing, has_entry, is_capacity, IsUntouched, lengths_of_rows, open_fault, Opens, program_of, values_of_rows};
 
 use crate::access::{AccessCore, OpenFault};
-use aql_packet::{RegionHandle, SignalHandle};
-use core_model::{Entry, MOST_ENTRIES};
+use crate::argument_blocks::ArgumentBlocks;
+use crate::kernel::Kernel;
+use aql_packet::{KernelObject, RegionHandle, SignalHandle};
+use core_model::{Entry, KernelSegments, MOST_ENTRIES};
 use grants::Grants;
 use policy::{Kind, Policy};
 use regions::Regions;
@@ -19,6 +22,7 @@ use std::alloc::{AllocError, Global};
 /// What a core gets memory for when it is opened.
 #[derive(Drop)]
 struct Parts {
+    segments: Sequence<KernelSegments>,
     grants: Grants,
     memory: Regions,
     signals: Signals,
@@ -26,36 +30,91 @@ struct Parts {
 }
 
 impl AccessCore {
-    /// Opens a core over a policy: no right is in force, memory is all zeros, each signal has its
-    /// initial value, no queue is open, and the audit is empty, with places for `capacity` entries.
-    /// Memory for all of them is got here.
-    pub fn open(alloc: Global, policy: Policy, capacity: usize) -> Result<AccessCore, OpenFault>
-        ensures { Opens policy capacity result }
+    /// Opens a core over a policy, with a kernel for each of the policy's: no right is in force, memory
+    /// is all zeros, each signal has its initial value, no queue is open, and the audit is empty, with
+    /// places for `capacity` entries. Memory for all of them is got here. Refused in this order: there
+    /// isn't one kernel for each of the policy's; one has no checked kernel at its index; the capacity
+    /// isn't 1 to 2^20.
+    pub fn open(
+        alloc: Global,
+        policy: Policy,
+        kernels: Vec<Kernel>,
+        capacity: usize,
+    ) -> Result<AccessCore, OpenFault>
+        ensures { Opens policy kernels.items capacity result }
     {
-        if !is_capacity(capacity) {
-            return Err(OpenFault::BadCapacity);
+        if let Some(fault) = open_fault(&policy, kernels.as_slice(), capacity) {
+            return Err(fault);
         }
-        match get_parts(alloc, &policy, capacity) {
-            Ok(parts) => Ok(blank(alloc, policy, capacity, parts)),
+        match get_parts(alloc, &policy, kernels.as_slice(), capacity) {
+            Ok(parts) => Ok(blank(alloc, policy, kernels, capacity, parts)),
             Err(_) => Err(OpenFault::OutOfMemory),
         }
     }
 }
 
-// Gets memory for what a policy declares, and for an audit with so many places.
-fn get_parts(alloc: Global, policy: &Policy, capacity: usize) -> Result<Parts, AllocError>
-    ensures { IfOk result (IsUntouched policy.now capacity) }
+// Why a core can't be opened, if it can't.
+fn open_fault(policy: &Policy, kernels: &[Kernel], capacity: usize) -> Option<OpenFault>
+    ensures { result ≡ open_fault policy.now kernels.now capacity }
 {
+    if kernels.len() != policy.object_count(Kind::Kernel) {
+        return Some(OpenFault::KernelCount);
+    }
+    match first_missing(kernels) {
+        Some(index) => Some(OpenFault::NoEntry(KernelObject(index as u64 + 1))),
+        None if !is_capacity(capacity) => Some(OpenFault::BadCapacity),
+        None => None,
+    }
+}
+
+// The index of the first kernel whose own index is that of no checked kernel, if there is one.
+fn first_missing(kernels: &[Kernel]) -> Option<usize>
+    ensures place { result ≡ first_missing kernels.now }
+    ensures within { IfSome result (λ index. index < length kernels.now) }
+{
+    'kernels: for (index, kernel) in kernels.iter().enumerate() {
+        if !kernel.has_entry() {
+            return Some(index);
+        }
+    }
+    None
+}
+
+// Gets memory for what a policy declares, for its kernels' segments, and for an audit with so many
+// places.
+fn get_parts(
+    alloc: Global,
+    policy: &Policy,
+    kernels: &[Kernel],
+    capacity: usize,
+) -> Result<Parts, AllocError>
+    requires { All (λ kernel. has_entry kernel ≡ true) kernels.now }
+    ensures { IfOk result (IsUntouched policy.now kernels.now capacity) }
+{
+    let segments = segments(alloc, kernels)?;
     let grants = Grants::new(alloc, policy)?;
     let memory = zeroed(alloc, policy)?;
     let signals = begun(alloc, policy)?;
     let audit = Reserved::with_room(alloc, capacity)?;
     Ok(Parts {
+        segments,
         grants,
         memory,
         signals,
         audit,
     })
+}
+
+// How large the segments of kernels are.
+fn segments(alloc: Global, kernels: &[Kernel]) -> Result<Sequence<KernelSegments>, AllocError>
+    requires { All (λ kernel. has_entry kernel ≡ true) kernels.now }
+    ensures { IfOk result (λ segments. segments ≡ map segments_of (map program_of kernels.now)) }
+{
+    let mut segments = Sequence::new(alloc);
+    for kernel in kernels {
+        segments.push(kernel.segments())?;
+    }
+    Ok(segments)
 }
 
 // A policy's regions, all zeros.
@@ -139,12 +198,20 @@ fn value_behind(policy: &Policy, before: usize) -> i64
 
 // A core in which nothing has happened.
 #[tactic(none)]
-fn blank(alloc: Global, policy: Policy, capacity: usize, parts: Parts) -> AccessCore
-    requires untouched { IsUntouched policy capacity parts }
+fn blank(
+    alloc: Global,
+    policy: Policy,
+    kernels: Vec<Kernel>,
+    capacity: usize,
+    parts: Parts,
+) -> AccessCore
+    requires untouched { IsUntouched policy kernels.items capacity parts }
+    requires entries { All (λ kernel. has_entry kernel ≡ true) kernels.items }
     requires few { is_capacity capacity ≡ true }
-    ensures { result ≡ empty_history policy capacity }
+    ensures { result ≡ empty_history policy (map program_of kernels.items) capacity }
 {
     let Parts {
+        segments,
         grants,
         memory,
         signals,
@@ -152,7 +219,10 @@ fn blank(alloc: Global, policy: Policy, capacity: usize, parts: Parts) -> Access
     } = parts;
     AccessCore {
         policy,
+        kernels,
+        segments,
         grants,
+        blocks: ArgumentBlocks::new(alloc),
         memory,
         signals,
         queues: Vec::new(alloc),

@@ -91,6 +91,7 @@ impl AccessCore {
         };
         self.flying -= fail_packet(&mut self.queues, queue, packet, error);
         self.grants.release(queue, packet);
+        self.blocks.release(queue, packet);
         let told = Polled::Failed(error);
         let event = Event::Poll { queue, packet };
         let effects = Effects::one(Effect::Release { queue, packet });
@@ -250,7 +251,7 @@ fn sight(ready: bool, new: Seen) -> Polled
 
 // Puts an error behind the others of a queue, takes a packet of it out of flight, and answers how many
 // places that frees.
-fn fail_packet(
+pub(crate) fn fail_packet(
     queues: &mut Vec<Queue>,
     queue: QueueId,
     packet: PacketId,

@@ -1,20 +1,16 @@
-//! The groups of agent dispatches in flight are run.
+//! The groups of dispatches in flight are run: those of agent dispatches here.
 
-ghost use Rattle.std.specs.Prelude.{◌≡◌, ◌++◌, IfErr, IfOk, List, length, option_to_list, replicate, true};
-ghost use Rattle.std.specs.Option.{IfSome};
+ghost use Rattle.std.specs.Prelude.{◌≡◌, ◌++◌, ◌+◌, ◌-◌, ◌<◌, ◌^◌, IfOk, length, option_to_list, replicate, true};
 ghost use Rattle.std.specs.Int.{w64, to_le_bytes};
 ghost use Rattle.aql_packet.specs.declared.packet.Packet.TheVariants as kind;
 ghost use Rattle.regions.specs.Memory.{is_within, lengths_of};
-ghost use Rattle.core_model.specs.declared.entry.Entry.{Entry};
-ghost use Rattle.core_model.specs.History.{Start};
 ghost use Rattle.core_model.specs.Memory.{memory_from, region_lengths};
 ghost use Rattle.core_model.specs.Needs.{function_of};
 ghost use Rattle.core_model.specs.Work.{function_result, function_writes, number_in_memory, result_writes, write_of};
-ghost use Rattle.core_model.specs.Owed.{owed_group, refuses};
-ghost use Rattle.core_model.specs.Legal.{MeetsOrLacks, due, as_variant};
+ghost use Rattle.core_model.specs.Legal.{MeetsOrLacks, as_variant};
 ghost use Rattle.access_core.specs.inner.QueueChanges.{IsThere, with_advance, with_queue};
 ghost use Rattle.access_core.specs.inner.LiesInRegions.{lies_in_regions};
-ghost use Rattle.access_core.specs.inner.InPlace.{IsChanged, IsGroupOf, IsNextGroup, IsPlaced, is_placed, run_owed};
+ghost use Rattle.access_core.specs.inner.InPlace.{IsChanged, IsInPlace, IsPlaced, is_placed};
 
 use crate::access::{AccessCore, enter};
 use crate::queue::Queue;
@@ -34,16 +30,11 @@ struct Piece {
     bytes: Sequence<u8>,
 }
 
-/// The group of a dispatch that is to be run, and how far its packet has come once it has.
-#[derive(Clone, Copy)]
-struct Group {
-    dispatch: AgentDispatch,
-    after: Progress,
-}
-
 impl AccessCore {
     /// Runs the next group of a dispatch in flight. An agent dispatch has one, number 0, which
-    /// writes its function's target and then its result.
+    /// writes its function's target and then its result. A kernel dispatch has its work-groups, one at
+    /// a time; one that breaks a rule leaves nothing, its queue has an error more, and its packet
+    /// leaves flight (own).
     pub fn run_next(
         &mut self,
         alloc: Global,
@@ -52,40 +43,43 @@ impl AccessCore {
     ) -> Result<Worked, Refusal>
         ensures { MeetsOrLacks (Event.RunNext queue packet) self.old self.new (as_variant Outcome.Worked result) }
     {
-        let Some(group) = self.may_run(queue, packet)? else {
+        let place = self.place_of(queue, packet)?;
+        match place.packet {
+            Packet::Agent(dispatch) => self.run_agent(alloc, queue, packet, place, dispatch),
+            Packet::Kernel(dispatch) => self.run_kernel(alloc, queue, packet, place, dispatch),
+            Packet::BarrierAnd(_) => Err(Refusal::NotInFlight),
+            Packet::BarrierOr(_) => Err(Refusal::NotInFlight),
+        }
+    }
+
+    // Runs the one group of an agent dispatch in flight.
+    fn run_agent(
+        &mut self,
+        alloc: Global,
+        queue: QueueId,
+        packet: PacketId,
+        place: Place,
+        dispatch: AgentDispatch,
+    ) -> Result<Worked, Refusal>
+        requires found { IsInPlace self.old queue packet place }
+        requires within { lies_in_regions (region_lengths self.old.start) place.packet ≡ true }
+        requires packet_is { place.packet ≡ kind.Agent dispatch }
+        ensures { MeetsOrLacks (Event.RunNext queue packet) self.old self.new (as_variant Outcome.Worked result) }
+    {
+        if place.progress.groups_run >= 1 {
             return Ok(Worked::Done);
-        };
-        let target = self.function_piece(alloc, &group.dispatch)?;
-        let result = self.result_piece(alloc, &group.dispatch)?;
+        }
+        if self.is_full() {
+            return Err(Refusal::AuditFull);
+        }
+        let target = self.function_piece(alloc, &dispatch)?;
+        let result = self.result_piece(alloc, &dispatch)?;
         let effects = lay_both(&mut self.memory, target, result);
-        advance(&mut self.queues, queue, packet, group.after);
+        advance(&mut self.queues, queue, packet, one_more(&place.progress));
         let worked = Worked::Ran { group: 0, left: 0 };
         let event = Event::RunNext { queue, packet };
         enter(&mut self.audit, event, Outcome::Worked(worked), effects);
         Ok(worked)
-    }
-
-    // The group that is to be run, where the audit has room for it, or none where all groups ran.
-    fn may_run(&self, queue: QueueId, packet: PacketId) -> Result<Option<Group>, Refusal>
-        ensures may { IfOk result (λ next.
-            due self.now (Event.RunNext queue packet) ≡ run_owed self.now.start self.now.entries next) }
-        ensures why { IfErr result (λ why. due self.now (Event.RunNext queue packet) ≡ refuses why) }
-        ensures group { IfOk result (λ next. IfSome next (IsNextGroup self.now queue packet)) }
-    {
-        let place = self.place_of(queue, packet)?;
-        let next = match next_group(&place) {
-            Err(why) => return Err(why),
-            Ok(next) => next,
-        };
-        match next {
-            None => Ok(None),
-            Some(group) => {
-                if self.is_full() {
-                    return Err(Refusal::AuditFull);
-                }
-                Ok(Some(group))
-            }
-        }
     }
 
     // What an agent's function writes, and where.
@@ -170,29 +164,14 @@ impl AccessCore {
     }
 }
 
-// The next group of a packet in flight, or none where all groups ran.
-fn next_group(place: &Place) -> Result<Option<Group>, Refusal>
-    ensures owed { IfOk result (λ next. (start : Start) (entries : List Entry) →
-        owed_group start entries place.now.packet place.now.progress ≡ run_owed start entries next) }
-    ensures why { IfErr result (λ why. (start : Start) (entries : List Entry) →
-        owed_group start entries place.now.packet place.now.progress ≡ refuses why) }
-    ensures group { IfOk result (λ next. IfSome next (IsGroupOf place.now)) }
+// How far a packet has come once one more of its groups has run.
+pub(crate) fn one_more(progress: &Progress) -> Progress
+    requires { progress.now.groups_run < 2 ^ 32 - 1 }
+    ensures { result ≡ record { groups_run = progress.now.groups_run + 1; satisfied = progress.now.satisfied } }
 {
-    match place.packet {
-        Packet::Agent(dispatch) => Ok(if place.progress.groups_run == 0 {
-            Some(Group {
-                dispatch,
-                after: Progress {
-                    groups_run: 1,
-                    satisfied: place.progress.satisfied,
-                },
-            })
-        } else {
-            None
-        }),
-        Packet::Kernel(_) => Ok(None),
-        Packet::BarrierAnd(_) => Err(Refusal::NotInFlight),
-        Packet::BarrierOr(_) => Err(Refusal::NotInFlight),
+    Progress {
+        groups_run: progress.groups_run + 1,
+        satisfied: progress.satisfied,
     }
 }
 

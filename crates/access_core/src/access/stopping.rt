@@ -1,6 +1,7 @@
 //! Queues are stopped.
 
-ghost use Rattle.std.specs.Prelude.{◌≡◌, IfErr, IfNone, IfOk, IfSome};
+ghost use Rattle.std.specs.Prelude.{◌≡◌, IfErr, IfNone, IfOk, IfSome, filter, not};
+ghost use Rattle.access_core.specs.ArgumentBlocks.{is_block};
 ghost use Rattle.grants.specs.Ledger.{Releases};
 ghost use Rattle.core_model.specs.Owed.{enters, refuses, release_of};
 ghost use Rattle.core_model.specs.Legal.{Meets, as_accepted, due};
@@ -9,6 +10,7 @@ ghost use Rattle.access_core.specs.inner.QueueChanges.{IsThere, freed_by, with_q
 use crate::access::lookups::queue_of;
 use crate::access::working::free_place;
 use crate::access::{AccessCore, enter};
+use crate::argument_blocks::ArgumentBlocks;
 use crate::queue::Queue;
 use aql_packet::{PacketId, QueueId};
 use core_model::{Effect, Effects, Event, Outcome, Refusal};
@@ -22,7 +24,7 @@ impl AccessCore {
     {
         let barrier = self.may_stop(queue)?;
         self.flying -= halt(&mut self.queues, queue, barrier);
-        let effects = let_go(&mut self.grants, queue, barrier);
+        let effects = let_go(&mut self.grants, &mut self.blocks, queue, barrier);
         let event = Event::Stop { queue };
         enter(&mut self.audit, event, Outcome::Accepted, effects);
         Ok(())
@@ -61,16 +63,24 @@ fn halt(queues: &mut Vec<Queue>, queue: QueueId, barrier: Option<PacketId>) -> u
     free_place(&mut kept.places, barrier)
 }
 
-// Drops the holds of a packet, if one is named, and tells its release.
-fn let_go(grants: &mut Grants, queue: QueueId, barrier: Option<PacketId>) -> Effects
+// Drops what is kept of a packet's launch, if one is named, and tells its release.
+fn let_go(
+    grants: &mut Grants,
+    blocks: &mut ArgumentBlocks,
+    queue: QueueId,
+    barrier: Option<PacketId>,
+) -> Effects
     ensures effects { result ≡ release_of queue barrier }
     ensures released { IfSome barrier (λ id. Releases grants.old grants.new queue id) }
+    ensures dropped { IfSome barrier (λ id. blocks.new ≡ filter (λ block. not (is_block queue id block)) blocks.old) }
     ensures same { IfNone barrier (grants.new ≡ grants.old) }
+    ensures same_blocks { IfNone barrier (blocks.new ≡ blocks.old) }
 {
     match barrier {
         None => Effects::none(),
         Some(packet) => {
             grants.release(queue, packet);
+            blocks.release(queue, packet);
             Effects::one(Effect::Release { queue, packet })
         }
     }

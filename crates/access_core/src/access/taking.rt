@@ -1,11 +1,12 @@
 //! Packets are handed over: they wait, are launched, or denied.
 
-ghost use Rattle.std.specs.Prelude.{◌≡◌, IfErr, IfOk, Ok};
+ghost use Rattle.std.specs.Prelude.{◌≡◌, ◌++◌, IfErr, IfOk, Ok, OnOk, map};
 ghost use Rattle.aql_packet.specs.Reading.{barrier_bit};
-ghost use Rattle.core_model.specs.Owed.{refuses};
-ghost use Rattle.packet_processor.specs.Judged.{Judges};
-ghost use Rattle.access_core.specs.inner.Judged.{facts_lent};
-ghost use Rattle.access_core.specs.inner.Deciding.{Decides};
+ghost use Rattle.core_model.specs.Holds.{arguments_of, rights_at_launch};
+ghost use Rattle.core_model.specs.Owed.{facts_of, refuses};
+ghost use Rattle.packet_processor.specs.Holding.{as_rights};
+ghost use Rattle.packet_processor.specs.Judged.{facts_seen, Judges};
+ghost use Rattle.access_core.specs.inner.Deciding.{Decides, IsBlockPlaced, opening_of};
 ghost use Rattle.access_core.specs.inner.QueueChanges.{CanFail, CanLaunch, with_denied, with_launched, with_queue};
 ghost use Rattle.core_model.specs.Legal.{Meets, MeetsOrLacks, due, as_variant};
 
@@ -13,13 +14,14 @@ use crate::access::lookups::queue_of;
 use crate::access::{AccessCore, enter};
 use crate::queue::Queue;
 use aql_packet::{AgentHandle, ClientId, Packet, PacketId, QueueId, RawHeader, header_of};
-use core_model::{Cause, Effects, Event, Outcome, Refusal, Taken};
-use grants::Grants;
-use packet_processor::{Facts, MayLaunch, QueueState, TAKES_NOTHING, Verdict, held, verdict};
-use policy::Policy;
+use core_model::{Cause, Effects, Event, Outcome, Range, Refusal, Taken};
+use packet_processor::{
+    Facts, MayLaunch, QueueState, TAKES_NOTHING, Verdict, held_by_arguments, held_by_needs, verdict,
+};
+use policy::{Object, Rights};
 use queue_error::{QueueError, Rule};
-use regions::Regions;
-use std::alloc::Global;
+use sequences::Sequence;
+use std::alloc::{AllocError, Global};
 
 // What a packet's header says, which the first two bytes hold.
 fn header(bytes: &[u8; 64]) -> RawHeader
@@ -44,26 +46,6 @@ struct Launching {
     packet: Packet,
 }
 
-// Judges a packet of a queue.
-fn judged(
-    policy: &Policy,
-    grants: &Grants,
-    regions: &Regions,
-    kept: &Queue,
-    bytes: &[u8; 64],
-) -> Verdict
-    ensures { Judges (facts_lent policy.now grants.now regions.now kept.now.client kept.now.agent) bytes.now result }
-{
-    let facts = Facts {
-        client: kept.client,
-        agent: kept.agent,
-        takes: policy.takes(kept.agent).unwrap_or(TAKES_NOTHING),
-        grants,
-        regions,
-    };
-    verdict(bytes, &facts)
-}
-
 // Puts the next packet of a queue into a place.
 fn place_next(queues: &mut Vec<Queue>, queue: QueueId, id: PacketId, packet: Packet)
     requires { CanLaunch queues.old.items queue }
@@ -84,7 +66,42 @@ fn fail_next(queues: &mut Vec<Queue>, queue: QueueId, error: QueueError)
     kept.errors.push(error);
 }
 
+// Puts rights behind others.
+fn append(
+    rights: &mut Sequence<(Object, Rights)>,
+    more: &[(Object, Rights)],
+) -> Result<(), AllocError>
+    ensures { OnOk result (rights.new ≡ rights.old ++ more.now) }
+{
+    for one in more {
+        rights.push(*one)?;
+    }
+    Ok(())
+}
+
 impl AccessCore {
+    // What packets of a client's queue on an agent are judged by.
+    fn facts(&self, client: ClientId, agent: AgentHandle) -> Facts<'_>
+        ensures { facts_seen result ≡ facts_of self.now.start self.now.entries (record { client = client; agent = agent }) }
+    {
+        Facts {
+            client,
+            agent,
+            takes: self.policy.takes(agent).unwrap_or(TAKES_NOTHING),
+            grants: &self.grants,
+            regions: &self.memory,
+            kernels: self.segments.as_slice(),
+        }
+    }
+
+    // Judges a packet of a client's queue on an agent.
+    fn judged(&self, client: ClientId, agent: AgentHandle, bytes: &[u8; 64]) -> Verdict
+        ensures { Judges (facts_of self.now.start self.now.entries (record { client = client; agent = agent })) bytes.now result }
+    {
+        let facts = self.facts(client, agent);
+        verdict(bytes, &facts)
+    }
+
     // What is decided of the packet that is handed over, if the queue takes one and it is the next.
     fn may_take(
         &self,
@@ -113,7 +130,7 @@ impl AccessCore {
         match state.may_launch(&header(bytes)) {
             MayLaunch::Waiting(cause) => Ok(Decision::Wait(cause)),
             MayLaunch::Go => {
-                match judged(&self.policy, &self.grants, &self.memory, kept, bytes) {
+                match self.judged(kept.client, kept.agent, bytes) {
                     Verdict::Launch(packet) => {
                         if self.is_full_for_launch() {
                             return Err(Refusal::AuditFull);
@@ -180,6 +197,50 @@ impl AccessCore {
         became
     }
 
+    // The bytes of a packet's argument block, as a list of its own: none but of a kernel dispatch.
+    fn argument_block(&self, alloc: Global, packet: &Packet) -> Result<Sequence<u8>, AllocError>
+        requires { IsBlockPlaced self.now packet.now }
+        ensures { IfOk result (λ block. block ≡ arguments_of self.now.start self.now.entries packet.now) }
+    {
+        let Packet::Kernel(dispatch) = packet else {
+            return Ok(Sequence::new(alloc));
+        };
+        match self.kernel(dispatch) {
+            None => Ok(Sequence::new(alloc)),
+            Some(program) => {
+                let range = Range {
+                    address: dispatch.kernarg_address,
+                    size: program.kernarg_bytes() as u64,
+                };
+                self.copied(alloc, range)
+            }
+        }
+    }
+
+    // What a packet holds that is launched now with this argument block.
+    fn rights_at_launch(
+        &self,
+        alloc: Global,
+        launching: &Launching,
+        block: &[u8],
+    ) -> Result<Sequence<(Object, Rights)>, AllocError>
+        requires { block.now ≡ arguments_of self.now.start self.now.entries launching.now.packet }
+        ensures { IfOk result (λ rights. rights
+            ≡ map as_rights (rights_at_launch self.now.start self.now.entries (opening_of launching.now) launching.now.packet)) }
+    {
+        let mut rights = held_by_needs(alloc, launching.agent, &launching.packet)?;
+        let Packet::Kernel(dispatch) = &launching.packet else {
+            return Ok(rights);
+        };
+        let Some(program) = self.kernel(dispatch) else {
+            return Ok(rights);
+        };
+        let facts = self.facts(launching.client, launching.agent);
+        let pointed = held_by_arguments(alloc, &facts, program.wide_arguments(), block)?;
+        append(&mut rights, pointed.as_slice())?;
+        Ok(rights)
+    }
+
     // Launches the next packet of a queue: it holds its rights from then on.
     fn launch(
         &mut self,
@@ -192,8 +253,10 @@ impl AccessCore {
         requires { Decides self.old queue packet bytes.now (Decision.Launch launching) }
         ensures { MeetsOrLacks (Event.Take queue packet bytes.now) self.old self.new (as_variant Outcome.Taken result) }
     {
-        let rights = held(alloc, launching.agent, &launching.packet)?;
+        let block = self.argument_block(alloc, &launching.packet)?;
+        let rights = self.rights_at_launch(alloc, &launching, block.as_slice())?;
         self.grants.reserve(rights.len())?;
+        self.blocks.push(queue, packet, block)?;
         let client = launching.client;
         self.grants
             .hold_reserved(client, queue, packet, rights.as_slice());

@@ -9,8 +9,9 @@ ghost use Rattle.core_model.specs.Owed.{signal_decrement, refuses, is_finished};
 ghost use Rattle.core_model.specs.Legal.{Meets, as_accepted, due};
 ghost use Rattle.access_core.specs.inner.QueueChanges.{IsThere, freed, freed_by, with_queue, with_release, without_one};
 ghost use Rattle.access_core.specs.inner.LiesInRegions.{lies_in_regions};
-ghost use Rattle.access_core.specs.inner.InPlace.{completion_of, finish_owed, IsInPlace, RefusedAt};
+ghost use Rattle.access_core.specs.inner.InPlace.{completion_of, finish_owed, IsInPlace, IsSized, RefusedAt};
 
+use crate::access::kernels::group_count;
 use crate::access::lookups::queue_of;
 use crate::access::{AccessCore, enter};
 use crate::queue::Queue;
@@ -30,6 +31,7 @@ impl AccessCore {
         let effects = complete(&mut self.signals, queue, packet, &place.packet);
         self.flying -= release(&mut self.queues, queue, packet);
         self.grants.release(queue, packet);
+        self.blocks.release(queue, packet);
         let event = Event::Finish { queue, packet };
         enter(&mut self.audit, event, Outcome::Accepted, effects);
         Ok(())
@@ -55,6 +57,7 @@ impl AccessCore {
         ensures found { IfOk result (λ place. IsInPlace self.now queue packet place) }
         ensures why { IfErr result (λ why. RefusedAt self.now queue packet why) }
         ensures within { IfOk result (λ place. lies_in_regions (region_lengths self.now.start) place.packet ≡ true) }
+        ensures sized { IfOk result (λ place. IsSized place.packet) }
     {
         let Some(kept) = queue_of(self.queues.as_slice(), queue) else {
             return Err(Refusal::UnknownQueue);
@@ -113,10 +116,11 @@ fn complete(signals: &mut Signals, queue: QueueId, packet: PacketId, of: &Packet
 
 // Whether a packet's work is done.
 fn is_finished(place: &Place) -> bool
+    requires { IsSized place.now.packet }
     ensures { result ≡ is_finished place.now.packet place.now.progress }
 {
     match &place.packet {
-        Packet::Kernel(_) => true,
+        Packet::Kernel(dispatch) => place.progress.groups_run >= group_count(dispatch),
         Packet::Agent(_) => place.progress.groups_run >= 1,
         barrier => is_ready(barrier, &place.progress.satisfied),
     }

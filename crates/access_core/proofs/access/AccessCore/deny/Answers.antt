@@ -18,9 +18,9 @@ invariant_of-self c =
     let can = can-take a c.self.invariant c.args.queue (subst (λ h. TakesNext h c.args.queue) (sym c.self.view_is) c.requires.1) in
     IsCached-more a _ (Take c.args.queue c.args.packet c.args.bytes.now) (outcome.Taken (Denied (error_without_place c.args.queue c.args.packet.0 c.args.rule))) [] c.self.invariant
     (record {
-      same = (refl, refl);
+      same = ((refl, refl, refl), refl);
       audit = rw c.none.ensures at c.enter.ensures;
-      grants = grants-still a c.self.invariant _ _ _ refl (λ client on right b. refl) (flight-denied a c.self.invariant c.args.queue c.args.packet c.args.bytes.now can c.args.rule);
+      grants = grants-still a c.self.invariant _ _ _ refl refl (λ client on right b. refl) (flight-denied a c.self.invariant c.args.queue c.args.packet c.args.bytes.now can c.args.rule);
       memory = memory-still a.memory _ (λ x byte. refl);
       values = refl;
       queues = rw c.fail_next.ensures (queues-denied a c.self.invariant c.args.queue c.args.packet c.args.bytes.now can c.args.rule);

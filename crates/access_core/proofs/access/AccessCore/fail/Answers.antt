@@ -39,10 +39,10 @@ invariant_of-self c =
     let at = is-open a c.self.invariant c.args.queue found.opening found.owner_is in
     IsCached-more a _ (Poll c.args.queue c.args.packet) (outcome.Polled (Failed (error_without_place c.args.queue c.args.packet.0 B1))) (effect.Release c.args.queue c.args.packet ∷ []) c.self.invariant
     (record {
-      same = (refl, refl);
+      same = ((refl, refl, refl), refl);
       audit = rw c.one-effects.ensures at c.enter.ensures;
-      grants = grants-released a c.self.invariant _ _ _ refl (λ client on right b. refl) _ c.args.queue c.args.packet
-          (flight-released (start_of a) a.audit.items _ _ _ c.args.queue c.args.packet is) c.release.ensures;
+      grants = grants-released a c.self.invariant _ _ _ refl refl (λ client on right b. refl) _ _ c.args.queue c.args.packet
+          (flight-released (start_of a) a.audit.items _ _ _ c.args.queue c.args.packet is) c.release.ensures c.release-2.ensures;
       memory = memory-still a.memory _ (λ x byte. refl);
       values = refl;
       queues = rw (c.fail_packet.ensures.queues, c.fail_packet.ensures.freed) (queues-released a c.self.invariant c.args.queue c.args.packet _ _ _ is refl at (with_failure c.args.packet (error_without_place c.args.queue c.args.packet.0 B1)) (failed c.args.queue c.args.packet)

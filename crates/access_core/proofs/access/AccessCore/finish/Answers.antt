@@ -34,10 +34,10 @@ invariant_of-self c =
     let at = open-of a c.self.invariant _ c.self.view_is c.args.queue c.args.packet c.in_ok-place.place c.in_ok-place.ensures.found in
     IsCached-more a _ (Finish c.args.queue c.args.packet) outcome.Accepted (completion_of a.signals c.args.queue c.args.packet p) c.self.invariant
     (record {
-      same = (refl, refl);
+      same = ((refl, refl, refl), refl);
       audit = rw c.complete-effects.ensures.effects at c.enter.ensures;
-      grants = grants-released a c.self.invariant _ _ _ refl (λ client on right b. refl) _ c.args.queue c.args.packet
-          (flight-released (start_of a) a.audit.items _ _ _ c.args.queue c.args.packet is) c.release-2.ensures;
+      grants = grants-released a c.self.invariant _ _ _ refl refl (λ client on right b. refl) _ _ c.args.queue c.args.packet
+          (flight-released (start_of a) a.audit.items _ _ _ c.args.queue c.args.packet is) c.release-2.ensures c.release-3.ensures;
       memory = memory-still a.memory _ (λ x byte. memory-completed a.signals (completion_signal p) c.args.queue c.args.packet x byte);
       values = rw c.complete-effects.ensures.effects at c.complete-effects.ensures.values;
       queues = rw (c.release.ensures.queues, c.release.ensures.freed) (queues-released a c.self.invariant c.args.queue c.args.packet _ _ _ is refl at (with_release c.args.packet) (λ v. record v { places = without c.args.packet v.places })

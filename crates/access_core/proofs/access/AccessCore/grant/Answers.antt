@@ -4,7 +4,7 @@ use Rattle.access_core.proofs.CachedMore.{IsCached-more, has_place, memory-still
 use Rattle.access_core.proofs.QueueAt.{IsQuiet, flight-quiet}
 use Rattle.access_core.proofs.Calls.{due-by, met-refusal, met-entry}
 use Rattle.access_core.proofs.Granting.{grant-due, grant-refused}
-use Rattle.access_core.proofs.HeldAfter.{held-still}
+use Rattle.access_core.proofs.HeldAfter.{blocks-still, held-still}
 use Rattle.access_core.proofs.Terms.{ClientId, Grant, Object, Rights, start_of}
 use Rattle.core_model.specs.declared.outcome.Outcome.TheVariants as outcome
 use Rattle.access_core.proofs.access.AccessCore.grant.Goals as goal
@@ -31,12 +31,13 @@ invariant_of-self c =
     let gives = c.put_in_force.ensures in
     IsCached-more a _ (Grant c.args.client c.args.object c.args.rights) outcome.Accepted [] c.self.invariant
     (record {
-      same = (refl, refl);
+      same = ((refl, refl, refl), refl);
       audit = rw c.none.ensures at c.enter.ensures;
       grants = record {
         granted = gives.given;
         rules = gives.same_rules;
-        held = λ queue id client on right. gives.same_holds queue id client on right ∙ held-still a c.self.invariant _ _ _ refl (flight-quiet (start_of a) a.audit.items _ _ _ calm) queue id client on right;
+        held = λ queue id client on right. gives.same_holds queue id client on right ∙ held-still a c.self.invariant _ _ _ refl refl (flight-quiet (start_of a) a.audit.items _ _ _ calm) queue id client on right;
+        arguments = blocks-still a (Grant c.args.client c.args.object c.args.rights) outcome.Accepted refl _;
       };
       memory = memory-still a.memory [] (λ x byte. refl);
       values = refl;

@@ -24,9 +24,9 @@ invariant_of-self c =
     let calm = quiet c.args.client c.args.address c.args.bytes in
     IsCached-more a _ (HostWrite c.args.client c.args.address c.args.bytes) outcome.Accepted (Write c.args.address c.args.bytes ∷ []) c.self.invariant
     (record {
-      same = (refl, refl);
+      same = ((refl, refl, refl), refl);
       audit = rw (c.one-effects.ensures, c.in_ok-written.ensures) at c.enter.ensures;
-      grants = grants-still a c.self.invariant _ _ _ refl (λ client on right b. refl) (flight-quiet (start_of a) a.audit.items _ _ _ calm);
+      grants = grants-still a c.self.invariant _ _ _ refl refl (λ client on right b. refl) (flight-quiet (start_of a) a.audit.items _ _ _ calm);
       memory = record {
         lengths = c.lay.ensures.lengths;
         memory = λ x byte before. byte_at-written _ _ c.args.address c.args.bytes x byte (rw c.as_slice.ensures at c.lay.ensures.bytes) before;

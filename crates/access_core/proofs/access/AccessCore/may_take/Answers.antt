@@ -2,9 +2,9 @@
 use Rattle.std.proofs.Common.{◌≡◌, refl, ◌∙◌, true, false, Some, None, [], length, rules, ap, subst, nat_lt, ◌||◌, ◌==◌, map, option_map}
 use Rattle.packet_processor.proofs.QueueingLemmas.{launching-waits, launching-goes}
 use Rattle.access_core.proofs.Calls.{due-by}
-use Rattle.access_core.proofs.TakeLemmas.{owner-kept, room-launched, may-hold, take-unknown, take-known, within-launched, takes-next}
+use Rattle.access_core.proofs.TakeLemmas.{judged-inside, owner-kept, room-launched, may-hold, take-unknown, take-known, within-launched, takes-next}
 use Rattle.access_core.proofs.Terms.{Denied, History, Launched, MayHold, Place, Take, TakesNext, Waiting, answers, barrier_bit, cached_opening, enters}
-use Rattle.access_core.proofs.Terms.{error_without_place, lies_in_regions, cause_to_wait, numbered, owner, refuses, region_lengths}
+use Rattle.access_core.proofs.Terms.{entry_of, error_without_place, start_of, lies_in_regions, cause_to_wait, numbered, owner, refuses, region_lengths}
 use Rattle.core_model.specs.declared.outcome.Outcome.TheVariants as outcome
 use Rattle.core_model.specs.declared.refusal.Refusal.TheVariants as refusal
 use Rattle.access_core.proofs.access.AccessCore.may_take.Goals as goal
@@ -42,7 +42,7 @@ returns-then-is_full_for_launch-clause-why c =
     let down : (nat_lt 0 (length c.in-Some.kept.now.errors.items) || c.in-Some.kept.now.stopped) ≡ false = cc in
     let next : (c.args.packet.0 == c.in-Some.kept.now.next) ≡ true = search rules in
     let waits : cause_to_wait (map (λ (p : Place). p.packet) c.in-Some.kept.now.places) (barrier_bit c.args.bytes.now) ≡ None = cc (launching-goes _ c.in-Go.ensures, c.as_slice-2.ensures, c.header.ensures) in
-    due-by c.self.inside _ c.self.view_is (Take c.args.queue c.args.packet c.args.bytes.now) (enters (outcome.Taken Launched) []) (take-known c.self.inside c.self.invariant _ _ _ _ some ∙ (rw (down, next, waits, c.in-Launch.ensures.1) refl)) ∙ (rw (room-launched _ c.args.queue c.args.packet _ _ c.in-Launch.ensures.0, ← c.is_full_for_launch.ensures, c.if-is_full_for_launch.true) refl)
+    due-by c.self.inside _ c.self.view_is (Take c.args.queue c.args.packet c.args.bytes.now) (enters (outcome.Taken Launched) []) (take-known c.self.inside c.self.invariant _ _ _ _ some ∙ (rw (down, next, waits, judged-inside c.self.inside _ c.self.view_is c.in-Some.kept.now c.args.bytes.now None c.in-Launch.ensures.1) refl)) ∙ (rw (room-launched _ c.args.queue c.args.packet _ _ c.in-Launch.ensures.0, ← c.is_full_for_launch.ensures, c.if-is_full_for_launch.true) refl)
 
 pub returns-then-is_full-clause-why : goal.returns-then-is_full-clause-why
 returns-then-is_full-clause-why c =
@@ -50,7 +50,7 @@ returns-then-is_full-clause-why c =
     let down : (nat_lt 0 (length c.in-Some.kept.now.errors.items) || c.in-Some.kept.now.stopped) ≡ false = cc in
     let next : (c.args.packet.0 == c.in-Some.kept.now.next) ≡ true = search rules in
     let waits : cause_to_wait (map (λ (p : Place). p.packet) c.in-Some.kept.now.places) (barrier_bit c.args.bytes.now) ≡ None = cc (launching-goes _ c.in-Go.ensures, c.as_slice-2.ensures, c.header.ensures) in
-    due-by c.self.inside _ c.self.view_is (Take c.args.queue c.args.packet c.args.bytes.now) (enters (outcome.Taken (Denied (error_without_place c.args.queue c.args.packet.0 c.in-Deny.rule))) []) (take-known c.self.inside c.self.invariant _ _ _ _ some ∙ (rw (down, next, waits, c.in-Deny.ensures) refl)) ∙ (rw (← c.is_full.ensures, c.if-is_full.true) refl)
+    due-by c.self.inside _ c.self.view_is (Take c.args.queue c.args.packet c.args.bytes.now) (enters (outcome.Taken (Denied (error_without_place c.args.queue c.args.packet.0 c.in-Deny.rule))) []) (take-known c.self.inside c.self.invariant _ _ _ _ some ∙ (rw (down, next, waits, judged-inside c.self.inside _ c.self.view_is c.in-Some.kept.now c.args.bytes.now (Some c.in-Deny.rule) c.in-Deny.ensures) refl)) ∙ (rw (← c.is_full.ensures, c.if-is_full.true) refl)
 
 pub returns-else-is_full_for_launch-clause-may : goal.returns-else-is_full_for_launch-clause-may
 returns-else-is_full_for_launch-clause-may c =
@@ -58,12 +58,12 @@ returns-else-is_full_for_launch-clause-may c =
     let down : (nat_lt 0 (length c.in-Some.kept.now.errors.items) || c.in-Some.kept.now.stopped) ≡ false = cc in
     let next : (c.args.packet.0 == c.in-Some.kept.now.next) ≡ true = search rules in
     let waits : cause_to_wait (map (λ (p : Place). p.packet) c.in-Some.kept.now.places) (barrier_bit c.args.bytes.now) ≡ None = cc (launching-goes _ c.in-Go.ensures, c.as_slice-2.ensures, c.header.ensures) in (
-      due-by c.self.inside _ c.self.view_is (Take c.args.queue c.args.packet c.args.bytes.now) (enters (outcome.Taken Launched) []) (take-known c.self.inside c.self.invariant _ _ _ _ some ∙ (rw (down, next, waits, c.in-Launch.ensures.1) refl)) ∙ (rw (room-launched _ c.args.queue c.args.packet _ _ c.in-Launch.ensures.0, ← c.is_full_for_launch.ensures, c.if-is_full_for_launch.false) refl),
+      due-by c.self.inside _ c.self.view_is (Take c.args.queue c.args.packet c.args.bytes.now) (enters (outcome.Taken Launched) []) (take-known c.self.inside c.self.invariant _ _ _ _ some ∙ (rw (down, next, waits, judged-inside c.self.inside _ c.self.view_is c.in-Some.kept.now c.args.bytes.now None c.in-Launch.ensures.1) refl)) ∙ (rw (room-launched _ c.args.queue c.args.packet _ _ c.in-Launch.ensures.0, ← c.is_full_for_launch.ensures, c.if-is_full_for_launch.false) refl),
       c.in-Launch.ensures.0,
-      subst (λ (h : History). lies_in_regions (region_lengths h.start) c.in-Launch.packet ≡ true) c.self.view_is (within-launched c.self.inside c.in-Some.kept.now c.args.bytes.now c.in-Launch.packet c.self.invariant c.in-Launch.ensures.0 c.in-Launch.ensures.1),
+      subst (λ (h : History). lies_in_regions (region_lengths h.start) c.in-Launch.packet ≡ true) c.self.view_is (within-launched (start_of c.self.inside) c.self.inside.audit.items (cached_opening c.in-Some.kept.now) c.args.bytes.now c.in-Launch.packet c.in-Launch.ensures.0 (judged-inside c.self.inside _ c.self.view_is c.in-Some.kept.now c.args.bytes.now None c.in-Launch.ensures.1)),
       subst (λ (h : History). TakesNext h c.args.queue) c.self.view_is (takes-next c.self.inside c.self.invariant _ _ _ some down waits),
       subst (λ (h : History). owner h.start h.entries c.args.queue ≡ Some (cached_opening c.in-Some.kept.now)) c.self.view_is (owner-kept c.self.inside c.args.queue c.self.invariant ∙ ap (option_map cached_opening) some),
-      subst (λ (h : History). MayHold h (cached_opening c.in-Some.kept.now) c.in-Launch.packet) c.self.view_is (may-hold c.self.inside c.in-Some.kept.now c.args.bytes.now c.in-Launch.packet c.self.invariant c.in-Launch.ensures.0 c.in-Launch.ensures.1),
+      subst (λ (h : History). MayHold h (cached_opening c.in-Some.kept.now) c.in-Launch.packet) c.self.view_is (may-hold (start_of c.self.inside) c.self.inside.audit.items (entry_of (Take c.args.queue c.args.packet c.args.bytes.now) (outcome.Taken Launched) []) (cached_opening c.in-Some.kept.now) c.args.bytes.now c.in-Launch.packet c.in-Launch.ensures.0 (judged-inside c.self.inside _ c.self.view_is c.in-Some.kept.now c.args.bytes.now None c.in-Launch.ensures.1)),
     )
 
 pub returns-else-is_full-clause-may : goal.returns-else-is_full-clause-may
@@ -72,6 +72,6 @@ returns-else-is_full-clause-may c =
     let down : (nat_lt 0 (length c.in-Some.kept.now.errors.items) || c.in-Some.kept.now.stopped) ≡ false = cc in
     let next : (c.args.packet.0 == c.in-Some.kept.now.next) ≡ true = search rules in
     let waits : cause_to_wait (map (λ (p : Place). p.packet) c.in-Some.kept.now.places) (barrier_bit c.args.bytes.now) ≡ None = cc (launching-goes _ c.in-Go.ensures, c.as_slice-2.ensures, c.header.ensures) in (
-      due-by c.self.inside _ c.self.view_is (Take c.args.queue c.args.packet c.args.bytes.now) (enters (outcome.Taken (Denied (error_without_place c.args.queue c.args.packet.0 c.in-Deny.rule))) []) (take-known c.self.inside c.self.invariant _ _ _ _ some ∙ (rw (down, next, waits, c.in-Deny.ensures) refl)) ∙ (rw (← c.is_full.ensures, c.if-is_full.false) refl),
+      due-by c.self.inside _ c.self.view_is (Take c.args.queue c.args.packet c.args.bytes.now) (enters (outcome.Taken (Denied (error_without_place c.args.queue c.args.packet.0 c.in-Deny.rule))) []) (take-known c.self.inside c.self.invariant _ _ _ _ some ∙ (rw (down, next, waits, judged-inside c.self.inside _ c.self.view_is c.in-Some.kept.now c.args.bytes.now (Some c.in-Deny.rule) c.in-Deny.ensures) refl)) ∙ (rw (← c.is_full.ensures, c.if-is_full.false) refl),
       subst (λ (h : History). TakesNext h c.args.queue) c.self.view_is (takes-next c.self.inside c.self.invariant _ _ _ some down waits),
     )

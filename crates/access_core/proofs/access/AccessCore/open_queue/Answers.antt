@@ -22,7 +22,7 @@ invariant_of-self-2 c =
     let none = c.in_ok-errors.ensures.empty in
     IsCached-more a _ (OpenQueue c.args.client c.args.agent c.args.size) (outcome.Opened c.in_ok-queue.queue) [] c.self.invariant
     (record {
-      same = (refl, refl);
+      same = ((refl, refl, refl), refl);
       audit = rw c.none.ensures at c.enter.ensures;
       grants = grants-opened a c.self.invariant c.args.client c.args.agent c.args.size (outcome.Opened c.in_ok-queue.queue) (flight-quiet (start_of a) a.audit.items _ _ _ calm);
       memory = memory-still a.memory [] (λ x byte. refl);

@@ -1,7 +1,9 @@
 -- A packet that is found is in flight, and reaches only what lies whole in a region.
 use Rattle.std.proofs.Common.{◌≡◌, Some, None, subst, true, find}
 use Rattle.access_core.proofs.WorkLemmas.{in-place, none-in-place, reaches-in_place}
-use Rattle.access_core.proofs.Terms.{IsInPlace, RefusedAt, is_at, lies_in_regions, numbered, region_lengths}
+use Rattle.access_core.specs.inner.InPlace.{IsSized}
+use Rattle.access_core.proofs.GroupLemmas.{sized}
+use Rattle.access_core.proofs.Terms.{start_of, IsInPlace, RefusedAt, is_at, lies_in_regions, numbered, region_lengths}
 use Rattle.core_model.specs.declared.refusal.Refusal.TheVariants as refusal
 use Rattle.access_core.proofs.access.AccessCore.place_of.Goals as goal
 
@@ -20,6 +22,14 @@ returns-in-Some-get-clause-within c =
     let found : find (is_at c.args.packet) c.in-Some.kept.now.places ≡ Some c.in-Some-get.place.now = cc c.in-Some-get.ensures in
     subst (λ h. lies_in_regions (region_lengths h.start) c.in-Some-get.place.now.packet ≡ true) c.self.view_is
     (reaches-in_place a c.self.invariant c.args.queue c.args.packet c.in-Some-get.place.now (in-place a c.self.invariant c.args.queue c.args.packet c.in-Some.kept.now some c.in-Some-get.place.now found))
+
+pub returns-in-Some-get-clause-sized : goal.returns-in-Some-get-clause-sized
+returns-in-Some-get-clause-sized c =
+    let a = c.self.inside in
+    let some : numbered a.queues.items c.args.queue.0 ≡ Some c.in-Some.kept.now = cc c.in-Some.ensures in
+    let found : find (is_at c.args.packet) c.in-Some.kept.now.places ≡ Some c.in-Some-get.place.now = cc c.in-Some-get.ensures in
+    let placed = in-place a c.self.invariant c.args.queue c.args.packet c.in-Some.kept.now some c.in-Some-get.place.now found in
+    subst IsSized placed.packet_is (sized (start_of a) a.audit.items c.self.invariant.legal c.args.queue c.args.packet placed.flying placed.found)
 
 pub returns-in-None-clause-why : goal.returns-in-None-clause-why
 returns-in-None-clause-why c =

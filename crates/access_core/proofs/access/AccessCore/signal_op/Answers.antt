@@ -26,9 +26,9 @@ invariant_of-self c =
     IsCached-more c.self.inside _ (ChangeSignal c.args.client c.args.signal c.args.operation) (outcome.Changed (old_if_asked c.args.operation c.in_ok-old.old))
     (effect.Signal c.args.signal c.in_ok-old.old (applied c.args.operation c.in_ok-old.old) ∷ []) c.self.invariant
     (record {
-      same = (refl, refl);
+      same = ((refl, refl, refl), refl);
       audit = record { items = rw (told, new) at entries; room = c.enter.ensures.room };
-      grants = grants-still c.self.inside c.self.invariant _ _ _ refl (λ client on right b. refl) (flight-quiet (start_of c.self.inside) c.self.inside.audit.items _ _ _ calm);
+      grants = grants-still c.self.inside c.self.invariant _ _ _ refl refl (λ client on right b. refl) (flight-quiet (start_of c.self.inside) c.self.inside.audit.items _ _ _ calm);
       memory = memory-still c.self.inside.memory _ (λ x byte. refl);
       values = values;
       queues = queues-still c.self.inside c.self.invariant _ _ _ calm refl;

@@ -1,12 +1,13 @@
--- What the four rules that ask for rights need is put behind each other.
+-- What the five rules that ask for rights need is put behind each other.
 use Rattle.packet_processor.proofs.HeldByRule.{held_by_rule}
-use Rattle.packet_processor.proofs.holding.held.Goals as goal
+use Rattle.packet_processor.proofs.holding.held_by_needs.Goals as goal
 
 pub returns : goal.returns
 returns c = λ client.
-    held_by_rule (record { client = client; agent = c.args.agent }) c.args.packet.now _ _ _ _ _
+    held_by_rule (record { client = client; agent = c.args.agent }) c.args.packet.now _ _ _ _ _ _
     c.new-held.ensures
     (rw c.needs.ensures at c.in_ok-hold_all.ensures)
     (rw c.needs-2.ensures at c.in_ok-hold_all-2.ensures)
     (rw c.needs-3.ensures at c.in_ok-hold_all-3.ensures)
     (rw c.needs-4.ensures at c.in_ok-hold_all-4.ensures)
+    (rw c.needs-5.ensures at c.in_ok-hold_all-5.ensures)

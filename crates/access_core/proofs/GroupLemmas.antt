@@ -1,0 +1,142 @@
+-- How many work-groups kernel dispatches have, and what is known of them in flight.
+use Rattle.std.proofs.Common.{List, ◌≡◌, ℕ, ◌<◌, ◌≤◌, ◌^◌, ◌&&◌, true, arith, nat_le, nat_lt}
+use Rattle.std.proofs.lemmas.Bool.{and_parts, ltb-true}
+use Rattle.std.proofs.lemmas.Bool.Decides.{nat_tests}
+use Rattle.aql_packet.specs.declared.packet.KernelDispatch.{KernelDispatch}
+use Rattle.executor.specs.Locations.{count_of, groups_of}
+use Rattle.core_model.specs.Kernels.{grid_size, group_size, segments_of}
+use Rattle.core_model.specs.LaunchRules.{Facts, are_sizes, asks_for_known_work, has_dimensions, has_form, has_segments, has_sizes, need_is_met}
+use Rattle.core_model.specs.declared.kernel.KernelSegments.{KernelSegments}
+use Rattle.std.proofs.Common.{Option, Some, None, sym, ap, ◌∙◌, subst, refl, false, option_map}
+use Rattle.std.specs.List.{list_all}
+use Rattle.aql_packet.specs.declared.packet.Packet.TheVariants as packet
+use Rattle.queue_error.specs.declared.rule.Rule.TheVariants as rule
+use Rattle.core_model.proofs.Holding.{holding-legal}
+use Rattle.core_model.proofs.Lists.{found-all}
+use Rattle.core_model.specs.Headline.{HoldsInForce}
+use Rattle.std.proofs.Common.{Bool, length, ◌==◌}
+use Rattle.std.proofs.lemmas.Bool.{eqb-true, leb-true}
+use Rattle.kernel_check.specs.Programs.{Program, group_bytes_of}
+use Rattle.core_model.proofs.Lists.{found-passes}
+use Rattle.core_model.specs.Holds.{arguments, arguments_of}
+use Rattle.core_model.specs.LaunchRules.{kernel_passes}
+use Rattle.core_model.specs.declared.limits.TheConstants.{MOST_SEGMENT_BYTES}
+use Rattle.access_core.proofs.LaunchLemmas.{block-long}
+use Rattle.access_core.proofs.Terms.{numbered, numbered-map}
+use Rattle.access_core.specs.inner.InPlace.{IsSized}
+use Rattle.access_core.proofs.Terms.{Entry, InFlight, IsLegal, Packet, PacketId, QueueId, Start, facts_of, flight, in_flight, is_packet, needs}
+
+-- what is known of sizes that may be
+pub record AreSizes (d : KernelDispatch) : Type 0 where
+  pub some_x : 1 ≤ d.workgroup_size_x
+  pub some_y : 1 ≤ d.workgroup_size_y
+  pub some_z : 1 ≤ d.workgroup_size_z
+  pub grid_x : 1 ≤ d.grid_size_x
+  pub grid_y : 1 ≤ d.grid_size_y
+  pub grid_z : 1 ≤ d.grid_size_z
+  pub fits_x : d.workgroup_size_x ≤ d.grid_size_x
+  pub fits_y : d.workgroup_size_y ≤ d.grid_size_y
+  pub fits_z : d.workgroup_size_z ≤ d.grid_size_z
+  pub few_items : count_of (group_size d) ≤ 1024
+  pub few_groups : count_of (groups_of (grid_size d) (group_size d)) < 2 ^ 32
+
+pub groups_fit : (d : KernelDispatch) → has_sizes d ≡ true → AreSizes d
+groups_fit d is = record {
+  some_x = grind (arith, nat_tests);
+  some_y = grind (arith, nat_tests);
+  some_z = grind (arith, nat_tests);
+  grid_x = grind (arith, nat_tests);
+  grid_y = grind (arith, nat_tests);
+  grid_z = grind (arith, nat_tests);
+  fits_x = grind (arith, nat_tests);
+  fits_y = grind (arith, nat_tests);
+  fits_z = grind (arith, nat_tests);
+  few_items = grind (arith, nat_tests);
+  few_groups = ltb-true _ _ (and_parts (has_dimensions d && nat_le (count_of (group_size d)) 1024) _ is).1;
+}
+
+-- ---- packets in flight
+
+module _ (start : Start) (es : List Entry) (legal : IsLegal start es) (queue : QueueId) (id : PacketId) (f : InFlight) (found : in_flight start es queue id ≡ Some f) where
+  -- what is known of it by its launch
+  pub launch-of : HoldsInForce start es f
+  launch-of = found-all (HoldsInForce start es) (is_packet queue id) (flight start es) f (holding-legal start es legal) found
+
+  -- it asks for work that can be done
+  asks-known : asks_for_known_work f.packet ≡ true
+  asks-known =
+      let facts = facts_of start launch-of.launch.before launch-of.launch.opening in
+      ap asks_for_known_work (sym launch-of.packet_is)
+      ∙ (and_parts (asks_for_known_work launch-of.launch.packet) (list_all (need_is_met facts) (needs rule.L5 facts.agent launch-of.launch.packet)) (launch-of.launch.allowed.every_rule 4 rule.L5 (omega arith))).0
+
+  -- so a kernel dispatch has sizes that may be
+  pub sized : IsSized f.packet
+  sized = by_packet f.packet asks-known
+    where
+      by_packet : (p : Packet) → asks_for_known_work p ≡ true → IsSized p
+      by_packet (packet.Kernel d) is = is
+      by_packet (packet.Agent _) is = tt
+      by_packet (packet.BarrierAnd _) is = tt
+      by_packet (packet.BarrierOr _) is = tt
+
+  -- and segments as it needs them
+  pub segmented : (d : KernelDispatch) → f.packet ≡ packet.Kernel d → has_segments (facts_of start launch-of.launch.before launch-of.launch.opening) (packet.Kernel d) ≡ true
+  segmented d is =
+      let facts = facts_of start launch-of.launch.before launch-of.launch.opening in
+      ap (has_segments facts) (sym (launch-of.packet_is ∙ is))
+      ∙ (and_parts (has_segments facts launch-of.launch.packet) (list_all (need_is_met facts) (needs rule.L7 facts.agent launch-of.launch.packet)) (launch-of.launch.allowed.every_rule 6 rule.L7 (omega arith))).0
+
+-- What the executor asks of a kernel dispatch in flight: it names a kernel, whose argument block was copied whole at the launch, and has
+-- sizes and segments as they may be.
+pub record CanRun (start : Start) (es : List Entry) (queue : QueueId) (id : PacketId) (d : KernelDispatch) : Type 0 where
+  pub kernel : Program
+  pub kernel_is : numbered start.kernels d.kernel_object.0 ≡ Some kernel
+  pub block_long : length (arguments start es queue id) ≡ kernel.argument_bytes
+  pub sizes : AreSizes d
+  pub segment : group_bytes_of kernel ≤ d.group_segment_size
+  pub segment_limit : d.group_segment_size ≤ 65536
+
+module _ (start : Start) (es : List Entry) (legal : IsLegal start es) (queue : QueueId) (id : PacketId) (f : InFlight) (found : in_flight start es queue id ≡ Some f) where
+  -- its arguments are those of its launch
+  arguments-launched : arguments start es queue id ≡ arguments_of start (launch-of start es legal queue id f found).launch.before f.packet
+  arguments-launched =
+      let both = and_parts (f.queue.0 == queue.0) (f.id.0 == id.0) (found-passes (is_packet queue id) (flight start es) f found) in
+      let queues : f.queue ≡ queue = ap (λ n. record { 0 = n }) (eqb-true _ _ both.0) in
+      let ids : f.id ≡ id = ap (λ n. record { 0 = n }) (eqb-true _ _ both.1) in
+      (λ i. arguments start es (sym queues i) (sym ids i)) ∙ (launch-of start es legal queue id f found).arguments_are
+
+  pub can-run : (d : KernelDispatch) → f.packet ≡ packet.Kernel d → CanRun start es queue id d
+  can-run d is = by_kernel (numbered start.kernels d.kernel_object.0) refl
+    where
+      before : List Entry
+      before = (launch-of start es legal queue id f found).launch.before
+
+      facts : Facts
+      facts = facts_of start before (launch-of start es legal queue id f found).launch.opening
+
+      fits : Bool
+      fits = kernel_passes facts d (λ kernel. nat_le kernel.group d.group_segment_size)
+
+      passes : (fits ≡ true) × (nat_le d.group_segment_size MOST_SEGMENT_BYTES ≡ true)
+      passes =
+          let both = and_parts (fits && nat_le d.group_segment_size MOST_SEGMENT_BYTES) (nat_le d.private_segment_size MOST_SEGMENT_BYTES) (segmented start es legal queue id f found d is) in
+          and_parts fits (nat_le d.group_segment_size MOST_SEGMENT_BYTES) both.0
+
+      by_kernel : (o : Option Program) → numbered start.kernels d.kernel_object.0 ≡ o → CanRun start es queue id d
+      by_kernel None none =
+          let unknown : fits ≡ false =
+          ap (λ (o : Option KernelSegments). elim o [ None ↦ false | Some kernel ↦ nat_le kernel.group d.group_segment_size ])
+          (numbered-map segments_of start.kernels d.kernel_object.0 ∙ ap (option_map segments_of) none) in
+          let known = passes.0 in
+          absurd cc
+      by_kernel (Some kernel) some =
+          let limit : d.group_segment_size ≤ MOST_SEGMENT_BYTES = leb-true _ _ passes.1 in
+          let sizes : has_sizes d ≡ true = subst IsSized is (sized start es legal queue id f found) in
+          record {
+            kernel = kernel;
+            kernel_is = some;
+            block_long = block-long start before f.packet d is kernel some (arguments start es queue id) arguments-launched;
+            sizes = groups_fit d sizes;
+            segment = omega arith;
+            segment_limit = omega (arith, limit);
+          }

@@ -1,0 +1,71 @@
+-- Groups of kernel dispatches: what they are lent, what they are owed, and what their writes leave.
+use Rattle.std.proofs.Common.{◌≡◌, ℕ, ◌+◌, ◌-◌, List, [], ◌∷◌, length, map, replicate, refl, sym, ◌∙◌, ap, Bool, true, false, nat_le, if◌then◌else◌}
+use Rattle.std.proofs.lemmas.List.{length-replicate}
+use Rattle.std.proofs.lemmas.List.FromFn.{length-map-range_with_len}
+use Rattle.aql_packet.specs.declared.packet.KernelDispatch.{KernelDispatch}
+use Rattle.aql_packet.specs.declared.packet.Packet.TheVariants as packet
+use Rattle.policy.specs.declared.rights.Right.TheVariants.{Read}
+use Rattle.executor.specs.Laws.{AreLentAlike, IsLentAlike}
+use Rattle.executor.specs.Results.{group_result}
+use Rattle.executor.specs.declared.run.Run.{Run}
+use Rattle.core_model.specs.declared.outcome.Worked.TheVariants.{Done, Ran}
+use Rattle.core_model.specs.Owed.{group_owed, owed}
+use Rattle.core_model.specs.View.{HeldRegion, first_address, given, group_input, held_regions, lent, view}
+use Rattle.core_model.specs.Work.{groups_of, write_of_run}
+use Rattle.access_core.specs.inner.Running.{lent_whole, view_whole}
+use Rattle.access_core.proofs.QueueAt.{IsAdvance}
+use Rattle.access_core.proofs.RunLemmas.{OnlyWrites, one_group}
+use Rattle.access_core.proofs.WorkLemmas.{owed-in_place}
+use Rattle.access_core.proofs.Terms.{Entry, ObjectRight, History, IsInPlace, PacketId, Place, QueueId, RunNext, Start, answers, has, memory_at, memory_from, owed_group}
+use Rattle.core_model.specs.declared.outcome.Outcome.TheVariants as outcome
+
+-- ---- what a group is lent
+
+module _ (start : Start) (es : List Entry) where
+  lent-alike : (region : HeldRegion) → IsLentAlike (lent start es region) (lent_whole start es region)
+  lent-alike region = record {
+    number_is = refl;
+    rights_are = refl;
+    length_is = by_test (has region.rights Read);
+    bytes_are = λ reads. rw reads refl;
+  }
+    where
+      by_test : (b : Bool) → length (if b then memory_from start es (first_address region) region.size else replicate region.size 0) ≡ length (memory_from start es (first_address region) region.size)
+      by_test true = refl
+      by_test false = length-replicate region.size 0 ∙ sym (length-map-range_with_len (memory_at start es) (first_address region) region.size)
+
+  all-alike : (regions : List HeldRegion) → AreLentAlike (map (lent start es) regions) (map (lent_whole start es) regions)
+  all-alike [] = tt
+  all-alike (region ∷ regions) = (lent-alike region, all-alike regions)
+
+  -- the regions with all their bytes are lent alike to those that the history tells
+  pub views-alike : (all : List ObjectRight) → AreLentAlike (view start es all) (view_whole start es all)
+  views-alike all = all-alike (held_regions start all)
+
+-- ---- what a group is owed
+
+pub kernel-owed : (h : History) (queue : QueueId) (id : PacketId) (place : Place) → IsInPlace h queue id place → (d : KernelDispatch) → place.packet ≡ packet.Kernel d → (ran : Bool) → nat_le (groups_of (packet.Kernel d)) place.progress.groups_run ≡ ran
+    → owed h.start h.entries (RunNext queue id)
+    ≡ (if ran then answers (outcome.Worked Done) else group_owed queue id d place.progress.groups_run (group_result (group_input h.start h.entries (given h.start h.entries queue id) d place.progress.groups_run)))
+unfolding owed
+kernel-owed h queue id place found d packet_is ran is =
+    owed-in_place h queue id place found (owed_group h.start h.entries queue id (given h.start h.entries queue id))
+    ∙ ap (λ p. owed_group h.start h.entries queue id (given h.start h.entries queue id) p place.progress) packet_is
+    ∙ ap (λ b. if b then answers (outcome.Worked Done) else group_owed queue id d place.progress.groups_run (group_result (group_input h.start h.entries (given h.start h.entries queue id) d place.progress.groups_run))) is
+
+-- ---- what its writes leave
+
+pub runs-write : (runs : List Run) → OnlyWrites (map write_of_run runs)
+runs-write [] = record { flight = λ flying. refl; signals = λ values. refl }
+runs-write (run ∷ runs) =
+    let rest = runs-write runs in
+    record { flight = λ flying. rest.flight flying; signals = λ values. rest.signals values }
+
+-- by the entry of a group the packet comes one group further
+pub kernel-advances : (queue : QueueId) (id : PacketId) (group left : ℕ) (runs : List Run) → IsAdvance queue id one_group (RunNext queue id) (outcome.Worked (Ran group left)) (map write_of_run runs)
+kernel-advances queue id group left runs = record {
+  launches = refl;
+  progress = λ q i so_far. refl;
+  releases = (runs-write runs).flight;
+  views = λ m v places. refl;
+}

@@ -1,0 +1,52 @@
+-- What is kept moves along with the fault, which always finds room: a packet leaves flight for its entry.
+use Rattle.std.proofs.Common.{arith, ◌++◌, refl, [], ◌∷◌}
+use Rattle.core_model.specs.declared.outcome.Worked.TheVariants.{Faulted}
+use Rattle.core_model.specs.Owed.{group_error}
+use Rattle.access_core.proofs.HeldAfter.{grants-released}
+use Rattle.access_core.proofs.CachedMore.{IsCached-more, has_place, memory-still}
+use Rattle.access_core.proofs.QueueAt.{flight-released}
+use Rattle.access_core.proofs.TakeLemmas.{is-open, open-of}
+use Rattle.access_core.proofs.WorkLemmas.{fault-releases, can-fail, freed-below, place-inside, queues-released, sound-failed}
+use Rattle.access_core.proofs.Terms.{PacketId, QueueError, QueueView, RunNext, start_of, with_failure, without}
+use Rattle.core_model.specs.declared.entry.Effect.TheVariants as effect
+use Rattle.core_model.specs.declared.outcome.Outcome.TheVariants as outcome
+use Rattle.access_core.proofs.access.AccessCore.fault.Goals as goal
+
+abbrev failed : QueueError → PacketId → QueueView → QueueView
+failed error id v = record v { errors = v.errors ++ error ∷ []; places = without id v.places }
+
+pub fail_packet-requires : goal.fail_packet-requires
+fail_packet-requires c =
+    let a = c.self.inside in
+    let found = place-inside a _ c.self.view_is c.args.queue c.args.packet c.args.place c.requires.found in
+    can-fail a c.self.invariant c.args.queue c.args.packet (is-open a c.self.invariant c.args.queue found.opening found.owner_is) found.flying found.found
+
+pub overflow_sub-self : goal.overflow_sub-self
+overflow_sub-self c =
+    let a = c.self.inside in
+    let at = open-of a c.self.invariant _ c.self.view_is c.args.queue c.args.packet c.args.place c.requires.found in
+    let below = freed-below a c.self.invariant c.args.queue c.args.packet at in
+    rw c.fail_packet.ensures.freed below
+
+pub enter-requires : goal.enter-requires
+enter-requires c = has_place c.self.inside c.self.invariant _ c.self.view_is _ _ _ c.requires.may
+
+pub invariant_of-self : goal.invariant_of-self
+invariant_of-self c =
+    let a = c.self.inside in
+    let error = group_error c.args.queue c.args.packet c.args.group c.args.fault.item c.args.fault.line c.args.fault.rule in
+    let is = fault-releases c.args.queue c.args.packet error in
+    let found = place-inside a _ c.self.view_is c.args.queue c.args.packet c.args.place c.requires.found in
+    let at = is-open a c.self.invariant c.args.queue found.opening found.owner_is in
+    IsCached-more a _ (RunNext c.args.queue c.args.packet) (outcome.Worked (Faulted error)) (effect.Release c.args.queue c.args.packet ∷ []) c.self.invariant
+    (record {
+      same = ((refl, refl, refl), refl);
+      audit = rw c.one-effects.ensures at c.enter.ensures;
+      grants = grants-released a c.self.invariant _ _ _ refl refl (λ client on right b. refl) _ _ c.args.queue c.args.packet
+          (flight-released (start_of a) a.audit.items _ _ _ c.args.queue c.args.packet is) c.release.ensures c.release-2.ensures;
+      memory = memory-still a.memory _ (λ x byte. refl);
+      values = refl;
+      queues = rw (c.fail_packet.ensures.queues, c.fail_packet.ensures.freed) (queues-released a c.self.invariant c.args.queue c.args.packet _ _ _ is refl at (with_failure c.args.packet error) (failed error c.args.packet)
+          refl (sound-failed a c.self.invariant c.args.queue c.args.packet at error found.flying found.found) refl (λ m v. grind arith));
+    })
+    _ c.self.view_is c.requires.may

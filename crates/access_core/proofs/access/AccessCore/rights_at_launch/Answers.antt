@@ -1,0 +1,42 @@
+-- What the packet holds by its needs, and by its arguments.
+use Rattle.std.proofs.Common.{◌≡◌, ◌+◌, ◌≤◌, ◌∙◌, sym, Some, None, arith, rules, length}
+use Rattle.std.proofs.lemmas.List.Elements.{All-weaker}
+use Rattle.access_core.specs.inner.Deciding.{opening_of}
+use Rattle.access_core.proofs.LaunchLemmas.{block-long, both-held, needs-alone, no-arguments, only-needs, pointed-is}
+use Rattle.access_core.proofs.Terms.{numbered}
+use Rattle.access_core.proofs.access.AccessCore.rights_at_launch.Goals as goal
+
+pub returns-in_default : goal.returns-in_default
+returns-in_default c =
+    let h = c.args.self.now in
+    let launching = c.args.launching.now in
+    only-needs h.start h.entries (opening_of launching) launching.packet _ (c.in_ok-rights.ensures launching.client)
+    (needs-alone h.start h.entries launching.client launching.packet c.in_default.not-Kernel)
+
+pub returns-in_default-kernel : goal.returns-in_default-kernel
+returns-in_default-kernel c =
+    let h = c.args.self.now in
+    let launching = c.args.launching.now in
+    let none : numbered h.start.kernels c.in-Kernel.dispatch.kernel_object.0 ≡ None = cc c.in_default-kernel.ensures in
+    only-needs h.start h.entries (opening_of launching) launching.packet _ (c.in_ok-rights.ensures launching.client)
+    (no-arguments h.start h.entries launching.client launching.packet c.in-Kernel.dispatch c.in-Kernel.is none)
+
+pub held_by_arguments-requires : goal.held_by_arguments-requires
+held_by_arguments-requires c =
+    let h = c.args.self.now in
+    let launching = c.args.launching.now in
+    let found : numbered h.start.kernels c.in-Kernel.dispatch.kernel_object.0 ≡ Some c.in-Some.program.now = cc c.in-Some.ensures in
+    let long = block-long h.start h.entries launching.packet c.in-Kernel.dispatch c.in-Kernel.is c.in-Some.program.now found c.args.block.now c.requires in
+    All-weaker (λ offset. offset + 8 ≤ c.in-Some.program.now.argument_bytes) (λ offset. offset + 8 ≤ length c.args.block.now)
+    (λ offset below. omega (arith, below, long)) c.wide_arguments.result.now c.wide_arguments.ensures.within
+
+pub returns : goal.returns
+returns c =
+    let h = c.args.self.now in
+    let launching = c.args.launching.now in
+    let found : numbered h.start.kernels c.in-Kernel.dispatch.kernel_object.0 ≡ Some c.in-Some.program.now = cc c.in-Some.ensures in
+    both-held h.start h.entries (opening_of launching) launching.packet _ _ _ (c.in_ok-rights.ensures launching.client)
+    (c.as_slice.ensures ∙ c.in_ok-pointed.ensures
+    ∙ pointed-is h.start h.entries launching.packet c.in-Kernel.dispatch c.in-Kernel.is c.in-Some.program.now found (opening_of launching) _ c.facts-facts.ensures
+    _ _ c.wide_arguments.ensures.value c.requires)
+    c.in_ok-append.ensures

@@ -1,0 +1,8 @@
+-- the segments of the kernels so far
+use Rattle.std.proofs.Common.{◌≡◌, map, take}
+use Rattle.core_model.specs.Kernels.{segments_of}
+use Rattle.access_core.specs.Opening.{program_of}
+use Rattle.access_core.proofs.access.opening.segments.Given as goal
+
+abbrev pub invariant-loop-kernel : goal.invariant-loop-kernel
+invariant-loop-kernel l = l.segments ≡ map segments_of (map program_of (take l.kernel-index l.kernels))

@@ -1,0 +1,86 @@
+//! The argument blocks of packets in flight, as they were at their launches.
+
+ghost use Rattle.std.specs.Prelude.{◌≡◌, ◌++◌, ◌∷◌, [], OnErr, OnOk, filter, not};
+ghost use Rattle.access_core.specs.ArgumentBlocks.{block_of, is_block};
+
+use aql_packet::{PacketId, QueueId};
+use sequences::Sequence;
+use std::alloc::{AllocError, Global};
+use std::marker::Model;
+
+/// The argument block of a packet in flight.
+#[derive(Drop)]
+pub struct ArgumentBlock {
+    /// The packet's queue.
+    pub queue: QueueId,
+    /// The packet.
+    pub packet: PacketId,
+    /// The block's bytes: none but of a kernel dispatch.
+    pub bytes: Sequence<u8>,
+}
+
+/// The argument blocks of packets in flight, in the order of their launches. A contract sees the
+/// list.
+#[derive(Drop)]
+pub struct ArgumentBlocks {
+    blocks: Sequence<ArgumentBlock>,
+}
+
+impl Model for ArgumentBlocks {
+    ghost use Rattle.std.specs.Prelude.{List};
+    ghost use Rattle.access_core.specs.declared.argument_blocks.ArgumentBlock.{ArgumentBlock};
+
+    ghost Value = { List ArgumentBlock };
+
+    ghost view = { λ b. b.blocks };
+}
+
+impl ArgumentBlocks {
+    /// No packet is in flight.
+    pub fn new(alloc: Global) -> ArgumentBlocks
+        ensures { result ≡ [] }
+    {
+        ArgumentBlocks {
+            blocks: Sequence::new(alloc),
+        }
+    }
+
+    /// The block of a packet in flight; of another packet, no bytes.
+    pub fn get(&self, queue: QueueId, packet: PacketId) -> &[u8]
+        ensures { result.now ≡ block_of self.now queue packet }
+    {
+        let mut found: &[u8] = &[];
+        for block in self.blocks.as_slice() {
+            if block.queue == queue && block.packet == packet {
+                found = block.bytes.as_slice();
+            }
+        }
+        found
+    }
+
+    /// Puts the block of a packet that is launched behind the others.
+    pub fn push(
+        &mut self,
+        queue: QueueId,
+        packet: PacketId,
+        bytes: Sequence<u8>,
+    ) -> Result<(), AllocError>
+        ensures ok { OnOk result (self.new ≡ self.old ++ record { queue = queue; packet = packet; bytes = bytes } ∷ []) }
+        ensures err { OnErr result (self.new ≡ self.old) }
+    {
+        self.blocks.push(ArgumentBlock {
+            queue,
+            packet,
+            bytes,
+        })?;
+        Ok(())
+    }
+
+    /// Drops the block of a packet that leaves flight. It takes no memory.
+    pub fn release(&mut self, queue: QueueId, packet: PacketId)
+        ensures { self.new ≡ filter (λ block. not (is_block queue packet block)) self.old }
+    {
+        self.blocks
+            .retain(|block| !(block.queue == queue && block.packet == packet));
+    }
+}
