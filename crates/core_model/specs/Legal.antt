@@ -90,11 +90,13 @@ pub record Meets (event : Event) (old new : History) (reply : Result Outcome Ref
   pub history_is : new ≡ history_after old event (due old event)
 
 -- whether an event that is due this may want memory: an opening, a launch, a group and a client's write, and only where they
--- are entered; a refusal, an answer without an entry, and every other call never do (own)
+-- are entered; a group also where the audit is full, since only what it comes to tells whether its entry needs room; any other
+-- refusal, an answer without an entry, and every other call never do (own)
 abbrev pub may_lack : Event → Owed → Bool
 may_lack (OpenQueue _ _ _) (enters _ _) = true
 may_lack (Take _ _ _) (enters (outcomes.Taken Launched) _) = true
 may_lack (RunNext _ _) (enters _ _) = true
+may_lack (RunNext _ _) (refuses refusal.AuditFull) = true
 may_lack (HostWrite _ _ _) (enters _ _) = true
 may_lack _ _ = false
 
