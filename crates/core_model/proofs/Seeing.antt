@@ -188,13 +188,13 @@ module _ (start : Start) (one other : List Entry) where
       ++ (if d.return_address.0 == 0 then [] else write_of d.return_address.0 (to_le_bytes w64 (same-result (function_of d) (add-size d) all i)))
 
   -- so a group is owed the same
-  pub same-group : (queue : QueueId) (id : PacketId) (own : Given) (p : Packet) (so_far : Progress) → All Same (ranges_seen start own.held p) →
+  pub same-group : (queue : QueueId) (id : PacketId) (own : Given) (p : Packet) (so_far : Progress) → All Same (ranges_seen start own.rights p) →
       owed_group start one queue id own p so_far ≡ owed_group start other queue id own p so_far
   same-group queue id own (packet.Agent d) so_far all = ap (λ es. if nat_le 1 so_far.groups_run then answers (outcome.Worked worked.Done) else enters (outcome.Worked (worked.Ran 0 0)) es) (same-agent d all)
   same-group queue id own (packet.Kernel d) so_far all =
       ap (λ (seen : List LentRegion). if nat_le (groups_of (packet.Kernel d)) so_far.groups_run then answers (outcome.Worked worked.Done)
       else group_owed queue id d so_far.groups_run (group_result (record (group_input start one own d so_far.groups_run) { view = seen })))
-      (alike.same-lent start one other (held_regions start own.held) all)
+      (alike.same-lent start one other (held_regions start own.rights) all)
   same-group queue id own (packet.BarrierAnd _) so_far all = refl
   same-group queue id own (packet.BarrierOr _) so_far all = refl
 

@@ -205,15 +205,15 @@ pub record IsWithinGrant (start : Start) (before : List Entry) (client : ClientI
 
 -- so each run that a group writes does
 pub runs-granted : (start : Start) (es before : List Entry) (client : ClientId) (own : Given) (d : KernelDispatch) (group : ℕ) → are_region_lengths (region_lengths start) ≡ true →
-    All (λ h. in_force start before client h.0 h.1 ≡ true) own.held → (runs : List Run) → group_result (group_input start es own d group) ≡ wrote runs → All (IsWithinGrant start before client) runs
+    All (λ h. in_force start before client h.0 h.1 ≡ true) own.rights → (runs : List Run) → group_result (group_input start es own d group) ≡ wrote runs → All (IsWithinGrant start before client) runs
 runs-granted start es before client own d group fit granted runs is =
-    All-weaker (IsHeldRun (view start es own.held) right.Write) (IsWithinGrant start before client)
+    All-weaker (IsHeldRun (view start es own.rights) right.Write) (IsWithinGrant start before client)
     (λ run lies. record {
       0 = lies.has_bytes;
-      1 = reached start before client own.held granted es fit run.address (length run.bytes)
-          (λ x above below. may-write start before client own.held granted es fit x (lies.each x (grind (arith, nat_tests)))) lies.has_bytes;
+      1 = reached start before client own.rights granted es fit run.address (length run.bytes)
+          (λ x above below. may-write start before client own.rights granted es fit x (lies.each x (grind (arith, nat_tests)))) lies.has_bytes;
     })
-    runs (group_held (group_input start es own d group) runs (all-short start before client own.held granted es fit) is)
+    runs (group_held (group_input start es own d group) runs (all-short start before client own.rights granted es fit) is)
 
 -- ---- what is read
 

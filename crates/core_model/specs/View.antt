@@ -20,11 +20,11 @@ use Rattle.core_model.specs.Holds.{ObjectRight, arguments, packet_rights}
 
 -- what a packet was given at its launch: what it holds, and its argument block
 pub record Given : Type 0 where
-  pub packet_rights : List ObjectRight
+  pub rights : List ObjectRight
   pub arguments : List ℕ
 
 abbrev pub given : Start → List Entry → QueueId → PacketId → Given
-given start entries queue id = record { packet_rights = packet_rights start entries queue id; arguments = arguments start entries queue id }
+given start entries queue id = record { rights = packet_rights start entries queue id; arguments = arguments start entries queue id }
 
 -- the rights that are held on an object
 abbrev pub rights_held : List ObjectRight → Object → Rights
@@ -70,6 +70,6 @@ group_input start entries own d group = record {
   grid_size = grid_size d;
   group_segment_size = d.group_segment_size;
   arguments = own.arguments;
-  view = view start entries own.held;
+  view = view start entries own.rights;
   group = group;
 }

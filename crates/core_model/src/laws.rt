@@ -141,7 +141,7 @@ pub fn each_read_of_a_group_was_granted()
 /// ranges that its packet's work reads.
 pub fn groups_depend_on_what_they_read()
     ensures { (start : Start) (one other : List Entry) (queue : QueueId) (id : PacketId) (own : Given) (p : Packet) (so_far : Progress) →
-        All (λ range. memory_from start one range.address.0 range.size ≡ memory_from start other range.address.0 range.size) (ranges_seen start own.held p) →
+        All (λ range. memory_from start one range.address.0 range.size ≡ memory_from start other range.address.0 range.size) (ranges_seen start own.rights p) →
         owed_group start one queue id own p so_far ≡ owed_group start other queue id own p so_far }
 {}
 
