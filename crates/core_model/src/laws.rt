@@ -128,7 +128,7 @@ pub fn each_poll_is_by_the_signals()
 pub fn each_read_of_a_group_was_granted()
     ensures reads { (start : Start) (entries before : List Entry) (queue : QueueId) (id : PacketId) (told : Outcome) (effects : List Effect) →
         IsLegal start entries → IsEntryBehind entries before (entry_of (RunNext queue id) told effects) →
-        (s : InFlightSince start before queue id) × All (MayReachRange start s.launch.before s.launch.opening.client right.Read) (ranges_seen start (held start before queue id) s.flying.packet) }
+        (s : InFlightSince start before queue id) × All (MayReachRange start s.launch.before s.launch.opening.client right.Read) (ranges_seen start (packet_rights start before queue id) s.flying.packet) }
     ensures agents { (start : Start) (entries before : List Entry) (queue : QueueId) (id : PacketId) (told : Outcome) (effects : List Effect) (flying : InFlight) (dispatch : AgentDispatch) →
         IsLegal start entries → IsEntryBehind entries before (entry_of (RunNext queue id) told effects) →
         in_flight start before queue id ≡ Some flying → flying.packet ≡ packet.Agent dispatch → effects ≡ agent_writes start before dispatch }
