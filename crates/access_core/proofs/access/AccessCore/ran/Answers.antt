@@ -5,7 +5,7 @@ use Rattle.core_model.specs.Work.{write_of_run}
 use Rattle.executor.specs.declared.run.Run.{Run}
 use Rattle.access_core.proofs.Calls.{met-entry, met-refusal}
 use Rattle.access_core.proofs.HeldAfter.{grants-still}
-use Rattle.access_core.proofs.CachedMore.{IsCached-more, has_place}
+use Rattle.access_core.proofs.CachedMore.{IsCached-more}
 use Rattle.access_core.proofs.KernelLemmas.{kernel-advances, runs-write}
 use Rattle.access_core.proofs.LayingLemmas.{group-due, group-may_lack, runs-within}
 use Rattle.access_core.proofs.QueueAt.{flight-advanced}
@@ -33,7 +33,7 @@ returns-then-is_full c =
 pub lay_changes-requires : goal.lay_changes-requires
 lay_changes-requires c =
     let a = c.self.inside in
-    rw (c.in_ok-changes.ensures, c.self.invariant.lengths)
+    rw (c.as_slice.ensures.value ∙ c.in_ok-changes.ensures, c.self.invariant.lengths)
     (runs-within (region_lengths (start_of a)) c.args.runs
     (subst (λ (h : History). All (λ (run : Run). is_within (region_lengths h.start) run.address (length run.bytes) ≡ true) c.args.runs) (sym c.self.view_is) c.requires.written))
 
@@ -57,7 +57,7 @@ invariant_of-self c =
       grants = grants-still a c.self.invariant _ _ _ refl refl (λ client on right b. refl) (flight-advanced (start_of a) a.audit.items _ _ _ c.args.queue c.args.packet _ is);
       memory = record {
         lengths = c.lay_changes.ensures.lengths;
-        memory = subst (λ (effects : List Effect). IsChanged a.memory effects c.lay_changes.new.memory) c.in_ok-changes.ensures c.lay_changes.ensures.changed;
+        memory = subst (λ (effects : List Effect). IsChanged a.memory effects c.lay_changes.new.memory) (c.as_slice.ensures.value ∙ c.in_ok-changes.ensures) c.lay_changes.ensures.changed;
       };
       values = sym ((runs-write c.args.runs).signals a.signals);
       queues = rw c.advance.ensures (queues-advanced a c.self.invariant c.args.queue at c.args.packet one_group _ _ _ is refl _ (c.one_more.ensures ∙ ap one_group (sym found.progress_is)));

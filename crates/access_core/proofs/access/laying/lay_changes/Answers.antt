@@ -1,5 +1,5 @@
 -- The next change lies where it did before, and is laid over the others.
-use Rattle.std.proofs.Common.{◌∙◌, ◌++◌, ◌∷◌, [], List, Some, ap, sym, subst, take, fold}
+use Rattle.std.proofs.Common.{◌∙◌, ◌++◌, ◌∷◌, [], List, ap, sym, subst, take}
 use Rattle.std.proofs.lemmas.List.{take_all, take_more}
 use Rattle.access_core.specs.inner.Laying.{LiesWithin}
 use Rattle.access_core.proofs.LayingLemmas.{changed-next}
@@ -15,8 +15,7 @@ pub loop-change-preserved : goal.loop-change-preserved
 loop-change-preserved c =
     let i = c.loop-change.change-index in
     let change = c.change-item.result in
-    let so_far = take i c.args.changes.now in
-    (
+    let so_far = take i c.args.changes.now in (
       subst (λ (xs : List Effect). IsChanged c.args.memory.now xs c.lay_change.new.memory)
           (sym (take_more c.args.changes.now i change c.loop-change-test.true ∙ ap (λ (x : Effect). so_far ++ x ∷ []) (sym c.change-item.is)))
           (changed-next c.args.memory.now c.loop-change.memory c.lay_change.new.memory so_far change c.loop-change.invariant.0 c.lay_change.ensures.changed),
