@@ -15,6 +15,7 @@ pub mod WorkLemmas
 pub mod WorkReadLemmas
 pub mod RunLemmas
 pub mod KernelLemmas
+pub mod LendingLemmas
 pub mod HostMemory
 pub mod HeldMore
 pub mod HeldRights
