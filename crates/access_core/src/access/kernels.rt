@@ -68,6 +68,7 @@ impl AccessCore {
         ensures fault { IfErr result (FaultsAs (next_result self.now queue packet place dispatch)) }
         ensures written { IfOk result (λ runs. All (λ run. is_within (region_lengths self.now.start) run.address (length run.bytes) ≡ true) runs) }
     {
+        self.regions_fit();
         let client = self.holder_of(queue, packet, place);
         let view = self.view(alloc, queue, packet, client)?;
         let kernel = kernel_at(self.kernels.as_slice(), dispatch.kernel_object);

@@ -2,8 +2,6 @@
 
 ghost use Rattle.std.specs.Prelude.{◌≡◌, ◌∷◌, ◌-◌, ◌<◌, ◌^◌, All, IfOk, [], length, map, true};
 ghost use Rattle.regions.specs.Memory.{is_within, lengths_of};
-ghost use Rattle.core_model.specs.declared.outcome.Outcome.TheVariants as outcome;
-ghost use Rattle.core_model.specs.declared.outcome.Worked.TheVariants as worked;
 ghost use Rattle.core_model.specs.Legal.{MeetsOrLacks, as_variant};
 ghost use Rattle.core_model.specs.Memory.{region_lengths};
 ghost use Rattle.core_model.specs.Owed.{enters, owed};
@@ -35,7 +33,7 @@ impl AccessCore {
     ) -> Result<Worked, Refusal>
         requires found { IsInPlace self.old queue packet place }
         requires owed { owed self.old.start self.old.entries (Event.RunNext queue packet)
-            ≡ enters (outcome.Worked (worked.Ran place.progress.groups_run left)) (map write_of_run runs) }
+            ≡ enters (Outcome.Worked (Worked.Ran place.progress.groups_run left)) (map write_of_run runs) }
         requires written { All (λ run. is_within (region_lengths self.old.start) run.address (length run.bytes) ≡ true) runs }
         requires room { place.progress.groups_run < 2 ^ 32 - 1 }
         ensures { MeetsOrLacks (Event.RunNext queue packet) self.old self.new (as_variant Outcome.Worked result) }
@@ -94,7 +92,8 @@ fn lay_change(memory: &mut Regions, change: &Effect)
     ensures changed { IsChanged memory.old (change.now ∷ []) memory.new }
     ensures lengths { lengths_of memory.new ≡ lengths_of memory.old }
 {
-    if let Effect::Write { address, bytes } = change {
-        memory.lay(*address, bytes.as_slice());
+    match change {
+        Effect::Write { address, bytes } => memory.lay(*address, bytes.as_slice()),
+        Effect::Signal { .. } | Effect::Release { .. } => {}
     }
 }

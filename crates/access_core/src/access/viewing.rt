@@ -1,7 +1,7 @@
 //! What the groups of a kernel dispatch in flight are lent: the regions that their packet holds.
 
-ghost use Rattle.std.specs.Prelude.{◌≡◌, ◌<◌, IfOk, map, option_map};
-ghost use Rattle.regions.specs.Memory.{region_length};
+ghost use Rattle.std.specs.Prelude.{◌≡◌, ◌<◌, IfOk, map, option_map, true};
+ghost use Rattle.regions.specs.Memory.{are_region_lengths, region_length};
 ghost use Rattle.executor.specs.Items.{lent_region};
 ghost use Rattle.policy.specs.declared.object.Object.TheVariants as object;
 ghost use Rattle.core_model.specs.Holds.{packet_rights};
@@ -27,6 +27,13 @@ impl AccessCore {
         ensures { IsHolder self.now queue packet result }
     {
         self.queues[queue.0 as usize - 1].client
+    }
+
+    // Memory takes the lengths of the regions: each policy is within its limits.
+    pub(crate) fn regions_fit(&self)
+        ensures { are_region_lengths (region_lengths self.now.start) ≡ true }
+    {
+        self.policy().object_count(Kind::Region);
     }
 
     // The regions on which a packet in flight holds a right, in order, each with the rights that it holds
