@@ -1,19 +1,21 @@
 -- Groups of kernel dispatches in flight: that they can be run, and that what they come to is what the history says.
-use Rattle.std.proofs.Common.{◌≡◌, ℕ, ◌-◌, ◌<◌, ◌≤◌, List, length, refl, sym, ◌∙◌, ap, subst, Bool, true, Option, Some, None, arith, All, map, option_map, slice_get, ◌==◌}
+use Rattle.std.proofs.Common.{◌≡◌, ℕ, ◌-◌, ◌<◌, ◌≤◌, List, length, get_or, refl, sym, ◌∙◌, ap, subst, Bool, true, Option, Some, None, arith, All, map, option_map, slice_get, ◌==◌}
 use Rattle.std.specs.Option.{unwrap_or}
-use Rattle.std.proofs.lemmas.Bool.{and_parts, eqb-true}
+use Rattle.std.proofs.lemmas.Bool.{and_parts, eqb-true, ltb-true}
 use Rattle.std.proofs.lemmas.List.Elements.{All-weaker}
-use Rattle.std.proofs.lemmas.Option.{get_or_from_slice_get, slice_get_within}
+use Rattle.std.proofs.lemmas.Option.{get_or_from_slice_get, slice_get-get_or, slice_get_within}
 use Rattle.aql_packet.specs.declared.packet.KernelDispatch.{KernelDispatch}
 use Rattle.aql_packet.specs.declared.packet.Packet.TheVariants as packet
-use Rattle.executor.proofs.ReadBytes.{same_result}
-use Rattle.executor.specs.Items.{lent_region}
-use Rattle.executor.specs.Results.{GroupResult, group_result, wrote}
-use Rattle.executor.specs.Runs.{HasSizes, IsRunnable, input_of}
+use Rattle.executor.specs.Items.{LentRegion, lent_region}
+use Rattle.executor.specs.Laws.{AreLentAlike}
+use Rattle.executor.specs.Results.{FailsAs, GroupResult, group_result, wrote}
+use Rattle.executor.specs.Runs.{GroupInput, IsRunnable, input_of}
 use Rattle.executor.specs.declared.dispatch.Dispatch.{Dispatch}
+use Rattle.executor.specs.declared.fault.RunFault.{RunFault}
+use Rattle.executor.specs.declared.fault.RunFault.TheVariants.{Fault, OutOfMemory}
 use Rattle.executor.specs.declared.run.Run.{Run}
 use Rattle.executor.specs.declared.view.HeldRegion.{HeldRegion}
-use Rattle.kernel_check.specs.Programs.{Program}
+use Rattle.kernel_check.specs.Programs.{Program, group_bytes_of}
 use Rattle.core_model.proofs.Lists.{found-all, found-passes}
 use Rattle.core_model.proofs.Viewing.{IsWithinGrant, runs-granted}
 use Rattle.core_model.specs.Grants.{in_force}
@@ -25,7 +27,7 @@ use Rattle.core_model.specs.Work.{groups_of}
 use Rattle.access_core.specs.ArgumentBlocks.{block_of}
 use Rattle.access_core.specs.Opening.{IsNumber, has_entry, program_of}
 use Rattle.access_core.specs.declared.kernel.Kernel.{Kernel}
-use Rattle.access_core.specs.inner.Running.{view_whole}
+use Rattle.access_core.specs.inner.Running.{FaultsAs, view_whole}
 use Rattle.access_core.proofs.GroupLemmas.{CanRun, can-run, launch-of}
 use Rattle.access_core.proofs.KernelLemmas.{views-alike}
 use Rattle.access_core.proofs.Terms.{History, InFlight, Inside, IsCached, IsInPlace, IsLegal, PacketId, Place, QueueId, are_region_lengths, flight, history_of, is_packet, is_within}
@@ -36,6 +38,19 @@ numbered-all : {X : Type 0} (P : X → Type 0) (xs : List X) (n : ℕ) (x : X) �
 numbered-all P xs n x all found =
     let at : slice_get xs (n - 1) ≡ Some x = grind arith in
     subst P (get_or_from_slice_get xs (n - 1) x x at) (all (n - 1) x (slice_get_within xs (n - 1) x at))
+
+-- the program at a kernel's index
+abbrev pub program_at : Kernel → Program
+program_at k = get_or k.checked k.entry no_kernel
+
+-- what a group comes to depends on the bytes of regions with READ alone
+abbrev pub ReadsWhereItMay : Type 0
+ReadsWhereItMay = (input : GroupInput) (others : List LentRegion) → AreLentAlike input.view others → group_result input ≡ group_result (record input { view = others })
+
+-- what is said of a fault is said of what the history says
+pub faults-as : (i : GroupInput) (came : GroupResult) → came ≡ group_result i → (why : RunFault) → FailsAs i why → FaultsAs came why
+faults-as i came is OutOfMemory fails = tt
+faults-as i came is (Fault f) fails = is ∙ fails.1
 
 -- What the executor is asked to run is what a dispatch asks for, with this argument block.
 pub record IsAsked (asked : Dispatch) (d : KernelDispatch) (block : List ℕ) : Type 0 where
@@ -75,6 +90,13 @@ module _ (a : Inside) (kept : IsCached a) (old : History) (seen_as : history_of 
     pub entry-there : has_entry k ≡ true
     entry-there = numbered-all (λ kernel. has_entry kernel ≡ true) a.kernels.items d.kernel_object.0 k kept.entries at
 
+    pub entry-below : k.entry < length k.checked
+    entry-below = ltb-true _ _ entry-there
+
+    -- and so is its program
+    pub program-there : slice_get k.checked k.entry ≡ Some (program_at k)
+    program-there = slice_get-get_or k.checked k.entry no_kernel entry-below
+
     pub program-is : (p : Program) → slice_get k.checked k.entry ≡ Some p → p ≡ kernel_of old.start d
     program-is p here = sym (ap (λ o. unwrap_or o no_kernel) (kernels-are d.kernel_object.0 ∙ ap (option_map program_of) at) ∙ ap (λ o. unwrap_or o no_kernel) here)
 
@@ -103,15 +125,15 @@ module _ (a : Inside) (kept : IsCached a) (old : History) (seen_as : history_of 
             few_groups = rw (asks.group_size_is, asks.grid_size_is) can.sizes.few_groups;
           };
           one_of_them = rw (asks.group_size_is, asks.grid_size_is) below;
-          segment = rw (kernel, asks.segment_is) can.segment;
+          segment = subst (λ (n : ℕ). n ≤ asked.group_segment_size) (ap group_bytes_of (sym kernel)) (rw asks.segment_is can.segment);
           segment_limit = rw asks.segment_is can.segment_limit;
         }
 
     -- what it comes to is what the history says
-    pub result-is : (view : List HeldRegion) → map lent_region view ≡ view_whole old.start old.entries (packet_rights old.start old.entries queue id)
+    pub result-is : ReadsWhereItMay → (view : List HeldRegion) → map lent_region view ≡ view_whole old.start old.entries (packet_rights old.start old.entries queue id)
         → group_result (group_input old.start old.entries (given old.start old.entries queue id) d group) ≡ group_result (input_of p asked group view)
-    result-is view view_is =
-        same_result (group_input old.start old.entries (given old.start old.entries queue id) d group) (view_whole old.start old.entries (packet_rights old.start old.entries queue id))
+    result-is law view view_is =
+        law (group_input old.start old.entries (given old.start old.entries queue id) d group) (view_whole old.start old.entries (packet_rights old.start old.entries queue id))
         (views-alike old.start old.entries (packet_rights old.start old.entries queue id))
         ∙ (λ i. group_result (record {
           program = sym p_is i;

@@ -19,7 +19,7 @@ use crate::access::{AccessCore, enter};
 use crate::kernel::kernel_at;
 use aql_packet::{KernelDispatch, PacketId, QueueId};
 use core_model::{Effect, Effects, Event, Outcome, Refusal, Worked};
-use executor::{Dispatch, Extent, ItemFault, Run, RunFault, run_group};
+use executor::{Dispatch, Extent, ItemFault, Run, RunFault, groups_read_where_they_may, run_group};
 use packet_processor::Place;
 use queue_error::QueueError;
 use sequences::Sequence;
@@ -68,6 +68,7 @@ impl AccessCore {
         ensures fault { IfErr result (FaultsAs (next_result self.now queue packet place dispatch)) }
         ensures written { IfOk result (λ runs. All (λ run. is_within (region_lengths self.now.start) run.address (length run.bytes) ≡ true) runs) }
     {
+        groups_read_where_they_may();
         self.regions_fit();
         let client = self.holder_of(queue, packet, place);
         let view = self.view(alloc, queue, packet, client)?;
