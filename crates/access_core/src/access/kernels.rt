@@ -7,9 +7,9 @@ ghost use Rattle.executor.specs.Results.{wrote};
 ghost use Rattle.regions.specs.Memory.{is_within};
 ghost use Rattle.core_model.specs.Kernels.{grid_size, group_size};
 ghost use Rattle.core_model.specs.LaunchRules.{has_sizes};
-ghost use Rattle.core_model.specs.Legal.{Meets, MeetsOrLacks, as_variant, due};
+ghost use Rattle.core_model.specs.Legal.{Meets, MeetsOrLacks, as_variant};
 ghost use Rattle.core_model.specs.Memory.{region_lengths};
-ghost use Rattle.core_model.specs.Owed.{group_error};
+ghost use Rattle.core_model.specs.Owed.{group_error, owed};
 ghost use Rattle.core_model.specs.Work.{groups_of};
 ghost use Rattle.access_core.specs.inner.InPlace.{IsInPlace};
 ghost use Rattle.access_core.specs.inner.Running.{FaultsAs, fault_owed, next_result};
@@ -94,9 +94,9 @@ impl AccessCore {
         group: u32,
         fault: ItemFault,
     ) -> Worked
-        requires may { due self.old (Event.RunNext queue packet)
-            ≡ fault_owed (group_error queue packet group fault.item fault.line fault.rule) }
         requires found { IsInPlace self.old queue packet place }
+        requires owed { owed self.old.start self.old.entries (Event.RunNext queue packet)
+            ≡ fault_owed (group_error queue packet group fault.item fault.line fault.rule) }
         ensures { Meets (Event.RunNext queue packet) self.old self.new (Ok (Outcome.Worked result)) }
     {
         let error = QueueError {
