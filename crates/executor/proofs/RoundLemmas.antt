@@ -1,10 +1,10 @@
 -- Items that run from barrier to barrier, one after another, are the least item first.
 use Rattle.std.proofs.Common.{◌≡◌, Option, Some, None, length, ℕ, zero, suc, ◌+◌, ◌-◌, ◌<◌, ◌≤◌, List, [], ◌∷◌, ◌++◌, replicate, slice_index, slice_set, get_or, arith, refl, sym, ap, ◌∙◌, subst, Bool, true, false}
-use Rattle.std.specs.Prelude.{◌&&◌, drop, map, take, if◌then◌else◌}
+use Rattle.std.specs.Prelude.{drop, map, take, if◌then◌else◌}
 use Rattle.std.specs.List.{list_all}
 use Rattle.std.proofs.lemmas.Bool.{and_parts}
 use Rattle.std.proofs.Math.Seq.{take-append_seam}
-use Rattle.executor.specs.Group.{Standing, ready, waiting, ended, Status, running, done, faulted, least_waiting, waits_before, released, met, Leads, beginning}
+use Rattle.executor.specs.Group.{Standing, ready, ended, Status, running, done, faulted, least_waiting, waits_before, released, met, Leads, beginning}
 use Rattle.executor.specs.Items.{Contents, Surroundings, fresh}
 use Rattle.executor.specs.Runs.{Fails, ItemRuns, ItemFails}
 use Rattle.executor.specs.Stops.{after, is_barrier, standing, standing_at, stopped_again, told, waits, AreStopped, CanGoOn, CanGoOnFrom}

@@ -1,8 +1,7 @@
 -- A group takes a bounded number of turns, and so comes to one end.
 use Rattle.std.proofs.Common.{◌≡◌, ℕ, zero, suc, ◌+◌, ◌-◌, ◌*◌, ◌<◌, ◌≤◌, List, [], ◌∷◌, replicate, slice_index, arith, refl, sym, ap, ◌∙◌, subst, Bool, true, false, Option, Some, None, inl, inr, ◌⊎◌}
-use Rattle.std.specs.Prelude.{◌==◌, ◌&&◌, map, slice_get, if◌then◌else◌}
+use Rattle.std.specs.Prelude.{◌==◌, map, slice_get, if◌then◌else◌}
 use Rattle.std.specs.List.{list_all}
-use Rattle.std.proofs.lemmas.Bool.{and_parts}
 use Rattle.std.proofs.lemmas.Bool.{cases_lt}
 use Rattle.std.proofs.lemmas.Bool.Decides.{nat_tests}
 use Rattle.executor.specs.Group.{Standing, ready, waiting, ended, Advance, stepped, settled, failed, around_item, taken, behind, advance, Status, running, done, faulted, least_waiting, waits_before, released, met, followed, follow, LeadsIn, Leads, beginning}

@@ -1,5 +1,5 @@
 -- Atomic operations: what they find, and what they leave in its place (PRM, Atomic Memory Operations).
-use Rattle.std.specs.Prelude.{ℕ, ◌+◌, ◌%◌, ◌^◌, ◌==◌, ◌≤◌, if◌then◌else◌, List, length, take, drop, slice_index, Option, Some, None, Result, bit_and, bit_or, bit_xor}
+use Rattle.std.specs.Prelude.{ℕ, ◌+◌, ◌^◌, ◌==◌, ◌≤◌, if◌then◌else◌, List, length, take, drop, Option, Some, None, Result, bit_and, bit_or, bit_xor}
 use Rattle.std.specs.Int.{w32, w64, to_le_bytes}
 use Rattle.executor.specs.Accesses.{atomic_broken, group_atomic_broken, lent, overlaid, unless_broken}
 use Rattle.executor.specs.Addresses.{address_of, group_address_of}

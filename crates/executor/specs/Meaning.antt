@@ -1,5 +1,5 @@
 -- What one instruction does to a work-item and to memory, an equation an instruction.
-use Rattle.std.specs.Prelude.{ℕ, ◌+◌, ◌%◌, ◌^◌, ◌==◌, if◌then◌else◌, List, drop, slice_get, Option, Some, None, Result, Ok, Err}
+use Rattle.std.specs.Prelude.{ℕ, ◌+◌, ◌==◌, if◌then◌else◌, List, drop, slice_get, Option, Some, None, Result, Ok, Err}
 use Rattle.byteorder.specs.Endian.{little_number}
 use Rattle.executor.specs.Accesses.{loaded, stored, group_loaded, group_stored}
 use Rattle.executor.specs.Addresses.{address_of, group_address_of}

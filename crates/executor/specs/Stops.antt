@@ -1,5 +1,5 @@
 -- Work-items that run from stop to stop, as a group sees them (own).
-use Rattle.std.specs.Prelude.{◌≡◌, ℕ, zero, suc, ◌≤◌, Bool, true, false, if◌then◌else◌, List, [], ◌∷◌, ◌++◌, map}
+use Rattle.std.specs.Prelude.{◌≡◌, ℕ, zero, suc, ◌≤◌, Bool, true, false, if◌then◌else◌, List, [], ◌∷◌, ◌++◌}
 use Rattle.executor.specs.Group.{Standing, ready, waiting, ended, released}
 use Rattle.executor.specs.declared.item.Item.{Item}
 use Rattle.executor.specs.declared.item.Stop.{Stop}

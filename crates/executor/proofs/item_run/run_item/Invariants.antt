@@ -1,4 +1,4 @@
-use Rattle.std.proofs.Common.{◌≡◌, ◌≤◌, List, ◌∷◌, ◌++◌, length}
+use Rattle.std.proofs.Common.{◌≡◌, List, ◌∷◌, ◌++◌, length}
 use Rattle.executor.specs.Group.{Standing, ready, running, Leads}
 use Rattle.executor.specs.Items.{contents, surroundings}
 use Rattle.executor.specs.Stops.{AreStopped}

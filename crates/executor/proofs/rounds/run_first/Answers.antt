@@ -1,10 +1,10 @@
-use Rattle.std.proofs.Common.{◌≡◌, ◌∙◌, arith, ap, subst, sym}
+use Rattle.std.proofs.Common.{arith, subst}
 use Rattle.executor.specs.Group.{ready}
 use Rattle.executor.specs.Items.{contents, surroundings}
 use Rattle.executor.specs.Runs.{ItemFails, ItemRuns}
 use Rattle.executor.specs.Stops.{standing}
 use Rattle.executor.specs.declared.item.StoppedItem.{StoppedItem}
-use Rattle.executor.proofs.RoundLemmas.{HaveRun, none_ran, first_fails, one_ran, all_ran}
+use Rattle.executor.proofs.RoundLemmas.{first_fails, one_ran, all_ran}
 use Rattle.executor.proofs.rounds.run_first.Goals as goal
 
 pub returns-in-Err-clause-err : goal.returns-in-Err-clause-err

@@ -1,4 +1,4 @@
-use Rattle.std.proofs.Common.{◌≡◌, ◌+◌, ◌-◌, ◌<◌, ◌++◌, ◌∙◌, List, Some, None, length, slice_index, ap, arith, false, true, subst, sym}
+use Rattle.std.proofs.Common.{◌≡◌, ◌+◌, ◌-◌, ◌<◌, ◌++◌, ◌∙◌, List, length, slice_index, ap, arith, subst, sym}
 use Rattle.std.specs.List.{list_all}
 use Rattle.std.specs.Prelude.{drop, map, take}
 use Rattle.queue_error.specs.declared.rule.Rule.TheVariants.{A6}
@@ -95,10 +95,10 @@ rounds-preserved c =
     subst (λ (zs : List StoppedItem). (gone + length zs ≡ c.args.count) × Leads a p (beginning c.args.count (contents c.args.memory.now)) (running (after gone (map standing zs)) now)) (sym whole) (
       let before = c.rounds.invariant.0 in omega (arith, ap length c.as_mut_slice.ensures.value, c.in_default-run_on.ensures.count),
       round_goes a p c.args.count (contents c.args.memory.now) gone xs m c.rounds.invariant.1 w
-    (ap (λ (zs : List StoppedItem). least_waiting 0 (after gone (map standing zs))) (sym c.as_slice.ensures.value) ∙ (sym c.least_waiting.ensures ∙ c.in-Some.is))
-    (ap (λ (zs : List StoppedItem). list_all (waits_before w.next) (after gone (map standing zs))) (sym c.as_slice-in-rounds.ensures.value)
-    ∙ (sym c.wait_together.ensures ∙ c.if-not-wait_together.false))
-    ys now
-    (subst (λ (zs : List StoppedItem). Leads a p (running (stopped_again 0 zs) m) (running (map standing ys) now)) c.as_mut_slice.ensures.value
-    c.in_default-run_on.ensures.ok),
+          (ap (λ (zs : List StoppedItem). least_waiting 0 (after gone (map standing zs))) (sym c.as_slice.ensures.value) ∙ (sym c.least_waiting.ensures ∙ c.in-Some.is))
+          (ap (λ (zs : List StoppedItem). list_all (waits_before w.next) (after gone (map standing zs))) (sym c.as_slice-in-rounds.ensures.value)
+          ∙ (sym c.wait_together.ensures ∙ c.if-not-wait_together.false))
+          ys now
+          (subst (λ (zs : List StoppedItem). Leads a p (running (stopped_again 0 zs) m) (running (map standing ys) now)) c.as_mut_slice.ensures.value
+          c.in_default-run_on.ensures.ok),
     )
