@@ -17,7 +17,7 @@ segments_of kernel = record { kernarg = kernel.argument_bytes; group = group_byt
 
 -- a kernel without arguments and steps, where there is none of a number
 abbrev pub no_kernel : Program
-no_kernel = record { name = []; argument_bytes = 0; wide = []; steps = []; lines = [] }
+no_kernel = record { name = []; argument_bytes = 0; group_bytes = 0; wide = []; steps = []; lines = [] }
 
 -- the kernel that a dispatch names (PSA, Kernel Dispatch Packet; that a kernel object is a number is own)
 abbrev pub kernel_of : Start → KernelDispatch → Program

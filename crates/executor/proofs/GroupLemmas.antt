@@ -1,12 +1,11 @@
--- Items one after another, each to its end, are the least item first.
+-- An item that runs until it stops is the least item first.
 use Rattle.executor.proofs.Maps.{get_past}
-use Rattle.std.proofs.Common.{◌≡◌, ◌==◌, false, cond, Some, length, ℕ, zero, suc, ◌+◌, ◌-◌, ◌<◌, ◌≤◌, List, [], ◌∷◌, replicate, slice_index, arith, refl, sym, ap, ◌∙◌, subst}
-use Rattle.executor.specs.Group.{Standing, ready, ended, Advance, stepped, settled, failed, around_item, taken, behind_ended, advance, Status, running, done, faulted, followed, follow, LeadsIn, Leads, beginning}
-use Rattle.executor.specs.Items.{Contents, Surroundings, fresh}
-use Rattle.executor.specs.Runs.{after, ItemRuns, ItemFails, Fails}
-use Rattle.executor.specs.declared.fault.RunFault.{RunFault}
-use Rattle.executor.specs.declared.fault.RunFault.TheVariants as fault
-use Rattle.executor.specs.Meaning.{Act, goes_on, ends, broke, act, turn, turn_at}
+use Rattle.std.proofs.Common.{◌≡◌, ◌==◌, false, cond, Option, Some, length, ℕ, zero, suc, ◌+◌, ◌<◌, ◌≤◌, List, [], ◌∷◌, ◌++◌, slice_index, arith, refl, sym, ap, ◌∙◌, subst}
+use Rattle.executor.specs.Group.{Standing, ready, waiting, ended, Advance, stepped, settled, failed, around_item, taken, behind, advance, Status, running, faulted, least_waiting, met, followed, follow, LeadsIn, Leads}
+use Rattle.executor.specs.Items.{Contents, Surroundings}
+use Rattle.executor.specs.Stops.{AreStopped}
+use Rattle.executor.specs.Meaning.{Act, goes_on, arrives, ends, broke, act, turn, turn_at}
+use Rattle.executor.specs.declared.rounds.Waiter.{Waiter}
 use Rattle.executor.specs.Turns.{Acts}
 use Rattle.executor.specs.declared.act.Outcome.{Outcome}
 use Rattle.kernel_check.specs.declared.step.Step.{Step}
@@ -17,45 +16,43 @@ use Rattle.executor.specs.declared.item.Item.{Item}
 use Rattle.kernel_check.specs.Programs.{Program}
 use Rattle.queue_error.specs.declared.rule.Rule.{Rule}
 
--- what a turn makes of a group in which so many items have ended before the one that takes it
-abbrev pub turned : ℕ → ℕ → ℕ → ℕ → List Standing → Act → Advance
-turned before n line executed rest (goes_on i m) = stepped (after before (ready i (executed + 1) ∷ rest)) m
-turned before n line executed rest (ends m) = stepped (after before (ended ∷ rest)) m
-turned before n line executed rest (broke rule) = failed n line rule
+-- items before those of which a turn is told
+abbrev pub behind_all : List Standing → Advance → Advance
+behind_all [] next = next
+behind_all (s ∷ rest) next = behind s (behind_all rest next)
 
-turned_behind : (before n line executed : ℕ) (rest : List Standing) (act : Act)
-    → behind_ended (turned before n line executed rest act) ≡ turned (suc before) n line executed rest act
-turned_behind before n line executed rest (goes_on i m) = refl
-turned_behind before n line executed rest (ends m) = refl
-turned_behind before n line executed rest (broke rule) = refl
+stepped_behind : (earlier items : List Standing) (m : Contents) → behind_all earlier (stepped items m) ≡ stepped (earlier ++ items) m
+stepped_behind [] items m = refl
+stepped_behind (s ∷ rest) items m = ap (behind s) (stepped_behind rest items m)
 
-turned_here : (n line executed : ℕ) (rest : List Standing) (act : Act) → taken n line executed rest act ≡ turned 0 n line executed rest act
-turned_here n line executed rest (goes_on i m) = refl
-turned_here n line executed rest (ends m) = refl
-turned_here n line executed rest (broke rule) = refl
+failed_behind : (earlier : List Standing) (n line : ℕ) (rule : Rule) → behind_all earlier (failed n line rule) ≡ failed n line rule
+failed_behind [] n line rule = refl
+failed_behind (s ∷ rest) n line rule = ap (behind s) (failed_behind rest n line rule)
 
 module _ (a : Surroundings) (p : Program) where
-  -- the least item that can take a turn is the first behind those that have ended
-  advance_after : (before first n : ℕ) (i : Item) (executed : ℕ) (rest : List Standing) (m : Contents) → first + before ≡ n
-      → advance a p first (after before (ready i executed ∷ rest)) m
-      ≡ turned before n (slice_index p.lines i.next) executed rest (turn (around_item a n) p.steps i executed m)
-  advance_after zero first n i executed rest m e =
+  -- the least item that can take a turn is the first behind those that can't
+  advance_after : (earlier : List Standing) (first n : ℕ) (i : Item) (executed : ℕ) (rest : List Standing) (m : Contents) → AreStopped earlier → first + length earlier ≡ n
+      → advance a p first (earlier ++ ready i executed ∷ rest) m
+      ≡ behind_all earlier (taken n (slice_index p.lines i.next) executed rest (turn (around_item a n) p.steps i executed m))
+  advance_after [] first n i executed rest m are e =
       let same : first ≡ n = omega (arith, e) in
       ap (λ k. taken k (slice_index p.lines i.next) executed rest (turn (around_item a k) p.steps i executed m)) same
-      ∙ turned_here n (slice_index p.lines i.next) executed rest (turn (around_item a n) p.steps i executed m)
-  advance_after (suc before) first n i executed rest m e =
-      let next : first + 1 + before ≡ n = omega (arith, e) in
-      ap behind_ended (advance_after before (first + 1) n i executed rest m next)
-      ∙ turned_behind before n (slice_index p.lines i.next) executed rest (turn (around_item a n) p.steps i executed m)
+  advance_after (ready j spent ∷ earlier) first n i executed rest m are e = absurd are
+  advance_after (waiting j spent ∷ earlier) first n i executed rest m are e =
+      let next : first + 1 + length earlier ≡ n = omega (arith, e) in
+      ap (behind (waiting j spent)) (advance_after earlier (first + 1) n i executed rest m are next)
+  advance_after (ended ∷ earlier) first n i executed rest m are e =
+      let next : first + 1 + length earlier ≡ n = omega (arith, e) in
+      ap (behind ended) (advance_after earlier (first + 1) n i executed rest m are next)
 
-  settled_after : (count first : ℕ) (m : Contents) → advance a p first (after count []) m ≡ settled
-  settled_after zero first m = refl
-  settled_after (suc count) first m = ap behind_ended (settled_after count (first + 1) m)
+  settled_after : (items : List Standing) (first : ℕ) (m : Contents) → AreStopped items → advance a p first items m ≡ settled
+  settled_after [] first m are = refl
+  settled_after (ready j spent ∷ items) first m are = absurd are
+  settled_after (waiting j spent ∷ items) first m are = ap (behind (waiting j spent)) (settled_after items (first + 1) m are)
+  settled_after (ended ∷ items) first m are = ap (behind ended) (settled_after items (first + 1) m are)
 
-  follow_after : (n : ℕ) (i : Item) (executed : ℕ) (rest : List Standing) (m : Contents)
-      → follow a p (running (after n (ready i executed ∷ rest)) m)
-      ≡ followed m (turned n n (slice_index p.lines i.next) executed rest (turn (around_item a n) p.steps i executed m))
-  follow_after n i executed rest m = ap (followed m) (advance_after n 0 n i executed rest m (omega arith))
+  abbrev at : List Standing → Item → ℕ → List Standing → List Standing
+  at earlier i executed rest = earlier ++ ready i executed ∷ rest
 
   -- turns before turns
   trans_in : (n : ℕ) (x y z : Status) → LeadsIn a p n x y → Leads a p y z → Leads a p x z
@@ -73,39 +70,46 @@ module _ (a : Surroundings) (p : Program) where
   pub leads_one : (x y : Status) → follow a p x ≡ y → Leads a p x y
   leads_one x y e = (1, e)
 
-  -- one more turn of the item
-  pub goes_more : (n : ℕ) (from : Status) (i now : Item) (executed : ℕ) (rest : List Standing) (m after_m : Contents)
-      → Leads a p from (running (after n (ready i executed ∷ rest)) m)
-      → turn (around_item a n) p.steps i executed m ≡ goes_on now after_m
-      → Leads a p from (running (after n (ready now (executed + 1) ∷ rest)) after_m)
-  goes_more n from i now executed rest m after_m before is =
-      leads_trans from (running (after n (ready i executed ∷ rest)) m) (running (after n (ready now (executed + 1) ∷ rest)) after_m) before
-      (leads_one (running (after n (ready i executed ∷ rest)) m) (running (after n (ready now (executed + 1) ∷ rest)) after_m)
-      (follow_after n i executed rest m ∙ ap (λ t. followed m (turned n n (slice_index p.lines i.next) executed rest t)) is))
+  module _ (n : ℕ) (earlier rest : List Standing) (are : AreStopped earlier) (many : length earlier ≡ n) (from : Status) (i : Item) (executed : ℕ) (m : Contents)
+      (before : Leads a p from (running (at earlier i executed rest) m)) where
+    abbrev line : ℕ
+    line = slice_index p.lines i.next
 
-  pub ends_now : (n : ℕ) (from : Status) (i : Item) (executed : ℕ) (rest : List Standing) (m after_m : Contents)
-      → Leads a p from (running (after n (ready i executed ∷ rest)) m)
-      → turn (around_item a n) p.steps i executed m ≡ ends after_m
-      → Leads a p from (running (after n (ended ∷ rest)) after_m)
-  ends_now n from i executed rest m after_m before is =
-      leads_trans from (running (after n (ready i executed ∷ rest)) m) (running (after n (ended ∷ rest)) after_m) before
-      (leads_one (running (after n (ready i executed ∷ rest)) m) (running (after n (ended ∷ rest)) after_m)
-      (follow_after n i executed rest m ∙ ap (λ t. followed m (turned n n (slice_index p.lines i.next) executed rest t)) is))
+    one_turn : (x : Act) → turn (around_item a n) p.steps i executed m ≡ x
+        → follow a p (running (at earlier i executed rest) m) ≡ followed p (at earlier i executed rest) m (behind_all earlier (taken n line executed rest x))
+    one_turn x is =
+        ap (followed p (at earlier i executed rest) m)
+        (advance_after earlier 0 n i executed rest m are (omega (arith, many)) ∙ ap (λ t. behind_all earlier (taken n line executed rest t)) is)
 
-  pub breaks_now : (n : ℕ) (from : Status) (i : Item) (executed : ℕ) (rest : List Standing) (m : Contents) (rule : Rule)
-      → Leads a p from (running (after n (ready i executed ∷ rest)) m)
-      → turn (around_item a n) p.steps i executed m ≡ broke rule
-      → Leads a p from (faulted n (slice_index p.lines i.next) rule)
-  breaks_now n from i executed rest m rule before is =
-      leads_trans from (running (after n (ready i executed ∷ rest)) m) (faulted n (slice_index p.lines i.next) rule) before
-      (leads_one (running (after n (ready i executed ∷ rest)) m) (faulted n (slice_index p.lines i.next) rule)
-      (follow_after n i executed rest m ∙ ap (λ t. followed m (turned n n (slice_index p.lines i.next) executed rest t)) is))
+    steps_to : (x : Act) (items : List Standing) (now : Contents) → taken n line executed rest x ≡ stepped items now → turn (around_item a n) p.steps i executed m ≡ x
+        → Leads a p from (running (earlier ++ items) now)
+    steps_to x items now made is =
+        leads_trans from (running (at earlier i executed rest) m) (running (earlier ++ items) now) before
+        (leads_one (running (at earlier i executed rest) m) (running (earlier ++ items) now)
+        (one_turn x is ∙ ap (followed p (at earlier i executed rest) m) (ap (behind_all earlier) made ∙ stepped_behind earlier items now)))
 
-  -- all have ended
-  pub all_ended : (count : ℕ) (from : Status) (m : Contents) → Leads a p from (running (after count []) m) → Leads a p from (done m)
-  all_ended count from m before =
-      leads_trans from (running (after count []) m) (done m) before
-      (leads_one (running (after count []) m) (done m) (ap (followed m) (settled_after count 0 m)))
+    -- one more turn of the item
+    pub goes_more : (now : Item) (after_m : Contents) → turn (around_item a n) p.steps i executed m ≡ goes_on now after_m
+        → Leads a p from (running (at earlier now (executed + 1) rest) after_m)
+    goes_more now after_m is = steps_to (goes_on now after_m) (ready now (executed + 1) ∷ rest) after_m refl is
+
+    pub arrives_now : (now : Item) (after_m : Contents) → turn (around_item a n) p.steps i executed m ≡ arrives now after_m
+        → Leads a p from (running (earlier ++ waiting now (executed + 1) ∷ rest) after_m)
+    arrives_now now after_m is = steps_to (arrives now after_m) (waiting now (executed + 1) ∷ rest) after_m refl is
+
+    pub ends_now : (after_m : Contents) → turn (around_item a n) p.steps i executed m ≡ ends after_m
+        → Leads a p from (running (earlier ++ ended ∷ rest) after_m)
+    ends_now after_m is = steps_to (ends after_m) (ended ∷ rest) after_m refl is
+
+    pub breaks_now : (rule : Rule) → turn (around_item a n) p.steps i executed m ≡ broke rule → Leads a p from (faulted n (slice_index p.lines i.next) rule)
+    breaks_now rule is =
+        leads_trans from (running (at earlier i executed rest) m) (faulted n line rule) before
+        (leads_one (running (at earlier i executed rest) m) (faulted n line rule)
+        (one_turn (broke rule) is ∙ ap (followed p (at earlier i executed rest) m) (failed_behind earlier n line rule)))
+
+  -- none can take a turn
+  pub meet : (items : List Standing) (m : Contents) (o : Option Waiter) → AreStopped items → least_waiting 0 items ≡ o → follow a p (running items m) ≡ met p items m o
+  meet items m o are least = ap (followed p items m) (settled_after items 0 m are) ∙ ap (met p items m) least
 
 -- a turn within the budget is what its step does
 pub acts_turn : (a : Surroundings) (steps : List Step) (i now : Item) (m after_m : Contents) (s : Step) (o : Outcome)
@@ -132,47 +136,3 @@ spent a steps i executed m there all =
 pub stops : (a : Surroundings) (steps : List Step) (i : Item) (executed : ℕ) (m : Contents) → length steps ≤ i.next
     → turn a steps i executed m ≡ ends m
 stops a steps i executed m past = ap (turn_at a i executed m) (get_past steps i.next past)
-
-after_suc : (n : ℕ) (xs : List Standing) → after (suc n) xs ≡ after n (ended ∷ xs)
-after_suc zero xs = refl
-after_suc (suc n) xs = ap (λ ys. ended ∷ ys) (after_suc n xs)
-
--- so many items that have not begun
-abbrev pub waiting : ℕ → List Standing
-waiting n = replicate n (ready fresh 0)
-
-module _ (a : Surroundings) (p : Program) (count : ℕ) (first : Contents) where
-  -- the items from one on, of which the first begins
-  left_from : (n : ℕ) (m : Contents) (to : Status) → n < count
-      → Leads a p (running (after n (ready fresh 0 ∷ waiting (count - (n + 1)))) m) to
-      → Leads a p (running (after n (waiting (count - n))) m) to
-  left_from n m to lt leads =
-      let more : count - n ≡ suc (count - (n + 1)) = omega arith in
-      subst (λ c. Leads a p (running (after n (waiting c)) m) to) (sym more) leads
-
-  pub items_more : (n : ℕ) (m now : Contents) → n < count
-      → Leads a p (beginning count first) (running (after n (waiting (count - n))) m) → ItemRuns a p n m now
-      → Leads a p (beginning count first) (running (after (n + 1) (waiting (count - (n + 1)))) now)
-  items_more n m now lt before runs =
-      let rest = waiting (count - (n + 1)) in
-      let one : n + 1 ≡ suc n = omega arith in
-      let place : after (n + 1) rest ≡ after n (ended ∷ rest) = ap (λ j. after j rest) one ∙ after_suc n rest in
-      leads_trans a p (beginning count first) (running (after n (waiting (count - n))) m) (running (after (n + 1) rest) now) before
-      (left_from n m (running (after (n + 1) rest) now) lt
-      (subst (λ xs. Leads a p (running (after n (ready fresh 0 ∷ rest)) m) (running xs now)) (sym place) (runs rest)))
-
-  pub items_fail : (n : ℕ) (m : Contents) (e : RunFault) → n < count
-      → Leads a p (beginning count first) (running (after n (waiting (count - n))) m) → ItemFails a p n m e
-      → Fails a p (beginning count first) e
-  items_fail n m fault.OutOfMemory lt before fails = tt
-  items_fail n m (fault.Fault f) lt before fails =
-      leads_trans a p (beginning count first) (running (after n (waiting (count - n))) m) (faulted f.item f.line f.rule) before
-      (left_from n m (faulted f.item f.line f.rule) lt (fails (waiting (count - (n + 1)))))
-
-  pub items_end : (n : ℕ) (m : Contents) → n ≡ count
-      → Leads a p (beginning count first) (running (after n (waiting (count - n))) m)
-      → Leads a p (beginning count first) (done m)
-  items_end n m all before =
-      let none : count - n ≡ 0 = omega arith in
-      all_ended a p n (beginning count first) m
-      (subst (λ c. Leads a p (beginning count first) (running (after n (waiting c)) m)) none before)

@@ -1,30 +1,37 @@
 -- What a group has written lies in regions that are held with WRITE.
-use Rattle.std.proofs.Common.{◌≡◌, ℕ, zero, suc, ◌+◌, ◌/◌, ◌%◌, ◌^◌, ◌<◌, ◌≤◌, List, [], ◌∷◌, length, take, slice_index, arith, refl, sym, ap, ◌∙◌, subst, Bool, true, false, Option, Some, None, Result, Ok, Err}
-use Rattle.std.specs.Prelude.{All, ◌==◌, ◌&&◌, nat_lt, nat_le, not, slice_get, if◌then◌else◌}
-use Rattle.std.specs.Int.{w64, to_le_bytes}
+use Rattle.std.proofs.Common.{◌≡◌, ℕ, zero, suc, ◌+◌, ◌-◌, ◌/◌, ◌%◌, ◌^◌, ◌<◌, ◌≤◌, List, [], ◌∷◌, length, take, slice_index, arith, refl, sym, ap, ◌∙◌, subst, Bool, true, false, Option, Some, None, Result, Ok, Err}
+use Rattle.byteorder.specs.Endian.{little_number}
+use Rattle.std.specs.List.{list_all}
+use Rattle.std.specs.Prelude.{All, map, ◌==◌, ◌&&◌, nat_lt, nat_le, not, slice_get, if◌then◌else◌}
+use Rattle.std.specs.Int.{w32, w64, to_le_bytes}
 use Rattle.std.proofs.lemmas.Bool.{and_parts, and_from, lt-ltb, ltb-true, leb-true}
 use Rattle.std.proofs.lemmas.Bool.Decides.{nat_tests}
 use Rattle.std.proofs.lemmas.List.{length-take}
 use Rattle.std.proofs.lemmas.List.Elements.{All-nil, All-head, All-tail, All-weaker}
 use Rattle.policy.specs.Rights.{has}
-use Rattle.policy.specs.declared.rights.Right.TheVariants.{Write}
+use Rattle.policy.specs.declared.rights.Right.TheVariants.{Read, Write}
 use Rattle.queue_error.specs.declared.rule.Rule.{Rule}
-use Rattle.queue_error.specs.declared.rule.Rule.TheVariants.{A2, A3, A5}
+use Rattle.queue_error.specs.declared.rule.Rule.TheVariants.{A2, A3, A5, A6}
 use Rattle.kernel_check.specs.Programs.{Program}
 use Rattle.kernel_check.specs.Steps.{number_bytes}
 use Rattle.kernel_check.specs.declared.step.Step.{Step}
 use Rattle.kernel_check.specs.declared.step.Step.TheVariants as step
-use Rattle.executor.specs.Accesses.{covers_address, region_of, broken_in, loaded, stored, unless_broken}
-use Rattle.executor.specs.Group.{Standing, ready, ended, Advance, stepped, settled, failed, around_item, taken, behind_ended, advance, Status, running, done, faulted, followed, follow}
+use Rattle.executor.specs.Accesses.{covers_address, region_of, atomic_broken, atomic_broken_in, broken, broken_in, group_loaded, group_stored, lent, loaded, or_misaligned, stored, unless_broken}
+use Rattle.executor.specs.Addresses.{address_of, group_address_of}
+use Rattle.executor.specs.Atomics.{bytes_found, left32, left64, place_of, put, replacing32, replacing64}
+use Rattle.executor.specs.Group.{Standing, ready, waiting, ended, Advance, stepped, settled, failed, around_item, taken, behind, advance, Status, running, done, faulted, least_waiting, waits_before, released, met, followed, follow}
 use Rattle.executor.specs.Items.{Contents, LentRegion, Surroundings}
 use Rattle.executor.specs.Laws.{AreShort, IsHeldAt, IsHeldRun}
-use Rattle.executor.specs.Meaning.{Act, goes_on, ends, broke, act, after_load, after_store, address_of, turn, turn_at}
+use Rattle.executor.specs.Meaning.{Act, goes_on, arrives, ends, broke, act, after_load, after_store, after_group_store, after_atomic32, after_atomic64, turn, turn_at}
 use Rattle.executor.specs.Registers.{read_any}
 use Rattle.executor.specs.Results.{wrote, after_turns, most_turns, result_at, group_result}
 use Rattle.executor.specs.Runs.{GroupInput, begun, surroundings_of}
 use Rattle.executor.specs.Told.{runs_of}
-use Rattle.executor.specs.Written.{laid}
+use Rattle.executor.specs.Written.{laid, seen}
+use Rattle.executor.specs.declared.atomic_place.AtomicPlace.{AtomicPlace}
+use Rattle.executor.specs.declared.atomic_place.AtomicPlace.TheVariants as place
 use Rattle.executor.specs.declared.item.Item.{Item}
+use Rattle.executor.specs.declared.rounds.Waiter.{Waiter}
 use Rattle.executor.specs.declared.run.Run.{Run}
 use Rattle.executor.proofs.Maps.{by_range, laid_below, laid_past}
 use Rattle.executor.proofs.OnlyRuns.{each_covered}
@@ -69,13 +76,7 @@ module _ (view : List LentRegion) (short : AreShort view) where
   abbrev Kept : (ℕ → Option ℕ) → Type 0
   Kept written = (x byte : ℕ) → written x ≡ Some byte → IsHeldAt view Write x
 
-  module _ (written : ℕ → Option ℕ) (kept : Kept written) (address n value : ℕ) where
-    abbrev bytes : List ℕ
-    bytes = take n (to_le_bytes w64 value)
-
-    few : length bytes ≤ n
-    few = omega (arith, length-take n (to_le_bytes w64 value))
-
+  module _ (written : ℕ → Option ℕ) (kept : Kept written) (address n : ℕ) (bytes : List ℕ) (few : length bytes ≤ n) where
     laid_kept : (region : LentRegion) → region_of view address ≡ Some region → has region.rights Write ≡ true → address % 2 ^ 32 + n ≤ length region.bytes → Kept (laid written address bytes)
     laid_kept region found right inside x byte is =
         by_range address (length bytes) x
@@ -88,29 +89,63 @@ module _ (view : List LentRegion) (short : AreShort view) where
         })
         (λ p. kept x byte (sym (laid_past written address bytes x p) ∙ is))
 
-    stored_kept : (now : ℕ → Option ℕ) → stored view written address n value ≡ Ok now → Kept now
-    stored_kept now is = by_region (region_of view address) refl is
+    -- bytes that are laid where WRITE allows an access
+    allowed_kept : (o : Option LentRegion) → region_of view address ≡ o → broken_in o Write address n ≡ None → Kept (laid written address bytes)
+    allowed_kept None found fine = absurd cc
+    allowed_kept (Some region) found fine = by_right (has region.rights Write) refl fine
       where
-        by_end : (region : LentRegion) → region_of view address ≡ Some region → has region.rights Write ≡ true → (b : Bool) → nat_le (address % 2 ^ 32 + n) (length region.bytes) ≡ b
-            → unless_broken (if not b then Some A3 else None) (laid written address bytes) ≡ Ok now → Kept now
-        by_end region found right true fits same =
-            let e : laid written address bytes ≡ now = cc in
-            subst Kept e (laid_kept region found right (leb-true _ _ fits))
-        by_end region found right false fits same = absurd cc
+        by_end : has region.rights Write ≡ true → (b : Bool) → nat_le (address % 2 ^ 32 + n) (length region.bytes) ≡ b → (if not b then Some A3 else None) ≡ None → Kept (laid written address bytes)
+        by_end right true fits same = laid_kept region found right (leb-true _ _ fits)
+        by_end right false fits same = absurd cc
 
-        by_right : (region : LentRegion) → region_of view address ≡ Some region → (b : Bool) → has region.rights Write ≡ b
-            → unless_broken (if not b then Some A2 else if not (nat_le (address % 2 ^ 32 + n) (length region.bytes)) then Some A3 else None) (laid written address bytes) ≡ Ok now → Kept now
-        by_right region found true right same = by_end region found right (nat_le (address % 2 ^ 32 + n) (length region.bytes)) refl same
-        by_right region found false right same = absurd cc
+        by_right : (b : Bool) → has region.rights Write ≡ b → (if not b then Some A2 else if not (nat_le (address % 2 ^ 32 + n) (length region.bytes)) then Some A3 else None) ≡ None → Kept (laid written address bytes)
+        by_right true right same = by_end right (nat_le (address % 2 ^ 32 + n) (length region.bytes)) refl same
+        by_right false right same = absurd cc
 
-        by_region : (o : Option LentRegion) → region_of view address ≡ o → unless_broken (broken_in o Write address n) (laid written address bytes) ≡ Ok now → Kept now
-        by_region None found same = absurd cc
-        by_region (Some region) found same = by_right region found (has region.rights Write) refl same
+  unbroken : {X : Type 0} (o : Option Rule) (x y : X) → unless_broken o x ≡ Ok y → (o ≡ None) × (x ≡ y)
+  unbroken None x y is = (refl, cc)
+  unbroken (Some rule) x y is = absurd cc
+
+  stored_kept : (written : ℕ → Option ℕ) → Kept written → (address n value : ℕ) → (now : ℕ → Option ℕ) → stored view written address n value ≡ Ok now → Kept now
+  stored_kept written kept address n value now is =
+      let bytes : List ℕ = take n (to_le_bytes w64 value) in
+      let few : length bytes ≤ n = omega (arith, length-take n (to_le_bytes w64 value)) in
+      let r = unbroken (broken view Write address n) (laid written address bytes) now is in
+      subst Kept r.1 (allowed_kept written kept address n bytes few (region_of view address) refl r.0)
+
+  -- ---- an atomic operation
+
+  aligned : (o : Option Rule) (address n : ℕ) → or_misaligned o address n ≡ None → o ≡ None
+  aligned None address n is = refl
+  aligned (Some rule) address n is = absurd cc
+
+  atomic_allowed : (o : Option LentRegion) (address n : ℕ) → atomic_broken_in o address n ≡ None → broken_in o Write address n ≡ None
+  atomic_allowed None address n is = absurd cc
+  atomic_allowed (Some region) address n is = by_read (has region.rights Read) is
+    where
+      by_read : (b : Bool) → (if b then or_misaligned (broken_in (Some region) Write address n) address n else Some A2) ≡ None → broken_in (Some region) Write address n ≡ None
+      by_read true same = aligned (broken_in (Some region) Write address n) address n same
+      by_read false same = absurd cc
+
+  put_kept : (m : Contents) → Kept m.written → (x : AtomicPlace) (n : ℕ) (old bytes : List ℕ) → length bytes ≤ n → bytes_found view m x n ≡ Ok old → Kept (put m x bytes).written
+  put_kept m kept (place.Global x) n old bytes few is =
+      let r = unbroken (atomic_broken view x n) (seen m.written x (lent view x n)) old is in
+      allowed_kept m.written kept x n bytes few (region_of view x) refl (atomic_allowed (region_of view x) x n r.0)
+  put_kept m kept (place.Group x) n old bytes few is = kept
+
+  left32_kept : (m : Contents) → Kept m.written → (x : AtomicPlace) (old : List ℕ) (o : Option ℕ) → bytes_found view m x 4 ≡ Ok old → Kept (left32 m x o).written
+  left32_kept m kept x old None is = kept
+  left32_kept m kept x old (Some value) is = put_kept m kept x 4 old (to_le_bytes w32 value) (omega arith) is
+
+  left64_kept : (m : Contents) → Kept m.written → (x : AtomicPlace) (old : List ℕ) (o : Option ℕ) → bytes_found view m x 8 ≡ Ok old → Kept (left64 m x o).written
+  left64_kept m kept x old None is = kept
+  left64_kept m kept x old (Some value) is = put_kept m kept x 8 old (to_le_bytes w64 value) (omega arith) is
 
   -- ---- a turn
 
   abbrev KeptAct : Act → Type 0
   KeptAct (goes_on i m) = Kept m.written
+  KeptAct (arrives i m) = Kept m.written
   KeptAct (ends m) = Kept m.written
   KeptAct (broke rule) = Unit {0}
 
@@ -133,7 +168,7 @@ module _ (view : List LentRegion) (short : AreShort view) where
     act_kept a same i m (step.Argument l) kept = kept
     act_kept a same i m (step.Load l) kept = by_result (loaded a.view m.written (address_of i.registers l.pointer) (number_bytes l.kind))
       where
-        by_result : (r : Result ℕ Rule) → KeptAct (after_load i m l r)
+        by_result : (r : Result ℕ Rule) → KeptAct (after_load i m l.target l.kind r)
         by_result (Ok value) = kept
         by_result (Err rule) = tt
     act_kept a same i m (step.Store s) kept = by_result (stored a.view m.written (address_of i.registers s.pointer) (number_bytes s.kind) (read_any i.registers s.source)) refl
@@ -143,6 +178,32 @@ module _ (view : List LentRegion) (short : AreShort view) where
             stored_kept m.written kept (address_of i.registers s.pointer) (number_bytes s.kind) (read_any i.registers s.source) now
             (subst (λ v. stored v m.written (address_of i.registers s.pointer) (number_bytes s.kind) (read_any i.registers s.source) ≡ Ok now) same is)
         by_result (Err rule) is = tt
+    act_kept a same i m (step.LoadGroup l) kept = by_result (group_loaded m.group (group_address_of i.registers l.pointer) (number_bytes l.kind))
+      where
+        by_result : (r : Result ℕ Rule) → KeptAct (after_load i m l.target l.kind r)
+        by_result (Ok value) = kept
+        by_result (Err rule) = tt
+    act_kept a same i m (step.StoreGroup s) kept =
+        by_result (group_stored m.group (group_address_of i.registers s.pointer) (number_bytes s.kind) (read_any i.registers s.source))
+      where
+        by_result : (r : Result (List ℕ) Rule) → KeptAct (after_group_store i m r)
+        by_result (Ok group) = kept
+        by_result (Err rule) = tt
+    act_kept a same i m (step.Atomic32 s) kept = by_result (bytes_found a.view m (place_of i.registers s.pointer) 4) refl
+      where
+        by_result : (r : Result (List ℕ) Rule) → bytes_found a.view m (place_of i.registers s.pointer) 4 ≡ r → KeptAct (after_atomic32 i m s r)
+        by_result (Ok old) is =
+            left32_kept m kept (place_of i.registers s.pointer) old (replacing32 i.registers s.operation (little_number 4 old))
+            (subst (λ v. bytes_found v m (place_of i.registers s.pointer) 4 ≡ Ok old) same is)
+        by_result (Err rule) is = tt
+    act_kept a same i m (step.Atomic64 s) kept = by_result (bytes_found a.view m (place_of i.registers s.pointer) 8) refl
+      where
+        by_result : (r : Result (List ℕ) Rule) → bytes_found a.view m (place_of i.registers s.pointer) 8 ≡ r → KeptAct (after_atomic64 i m s r)
+        by_result (Ok old) is =
+            left64_kept m kept (place_of i.registers s.pointer) old (replacing64 i.registers s.operation (little_number 8 old))
+            (subst (λ v. bytes_found v m (place_of i.registers s.pointer) 8 ≡ Ok old) same is)
+        by_result (Err rule) is = tt
+    act_kept a same i m step.Barrier kept = kept
     act_kept a same i m (step.Branch next) kept = kept
     act_kept a same i m (step.ConditionalBranch b) kept = kept
     act_kept a same i m step.Return kept = kept
@@ -161,27 +222,37 @@ module _ (view : List LentRegion) (short : AreShort view) where
 
     taken_kept : (n line executed : ℕ) (rest : List Standing) (x : Act) → KeptAct x → KeptAdvance (taken n line executed rest x)
     taken_kept n line executed rest (goes_on i m) kept = kept
+    taken_kept n line executed rest (arrives i m) kept = kept
     taken_kept n line executed rest (ends m) kept = kept
     taken_kept n line executed rest (broke rule) kept = tt
 
-    behind_kept : (next : Advance) → KeptAdvance next → KeptAdvance (behind_ended next)
-    behind_kept (stepped items m) kept = kept
-    behind_kept settled kept = tt
-    behind_kept (failed item line rule) kept = tt
+    behind_kept : (before : Standing) (next : Advance) → KeptAdvance next → KeptAdvance (behind before next)
+    behind_kept before (stepped items m) kept = kept
+    behind_kept before settled kept = tt
+    behind_kept before (failed item line rule) kept = tt
 
     advance_kept : (a : Surroundings) → a.view ≡ view → (items : List Standing) (n : ℕ) (m : Contents) → Kept m.written → KeptAdvance (advance a p n items m)
     advance_kept a same [] n m kept = tt
-    advance_kept a same (ended ∷ rest) n m kept = behind_kept (advance a p (n + 1) rest m) (advance_kept a same rest (n + 1) m kept)
+    advance_kept a same (ended ∷ rest) n m kept = behind_kept ended (advance a p (n + 1) rest m) (advance_kept a same rest (n + 1) m kept)
+    advance_kept a same (waiting i executed ∷ rest) n m kept = behind_kept (waiting i executed) (advance a p (n + 1) rest m) (advance_kept a same rest (n + 1) m kept)
     advance_kept a same (ready i executed ∷ rest) n m kept =
         taken_kept n (slice_index p.lines i.next) executed rest (turn (around_item a n) p.steps i executed m) (turn_kept (around_item a n) same i executed m kept)
 
-    followed_kept : (m : Contents) (next : Advance) → Kept m.written → KeptAdvance next → KeptStatus (followed m next)
-    followed_kept m (stepped items now) kept more = more
-    followed_kept m settled kept more = kept
-    followed_kept m (failed item line rule) kept more = tt
+    met_kept : (items : List Standing) (m : Contents) (o : Option Waiter) → Kept m.written → KeptStatus (met p items m o)
+    met_kept items m None kept = kept
+    met_kept items m (Some w) kept = by_test (list_all (waits_before w.next) items)
+      where
+        by_test : (b : Bool) → KeptStatus (if b then running (map released items) m else faulted w.number (slice_index p.lines (w.next - 1)) A6)
+        by_test true = kept
+        by_test false = tt
+
+    followed_kept : (items : List Standing) (m : Contents) (next : Advance) → Kept m.written → KeptAdvance next → KeptStatus (followed p items m next)
+    followed_kept items m (stepped after now) kept more = more
+    followed_kept items m settled kept more = met_kept items m (least_waiting 0 items) kept
+    followed_kept items m (failed item line rule) kept more = tt
 
     follow_kept : (a : Surroundings) → a.view ≡ view → (s : Status) → KeptStatus s → KeptStatus (follow a p s)
-    follow_kept a same (running items m) kept = followed_kept m (advance a p 0 items m) kept (advance_kept a same items 0 m kept)
+    follow_kept a same (running items m) kept = followed_kept items m (advance a p 0 items m) kept (advance_kept a same items 0 m kept)
     follow_kept a same (done m) kept = kept
     follow_kept a same (faulted item line rule) kept = tt
 

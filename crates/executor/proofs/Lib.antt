@@ -7,5 +7,6 @@ mod GroupLemmas
 mod TurnLemmas
 pub mod HeldWrites
 mod ViewLemmas
+mod RoundLemmas
 mod GroupEnds
 mod ReadBytes

@@ -10,14 +10,18 @@ use Rattle.kernel_check.specs.Programs.{Program}
 use Rattle.kernel_check.specs.Steps.{number_bytes}
 use Rattle.kernel_check.specs.declared.step.Step.{Step}
 use Rattle.kernel_check.specs.declared.step.Step.TheVariants as step
-use Rattle.executor.specs.Accesses.{covers_address, region_of, broken_in, lent_in, unless_broken}
-use Rattle.executor.specs.Group.{Standing, ready, ended, around_item, taken, behind_ended, advance, Status, running, done, faulted, followed, follow}
+use Rattle.executor.specs.Accesses.{covers_address, region_of, atomic_broken_in, broken_in, lent_in, unless_broken}
+use Rattle.executor.specs.Addresses.{address_of}
+use Rattle.executor.specs.Atomics.{bytes_found, place_of}
+use Rattle.executor.specs.Group.{Standing, ready, waiting, ended, around_item, taken, behind, advance, Status, running, done, faulted, followed, follow}
 use Rattle.executor.specs.Items.{Contents, LentRegion, Surroundings}
 use Rattle.executor.specs.Laws.{AreLentAlike, IsLentAlike}
-use Rattle.executor.specs.Meaning.{broke, act, after_load, after_store, address_of, turn_at}
+use Rattle.executor.specs.Meaning.{broke, act, after_load, after_store, after_atomic32, after_atomic64, turn_at}
 use Rattle.executor.specs.Results.{after_turns, most_turns, result_at, group_result}
 use Rattle.executor.specs.Runs.{GroupInput, begun, surroundings_of}
 use Rattle.executor.specs.Written.{seen}
+use Rattle.executor.specs.declared.atomic_place.AtomicPlace.{AtomicPlace}
+use Rattle.executor.specs.declared.atomic_place.AtomicPlace.TheVariants as place
 use Rattle.executor.specs.declared.item.Item.{Item}
 
 -- regions that are found alike, or none of both
@@ -67,6 +71,26 @@ module _ (written : ℕ → Option ℕ) (address n : ℕ) where
     store_alike (Some x) (Some y) alike =
         λ i. unless_broken (if not (has (alike.rights_are i) Write) then Some A2 else if not (nat_le (address % 2 ^ 32 + n) (alike.length_is i)) then Some A3 else None) value
 
+  -- the bytes that an atomic operation finds: it wants READ too
+  abbrev find_in : Option LentRegion → Result (List ℕ) Rule
+  find_in o = unless_broken (atomic_broken_in o address n) (seen written address (lent_in o address n))
+
+  bytes_alike : (o p : Option LentRegion) → FoundAlike o p → find_in o ≡ find_in p
+  bytes_alike None None alike = refl
+  bytes_alike None (Some y) alike = absurd alike
+  bytes_alike (Some x) None alike = absurd alike
+  bytes_alike (Some x) (Some y) alike = by_right (has x.rights Read) refl
+    where
+      by_right : (b : Bool) → has x.rights Read ≡ b → find_in (Some x) ≡ find_in (Some y)
+      by_right true readable = λ i. find_in (Some (record { number = alike.number_is i; rights = alike.rights_are i; bytes = alike.bytes_are readable i }))
+      by_right false unreadable =
+          let other : has y.rights Read ≡ false = ap (λ r. has r Read) (sym alike.rights_are) ∙ unreadable in
+          rw (unreadable, other) refl
+
+place_alike : (ones others : List LentRegion) (m : Contents) (x : AtomicPlace) (n : ℕ) → AreLentAlike ones others → bytes_found ones m x n ≡ bytes_found others m x n
+place_alike ones others m (place.Global x) n alike = bytes_alike m.written x n (region_of ones x) (region_of others x) (found_alike ones others x alike)
+place_alike ones others m (place.Group x) n alike = refl
+
 module _ (ones others : List LentRegion) (alike : AreLentAlike ones others) (p : Program) where
   abbrev seeing : List LentRegion → Surroundings → Surroundings
   seeing view a = record a { view = view }
@@ -79,10 +103,15 @@ module _ (ones others : List LentRegion) (alike : AreLentAlike ones others) (p :
   same_act a i m (step.Argument l) = refl
   same_act a i m (step.Load l) =
       let address = address_of i.registers l.pointer in
-      ap (after_load i m l) (load_alike m.written address (number_bytes l.kind) (region_of ones address) (region_of others address) (found_alike ones others address alike))
+      ap (after_load i m l.target l.kind) (load_alike m.written address (number_bytes l.kind) (region_of ones address) (region_of others address) (found_alike ones others address alike))
   same_act a i m (step.Store s) =
       let address = address_of i.registers s.pointer in
       ap (after_store i m) (store_alike m.written address (number_bytes s.kind) _ (region_of ones address) (region_of others address) (found_alike ones others address alike))
+  same_act a i m (step.LoadGroup l) = refl
+  same_act a i m (step.StoreGroup s) = refl
+  same_act a i m (step.Atomic32 s) = ap (after_atomic32 i m s) (place_alike ones others m (place_of i.registers s.pointer) 4 alike)
+  same_act a i m (step.Atomic64 s) = ap (after_atomic64 i m s) (place_alike ones others m (place_of i.registers s.pointer) 8 alike)
+  same_act a i m step.Barrier = refl
   same_act a i m (step.Branch next) = refl
   same_act a i m (step.ConditionalBranch b) = refl
   same_act a i m step.Return = refl
@@ -94,12 +123,13 @@ module _ (ones others : List LentRegion) (alike : AreLentAlike ones others) (p :
 
   same_advance : (a : Surroundings) (items : List Standing) (n : ℕ) (m : Contents) → advance (seeing ones a) p n items m ≡ advance (seeing others a) p n items m
   same_advance a [] n m = refl
-  same_advance a (ended ∷ rest) n m = ap behind_ended (same_advance a rest (n + 1) m)
+  same_advance a (ended ∷ rest) n m = ap (behind ended) (same_advance a rest (n + 1) m)
+  same_advance a (waiting i executed ∷ rest) n m = ap (behind (waiting i executed)) (same_advance a rest (n + 1) m)
   same_advance a (ready i executed ∷ rest) n m =
       ap (taken n (slice_index p.lines i.next) executed rest) (same_turn (around_item a n) i executed m (slice_get p.steps i.next))
 
   same_follow : (a : Surroundings) (s : Status) → follow (seeing ones a) p s ≡ follow (seeing others a) p s
-  same_follow a (running items m) = ap (followed m) (same_advance a items 0 m)
+  same_follow a (running items m) = ap (followed p items m) (same_advance a items 0 m)
   same_follow a (done m) = refl
   same_follow a (faulted item line rule) = refl
 

@@ -1,15 +1,21 @@
--- The meaning of a work-group: always the least of its items that has not ended takes a turn (own; PRM, Work-Group).
-use Rattle.std.specs.Prelude.{◌≡◌, ℕ, zero, suc, ◌+◌, List, [], ◌∷◌, replicate, slice_index}
+-- The meaning of a work-group: always the least of its items that neither ended nor waits at a barrier takes a turn
+-- (own; PRM, Work-Group; Barrier Operations).
+use Rattle.std.specs.Prelude.{◌≡◌, ℕ, zero, suc, ◌+◌, ◌-◌, ◌==◌, Bool, false, if◌then◌else◌, List, [], ◌∷◌, map, replicate, slice_index, Option, Some, None}
+use Rattle.std.specs.List.{list_all}
 use Rattle.executor.specs.Items.{Contents, Surroundings, fresh}
 use Rattle.executor.specs.Locations.{id_of}
-use Rattle.executor.specs.Meaning.{Act, goes_on, ends, broke, turn}
+use Rattle.executor.specs.Meaning.{Act, goes_on, arrives, ends, broke, turn}
 use Rattle.executor.specs.declared.item.Item.{Item}
+use Rattle.executor.specs.declared.rounds.Waiter.{Waiter}
 use Rattle.kernel_check.specs.Programs.{Program}
 use Rattle.queue_error.specs.declared.rule.Rule.{Rule}
+use Rattle.queue_error.specs.declared.rule.Rule.TheVariants.{A6}
 
--- an item that can take a turn, with the number of instructions that it executed; or one that has ended
+-- an item that can take a turn, or one that waits at the barrier before its next step, each with the number of
+-- instructions that it executed; or one that has ended
 pub data Standing : Type 0 where
   ready : Item → ℕ → Standing
+  waiting : Item → ℕ → Standing
   ended : Standing
 
 -- what comes of a group's turn: its items and memory; none of them can take one; or a rule that the item of a
@@ -26,18 +32,21 @@ around_item a n = record a { location = record a.location { item = id_of a.locat
 -- what an item's turn makes of it and those behind it
 abbrev pub taken : ℕ → ℕ → ℕ → List Standing → Act → Advance
 taken n line executed rest (goes_on i m) = stepped (ready i (executed + 1) ∷ rest) m
+taken n line executed rest (arrives i m) = stepped (waiting i (executed + 1) ∷ rest) m
 taken n line executed rest (ends m) = stepped (ended ∷ rest) m
 taken n line executed rest (broke rule) = failed n line rule
 
-abbrev pub behind_ended : Advance → Advance
-behind_ended (stepped items m) = stepped (ended ∷ items) m
-behind_ended settled = settled
-behind_ended (failed n line rule) = failed n line rule
+-- what a turn of those behind an item makes of all
+abbrev pub behind : Standing → Advance → Advance
+behind s (stepped items m) = stepped (s ∷ items) m
+behind s settled = settled
+behind s (failed n line rule) = failed n line rule
 
--- the least item that has not ended takes a turn; the first of these is the item of number n
+-- the least item that neither ended nor waits takes a turn; the first of these is the item of number n
 abbrev pub advance : Surroundings → Program → ℕ → List Standing → Contents → Advance
 advance a p n [] m = settled
-advance a p n (ended ∷ rest) m = behind_ended (advance a p (n + 1) rest m)
+advance a p n (ended ∷ rest) m = behind ended (advance a p (n + 1) rest m)
+advance a p n (waiting i executed ∷ rest) m = behind (waiting i executed) (advance a p (n + 1) rest m)
 advance a p n (ready i executed ∷ rest) m =
     taken n (slice_index p.lines i.next) executed rest (turn (around_item a n) p.steps i executed m)
 
@@ -47,13 +56,40 @@ pub data Status : Type 0 where
   done : Contents → Status
   faulted : ℕ → ℕ → Rule → Status
 
-abbrev pub followed : Contents → Advance → Status
-followed m (stepped items now) = running items now
-followed m settled = done m
-followed m (failed n line rule) = faulted n line rule
+-- the least item that waits; the first of these is the item of number n
+abbrev pub least_waiting : ℕ → List Standing → Option Waiter
+least_waiting n [] = None
+least_waiting n (ready i executed ∷ rest) = least_waiting (n + 1) rest
+least_waiting n (waiting i executed ∷ rest) = Some (record { number = n; next = i.next })
+least_waiting n (ended ∷ rest) = least_waiting (n + 1) rest
+
+-- whether an item waits at the barrier before a step
+abbrev pub waits_before : ℕ → Standing → Bool
+waits_before next (ready i executed) = false
+waits_before next (waiting i executed) = i.next == next
+waits_before next ended = false
+
+-- an item that waits no more
+abbrev pub released : Standing → Standing
+released (ready i executed) = ready i executed
+released (waiting i executed) = ready i executed
+released ended = ended
+
+-- where none of a group's items can take a turn: all have ended, and it is done; all wait at the same barrier, and go
+-- on; else the least that waits breaks A6 on its barrier's line (PRM, Barrier Operations; the rule is (own))
+abbrev pub met : Program → List Standing → Contents → Option Waiter → Status
+met p items m None = done m
+met p items m (Some w) =
+    if list_all (waits_before w.next) items then running (map released items) m
+    else faulted w.number (slice_index p.lines (w.next - 1)) A6
+
+abbrev pub followed : Program → List Standing → Contents → Advance → Status
+followed p items m (stepped after now) = running after now
+followed p items m settled = met p items m (least_waiting 0 items)
+followed p items m (failed n line rule) = faulted n line rule
 
 abbrev pub follow : Surroundings → Program → Status → Status
-follow a p (running items m) = followed m (advance a p 0 items m)
+follow a p (running items m) = followed p items m (advance a p 0 items m)
 follow a p (done m) = done m
 follow a p (faulted n line rule) = faulted n line rule
 

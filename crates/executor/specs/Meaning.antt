@@ -1,7 +1,9 @@
 -- What one instruction does to a work-item and to memory, an equation an instruction.
-use Rattle.std.specs.Prelude.{ℕ, ◌+◌, ◌%◌, ◌^◌, ◌==◌, if◌then◌else◌, List, drop, slice_get, slice_index, Option, Some, None, Result, Ok, Err}
+use Rattle.std.specs.Prelude.{ℕ, ◌+◌, ◌==◌, if◌then◌else◌, List, drop, slice_get, Option, Some, None, Result, Ok, Err}
 use Rattle.byteorder.specs.Endian.{little_number}
-use Rattle.executor.specs.Accesses.{loaded, stored}
+use Rattle.executor.specs.Accesses.{loaded, stored, group_loaded, group_stored}
+use Rattle.executor.specs.Addresses.{address_of, group_address_of}
+use Rattle.executor.specs.Atomics.{bytes_found, place_of, replacing32, replacing64, left32, left64, told32, told64}
 use Rattle.executor.specs.Conversions.{converted}
 use Rattle.executor.specs.Items.{Contents, Surroundings}
 use Rattle.executor.specs.Locations.{answer}
@@ -10,16 +12,19 @@ use Rattle.executor.specs.Values.{value1, value32, value64}
 use Rattle.executor.specs.declared.item.Item.{Item}
 use Rattle.executor.specs.declared.registers.Registers.{Registers}
 use Rattle.kernel_check.specs.Steps.{number_bytes}
-use Rattle.kernel_check.specs.declared.step.Pointer.{Pointer}
-use Rattle.kernel_check.specs.declared.step.LoadStep.{LoadStep}
+use Rattle.kernel_check.specs.declared.step.AnyRegister.{AnyRegister}
+use Rattle.kernel_check.specs.declared.step.AtomicStep32.{AtomicStep32}
+use Rattle.kernel_check.specs.declared.step.AtomicStep64.{AtomicStep64}
+use Rattle.kernel_check.specs.declared.step.NumberType.{NumberType}
 use Rattle.kernel_check.specs.declared.step.Step.{Step}
 use Rattle.kernel_check.specs.declared.step.Step.TheVariants as step
 use Rattle.queue_error.specs.declared.rule.Rule.{Rule}
 use Rattle.queue_error.specs.declared.rule.Rule.TheVariants.{A5}
 
--- what comes of a turn: the item goes on, it has ended, or it broke a rule
+-- what comes of a turn: the item goes on, it arrives at a barrier, it has ended, or it broke a rule
 pub data Act : Type 0 where
   goes_on : Item → Contents → Act
+  arrives : Item → Contents → Act
   ends : Contents → Act
   broke : Rule → Act
 
@@ -27,26 +32,38 @@ pub data Act : Type 0 where
 abbrev pub onward : Item → Registers → Item
 onward i r = record { registers = r; next = i.next + 1 }
 
--- an address: what the register has and the offset, wrapping (PRM, Address Expressions)
-abbrev pub address_at : Registers → Option ℕ → ℕ → ℕ
-address_at r None offset = offset
-address_at r (Some s) offset = (slice_index r.double s + offset) % 2 ^ 64
-
-abbrev pub address_of : Registers → Pointer → ℕ
-address_of r p = address_at r p.base p.offset
-
 -- a load goes on with the value that it saw, extended as its type says
-abbrev pub after_load : Item → Contents → LoadStep → Result ℕ Rule → Act
-after_load i m l (Ok value) = goes_on (onward i (with_any i.registers l.target (converted l.kind l.kind value))) m
-after_load i m l (Err rule) = broke rule
+abbrev pub after_load : Item → Contents → AnyRegister → NumberType → Result ℕ Rule → Act
+after_load i m target kind (Ok value) = goes_on (onward i (with_any i.registers target (converted kind kind value))) m
+after_load i m target kind (Err rule) = broke rule
 
 -- a store goes on with what is then written
 abbrev pub after_store : Item → Contents → Result (ℕ → Option ℕ) Rule → Act
 after_store i m (Ok written) = goes_on (onward i i.registers) (record m { written = written })
 after_store i m (Err rule) = broke rule
 
--- PRM, Arithmetic Operations; Conversion (cvt) Operation; Load (ld) Operation; Store (st) Operation; Branch
--- Operations; Dispatch Packet Operations
+-- one to group memory goes on with its bytes then
+abbrev pub after_group_store : Item → Contents → Result (List ℕ) Rule → Act
+after_group_store i m (Ok group) = goes_on (onward i i.registers) (record m { group = group })
+after_group_store i m (Err rule) = broke rule
+
+-- an atomic operation goes on with the old value in its target, and in its place what it leaves
+abbrev pub after_atomic32 : Item → Contents → AtomicStep32 → Result (List ℕ) Rule → Act
+after_atomic32 i m s (Ok bytes) =
+    let old = little_number 4 bytes in
+    goes_on (onward i (told32 i.registers s.target old))
+    (left32 m (place_of i.registers s.pointer) (replacing32 i.registers s.operation old))
+after_atomic32 i m s (Err rule) = broke rule
+
+abbrev pub after_atomic64 : Item → Contents → AtomicStep64 → Result (List ℕ) Rule → Act
+after_atomic64 i m s (Ok bytes) =
+    let old = little_number 8 bytes in
+    goes_on (onward i (told64 i.registers s.target old))
+    (left64 m (place_of i.registers s.pointer) (replacing64 i.registers s.operation old))
+after_atomic64 i m s (Err rule) = broke rule
+
+-- PRM, Arithmetic Operations; Conversion (cvt) Operation; Load (ld) Operation; Store (st) Operation; Atomic Memory
+-- Operations; Branch Operations; Barrier Operations; Dispatch Packet Operations
 abbrev pub act : Surroundings → Item → Contents → Step → Act
 act a i m (step.Control s) = goes_on (onward i (with1 i.registers s.target (value1 i.registers s.operation))) m
 act a i m (step.Single s) = goes_on (onward i (with32 i.registers s.target (value32 i.registers s.operation))) m
@@ -57,13 +74,21 @@ act a i m (step.Argument l) =
     goes_on (onward i (with_any i.registers l.target
     (converted l.kind l.kind (little_number (number_bytes l.kind) (drop l.offset a.arguments))))) m
 act a i m (step.Load l) =
-    after_load i m l (loaded a.view m.written (address_of i.registers l.pointer) (number_bytes l.kind))
+    after_load i m l.target l.kind (loaded a.view m.written (address_of i.registers l.pointer) (number_bytes l.kind))
 act a i m (step.Store s) =
     after_store i m (stored a.view m.written (address_of i.registers s.pointer) (number_bytes s.kind) (read_any i.registers s.source))
+act a i m (step.LoadGroup l) =
+    after_load i m l.target l.kind (group_loaded m.group (group_address_of i.registers l.pointer) (number_bytes l.kind))
+act a i m (step.StoreGroup s) =
+    after_group_store i m
+    (group_stored m.group (group_address_of i.registers s.pointer) (number_bytes s.kind) (read_any i.registers s.source))
+act a i m (step.Atomic32 s) = after_atomic32 i m s (bytes_found a.view m (place_of i.registers s.pointer) 4)
+act a i m (step.Atomic64 s) = after_atomic64 i m s (bytes_found a.view m (place_of i.registers s.pointer) 8)
 act a i m (step.Branch next) = goes_on (record i { next = next }) m
 act a i m (step.ConditionalBranch b) =
     goes_on (record i { next = if read1 i.registers b.condition then b.next else i.next + 1 }) m
 act a i m step.Return = ends m
+act a i m step.Barrier = arrives (onward i i.registers) m
 act a i m (step.Identify q) =
     goes_on (onward i (with_any i.registers q.target (answer a.location q.query q.dimension))) m
 

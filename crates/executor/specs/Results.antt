@@ -16,9 +16,9 @@ after_turns a p zero from = from
 after_turns a p (suc n) from = after_turns a p n (follow a p from)
 
 -- as many turns as a group can take: each of its 1,024 items executes 65,536 instructions at the most and takes one turn to
--- end, and one turn finds that all have ended
+-- end, items meet at a barrier at most once for each instruction, and one turn finds that all have ended
 unfoldable pub most_turns : ℕ
-most_turns = 1024 * 65537 + 1
+most_turns = 2 * (1024 * 65537) + 1
 
 -- what a group comes to: it wrote the bytes of these runs, or the item of a number broke a rule on a line
 pub data GroupResult : Type 0 where

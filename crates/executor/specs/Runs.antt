@@ -1,8 +1,9 @@
 -- What running a work-group answers (own).
-use Rattle.std.specs.Prelude.{◌≡◌, ℕ, zero, suc, ◌^◌, ◌≤◌, ◌<◌, List, ◌∷◌, length, map}
-use Rattle.executor.specs.Group.{Standing, ready, ended, Status, running, done, faulted, Leads, beginning}
-use Rattle.executor.specs.Items.{Contents, LentRegion, Surroundings, blank, fresh, lent_region}
+use Rattle.std.specs.Prelude.{◌≡◌, ℕ, ◌^◌, ◌≤◌, ◌<◌, List, ◌∷◌, ◌++◌, length, map}
+use Rattle.executor.specs.Group.{Standing, Status, running, done, faulted, Leads, beginning}
+use Rattle.executor.specs.Items.{Contents, LentRegion, Surroundings, blank, lent_region}
 use Rattle.executor.specs.Locations.{id_of, count_of, groups_of, current_of}
+use Rattle.executor.specs.Stops.{AreStopped}
 use Rattle.executor.specs.Written.{AreRuns}
 use Rattle.executor.specs.declared.dispatch.Dispatch.{Dispatch}
 use Rattle.executor.specs.declared.fault.RunFault.{RunFault}
@@ -72,21 +73,16 @@ location_of group_size grid_size group =
 abbrev pub surroundings_of : GroupInput → Surroundings
 surroundings_of i = record { arguments = i.arguments; view = i.view; location = location_of i.group_size i.grid_size i.group }
 
--- so many items that have ended, and others behind them
-abbrev pub after : ℕ → List Standing → List Standing
-after zero xs = xs
-after (suc n) xs = ended ∷ after n xs
-
--- an item that ran to its end, the items before it having ended
-abbrev pub ItemRuns : Surroundings → Program → ℕ → Contents → Contents → Type 0
-ItemRuns a p n before now = (rest : List Standing)
-    → Leads a p (running (after n (ready fresh 0 ∷ rest)) before) (running (after n (ended ∷ rest)) now)
+-- an item that ran from where it stood until it stopped, none of those before it being able to take a turn
+abbrev pub ItemRuns : Surroundings → Program → ℕ → Standing → Contents → Standing → Contents → Type 0
+ItemRuns a p n from before to now = (earlier rest : List Standing) → AreStopped earlier → length earlier ≡ n
+    → Leads a p (running (earlier ++ from ∷ rest) before) (running (earlier ++ to ∷ rest) now)
 
 -- an item that broke a rule; without memory nothing is said
-abbrev pub ItemFails : Surroundings → Program → ℕ → Contents → RunFault → Type 0
-ItemFails a p n before fault.OutOfMemory = Unit {0}
-ItemFails a p n before (fault.Fault f) = (rest : List Standing)
-    → Leads a p (running (after n (ready fresh 0 ∷ rest)) before) (faulted f.item f.line f.rule)
+abbrev pub ItemFails : Surroundings → Program → ℕ → Standing → Contents → RunFault → Type 0
+ItemFails a p n from before fault.OutOfMemory = Unit {0}
+ItemFails a p n from before (fault.Fault f) = (earlier rest : List Standing) → AreStopped earlier → length earlier ≡ n
+    → Leads a p (running (earlier ++ from ∷ rest) before) (faulted f.item f.line f.rule)
 
 -- a group that is done has written the bytes of these runs
 abbrev pub Finishes : Surroundings → Program → Status → List Run → Type 0

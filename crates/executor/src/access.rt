@@ -22,7 +22,7 @@ pub enum StoreError {
 
 /// The held region that an address lies in.
 #[inline(always)]
-fn region_of<'v>(view: &'v [HeldRegion<'v>], address: u64) -> Option<&'v HeldRegion<'v>>
+pub fn region_of<'v>(view: &'v [HeldRegion<'v>], address: u64) -> Option<&'v HeldRegion<'v>>
     ensures { option_map lent_region (option_copied result) ≡ region_of (map lent_region view.now) address }
 {
     find_region(view, address)

@@ -5,18 +5,23 @@ ghost use Rattle.kernel_check.specs.Steps.{number_bytes};
 ghost use Rattle.kernel_check.specs.declared.step.Step.TheVariants as step_arm;
 ghost use Rattle.executor.specs.Conversions.{converted};
 ghost use Rattle.executor.specs.Items.{contents, surroundings};
-ghost use Rattle.executor.specs.Meaning.{act, address_of, onward};
+ghost use Rattle.executor.specs.Meaning.{act, onward};
 ghost use Rattle.executor.specs.Registers.{with_any};
 ghost use Rattle.executor.specs.Turns.{Acts, ReadsWithin};
 
 use crate::access::{StoreError, load, store};
+use crate::address::{address_of, group_address_of};
+use crate::atomic::{atomic_step32, atomic_step64};
 use crate::conversion::{bytes_of, convert};
+use crate::group_access;
 use crate::item::{Around, Item};
 use crate::memory::Memory;
 use crate::registers::Registers;
 use crate::values::{value1, value32, value64};
 use byteorder::{ByteOrder, LittleEndian};
-use kernel_check::{AnyRegister, ArgumentStep, LoadStep, Pointer, Step, StoreStep};
+use kernel_check::{
+    AnyRegister, ArgumentStep, GroupLoadStep, GroupStoreStep, LoadStep, Step, StoreStep,
+};
 use queue_error::Rule;
 use std::alloc::Global;
 
@@ -25,20 +30,11 @@ use std::alloc::Global;
 pub enum Outcome {
     /// The item has another turn.
     GoesOn,
+    /// The item waits at a barrier.
+    Arrived,
     Ended,
     Broke(Rule),
     OutOfMemory,
-}
-
-/// The address of an access.
-#[inline(always)]
-fn address_of(registers: &Registers, pointer: Pointer) -> u64
-    ensures { result ≡ address_of registers.now pointer }
-{
-    match pointer.base {
-        None => pointer.offset,
-        Some(slot) => registers.double[slot.index()].wrapping_add(pointer.offset),
-    }
 }
 
 /// What an argument has, as its type reads it.
@@ -109,6 +105,48 @@ fn store_step(
     }
 }
 
+#[inline(always)]
+fn group_load_step(
+    around: &Around<'_>,
+    item: &mut Item,
+    memory: &Memory,
+    step: &GroupLoadStep,
+) -> Outcome
+    requires { item.old.next < 2 ^ 32 }
+    ensures { Acts (act (surroundings around.now) item.old (contents memory.now) (step_arm.LoadGroup step.now)) result item.new (contents memory.now) }
+{
+    let address = group_address_of(&item.registers, step.pointer);
+    match group_access::load(memory.group.as_slice(), address, bytes_of(step.kind)) {
+        Ok(value) => {
+            set(item, step.target, convert(step.kind, step.kind, value));
+            Outcome::GoesOn
+        }
+        Err(rule) => Outcome::Broke(rule),
+    }
+}
+
+#[inline(always)]
+fn group_store_step(
+    around: &Around<'_>,
+    item: &mut Item,
+    memory: &mut Memory,
+    step: &GroupStoreStep,
+) -> Outcome
+    requires { item.old.next < 2 ^ 32 }
+    ensures { Acts (act (surroundings around.now) item.old (contents memory.old) (step_arm.StoreGroup step.now)) result item.new (contents memory.new) }
+{
+    let address = group_address_of(&item.registers, step.pointer);
+    let value = item.registers.read_any(step.source);
+    let size = bytes_of(step.kind);
+    match group_access::store(memory.group.as_mut_slice(), address, size, value) {
+        Ok(()) => {
+            item.next += 1;
+            Outcome::GoesOn
+        }
+        Err(rule) => Outcome::Broke(rule),
+    }
+}
+
 /// One step of one work-item.
 #[inline]
 pub fn act(
@@ -145,6 +183,10 @@ pub fn act(
         Step::Argument(step) => set(item, step.target, argument(around.arguments, step)),
         Step::Load(step) => return load_step(around, item, memory, step),
         Step::Store(step) => return store_step(alloc, around, item, memory, step),
+        Step::LoadGroup(step) => return group_load_step(around, item, memory, step),
+        Step::StoreGroup(step) => return group_store_step(around, item, memory, step),
+        Step::Atomic32(step) => return atomic_step32(alloc, around, item, memory, step),
+        Step::Atomic64(step) => return atomic_step64(alloc, around, item, memory, step),
         Step::Branch(next) => item.next = *next,
         Step::ConditionalBranch(branch) => {
             let next = item.next + 1;
@@ -155,6 +197,10 @@ pub fn act(
             };
         }
         Step::Return => return Outcome::Ended,
+        Step::Barrier => {
+            item.next += 1;
+            return Outcome::Arrived;
+        }
         Step::Identify(query) => {
             let answer = around.location.answer(query.query, query.dimension);
             set(item, query.target, answer);

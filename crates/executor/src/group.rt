@@ -1,45 +1,24 @@
 //! A work-group, item after item.
-ghost use Rattle.std.specs.Prelude.{◌≡◌, ◌<◌, ◌≤◌, IfOk, IfErr, OnOk, OnErr, length, slice_get, Some};
-ghost use Rattle.executor.specs.Group.{beginning, done, Leads};
-ghost use Rattle.executor.specs.Items.{blank, contents, surroundings};
+ghost use Rattle.std.specs.Prelude.{◌≡◌, ◌<◌, ◌≤◌, IfOk, IfErr, OnErr, length, slice_get, Some};
+ghost use Rattle.executor.specs.Items.{blank, contents};
 ghost use Rattle.executor.specs.Locations.{count_of, current_along, current_of, groups_along, groups_of};
-ghost use Rattle.executor.specs.Runs.{HasSizes, IsRunnable, Fails, input_of, location_of};
+ghost use Rattle.executor.specs.Runs.{HasSizes, IsRunnable, input_of, location_of};
 ghost use Rattle.executor.specs.Results.{FinishesAs, FailsAs};
 ghost use Rattle.kernel_check.specs.Programs.{Program as ProgramValue};
 
 use crate::dispatch::Dispatch;
 use crate::fault::RunFault;
 use crate::item::Around;
-use crate::item_run::{id_of, run_item};
+use crate::item_run::id_of;
 use crate::location::{Extent, Location};
 use crate::memory::Memory;
+use crate::rounds::run_items;
 use crate::run::Run;
 use crate::view::HeldRegion;
 use crate::written::WrittenBytes;
 use kernel_check::{Checked, Program};
 use sequences::Sequence;
 use std::alloc::{AllocError, Global};
-
-/// Runs items one after another, each to its end, or to the first rule that one breaks.
-fn run_items(
-    alloc: Global,
-    around: &Around<'_>,
-    program: &Program,
-    count: u32,
-    memory: &mut Memory,
-) -> Result<(), RunFault>
-    requires arguments { length around.now.arguments.now ≡ program.now.argument_bytes }
-    requires count { count ≡ count_of around.now.location.current_size }
-    ensures ok { OnOk result (Leads (surroundings around.now) program.now (beginning count (contents memory.old)) (done (contents memory.new))) }
-    ensures err { IfErr result (Fails (surroundings around.now) program.now (beginning count (contents memory.old))) }
-{
-    'items: for number in 0..count {
-        if let Err(fault) = run_item(alloc, around, program, number, memory) {
-            return Err(fault);
-        }
-    }
-    Ok(())
-}
 
 /// Memory as a work-group begins.
 fn blank(alloc: Global, size: u32) -> Result<Memory, AllocError>

@@ -1,6 +1,8 @@
 //! A work-item, and what surrounds it.
 ghost use Rattle.std.specs.Prelude.{◌≡◌};
 ghost use Rattle.executor.specs.Items.{fresh};
+ghost use Rattle.executor.specs.Stops.{waits};
+ghost use Rattle.executor.specs.declared.item.Stop.TheVariants as stop_arm;
 
 use crate::location::Location;
 use crate::registers::Registers;
@@ -22,6 +24,48 @@ impl Item {
         Item {
             registers: Registers::cleared(),
             next: 0,
+        }
+    }
+}
+
+/// Where a work-item stops.
+#[derive(Clone, Copy)]
+pub enum Stop {
+    /// At a barrier, behind which its next step stands.
+    Barrier,
+    /// At its end.
+    End,
+}
+
+/// A work-item that runs from one stop to the next.
+#[derive(Clone, Copy)]
+pub struct StoppedItem {
+    pub item: Item,
+    /// How many instructions it executed.
+    pub executed: u32,
+    pub stop: Stop,
+}
+
+impl StoppedItem {
+    /// A work-item that begins, which is one that goes on at its first step.
+    pub fn fresh() -> StoppedItem
+        ensures { result ≡ record { item = fresh; executed = 0; stop = stop_arm.Barrier } }
+    {
+        StoppedItem {
+            item: Item::fresh(),
+            executed: 0,
+            stop: Stop::Barrier,
+        }
+    }
+
+    /// Whether it waits at a barrier.
+    #[inline(always)]
+    pub fn waits(&self) -> bool
+        ensures { result ≡ waits self.now }
+    {
+        match self.stop {
+            Stop::Barrier => true,
+            Stop::End => false,
         }
     }
 }

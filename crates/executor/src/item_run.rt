@@ -1,16 +1,17 @@
-//! A work-item run to its end.
+//! A work-item run until it waits at a barrier or ends.
 ghost use Rattle.std.specs.Prelude.{◌≡◌, ◌<◌, ◌≤◌, ℕ, IfErr, OnOk, length, slice_index};
 ghost use Rattle.executor.specs.declared.fault.RunFault.TheVariants as fault_arm;
-ghost use Rattle.executor.specs.Group.{around_item};
+ghost use Rattle.executor.specs.Group.{ready, around_item};
 ghost use Rattle.executor.specs.Items.{contents, surroundings};
 ghost use Rattle.executor.specs.Locations.{id_of};
 ghost use Rattle.executor.specs.Meaning.{turn};
 ghost use Rattle.executor.specs.Runs.{ItemRuns, ItemFails};
+ghost use Rattle.executor.specs.Stops.{standing};
 ghost use Rattle.executor.specs.Turns.{Acts};
 
 use crate::act::{Outcome, act};
 use crate::fault::{ItemFault, RunFault};
-use crate::item::{Around, Item};
+use crate::item::{Around, Item, Stop, StoppedItem};
 use crate::location::{Extent, Location};
 use crate::memory::Memory;
 use kernel_check::Program;
@@ -79,40 +80,56 @@ fn turn(
     }
 }
 
-/// Runs an item to its end, or to the rule that it breaks.
+/// Runs an item on until it waits at a barrier or ends, or breaks a rule.
 pub fn run_item(
     alloc: Global,
     around: &Around<'_>,
     program: &Program,
     number: u32,
+    stopped: &mut StoppedItem,
     memory: &mut Memory,
 ) -> Result<(), RunFault>
     requires arguments { length around.now.arguments.now ≡ program.now.argument_bytes }
     requires x { 1 ≤ around.now.location.current_size.x }
     requires y { 1 ≤ around.now.location.current_size.y }
-    ensures ok { OnOk result (ItemRuns (surroundings around.now) program.now number (contents memory.old) (contents memory.new)) }
-    ensures err { IfErr result (ItemFails (surroundings around.now) program.now number (contents memory.old)) }
+    requires within { stopped.old.executed ≤ 65536 }
+    ensures ok { OnOk result (ItemRuns (surroundings around.now) program.now number
+        (ready stopped.old.item stopped.old.executed) (contents memory.old) (standing stopped.new) (contents memory.new)) }
+    ensures err { IfErr result (ItemFails (surroundings around.now) program.now number
+        (ready stopped.old.item stopped.old.executed) (contents memory.old)) }
 {
     let own = around_item(around, number);
-    let mut item = Item::fresh();
-    'turns: for _executed in 0..BUDGET {
+    let begin = stopped.executed;
+    let mut item = stopped.item;
+    'turns: for executed in begin..BUDGET {
         let next = item.next;
         match turn(alloc, &own, program, &mut item, memory) {
             Outcome::GoesOn => {}
-            Outcome::Ended => return Ok(()),
+            Outcome::Arrived => {
+                *stopped = StoppedItem {
+                    item,
+                    executed: executed + 1,
+                    stop: Stop::Barrier,
+                };
+                return Ok(());
+            }
+            Outcome::Ended => {
+                stopped.stop = Stop::End;
+                return Ok(());
+            }
             Outcome::Broke(rule) => return Err(fault(program, number, next, rule)),
             Outcome::OutOfMemory => return Err(RunFault::OutOfMemory),
         }
     }
     if item.next < program.steps().len() {
-        Err(fault(program, number, item.next, Rule::A5))
-    } else {
-        Ok(())
+        return Err(fault(program, number, item.next, Rule::A5));
     }
+    stopped.stop = Stop::End;
+    Ok(())
 }
 
 /// The fault of an item at a step.
-fn fault(program: &Program, item: u32, step: usize, rule: Rule) -> RunFault
+pub fn fault(program: &Program, item: u32, step: usize, rule: Rule) -> RunFault
     ensures { result ≡ fault_arm.Fault (record { item = item; line = slice_index program.now.lines step; rule = rule }) }
 {
     RunFault::Fault(ItemFault {

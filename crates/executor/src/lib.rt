@@ -4,11 +4,15 @@
 
 mod access;
 mod act;
+mod address;
+mod atomic;
+mod atomic_place;
 mod chunk;
 mod conversion;
 mod dispatch;
 mod fault;
 mod group;
+mod group_access;
 mod item;
 mod item_run;
 mod laws;
@@ -19,6 +23,7 @@ pub mod number64;
 mod page;
 mod region;
 mod registers;
+mod rounds;
 mod run;
 mod values;
 mod view;

@@ -65,11 +65,11 @@ module _ (k : Kernel) (arguments : List ℕ → Option Placed) (labels : List �
 
 -- the parts of a kernel are those of its program
 pub same_program : (k : Kernel) (laid : Laid) (name : List ℕ) (steps : List LinedStep) → name ≡ k.name → laid_out k.arguments ≡ laid
-    → steps ≡ steps_from (arguments_of k) (labels_of k) k.items → program name laid.end laid.wide steps ≡ program_of k
+    → steps ≡ steps_from (arguments_of k) (labels_of k) k.items → program name laid.end 0 laid.wide steps ≡ program_of k
 same_program k laid name steps n l s =
-    ap (λ x. program x laid.end laid.wide steps) n
-    ∙ ap (λ (x : Laid). program k.name x.end x.wide steps) (sym l)
-    ∙ ap (λ x. program k.name (laid_out k.arguments).end (laid_out k.arguments).wide x) s
+    ap (λ x. program x laid.end 0 laid.wide steps) n
+    ∙ ap (λ (x : Laid). program k.name x.end 0 x.wide steps) (sym l)
+    ∙ ap (λ x. program k.name (laid_out k.arguments).end 0 (laid_out k.arguments).wide x) s
 
 module _ (k : Kernel) (laid : Laid) (labels : List ℕ → Option ℕ) (steps : List LinedStep) (name : List ℕ)
     (arguments_well : unless (first_fault (argument_checks [] 0 k.arguments)) (laid_out k.arguments) ≡ Ok laid)
@@ -82,19 +82,19 @@ module _ (k : Kernel) (laid : Laid) (labels : List ℕ → Option ℕ) (steps : 
   same_arguments : find laid.names ≡ arguments_of k
   same_arguments = ap (λ (l : Laid). find l.names) (sym arguments_none.1)
 
-  parts_are : program name laid.end laid.wide steps ≡ program_of k
+  parts_are : program name laid.end 0 laid.wide steps ≡ program_of k
   parts_are =
       same_program k laid name steps same_name arguments_none.1
       (same_steps k (find laid.names) labels same_arguments same_labels arguments_none.0 steps items_well)
 
   -- the parts that were found are those of a kernel in which nothing fails
-  pub done : unless (first_fault (body_checks k)) (program_of k) ≡ Ok (program name laid.end laid.wide steps)
+  pub done : unless (first_fault (body_checks k)) (program_of k) ≡ Ok (program name laid.end 0 laid.wide steps)
   done =
       ap (λ w. unless w (program_of k)) (none_failed k (find laid.names) labels same_arguments same_labels arguments_none.0 steps items_well)
       ∙ ap Ok (sym parts_are)
 
   -- and they are sound
-  pub sound_parts : laid.end ≤ 4096 → length steps ≤ 4096 → IsSound (program name laid.end laid.wide steps)
+  pub sound_parts : laid.end ≤ 4096 → length steps ≤ 4096 → IsSound (program name laid.end 0 laid.wide steps)
   sound_parts few_bytes few_steps =
       subst IsSound (sym parts_are)
       (sound k

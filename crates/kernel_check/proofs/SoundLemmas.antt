@@ -379,5 +379,6 @@ sound k none bytes count =
       lined = length-map lined (λ s. s.line) ∙ sym stepped;
       wide_stay = wide_within 0 k.arguments;
       few_bytes = bytes;
+      few_group_bytes = lit≤ tt;
       few_steps = omega (arith, stepped, count);
     }

@@ -89,7 +89,7 @@ module_checks before (k ∷ kernels) =
 
 -- what a kernel without a fault comes to
 abbrev pub program_of : Kernel → Program
-program_of k = program k.name (end_from 0 k.arguments) (wide_from 0 k.arguments) (steps_from (arguments_of k) (labels_of k) k.items)
+program_of k = program k.name (end_from 0 k.arguments) 0 (wide_from 0 k.arguments) (steps_from (arguments_of k) (labels_of k) k.items)
 
 -- The kernels of a module, if no item fails; else the fault of the earliest item that fails, by its least
 -- cause.

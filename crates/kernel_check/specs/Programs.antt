@@ -10,11 +10,12 @@ use Rattle.kernel_check.specs.declared.step.Source32.TheVariants as source32
 use Rattle.kernel_check.specs.declared.step.Step.{Step}
 use Rattle.kernel_check.specs.declared.step.Step.TheVariants as step
 
--- a kernel's name, the bytes of its argument block, the offsets of its arguments of 64 bits, its steps, and
--- the lines that they stand on
+-- a kernel's name, the bytes of its argument block and of its group variables, the offsets of its arguments of
+-- 64 bits, its steps, and the lines that they stand on
 pub record Program : Type 0 where
   pub name : List ℕ
   pub argument_bytes : ℕ
+  pub group_bytes : ℕ
   pub wide : List ℕ
   pub steps : List Step
   pub lines : List ℕ
@@ -32,6 +33,7 @@ StaysWithin count bytes (step.Branch next) = next ≤ count
 StaysWithin count bytes (step.ConditionalBranch b) = b.next ≤ count
 StaysWithin count bytes (step.Convert c) = FitsIn c.from c.source
 StaysWithin count bytes (step.Store s) = FitsIn s.kind s.source
+StaysWithin count bytes (step.StoreGroup s) = FitsIn s.kind s.source
 StaysWithin count bytes _ = Unit {0}
 
 -- every label and argument named in the steps exists and fits, every constant lies in its width, and the limits
@@ -41,18 +43,20 @@ pub record IsSound (p : Program) : Type 0 where
   pub lined : length p.lines ≡ length p.steps
   pub wide_stay : All (λ offset. offset + 8 ≤ p.argument_bytes) p.wide
   pub few_bytes : p.argument_bytes ≤ 4096
+  pub few_group_bytes : p.group_bytes ≤ 65536
   pub few_steps : length p.steps ≤ 4096
 
 -- a kernel by its steps with their lines
-abbrev pub program : List ℕ → ℕ → List ℕ → List LinedStep → Program
-program name argument_bytes wide lined = record {
+abbrev pub program : List ℕ → ℕ → ℕ → List ℕ → List LinedStep → Program
+program name argument_bytes group_bytes wide lined = record {
   name = name;
   argument_bytes = argument_bytes;
+  group_bytes = group_bytes;
   wide = wide;
   steps = map (λ s. s.step) lined;
   lines = map (λ s. s.line) lined;
 }
 
--- the bytes of a kernel's group variables; the profile has no such variables
+-- the bytes of a kernel's group variables
 abbrev pub group_bytes_of : Program → ℕ
-group_bytes_of p = 0
+group_bytes_of p = p.group_bytes

@@ -10,6 +10,10 @@ use Rattle.kernel_check.specs.declared.step.AnyRegister.{AnyRegister}
 use Rattle.kernel_check.specs.declared.step.AnyRegister.TheVariants as register
 use Rattle.kernel_check.specs.declared.step.AnySource.{AnySource}
 use Rattle.kernel_check.specs.declared.step.AnySource.TheVariants as any
+use Rattle.kernel_check.specs.declared.step.AtomicOperation32.{AtomicOperation32}
+use Rattle.kernel_check.specs.declared.step.AtomicOperation32.TheVariants as atomic32
+use Rattle.kernel_check.specs.declared.step.AtomicOperation64.{AtomicOperation64}
+use Rattle.kernel_check.specs.declared.step.AtomicOperation64.TheVariants as atomic64
 use Rattle.kernel_check.specs.declared.step.ControlOperation.{ControlOperation}
 use Rattle.kernel_check.specs.declared.step.ControlOperation.TheVariants as control
 use Rattle.kernel_check.specs.declared.step.Dimension.{Dimension}
@@ -489,6 +493,34 @@ double_reads (double.ShiftLeft s) = any.Double s.value ∷ any.Single s.count �
 double_reads (double.ShiftRightUnsigned s) = any.Double s.value ∷ any.Single s.count ∷ []
 double_reads (double.ShiftRightSigned s) = any.Double s.value ∷ any.Single s.count ∷ []
 
+-- what an atomic operation of 32 bits reads beside memory
+abbrev pub atomic32_reads : AtomicOperation32 → List AnySource
+atomic32_reads (atomic32.Add s) = any.Single s ∷ []
+atomic32_reads (atomic32.Subtract s) = any.Single s ∷ []
+atomic32_reads (atomic32.LeastUnsigned s) = any.Single s ∷ []
+atomic32_reads (atomic32.LeastSigned s) = any.Single s ∷ []
+atomic32_reads (atomic32.GreatestUnsigned s) = any.Single s ∷ []
+atomic32_reads (atomic32.GreatestSigned s) = any.Single s ∷ []
+atomic32_reads (atomic32.And s) = any.Single s ∷ []
+atomic32_reads (atomic32.Or s) = any.Single s ∷ []
+atomic32_reads (atomic32.Xor s) = any.Single s ∷ []
+atomic32_reads (atomic32.Exchange s) = any.Single s ∷ []
+atomic32_reads (atomic32.CompareAndSwap p) = two32 p.expected p.replacement
+
+-- what one of 64 bits reads
+abbrev pub atomic64_reads : AtomicOperation64 → List AnySource
+atomic64_reads (atomic64.Add s) = any.Double s ∷ []
+atomic64_reads (atomic64.Subtract s) = any.Double s ∷ []
+atomic64_reads (atomic64.LeastUnsigned s) = any.Double s ∷ []
+atomic64_reads (atomic64.LeastSigned s) = any.Double s ∷ []
+atomic64_reads (atomic64.GreatestUnsigned s) = any.Double s ∷ []
+atomic64_reads (atomic64.GreatestSigned s) = any.Double s ∷ []
+atomic64_reads (atomic64.And s) = any.Double s ∷ []
+atomic64_reads (atomic64.Or s) = any.Double s ∷ []
+atomic64_reads (atomic64.Xor s) = any.Double s ∷ []
+atomic64_reads (atomic64.Exchange s) = any.Double s ∷ []
+atomic64_reads (atomic64.CompareAndSwap p) = two64 p.expected p.replacement
+
 -- the sources that a step reads, in order
 abbrev pub reads : Step → List AnySource
 reads (step.Control s) = control_reads s.operation
@@ -496,6 +528,9 @@ reads (step.Single s) = single_reads s.operation
 reads (step.Double s) = double_reads s.operation
 reads (step.Convert c) = c.source ∷ []
 reads (step.Store s) = s.source ∷ []
+reads (step.StoreGroup s) = s.source ∷ []
+reads (step.Atomic32 a) = atomic32_reads a.operation
+reads (step.Atomic64 a) = atomic64_reads a.operation
 reads (step.ConditionalBranch b) = any.Control b.condition ∷ []
 reads _ = []
 
@@ -512,6 +547,9 @@ sets (step.Double s) = Some s.target
 sets (step.Convert c) = Some (number_in c.target)
 sets (step.Argument a) = Some (number_in a.target)
 sets (step.Load l) = Some (number_in l.target)
+sets (step.LoadGroup l) = Some (number_in l.target)
+sets (step.Atomic32 a) = a.target
+sets (step.Atomic64 a) = a.target
 sets (step.Identify i) = Some (number_in i.target)
 sets _ = None
 

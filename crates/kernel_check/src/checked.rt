@@ -83,10 +83,10 @@ impl Checked {
         self.kernel(index).kernarg_bytes()
     }
 
-    /// How many bytes the group variables of a kernel take. This profile has no such variables.
+    /// How many bytes the group variables of a kernel take.
     pub fn group_bytes(&self, index: u32) -> u32
         requires { index < length self.now }
-        ensures { option_map programs.group_bytes_of (slice_get self.now index) ≡ Some result }
+        ensures { option_map (λ kernel. kernel.group_bytes) (slice_get self.now index) ≡ Some result }
     {
         self.kernel(index).group_bytes()
     }

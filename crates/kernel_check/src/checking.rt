@@ -27,7 +27,7 @@ fn checked_body(alloc: Global, kernel: &Kernel) -> Result<Program, CheckError>
     let steps = checked_steps(alloc, &block.names, &labels, items)?;
     let name = kernel.name.copy(alloc)?;
     let lined = steps.as_slice();
-    let program = Program::new(alloc, name, block.end, block.wide, lined)?;
+    let program = Program::new(alloc, name, block.end, 0, block.wide, lined)?;
     Ok(program)
 }
 

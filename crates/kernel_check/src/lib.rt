@@ -25,9 +25,10 @@ pub use fault::{Cause, CheckError, CheckFault};
 pub use laws::{faults_are_earliest, steps_are_faithful, wide_arguments_ascend};
 pub use program::Program;
 pub use step::{
-    AnyRegister, AnySource, ArgumentStep, BranchStep, Choice1, Choice32, Choice64, Compare1,
-    Compare32, Compare64, ControlOperation, ControlStep, ConvertStep, Dimension, DoubleOperation,
-    DoubleStep, IdentifyStep, LinedStep, LoadStep, NumberType, Pair1, Pair32, Pair64, Pointer,
-    Shift64, SingleOperation, SingleStep, Slot, Source1, Source32, Source64, Step, StoreStep,
-    Triple32, Triple64,
+    AnyRegister, AnySource, ArgumentStep, AtomicOperation32, AtomicOperation64, AtomicPointer,
+    AtomicStep32, AtomicStep64, BranchStep, Choice1, Choice32, Choice64, Compare1, Compare32,
+    Compare64, ControlOperation, ControlStep, ConvertStep, Dimension, DoubleOperation, DoubleStep,
+    GroupLoadStep, GroupPointer, GroupStoreStep, IdentifyStep, LinedStep, LoadStep, NumberType,
+    Pair1, Pair32, Pair64, Pointer, Shift64, SingleOperation, SingleStep, Slot, Source1, Source32,
+    Source64, Step, StoreStep, Swap32, Swap64, Triple32, Triple64,
 };

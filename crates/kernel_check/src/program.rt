@@ -9,13 +9,14 @@ use sequences::Sequence;
 use std::alloc::{AllocError, Global};
 use std::marker::Model;
 
-/// A kernel in which nothing fails. A contract sees its name, the bytes of its argument block, the
-/// offsets of its arguments of 64 bits, and its steps; every label and argument named in these exists
-/// and fits.
+/// A kernel in which nothing fails. A contract sees its name, the bytes of its argument block and of its
+/// group variables, the offsets of its arguments of 64 bits, and its steps; every label and argument
+/// named in these exists and fits.
 #[derive(Drop)]
 pub struct Program {
     name: Sequence<u8>,
     argument_bytes: u32,
+    group_bytes: u32,
     wide: Sequence<u32>,
     steps: Sequence<Step>,
     lines: Sequence<u32>,
@@ -26,9 +27,9 @@ impl Model for Program {
 
     ghost Value = { programs.Program };
 
-    ghost view = { λ p. record { name = p.name; argument_bytes = p.argument_bytes; wide = p.wide; steps = p.steps; lines = p.lines } };
+    ghost view = { λ p. record { name = p.name; argument_bytes = p.argument_bytes; group_bytes = p.group_bytes; wide = p.wide; steps = p.steps; lines = p.lines } };
 
-    ghost invariant = { λ p. programs.IsSound (record { name = p.name; argument_bytes = p.argument_bytes; wide = p.wide; steps = p.steps; lines = p.lines }) };
+    ghost invariant = { λ p. programs.IsSound (record { name = p.name; argument_bytes = p.argument_bytes; group_bytes = p.group_bytes; wide = p.wide; steps = p.steps; lines = p.lines }) };
 }
 
 /// Steps without their lines.
@@ -54,24 +55,26 @@ fn lines_of(alloc: Global, lined: &[LinedStep]) -> Result<Vec<u32>, AllocError>
 }
 
 impl Program {
-    ghost use Rattle.kernel_check.specs.Programs.{IsSound, StaysWithin, program, group_bytes_of};
+    ghost use Rattle.kernel_check.specs.Programs.{IsSound, StaysWithin, program};
 
     /// The kernel of these parts.
     pub(crate) fn new(
         alloc: Global,
         name: Sequence<u8>,
         argument_bytes: u32,
+        group_bytes: u32,
         wide: Vec<u32>,
         lined: &[LinedStep],
     ) -> Result<Program, AllocError>
-        requires { IsSound (program name argument_bytes wide.items lined.now) }
-        ensures { IfOk result (λ p. p ≡ program name argument_bytes wide.items lined.now) }
+        requires { IsSound (program name argument_bytes group_bytes wide.items lined.now) }
+        ensures { IfOk result (λ p. p ≡ program name argument_bytes group_bytes wide.items lined.now) }
     {
         let steps = steps_of(alloc, lined)?;
         let lines = lines_of(alloc, lined)?;
         Ok(Program {
             name,
             argument_bytes,
+            group_bytes,
             wide: Sequence::from_vec(wide),
             steps: Sequence::from_vec(steps),
             lines: Sequence::from_vec(lines),
@@ -100,11 +103,12 @@ impl Program {
         self.argument_bytes
     }
 
-    /// How many bytes the group variables take. This profile has no such variables.
+    /// How many bytes the group variables take.
     pub fn group_bytes(&self) -> u32
-        ensures { result ≡ group_bytes_of self.now }
+        ensures value { result ≡ self.now.group_bytes }
+        ensures bound { result ≤ 65536 }
     {
-        0
+        self.group_bytes
     }
 
     /// The offsets of the arguments of 64 bits in the argument block, ascending.

@@ -338,6 +338,22 @@ pub struct Pointer {
     pub offset: u64,
 }
 
+/// A place in group memory: what a register has, or nothing, and what is added to it, wrapping at 2^32. A
+/// group variable is the number of bytes that stand before it.
+#[derive(Clone, Copy, Debug, PartialEq, Eq)]
+pub struct GroupPointer {
+    /// The `$s` register of an address of group memory.
+    pub base: Option<Slot>,
+    pub offset: u32,
+}
+
+/// A place in the segment of an atomic operation.
+#[derive(Clone, Copy, Debug, PartialEq, Eq)]
+pub enum AtomicPointer {
+    Global(Pointer),
+    Group(GroupPointer),
+}
+
 /// Which addresses a segment has (PRM, Address Expressions).
 #[derive(Clone, Copy, Debug, PartialEq, Eq)]
 pub struct AddressForms {
@@ -371,6 +387,109 @@ pub struct StoreStep {
     pub kind: NumberType,
     pub source: AnySource,
     pub pointer: Pointer,
+}
+
+/// `ld_group_T target, [address]`
+#[derive(Clone, Copy)]
+pub struct GroupLoadStep {
+    pub kind: NumberType,
+    pub target: AnyRegister,
+    pub pointer: GroupPointer,
+}
+
+/// `st_group_T source, [address]`
+#[derive(Clone, Copy)]
+pub struct GroupStoreStep {
+    pub kind: NumberType,
+    pub source: AnySource,
+    pub pointer: GroupPointer,
+}
+
+/// The sources of `cas` of 32 bits: where the old value is the expected one, the other is stored.
+#[derive(Clone, Copy)]
+pub struct Swap32 {
+    pub expected: Source32,
+    pub replacement: Source32,
+}
+
+/// The sources of `cas` of 64 bits: where the old value is the expected one, the other is stored.
+#[derive(Clone, Copy)]
+pub struct Swap64 {
+    pub expected: Source64,
+    pub replacement: Source64,
+}
+
+/// What an atomic operation puts in place of 32 bits of memory: the old value and its source, joined
+/// as it says. The order and the scope of the text have no effect here (own).
+#[derive(Clone, Copy)]
+pub enum AtomicOperation32 {
+    /// `add_T`
+    Add(Source32),
+    /// `sub_T`: the old value less the source
+    Subtract(Source32),
+    /// `min_u32`
+    LeastUnsigned(Source32),
+    /// `min_s32`
+    LeastSigned(Source32),
+    /// `max_u32`
+    GreatestUnsigned(Source32),
+    /// `max_s32`
+    GreatestSigned(Source32),
+    /// `and_b32`
+    And(Source32),
+    /// `or_b32`
+    Or(Source32),
+    /// `xor_b32`
+    Xor(Source32),
+    /// `exch_b32`: the source
+    Exchange(Source32),
+    /// `cas_b32`: nothing, where the old value is another than the expected one
+    CompareAndSwap(Swap32),
+}
+
+/// What an atomic operation puts in place of 64 bits of memory, as `AtomicOperation32` says.
+#[derive(Clone, Copy)]
+pub enum AtomicOperation64 {
+    /// `add_T`
+    Add(Source64),
+    /// `sub_T`: the old value less the source
+    Subtract(Source64),
+    /// `min_u64`
+    LeastUnsigned(Source64),
+    /// `min_s64`
+    LeastSigned(Source64),
+    /// `max_u64`
+    GreatestUnsigned(Source64),
+    /// `max_s64`
+    GreatestSigned(Source64),
+    /// `and_b64`
+    And(Source64),
+    /// `or_b64`
+    Or(Source64),
+    /// `xor_b64`
+    Xor(Source64),
+    /// `exch_b64`: the source
+    Exchange(Source64),
+    /// `cas_b64`: nothing, where the old value is another than the expected one
+    CompareAndSwap(Swap64),
+}
+
+/// `atomic_OP_SEG_O_S_T target, [address], ..` of 32 bits, which puts the old value into an `$s`
+/// register; or `atomicnoret`, which has no target.
+#[derive(Clone, Copy)]
+pub struct AtomicStep32 {
+    pub target: Option<Slot>,
+    pub pointer: AtomicPointer,
+    pub operation: AtomicOperation32,
+}
+
+/// `atomic_OP_SEG_O_S_T target, [address], ..` of 64 bits, which puts the old value into a `$d`
+/// register; or `atomicnoret`, which has no target.
+#[derive(Clone, Copy)]
+pub struct AtomicStep64 {
+    pub target: Option<Slot>,
+    pub pointer: AtomicPointer,
+    pub operation: AtomicOperation64,
 }
 
 /// `cbr_b1 condition, @label`, with the number of the step behind the label, from 0. Where the label
@@ -428,11 +547,17 @@ pub enum Step {
     Argument(ArgumentStep),
     Load(LoadStep),
     Store(StoreStep),
+    LoadGroup(GroupLoadStep),
+    StoreGroup(GroupStoreStep),
+    Atomic32(AtomicStep32),
+    Atomic64(AtomicStep64),
     /// `br @x`, with the number of the step behind the label, as in `BranchStep`
     Branch(usize),
     ConditionalBranch(BranchStep),
     /// `ret`
     Return,
+    /// `barrier`; its width has no effect (own)
+    Barrier,
     Identify(IdentifyStep),
 }
 

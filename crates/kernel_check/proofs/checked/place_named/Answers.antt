@@ -11,5 +11,5 @@ returns-then-is_named-clause-place c =
 
 pub returns-clause-place : goal.returns-clause-place
 returns-clause-place c =
-    sym (place_none (λ (kernel : Program). bytes_eq c.args.name.now kernel.name) c.args.kernels.now (program [] 0 [] [])
+    sym (place_none (λ (kernel : Program). bytes_eq c.args.name.now kernel.name) c.args.kernels.now (program [] 0 0 [] [])
     (λ k d h. c.kernels.invariant k d (omega arith)))

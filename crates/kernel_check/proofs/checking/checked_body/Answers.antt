@@ -42,7 +42,7 @@ new-requires c =
     let k = c.args.kernel.now in
     let arguments = find c.in_ok-block.block.names in
     let labels = find c.in_ok-labels.labels in
-    subst (λ (xs : List LinedStep). IsSound (program c.in_ok-name.name c.in_ok-block.block.end c.in_ok-block.block.wide.items xs)) (sym c.as_slice-lined.ensures.value)
+    subst (λ (xs : List LinedStep). IsSound (program c.in_ok-name.name c.in_ok-block.block.end 0 c.in_ok-block.block.wide.items xs)) (sym c.as_slice-lined.ensures.value)
     (sound_parts k (block_laid c.in_ok-block.block) labels c.in_ok-steps.steps.items c.in_ok-name.name
     (subst (λ (args : List Argument). unless (first_fault (argument_checks [] 0 args)) (laid_out args) ≡ Ok (block_laid c.in_ok-block.block))
     c.as_slice-arguments.ensures c.in_ok-block.ensures.value)
@@ -63,5 +63,5 @@ returns c =
     (subst (λ (items : List Item). unless (first_fault (item_checks arguments labels [] 0 items)) (steps_from arguments labels items)
     ≡ Ok c.in_ok-steps.steps.items) c.as_slice-items.ensures c.in_ok-steps.ensures.value)
     c.in_ok-name.ensures
-    ∙ ap (λ (xs : List LinedStep). Ok (program c.in_ok-name.name c.in_ok-block.block.end c.in_ok-block.block.wide.items xs)) (sym c.as_slice-lined.ensures.value)
+    ∙ ap (λ (xs : List LinedStep). Ok (program c.in_ok-name.name c.in_ok-block.block.end 0 c.in_ok-block.block.wide.items xs)) (sym c.as_slice-lined.ensures.value)
     ∙ ap Ok (sym c.in_ok-program.ensures)

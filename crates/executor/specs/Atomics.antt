@@ -1,0 +1,90 @@
+-- Atomic operations: what they find, and what they leave in its place (PRM, Atomic Memory Operations).
+use Rattle.std.specs.Prelude.{ℕ, ◌+◌, ◌^◌, ◌==◌, ◌≤◌, if◌then◌else◌, List, length, take, drop, Option, Some, None, Result, bit_and, bit_or, bit_xor}
+use Rattle.std.specs.Int.{w32, w64, to_le_bytes}
+use Rattle.executor.specs.Accesses.{atomic_broken, group_atomic_broken, lent, overlaid, unless_broken}
+use Rattle.executor.specs.Addresses.{address_of, group_address_of}
+use Rattle.executor.specs.Items.{Contents, LentRegion}
+use Rattle.executor.specs.Numbers.{unsigned, signed, computed, sum, difference, least, greatest}
+use Rattle.executor.specs.Registers.{read32, read64, with32, with64}
+use Rattle.executor.specs.Written.{laid, seen}
+use Rattle.executor.specs.declared.atomic_place.AtomicPlace.{AtomicPlace}
+use Rattle.executor.specs.declared.atomic_place.AtomicPlace.TheVariants as place
+use Rattle.executor.specs.declared.registers.Registers.{Registers}
+use Rattle.kernel_check.specs.declared.step.AtomicOperation32.{AtomicOperation32}
+use Rattle.kernel_check.specs.declared.step.AtomicOperation32.TheVariants as atomic32
+use Rattle.kernel_check.specs.declared.step.AtomicOperation64.{AtomicOperation64}
+use Rattle.kernel_check.specs.declared.step.AtomicOperation64.TheVariants as atomic64
+use Rattle.kernel_check.specs.declared.step.AtomicPointer.{AtomicPointer}
+use Rattle.kernel_check.specs.declared.step.AtomicPointer.TheVariants as pointer
+use Rattle.queue_error.specs.declared.rule.Rule.{Rule}
+
+-- where an atomic operation takes place
+abbrev pub place_of : Registers → AtomicPointer → AtomicPlace
+place_of r (pointer.Global p) = place.Global (address_of r p)
+place_of r (pointer.Group p) = place.Group (group_address_of r p)
+
+-- the n bytes at a place, or the rule that is broken first
+abbrev pub bytes_found : List LentRegion → Contents → AtomicPlace → ℕ → Result (List ℕ) Rule
+bytes_found view m (place.Global x) n = unless_broken (atomic_broken view x n) (seen m.written x (lent view x n))
+bytes_found view m (place.Group x) n = unless_broken (group_atomic_broken m.group x n) (take n (drop x m.group))
+
+-- memory with bytes at a place
+abbrev pub put : Contents → AtomicPlace → List ℕ → Contents
+put m (place.Global x) bytes = record m { written = laid m.written x bytes }
+put m (place.Group x) bytes = record m { group = overlaid m.group x bytes }
+
+-- that n bytes at a place lie in memory
+abbrev pub HasRoom : Contents → AtomicPlace → ℕ → Type 0
+HasRoom m (place.Global x) n = x + n ≤ 2 ^ 64
+HasRoom m (place.Group x) n = x + n ≤ length m.group
+
+-- what an operation of 32 bits leaves in place of an old value; a cas that finds another than the expected one stores
+-- nothing (PRM, Atomic (atomic) Operations)
+abbrev pub replacing32 : Registers → AtomicOperation32 → ℕ → Option ℕ
+replacing32 r (atomic32.Add s) old = Some (computed sum unsigned w32 old (read32 r s))
+replacing32 r (atomic32.Subtract s) old = Some (computed difference unsigned w32 old (read32 r s))
+replacing32 r (atomic32.LeastUnsigned s) old = Some (computed least unsigned w32 old (read32 r s))
+replacing32 r (atomic32.LeastSigned s) old = Some (computed least signed w32 old (read32 r s))
+replacing32 r (atomic32.GreatestUnsigned s) old = Some (computed greatest unsigned w32 old (read32 r s))
+replacing32 r (atomic32.GreatestSigned s) old = Some (computed greatest signed w32 old (read32 r s))
+replacing32 r (atomic32.And s) old = Some (bit_and old (read32 r s))
+replacing32 r (atomic32.Or s) old = Some (bit_or old (read32 r s))
+replacing32 r (atomic32.Xor s) old = Some (bit_xor old (read32 r s))
+replacing32 r (atomic32.Exchange s) old = Some (read32 r s)
+replacing32 r (atomic32.CompareAndSwap p) old =
+    if old == read32 r p.expected then Some (read32 r p.replacement) else None
+
+-- what one of 64 bits leaves (PRM, Atomic (atomic) Operations)
+abbrev pub replacing64 : Registers → AtomicOperation64 → ℕ → Option ℕ
+replacing64 r (atomic64.Add s) old = Some (computed sum unsigned w64 old (read64 r s))
+replacing64 r (atomic64.Subtract s) old = Some (computed difference unsigned w64 old (read64 r s))
+replacing64 r (atomic64.LeastUnsigned s) old = Some (computed least unsigned w64 old (read64 r s))
+replacing64 r (atomic64.LeastSigned s) old = Some (computed least signed w64 old (read64 r s))
+replacing64 r (atomic64.GreatestUnsigned s) old = Some (computed greatest unsigned w64 old (read64 r s))
+replacing64 r (atomic64.GreatestSigned s) old = Some (computed greatest signed w64 old (read64 r s))
+replacing64 r (atomic64.And s) old = Some (bit_and old (read64 r s))
+replacing64 r (atomic64.Or s) old = Some (bit_or old (read64 r s))
+replacing64 r (atomic64.Xor s) old = Some (bit_xor old (read64 r s))
+replacing64 r (atomic64.Exchange s) old = Some (read64 r s)
+replacing64 r (atomic64.CompareAndSwap p) old =
+    if old == read64 r p.expected then Some (read64 r p.replacement) else None
+
+-- memory after an operation of 32 bits, by what it leaves
+abbrev pub left32 : Contents → AtomicPlace → Option ℕ → Contents
+left32 m x None = m
+left32 m x (Some value) = put m x (to_le_bytes w32 value)
+
+-- memory after one of 64 bits
+abbrev pub left64 : Contents → AtomicPlace → Option ℕ → Contents
+left64 m x None = m
+left64 m x (Some value) = put m x (to_le_bytes w64 value)
+
+-- the old value in the target of 32 bits, if the operation has one (PRM, Atomic No Return (atomicnoret) Operations)
+abbrev pub told32 : Registers → Option ℕ → ℕ → Registers
+told32 r None old = r
+told32 r (Some target) old = with32 r target old
+
+-- in that of 64 bits
+abbrev pub told64 : Registers → Option ℕ → ℕ → Registers
+told64 r None old = r
+told64 r (Some target) old = with64 r target old

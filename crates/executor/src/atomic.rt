@@ -1,0 +1,163 @@
+//! Atomic operations (PRM, Atomic Memory Operations).
+ghost use Rattle.std.specs.Prelude.{◌≡◌, ◌<◌, ◌^◌};
+ghost use Rattle.kernel_check.specs.declared.step.Step.TheVariants as step_arm;
+ghost use Rattle.executor.specs.Atomics.{replacing32, replacing64, told32, told64};
+ghost use Rattle.executor.specs.Items.{contents, surroundings};
+ghost use Rattle.executor.specs.Meaning.{act, onward};
+ghost use Rattle.executor.specs.Turns.{Acts};
+
+use crate::act::Outcome;
+use crate::atomic_place::{find, place_of, put};
+use crate::item::{Around, Item};
+use crate::memory::Memory;
+use crate::registers::Registers;
+use crate::{number32, number64};
+use byteorder::{ByteOrder, LittleEndian};
+use kernel_check::{AtomicOperation32, AtomicOperation64, AtomicStep32, AtomicStep64, Slot};
+use std::alloc::Global;
+
+/// What an operation of 32 bits leaves in place of an old value, if it stores.
+#[inline]
+fn replacing32(r: &Registers, operation: &AtomicOperation32, old: u32) -> Option<u32>
+    ensures { result ≡ replacing32 r.now operation.now old }
+{
+    Some(match operation {
+        AtomicOperation32::Add(source) => number32::add(old, r.read32(*source)),
+        AtomicOperation32::Subtract(source) => number32::subtract(old, r.read32(*source)),
+        AtomicOperation32::LeastUnsigned(source) => number32::least_unsigned(
+            old,
+            r.read32(*source),
+        ),
+        AtomicOperation32::LeastSigned(source) => number32::least_signed(old, r.read32(*source)),
+        AtomicOperation32::GreatestUnsigned(source) => number32::greatest_unsigned(
+            old,
+            r.read32(*source),
+        ),
+        AtomicOperation32::GreatestSigned(source) => number32::greatest_signed(
+            old,
+            r.read32(*source),
+        ),
+        AtomicOperation32::And(source) => number32::and(old, r.read32(*source)),
+        AtomicOperation32::Or(source) => number32::or(old, r.read32(*source)),
+        AtomicOperation32::Xor(source) => number32::xor(old, r.read32(*source)),
+        AtomicOperation32::Exchange(source) => r.read32(*source),
+        AtomicOperation32::CompareAndSwap(swap) => {
+            if old != r.read32(swap.expected) {
+                return None;
+            }
+            r.read32(swap.replacement)
+        }
+    })
+}
+
+/// What an operation of 64 bits leaves in place of an old value, if it stores.
+#[inline]
+fn replacing64(r: &Registers, operation: &AtomicOperation64, old: u64) -> Option<u64>
+    ensures { result ≡ replacing64 r.now operation.now old }
+{
+    Some(match operation {
+        AtomicOperation64::Add(source) => number64::add(old, r.read64(*source)),
+        AtomicOperation64::Subtract(source) => number64::subtract(old, r.read64(*source)),
+        AtomicOperation64::LeastUnsigned(source) => number64::least_unsigned(
+            old,
+            r.read64(*source),
+        ),
+        AtomicOperation64::LeastSigned(source) => number64::least_signed(old, r.read64(*source)),
+        AtomicOperation64::GreatestUnsigned(source) => number64::greatest_unsigned(
+            old,
+            r.read64(*source),
+        ),
+        AtomicOperation64::GreatestSigned(source) => number64::greatest_signed(
+            old,
+            r.read64(*source),
+        ),
+        AtomicOperation64::And(source) => number64::and(old, r.read64(*source)),
+        AtomicOperation64::Or(source) => number64::or(old, r.read64(*source)),
+        AtomicOperation64::Xor(source) => number64::xor(old, r.read64(*source)),
+        AtomicOperation64::Exchange(source) => r.read64(*source),
+        AtomicOperation64::CompareAndSwap(swap) => {
+            if old != r.read64(swap.expected) {
+                return None;
+            }
+            r.read64(swap.replacement)
+        }
+    })
+}
+
+/// Goes on with the old value in the target of 32 bits, if there is one.
+#[inline(always)]
+fn tell32(item: &mut Item, target: Option<Slot>, old: u32)
+    requires { item.old.next < 2 ^ 32 }
+    ensures { item.new ≡ onward item.old (told32 item.old.registers target old) }
+{
+    if let Some(slot) = target {
+        item.registers.set32(slot, old);
+    }
+    item.next += 1;
+}
+
+/// Goes on with the old value in the target of 64 bits, if there is one.
+#[inline(always)]
+fn tell64(item: &mut Item, target: Option<Slot>, old: u64)
+    requires { item.old.next < 2 ^ 32 }
+    ensures { item.new ≡ onward item.old (told64 item.old.registers target old) }
+{
+    if let Some(slot) = target {
+        item.registers.set64(slot, old);
+    }
+    item.next += 1;
+}
+
+/// An atomic operation of 32 bits.
+#[inline]
+pub fn atomic_step32(
+    alloc: Global,
+    around: &Around<'_>,
+    item: &mut Item,
+    memory: &mut Memory,
+    step: &AtomicStep32,
+) -> Outcome
+    requires { item.old.next < 2 ^ 32 }
+    ensures { Acts (act (surroundings around.now) item.old (contents memory.old) (step_arm.Atomic32 step.now)) result item.new (contents memory.new) }
+{
+    let place = place_of(&item.registers, step.pointer);
+    let mut bytes = [0; 4];
+    if let Err(rule) = find(around.view, memory, place, &mut bytes) {
+        return Outcome::Broke(rule);
+    }
+    let old = LittleEndian::read_u32(&bytes);
+    if let Some(value) = replacing32(&item.registers, &step.operation, old) {
+        if put(alloc, memory, place, &value.to_le_bytes()).is_err() {
+            return Outcome::OutOfMemory;
+        }
+    }
+    tell32(item, step.target, old);
+    Outcome::GoesOn
+}
+
+/// An atomic operation of 64 bits.
+#[inline]
+pub fn atomic_step64(
+    alloc: Global,
+    around: &Around<'_>,
+    item: &mut Item,
+    memory: &mut Memory,
+    step: &AtomicStep64,
+) -> Outcome
+    requires { item.old.next < 2 ^ 32 }
+    ensures { Acts (act (surroundings around.now) item.old (contents memory.old) (step_arm.Atomic64 step.now)) result item.new (contents memory.new) }
+{
+    let place = place_of(&item.registers, step.pointer);
+    let mut bytes = [0; 8];
+    if let Err(rule) = find(around.view, memory, place, &mut bytes) {
+        return Outcome::Broke(rule);
+    }
+    let old = LittleEndian::read_u64(&bytes);
+    if let Some(value) = replacing64(&item.registers, &step.operation, old) {
+        if put(alloc, memory, place, &value.to_le_bytes()).is_err() {
+            return Outcome::OutOfMemory;
+        }
+    }
+    tell64(item, step.target, old);
+    Outcome::GoesOn
+}

@@ -1,0 +1,151 @@
+//! The items of a work-group, from barrier to barrier.
+ghost use Rattle.std.specs.Prelude.{◌≡◌, ◌+◌, ◌-◌, ◌≤◌, ◌++◌, ◌∷◌, [], IfOk, IfErr, OnOk, length, map};
+ghost use Rattle.std.specs.List.{list_all};
+ghost use Rattle.executor.specs.Group.{beginning, done, running, least_waiting, waits_before, Leads};
+ghost use Rattle.executor.specs.Items.{contents, surroundings};
+ghost use Rattle.executor.specs.Locations.{count_of};
+ghost use Rattle.executor.specs.Runs.{Fails};
+ghost use Rattle.executor.specs.Stops.{after, standing, stopped_again, told, CanGoOnFrom};
+
+use crate::fault::RunFault;
+use crate::item::{Around, StoppedItem};
+use crate::item_run::{fault, run_item};
+use crate::memory::Memory;
+use kernel_check::Program;
+use queue_error::Rule;
+use std::alloc::{AllocError, Global};
+
+/// A work-item that waits at a barrier.
+#[derive(Clone, Copy)]
+pub struct Waiter {
+    /// The work-item's number in its work-group.
+    pub number: u32,
+    /// The number of the step behind the barrier.
+    pub next: usize,
+}
+
+/// Runs the items of a work-group, one after another from barrier to barrier, until all have ended or one
+/// breaks a rule.
+pub fn run_items(
+    alloc: Global,
+    around: &Around<'_>,
+    program: &Program,
+    count: u32,
+    memory: &mut Memory,
+) -> Result<(), RunFault>
+    requires arguments { length around.now.arguments.now ≡ program.now.argument_bytes }
+    requires count { count ≡ count_of around.now.location.current_size }
+    requires few { count ≤ 1024 }
+    ensures ok { OnOk result (Leads (surroundings around.now) program.now (beginning count (contents memory.old)) (done (contents memory.new))) }
+    ensures err { IfErr result (Fails (surroundings around.now) program.now (beginning count (contents memory.old))) }
+{
+    let mut stopped = run_first(alloc, around, program, count, memory)?;
+    let ended = count - stopped.len() as u32;
+    'rounds: loop {
+        let Some(waiter) = least_waiting(ended, stopped.as_slice()) else {
+            return Ok(());
+        };
+        if !wait_together(ended, stopped.as_slice(), waiter.next) {
+            let barrier = waiter.next.saturating_sub(1);
+            return Err(fault(program, waiter.number, barrier, Rule::A6));
+        }
+        if let Err(fault) = run_on(alloc, around, program, stopped.as_mut_slice(), memory) {
+            return Err(fault);
+        }
+    }
+}
+
+/// Runs items that begin, one after another, each until it stops; those that ended before the first that
+/// waits aren't told.
+fn run_first(
+    alloc: Global,
+    around: &Around<'_>,
+    program: &Program,
+    count: u32,
+    memory: &mut Memory,
+) -> Result<Vec<StoppedItem>, RunFault>
+    requires arguments { length around.now.arguments.now ≡ program.now.argument_bytes }
+    requires count { count ≡ count_of around.now.location.current_size }
+    ensures ok { IfOk result (λ stopped. Leads (surroundings around.now) program.now (beginning count (contents memory.old))
+        (running (after (count - length stopped.items) (map standing stopped.items)) (contents memory.new))) }
+    ensures few { IfOk result (λ stopped. length stopped.items ≤ count) }
+    ensures err { IfErr result (Fails (surroundings around.now) program.now (beginning count (contents memory.old))) }
+{
+    let mut stopped: Vec<StoppedItem> = Vec::new(alloc);
+    'items: for number in 0..count {
+        let mut item = StoppedItem::fresh();
+        if let Err(fault) = run_item(alloc, around, program, number, &mut item, memory) {
+            return Err(fault);
+        }
+        tell(&mut stopped, item)?;
+    }
+    Ok(stopped)
+}
+
+/// Puts an item behind others, but one that ended before any waits.
+fn tell(stopped: &mut Vec<StoppedItem>, item: StoppedItem) -> Result<(), AllocError>
+    ensures { OnOk result (stopped.new.items ≡ told stopped.old.items item) }
+{
+    if stopped.len() > 0 || item.waits() {
+        stopped.push(item)?;
+    }
+    Ok(())
+}
+
+/// Runs items that wait, one after another, each until it stops again.
+fn run_on(
+    alloc: Global,
+    around: &Around<'_>,
+    program: &Program,
+    stopped: &mut [StoppedItem],
+    memory: &mut Memory,
+) -> Result<(), RunFault>
+    requires arguments { length around.now.arguments.now ≡ program.now.argument_bytes }
+    requires count { length stopped.old ≡ count_of around.now.location.current_size }
+    requires few { length stopped.old ≤ 1024 }
+    requires can { CanGoOnFrom 0 stopped.old }
+    ensures ok { OnOk result (Leads (surroundings around.now) program.now (running (stopped_again 0 stopped.old) (contents memory.old))
+        (running (map standing stopped.new) (contents memory.new))) }
+    ensures count { OnOk result (length stopped.new ≡ length stopped.old) }
+    ensures err { IfErr result (Fails (surroundings around.now) program.now (running (stopped_again 0 stopped.old) (contents memory.old))) }
+{
+    'items: for number in 0..stopped.len() {
+        let item = &mut stopped[number];
+        if let Err(fault) = run_item(alloc, around, program, number as u32, item, memory) {
+            return Err(fault);
+        }
+    }
+    Ok(())
+}
+
+/// The least item that waits, so many that have ended being before these.
+fn least_waiting(ended: u32, stopped: &[StoppedItem]) -> Option<Waiter>
+    requires { ended + length stopped.now ≤ 1024 }
+    ensures { result ≡ least_waiting 0 (after ended (map standing stopped.now)) }
+{
+    'items: for index in 0..stopped.len() {
+        let item = &stopped[index];
+        if item.waits() {
+            return Some(Waiter {
+                number: ended + index as u32,
+                next: item.item.next,
+            });
+        }
+    }
+    None
+}
+
+/// Whether all items wait at the barrier before a step, so many that have ended being before these.
+fn wait_together(ended: u32, stopped: &[StoppedItem], next: usize) -> bool
+    ensures { result ≡ list_all (waits_before next) (after ended (map standing stopped.now)) }
+{
+    if ended > 0 {
+        return false;
+    }
+    'items: for item in stopped {
+        if !item.waits() || item.item.next != next {
+            return false;
+        }
+    }
+    true
+}
