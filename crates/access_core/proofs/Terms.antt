@@ -54,6 +54,7 @@ pub use Rattle.policy.specs.declared.object.Object.{Object}
 pub use Rattle.policy.specs.declared.rights.Right.{Right}
 pub use Rattle.policy.specs.declared.rights.Rights.{Rights}
 pub use Rattle.queue_error.specs.declared.error.QueueError.{QueueError}
-pub use Rattle.regions.specs.Memory.{IsMemory, IsWithin, IsWritten, are_region_lengths, byte_at, bytes_from, covers, is_within, lengths_of, lies_in_region}
+pub use Rattle.aql_packet.specs.Memory.{are_region_lengths}
+pub use Rattle.regions.specs.Memory.{IsMemory, IsWithin, IsWritten, byte_at, bytes_from, covers, is_within, lengths_of, lies_in_region}
 pub use Rattle.regions.specs.Memory.{offset_of, region_bytes, region_of, zeros}
 pub use Rattle.signals.specs.Values.{applied, value_of}

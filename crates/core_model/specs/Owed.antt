@@ -9,6 +9,7 @@ use Rattle.aql_packet.specs.declared.packet.KernelDispatch.{KernelDispatch}
 use Rattle.aql_packet.specs.declared.packet.Packet.{Packet}
 use Rattle.aql_packet.specs.declared.packet.Packet.TheVariants as packet
 use Rattle.aql_packet.specs.Reading.{barrier_bit}
+use Rattle.aql_packet.specs.Ring.{is_ring_size}
 use Rattle.executor.specs.Results.{GroupResult, broke_rule, group_result, wrote}
 use Rattle.regions.specs.Memory.{is_within, region_of}
 use Rattle.signals.specs.Values.{applied, value_of}
@@ -71,11 +72,6 @@ refuse_unless test why rest = if test then rest else refuses why
 abbrev pub for_some : {X : Type 0} → Option X → Refusal → (X → Owed) → Owed
 for_some None why rest = refuses why
 for_some (Some x) why rest = rest x
-
--- the sizes that a ring may have: powers of two from 2 to 4,096 (own)
-abbrev pub is_ring_size : ℕ → Bool
-is_ring_size size =
-    list_any (λ power. size == power) (2 ∷ 4 ∷ 8 ∷ 16 ∷ 32 ∷ 64 ∷ 128 ∷ 256 ∷ 512 ∷ 1024 ∷ 2048 ∷ 4096 ∷ [])
 
 -- how many bytes a client may read or write in one call: at least 1 (own)
 abbrev pub is_host_size : ℕ → Bool

@@ -2,7 +2,8 @@
 
 ghost use Rattle.std.specs.Prelude.{◌≡◌, ◌+◌, ◌<◌, All, IfOk, IfSome, IsTrue, Some, length, map, true};
 ghost use Rattle.policy.specs.Policy.{initial_of, length_of};
-ghost use Rattle.regions.specs.Memory.{are_region_lengths, zeros};
+ghost use Rattle.aql_packet.specs.Memory.{are_region_lengths};
+ghost use Rattle.regions.specs.Memory.{zeros};
 ghost use Rattle.core_model.specs.Kernels.{segments_of};
 ghost use Rattle.core_model.specs.Legal.{empty_history};
 ghost use Rattle.access_core.specs.Opening.{first_missing, has_entry, is_capacity, IsUntouched, lengths_of_rows, open_fault, Opens, program_of, values_of_rows};
