@@ -11,6 +11,7 @@ ghost use Rattle.access_core.specs.inner.QueueChanges.{IsThere, freed, freed_by,
 ghost use Rattle.access_core.specs.inner.LiesInRegions.{lies_in_regions};
 ghost use Rattle.access_core.specs.inner.InPlace.{completion_of, finish_owed, IsInPlace, IsSized, RefusedAt};
 
+use crate::access::host::change;
 use crate::access::kernels::group_count;
 use crate::access::lookups::queue_of;
 use crate::access::{AccessCore, enter};
@@ -104,11 +105,10 @@ fn complete(signals: &mut Signals, queue: QueueId, packet: PacketId, of: &Packet
     if signal.0 == 0 {
         return Effects::one(release);
     }
-    let decrement = SignalOp::Subtract(1);
-    match signals.apply(signal, decrement) {
-        Err(_) => Effects::one(release),
-        Ok(old) => {
-            let new = decrement.applied(old);
+    match signals.value(signal) {
+        None => Effects::one(release),
+        Some(old) => {
+            let new = change(signals, signal, SignalOp::Subtract(1), old);
             Effects::two(Effect::Signal { signal, old, new }, release)
         }
     }
