@@ -1,12 +1,8 @@
 -- What every policy keeps to: how many rows each array has at most, and how long regions are.
-use Rattle.std.specs.Prelude.{ℕ, ◌≡◌, ◌≤◌, true, List, map, length, sum_by}
+use Rattle.std.specs.Prelude.{◌≡◌, ◌≤◌, true, length, sum_by}
 use Rattle.aql_packet.specs.Memory.{are_region_lengths}
 use Rattle.policy.specs.declared.limits.TheConstants.{MOST_AGENTS, MOST_ALLOW_ROWS, MOST_CLIENTS, MOST_KERNELS, MOST_MEMORY_BYTES, MOST_SIGNALS}
-use Rattle.policy.specs.Policy.{Declared}
-
--- the lengths of the regions, in order
-abbrev pub region_lengths : Declared → List ℕ
-region_lengths policy = map (λ row. row.1) policy.regions
+use Rattle.policy.specs.Policy.{Declared, region_lengths}
 
 -- A policy within the limits (own).
 pub record IsWithinLimits (policy : Declared) : Type 0 where
