@@ -5,14 +5,14 @@ use Rattle.std.proofs.lemmas.Bool.{and_parts, eqb-true}
 use Rattle.policy.specs.Object.{same_object}
 use Rattle.core_model.specs.Holds.{packet_rights}
 use Rattle.core_model.specs.View.{rights_held}
-use Rattle.access_core.specs.inner.Held.{as_rights}
+use Rattle.policy.specs.Rights.{set_of}
 use Rattle.access_core.proofs.Terms.{ClientId, Entry, ObjectRight, InFlight, Inside, IsCached, Object, Opening, PacketId, QueueId, Right, Start}
 use Rattle.access_core.proofs.Terms.{bit_of, flight, has, holds_by, in_flight, is_packet, owner, packet_holds, rights_that, start_of}
 use Rattle.core_model.proofs.Lists.{found-passes}
 use Rattle.grants.specs.Ledger as ledger
 
 -- the set of a right has another just where they are the same
-one-has : (one other : Right) → has (as_rights one) other ≡ (bit_of one == bit_of other)
+one-has : (one other : Right) → has (set_of one) other ≡ (bit_of one == bit_of other)
 one-has one other = grind arith
 
 -- what is asked of all packets of one queue and id is asked once, if there is one
@@ -46,7 +46,7 @@ holds-is a kept queue id opening f owned found on one =
     ∙ any-packet queue id (λ q i. holds_by (owner (start_of a) a.audit.items q) opening.client on one (packet_rights (start_of a) a.audit.items q i)) (flight (start_of a) a.audit.items)
     ∙ ap (λ b. b && holds_by (owner (start_of a) a.audit.items queue) opening.client on one (packet_rights (start_of a) a.audit.items queue id)) there
     ∙ ap (λ (o : Option Opening). holds_by o opening.client on one (packet_rights (start_of a) a.audit.items queue id)) owned
-    ∙ ap (λ b. b && list_any (λ (h : ObjectRight). same_object on h.0 && has (as_rights h.1) one) (packet_rights (start_of a) a.audit.items queue id)) itself
+    ∙ ap (λ b. b && list_any (λ (h : ObjectRight). same_object on h.0 && has (set_of h.1) one) (packet_rights (start_of a) a.audit.items queue id)) itself
     ∙ (λ i. list_any (λ (h : ObjectRight). same_object on h.0 && one-has h.1 one i) (packet_rights (start_of a) a.audit.items queue id))
 
 -- and the same rights

@@ -2,7 +2,7 @@
 use Rattle.std.proofs.Common.{arith, ◌≡◌, List, [], ◌∷◌, refl, sym, ◌∙◌, ap, Bool, false, Option, Some, None, All, ◌&&◌, ◌||◌, ◌==◌}
 use Rattle.std.specs.List.{list_any}
 use Rattle.policy.specs.Object.{same_object}
-use Rattle.access_core.specs.inner.Held.{as_rights}
+use Rattle.policy.specs.Rights.{set_of}
 use Rattle.core_model.specs.Holds.{packet_rights}
 use Rattle.access_core.proofs.Terms.{ClientId, Entry, ObjectRight, InFlight, Ledger, Object, Opening, PacketId, QueueId, Right, Rights, Start}
 use Rattle.access_core.proofs.Terms.{all_rights, has, holds, holds_by, holds_one_of, is_holder, is_queue_of, is_packet, owner, packet_holds}
@@ -40,22 +40,22 @@ any-swap a b (x ∷ xs) ys =
 -- ---- one right as a set
 
 -- a set and the set of one right meet where that right is in it
-pub one-right : (test : Right → Bool) (one : Right) → list_any (λ r. test r && has (as_rights one) r) all_rights ≡ test one
+pub one-right : (test : Right → Bool) (one : Right) → list_any (λ r. test r && has (set_of one) r) all_rights ≡ test one
 one-right test one = grind arith
 
 -- ---- what packets hold, of one of some rights
 
 module _ (client : ClientId) (on : Object) (rights : Rights) where
-  one-of_held : (hs : List ObjectRight) → list_any (λ r. has rights r && list_any (λ h. same_object on h.0 && has (as_rights h.1) r) hs) all_rights ≡ list_any (λ h. same_object on h.0 && has rights h.1) hs
+  one-of_held : (hs : List ObjectRight) → list_any (λ r. has rights r && list_any (λ h. same_object on h.0 && has (set_of h.1) r) hs) all_rights ≡ list_any (λ h. same_object on h.0 && has rights h.1) hs
   one-of_held hs =
-      any-swap (has rights) (λ (h : ObjectRight) r. same_object on h.0 && has (as_rights h.1) r) hs all_rights
-      ∙ (λ i. list_any (λ (h : ObjectRight). (any-constant (has rights) (has (as_rights h.1)) (same_object on h.0) all_rights ∙ ap (λ b. same_object on h.0 && b) (one-right (has rights) h.1)) i) hs)
+      any-swap (has rights) (λ (h : ObjectRight) r. same_object on h.0 && has (set_of h.1) r) hs all_rights
+      ∙ (λ i. list_any (λ (h : ObjectRight). (any-constant (has rights) (has (set_of h.1)) (same_object on h.0) all_rights ∙ ap (λ b. same_object on h.0 && b) (one-right (has rights) h.1)) i) hs)
 
   one-by : (o : Option Opening) (hs : List ObjectRight) → list_any (λ r. has rights r && holds_by o client on r hs) all_rights
       ≡ ((elim o [ None ↦ false | Some opening ↦ opening.client.0 == client.0 ]) && list_any (λ h. same_object on h.0 && has rights h.1) hs)
   one-by None hs = any-none (has rights) all_rights
   one-by (Some opening) hs =
-      any-constant (has rights) (λ r. list_any (λ h. same_object on h.0 && has (as_rights h.1) r) hs) (opening.client.0 == client.0) all_rights
+      any-constant (has rights) (λ r. list_any (λ h. same_object on h.0 && has (set_of h.1) r) hs) (opening.client.0 == client.0) all_rights
       ∙ ap (λ b. opening.client.0 == client.0 && b) (one-of_held hs)
 
   -- a packet is one that holds, by what is held right by right, where it holds by the history

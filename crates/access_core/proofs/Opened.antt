@@ -1,6 +1,6 @@
 -- What is kept of a core in which nothing has happened.
 use Rattle.core_model.specs.Kernels.{segments_of}
-use Rattle.policy.specs.Policy.{Declared}
+use Rattle.policy.specs.Policy.{Declared, initial_values, region_lengths}
 use Rattle.access_core.specs.declared.access.OpenFault.TheVariants as fault
 use Rattle.access_core.specs.declared.kernel.Kernel.{Kernel}
 use Rattle.std.proofs.Common.{List, Option, Some, ◌∷◌, length, ◌==◌, sym, ap, not}
@@ -14,7 +14,7 @@ use Rattle.core_model.specs.Grants.{in_force}
 use Rattle.core_model.specs.Memory.{memory_at, signals}
 use Rattle.core_model.specs.Queues.{openings, next_id, errors, is_stopped}
 use Rattle.core_model.specs.Flight.{flight}
-use Rattle.access_core.specs.Opening.{fault_behind, first_missing, has_entry, is_capacity, open_fault, lengths_of_rows, program_of, values_of_rows}
+use Rattle.access_core.specs.Opening.{fault_behind, first_missing, has_entry, is_capacity, open_fault, program_of}
 use Rattle.access_core.proofs.Terms.{Inside, IsCached, IsNew, IsSound, MOST_ENTRIES, Queue, numbered, rules_in, rules_of, zeros}
 
 -- no queue has a number where there is none
@@ -26,7 +26,7 @@ numbered-none n = either (nat_lt 0 n)
     either false = refl
 
 -- what is kept where nothing has happened is what the empty audit says
-pub IsCached-opened : (a : Inside) → IsNew a.grants → rules_in a.grants ≡ rules_of a.policy → a.memory ≡ zeros (lengths_of_rows a.policy) → a.signals ≡ values_of_rows a.policy
+pub IsCached-opened : (a : Inside) → IsNew a.grants → rules_in a.grants ≡ rules_of a.policy → a.memory ≡ zeros (region_lengths a.policy) → a.signals ≡ initial_values a.policy
     → a.queues.items ≡ [] → a.flying ≡ 0 → a.audit.items ≡ [] → a.capacity ≤ a.audit.room → a.capacity ≤ MOST_ENTRIES → All (λ kernel. has_entry kernel ≡ true) a.kernels.items → a.segments ≡ map segments_of (map program_of a.kernels.items) → IsCached a
 unfolding in_force memory_at effects_of signals openings next_id errors is_stopped flight
 IsCached-opened a fresh ruled memory values queues flying entries places few kernels segments = record {
@@ -36,8 +36,8 @@ IsCached-opened a fresh ruled memory values queues flying entries places few ker
   arguments = rw entries (All-nil _);
   entries = kernels;
   segments = segments;
-  lengths = rw memory (lengths_of-zeros (lengths_of_rows a.policy));
-  memory = λ x lies. rw (memory, entries) (byte_at-zeros (lengths_of_rows a.policy) x lies);
+  lengths = rw memory (lengths_of-zeros (region_lengths a.policy));
+  memory = λ x lies. rw (memory, entries) (byte_at-zeros (region_lengths a.policy) x lies);
   values = rw entries values;
   openings = rw (queues, entries) refl;
   queues = λ queue. rw (queues, entries, numbered-none queue.0) refl;

@@ -5,7 +5,7 @@ pub use Rattle.access_core.specs.inner.Cached.{IsCached, IsEntered, history_of, 
 pub use Rattle.access_core.specs.inner.CachedQueue.{IsQueue, IsSound, QueueView, cached, cached_opening, place_of, queue_at}
 pub use Rattle.access_core.specs.inner.Deciding.{MayHold, TakesNext, refusal_of}
 pub use Rattle.access_core.specs.inner.Held.{holds_by, packet_holds}
-pub use Rattle.access_core.specs.inner.InPlace.{IsChanged, IsInPlace, RefusedAt, completion_of, finish_owed, is_placed}
+pub use Rattle.access_core.specs.inner.InPlace.{IsChanged, IsInPlace, RefusedAt, finish_owed, is_placed}
 pub use Rattle.access_core.specs.inner.LiesInRegions.{lies_in_regions}
 pub use Rattle.access_core.specs.inner.Polling.{look_owed, sight}
 pub use Rattle.access_core.specs.inner.QueueChanges.{CanFail, freed, freed_by, with_advance, with_denied, with_failure, with_queue, with_release, with_stop}
@@ -27,7 +27,7 @@ pub use Rattle.core_model.specs.Legal.{AreReplies, IsLegal, IsServed, Meets, Mee
 pub use Rattle.core_model.specs.Legal.{within_room}
 pub use Rattle.core_model.specs.Memory.{byte_after, memory_at, memory_from, region_lengths, signals, signals_after}
 pub use Rattle.core_model.specs.Needs.{completion_signal, function_of, memory_needs, needs}
-pub use Rattle.core_model.specs.Owed.{Owed, answers, signal_decrement, owed_verdict, enters, error_without_place, facts_of, for_packet, old_if_asked, owed, owed_finish, owed_group}
+pub use Rattle.core_model.specs.Owed.{Owed, answers, completion_of, signal_decrement, owed_verdict, enters, error_without_place, facts_of, for_packet, old_if_asked, owed, owed_finish, owed_group}
 pub use Rattle.core_model.specs.Owed.{owed_poll, refuse_if, refuse_unless, refuses, release_of}
 pub use Rattle.core_model.specs.Queries.{AnswerOrRefusal, all_objects, listing}
 pub use Rattle.core_model.specs.Queues.{Opening, error_of, errors, hands_over_packet_of, is_stopped, next_id, openings, owner, stops_queue}
@@ -54,6 +54,7 @@ pub use Rattle.policy.specs.declared.object.Object.{Object}
 pub use Rattle.policy.specs.declared.rights.Right.{Right}
 pub use Rattle.policy.specs.declared.rights.Rights.{Rights}
 pub use Rattle.queue_error.specs.declared.error.QueueError.{QueueError}
-pub use Rattle.regions.specs.Memory.{IsMemory, IsWithin, IsWritten, are_region_lengths, byte_at, bytes_from, covers, is_within, lengths_of, lies_in_region}
+pub use Rattle.aql_packet.specs.Memory.{are_region_lengths}
+pub use Rattle.regions.specs.Memory.{IsMemory, IsWithin, IsWritten, byte_at, bytes_from, covers, is_within, lengths_of, lies_in_region}
 pub use Rattle.regions.specs.Memory.{offset_of, region_bytes, region_of, zeros}
 pub use Rattle.signals.specs.Values.{applied, value_of}

@@ -1,12 +1,9 @@
 -- Packets in flight and their completion: what an entry changes beside them, and how many are left.
 use Rattle.std.proofs.Common.{◌≡◌, ℕ, ◌+◌, ◌-◌, ◌<◌, ◌≤◌, List, [], ◌∷◌, ◌++◌, length, refl, sym, subst, ◌∙◌, ap, Bool, true, false, Option, Some, None, arith}
-use Rattle.std.proofs.Common.{get_or, length-append, ℤ, filter, find, fold, nat_lt, not, slice_set, ◌==◌, if◌then◌else◌, Ok, Err, ◌&&◌, option_map, map}
-use Rattle.std.specs.Option.{ok_or}
+use Rattle.std.proofs.Common.{get_or, length-append, ℤ, filter, find, fold, nat_lt, not, ◌==◌, if◌then◌else◌, ◌&&◌, option_map, map}
 use Rattle.std.proofs.lemmas.Bool.{and_parts, eqb-true, le-ltb}
 use Rattle.std.proofs.lemmas.List.{length-map}
 use Rattle.std.proofs.lemmas.List.Elements.{All-filter, All-map}
-use Rattle.signals.specs.declared.operation.SignalOp.{SignalOp}
-use Rattle.signals.specs.Values.{after}
 use Rattle.aql_packet.specs.declared.ids.SignalHandle.{SignalHandle}
 use Rattle.core_model.specs.Flight.{with_launched}
 use Rattle.core_model.specs.Queues.{opening_of}
@@ -21,37 +18,14 @@ use Rattle.access_core.proofs.QueueAt.{flight-released, queue_at-advanced, queue
 use Rattle.access_core.proofs.ChangedQueue.{freed-at}
 use Rattle.access_core.proofs.TakeLemmas.{IsOpen, owner-kept, queues-after, view-kept}
 use Rattle.access_core.proofs.Terms.{CanFail, Effect, Event, Finish, History, InFlight, Inside, IsCached, IsInPlace, IsSound, Outcome, Owed, Packet, PacketId}
-use Rattle.access_core.proofs.Terms.{Place, Poll, Progress, RunNext, Queue, QueueError, QueueId, QueueView, RefusedAt, applied, byte_after, cached, cached_opening}
+use Rattle.access_core.proofs.Terms.{Place, Poll, Progress, RunNext, Queue, QueueError, QueueId, QueueView, RefusedAt, byte_after, cached, cached_opening}
 use Rattle.access_core.proofs.Terms.{signal_decrement, completion_signal, completion_of, due, enters, entry_of, error_without_place, finish_owed, flight, flight_after}
 use Rattle.access_core.proofs.Terms.{flight_after_effect, for_packet, freed_by, history_of, in_flight, is_at, is_packet, lacks_room, lies_in_regions, numbered}
-use Rattle.access_core.proofs.Terms.{owed, owner, place_of, progress, queue_at, refuses, region_lengths, signals, signals_after, start_of, value_of}
+use Rattle.access_core.proofs.Terms.{owed, owner, place_of, progress, queue_at, refuses, region_lengths, signals, start_of}
 use Rattle.access_core.proofs.Terms.{with_advance, with_failure, with_progress, with_queue, with_release, without}
 use Rattle.core_model.specs.declared.entry.Effect.TheVariants as effect
 use Rattle.core_model.specs.declared.refusal.Refusal.TheVariants as refusal
 use Rattle.core_model.specs.declared.outcome.Outcome.TheVariants as outcome
-
--- ---- signals
-
-pub after-found : (values : List ℤ) (number : ℕ) (operation : SignalOp) (old : ℤ) → value_of values number ≡ Some old → after values number operation ≡ slice_set values (number - 1) (applied operation old)
-unfolding after
-after-found values number operation old found = rw found refl
-
-pub after-missing : (values : List ℤ) (number : ℕ) (operation : SignalOp) → value_of values number ≡ None → after values number operation ≡ values
-unfolding after
-after-missing values number operation missing = rw missing refl
-
--- a signal that was changed, and a release, as the changes tell them
-pub values-two : (values : List ℤ) (signal : SignalHandle) (operation : SignalOp) (old new : ℤ) (queue : QueueId) (id : PacketId) → value_of values signal.0 ≡ Some old → new ≡ applied operation old →
-    after values signal.0 operation ≡ fold signals_after values (effect.Signal signal old new ∷ effect.Release queue id ∷ [])
-values-two values signal operation old new queue id found is = after-found values signal.0 operation old found ∙ ap (slice_set values (signal.0 - 1)) (sym is)
-
-pub found-ok : {X E : Type 0} (o : Option X) (x : X) (e : E) → Ok x ≡ ok_or o e → o ≡ Some x
-found-ok (Some y) x e same = cc
-found-ok None x e same = cc
-
-pub missing-err : {X E : Type 0} (o : Option X) (e f : E) → Err f ≡ ok_or o e → o ≡ None
-missing-err (Some y) e f same = cc
-missing-err None e f same = refl
 
 -- ---- a completion's changes: a signal's, perhaps, and the release
 

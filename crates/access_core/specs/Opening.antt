@@ -1,8 +1,8 @@
--- When a core is opened, and what a policy says of regions and signals, as lists.
-use Rattle.std.specs.Prelude.{ℕ, ℤ, ◌+◌, ◌==◌, ◌≡◌, ◌&&◌, Bool, true, false, not, nat_le, nat_lt, List, [], length, map, position, slice_get, Option, Some, None, Result, Ok, Err, if◌then◌else◌}
+-- When a core is opened, and what it begins with.
+use Rattle.std.specs.Prelude.{ℕ, ◌+◌, ◌==◌, ◌≡◌, ◌&&◌, Bool, true, false, not, nat_le, nat_lt, List, [], length, map, position, slice_get, Option, Some, None, Result, Ok, Err, if◌then◌else◌}
 use Rattle.std.specs.Option.{unwrap_or}
 use Rattle.kernel_check.specs.Programs.{Program}
-use Rattle.policy.specs.Policy.{Declared, numbered}
+use Rattle.policy.specs.Policy.{Declared, initial_values, numbered, region_lengths}
 use Rattle.core_model.specs.declared.limits.TheConstants.{MOST_ENTRIES}
 use Rattle.core_model.specs.History.{History}
 use Rattle.core_model.specs.Kernels.{no_kernel, segments_of}
@@ -14,14 +14,6 @@ use Rattle.access_core.specs.declared.access.opening.Parts.{Parts}
 use Rattle.access_core.specs.declared.access.OpenFault.{OpenFault}
 use Rattle.access_core.specs.declared.access.OpenFault.TheVariants as fault
 use Rattle.access_core.specs.declared.kernel.Kernel.{Kernel}
-
--- the lengths of the regions, in order
-abbrev pub lengths_of_rows : Declared → List ℕ
-lengths_of_rows policy = map (λ row. row.1) policy.regions
-
--- the values with which the signals begin, in order
-abbrev pub values_of_rows : Declared → List ℤ
-values_of_rows policy = map (λ row. row.1) policy.signals
 
 -- whether a kernel's index is that of one of its checked kernels (own)
 abbrev pub has_entry : Kernel → Bool
@@ -66,8 +58,8 @@ Opens policy kernels capacity (Err why) = open_fault policy kernels capacity ≡
 pub record IsUntouched (policy : Declared) (kernels : List Kernel) (capacity : ℕ) (parts : Parts) : Type 0 where
   pub rules : rules_in parts.grants ≡ rules_of policy
   pub grants : IsNew parts.grants
-  pub memory : parts.memory ≡ zeros (lengths_of_rows policy)
-  pub signals : parts.signals ≡ values_of_rows policy
+  pub memory : parts.memory ≡ zeros (region_lengths policy)
+  pub signals : parts.signals ≡ initial_values policy
   pub segments : parts.segments ≡ map segments_of (map program_of kernels)
   pub empty : parts.audit.items ≡ []
   pub places : parts.audit.room ≡ capacity

@@ -1,3 +1,5 @@
 pub mod Numbers
 pub mod Layout
 pub mod Reading
+pub mod Ring
+pub mod Memory

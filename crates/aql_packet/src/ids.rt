@@ -12,7 +12,7 @@ pub struct QueueId(pub u64);
 #[derive(Clone, Copy, Debug, PartialEq, Eq, PartialOrd, Ord, Hash)]
 pub struct PacketId(pub u64);
 
-/// A byte address. Region `h` covers addresses from `h * 2^32` (own).
+/// A byte address. Region `h` covers addresses from `h * REGION_SPAN` (own).
 #[derive(Clone, Copy, Debug, PartialEq, Eq, PartialOrd, Ord, Hash)]
 pub struct Address(pub u64);
 

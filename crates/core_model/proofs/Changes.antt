@@ -18,7 +18,7 @@ use Rattle.aql_packet.specs.declared.packet.Packet.{Packet}
 use Rattle.aql_packet.specs.declared.packet.Packet.TheVariants as packet
 use Rattle.executor.specs.Results.{GroupResult, group_result, wrote}
 use Rattle.executor.specs.declared.run.Run.{Run}
-use Rattle.regions.specs.Memory.{are_region_lengths}
+use Rattle.aql_packet.specs.Memory.{are_region_lengths}
 use Rattle.policy.specs.declared.object.Object.TheVariants as object
 use Rattle.policy.specs.declared.rights.Right.TheVariants as right
 use Rattle.signals.specs.Values.{applied, value_of}

@@ -3,6 +3,7 @@ use Rattle.std.proofs.Common.{◌≡◌, ◌<◌, ℕ, ℤ, ◌+◌, ◌-◌, Li
 use Rattle.std.specs.Prelude.{map, nat_le, ◌&&◌, ◌==◌, if◌then◌else◌}
 use Rattle.std.specs.List.{list_any}
 use Rattle.std.proofs.lemmas.Bool.{and_parts, eqb-true, leb-true, leb-false}
+use Rattle.aql_packet.specs.Ring.{is_ring_size}
 use Rattle.aql_packet.specs.declared.ids.Address.{Address}
 use Rattle.aql_packet.specs.declared.ids.AgentHandle.{AgentHandle}
 use Rattle.aql_packet.specs.declared.ids.ClientId.{ClientId}
@@ -51,7 +52,7 @@ use Rattle.core_model.specs.Needs.{completion_signal}
 use Rattle.core_model.specs.LaunchRules.{first_failing_rule, cause_to_wait, is_barrier}
 use Rattle.core_model.specs.View.{Given, given, group_input}
 use Rattle.core_model.specs.Work.{groups_of, write_of_run, agent_writes, is_ready, is_negative, seen_dependencies, newly_seen_positions}
-use Rattle.core_model.specs.Owed.{refuse_if, Owed, owed, answers, enters, refuse_if_held, owed_verdict, for_packet, error_without_place, facts_of, is_host_size, is_ring_size, is_finished, signal_decrement, owed_take, group_error, group_owed, owed_group, owed_poll, owed_finish, owed_sight, barrier_in, release_of, old_if_asked}
+use Rattle.core_model.specs.Owed.{refuse_if, Owed, owed, answers, enters, refuse_if_held, owed_verdict, for_packet, error_without_place, facts_of, is_host_size, is_finished, signal_decrement, owed_take, group_error, group_owed, owed_group, owed_poll, owed_finish, owed_sight, barrier_in, release_of, old_if_asked}
 use Rattle.core_model.proofs.Lists.{found-passes}
 use Rattle.core_model.proofs.Launches.{refuse_if-passed, refuse_unless-passed, for_some-found}
 

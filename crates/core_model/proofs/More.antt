@@ -11,11 +11,12 @@ use Rattle.std.proofs.Common.{add-zero}
 use Rattle.aql_packet.specs.declared.ids.ClientId.{ClientId}
 use Rattle.aql_packet.specs.declared.ids.QueueId.{QueueId}
 use Rattle.policy.specs.declared.object.Object.{Object}
+use Rattle.policy.specs.Policy.{initial_values}
 use Rattle.policy.specs.declared.rights.Right.{Right}
 use Rattle.core_model.specs.declared.entry.Entry.{Entry}
 use Rattle.core_model.specs.History.{Start, effects_of}
 use Rattle.core_model.specs.Grants.{in_force, in_force_after}
-use Rattle.core_model.specs.Memory.{memory_at, byte_after, signals, signals_after, initial_values}
+use Rattle.core_model.specs.Memory.{memory_at, byte_after, signals, signals_after}
 use Rattle.core_model.specs.Queues.{Opening, openings, opening_of, next_id, hands_over_packet_of, errors, error_of, is_stopped, stops_queue}
 use Rattle.aql_packet.specs.declared.ids.PacketId.{PacketId}
 use Rattle.core_model.specs.Flight.{flight, flight_after, progress, progress_after}
@@ -35,7 +36,7 @@ memory_at-more start es e x = ap (fold (byte_after x) 0) (effects_of-more es e) 
 
 pub signals-more : (start : Start) (es : List Entry) (e : Entry) → signals start (es ++ e ∷ []) ≡ fold signals_after (signals start es) e.effects
 unfolding signals
-signals-more start es e = ap (fold signals_after (initial_values start)) (effects_of-more es e) ∙ fold-append _ _ (effects_of es) e.effects
+signals-more start es e = ap (fold signals_after (initial_values start.policy)) (effects_of-more es e) ∙ fold-append _ _ (effects_of es) e.effects
 
 -- a list with one more item, if there is one
 abbrev pub with_some : {X : Type 0} → List X → Option X → List X

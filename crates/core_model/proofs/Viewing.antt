@@ -22,7 +22,8 @@ use Rattle.policy.specs.declared.object.Object.{Object}
 use Rattle.policy.specs.declared.object.Object.TheVariants as object
 use Rattle.policy.specs.declared.rights.Right.{Right}
 use Rattle.policy.specs.declared.rights.Right.TheVariants as right
-use Rattle.regions.specs.Memory.{are_region_lengths, is_region_length, is_within, region_length, region_of}
+use Rattle.aql_packet.specs.Memory.{are_region_lengths, is_region_length}
+use Rattle.regions.specs.Memory.{is_within, region_length, region_of}
 use Rattle.core_model.specs.declared.entry.Entry.{Entry}
 use Rattle.core_model.specs.declared.need.Range.{Range}
 use Rattle.core_model.specs.History.{Start}

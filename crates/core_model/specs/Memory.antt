@@ -1,6 +1,8 @@
 -- The byte at each address, and the value of each signal: where they begin, with all changes laid over in order.
 use Rattle.std.specs.Prelude.{ℕ, ℤ, ◌+◌, ◌-◌, List, fold, map, length, slice_index, slice_set, ◌&&◌, nat_le, nat_lt, if◌then◌else◌}
 use Rattle.std.specs.List.{range_with_len}
+use Rattle.policy.specs.Policy as policies
+use Rattle.policy.specs.Policy.{initial_values}
 use Rattle.core_model.specs.declared.entry.Entry.{Entry}
 use Rattle.core_model.specs.declared.entry.Effect.{Effect}
 use Rattle.core_model.specs.declared.entry.Effect.TheVariants.{Write, Signal}
@@ -20,13 +22,9 @@ memory_at start entries x = fold (byte_after x) 0 (effects_of entries)
 abbrev pub memory_from : Start → List Entry → ℕ → ℕ → List ℕ
 memory_from start entries address size = map (memory_at start entries) (range_with_len address size)
 
--- the values that the signals begin with (own)
-abbrev pub initial_values : Start → List ℤ
-initial_values start = map (λ row. row.1) start.policy.signals
-
 -- the lengths of all regions, in order (own)
 abbrev pub region_lengths : Start → List ℕ
-region_lengths start = map (λ row. row.1) start.policy.regions
+region_lengths start = policies.region_lengths start.policy
 
 -- the values of the signals after a change, by those before it (own)
 abbrev pub signals_after : List ℤ → Effect → List ℤ
@@ -35,4 +33,4 @@ signals_after before _ = before
 
 -- the values of all signals in order: the policy's at first, then what each was last changed to (own)
 unfoldable pub signals : Start → List Entry → List ℤ
-signals start entries = fold signals_after (initial_values start) (effects_of entries)
+signals start entries = fold signals_after (initial_values start.policy) (effects_of entries)

@@ -9,6 +9,7 @@ use Rattle.aql_packet.specs.declared.packet.KernelDispatch.{KernelDispatch}
 use Rattle.aql_packet.specs.declared.packet.Packet.{Packet}
 use Rattle.aql_packet.specs.declared.packet.Packet.TheVariants as packet
 use Rattle.aql_packet.specs.Reading.{barrier_bit}
+use Rattle.aql_packet.specs.Ring.{is_ring_size}
 use Rattle.executor.specs.Results.{GroupResult, broke_rule, group_result, wrote}
 use Rattle.regions.specs.Memory.{is_within, region_of}
 use Rattle.signals.specs.Values.{applied, value_of}
@@ -72,11 +73,6 @@ abbrev pub for_some : {X : Type 0} → Option X → Refusal → (X → Owed) →
 for_some None why rest = refuses why
 for_some (Some x) why rest = rest x
 
--- the sizes that a ring may have: powers of two from 2 to 4,096 (own)
-abbrev pub is_ring_size : ℕ → Bool
-is_ring_size size =
-    list_any (λ power. size == power) (2 ∷ 4 ∷ 8 ∷ 16 ∷ 32 ∷ 64 ∷ 128 ∷ 256 ∷ 512 ∷ 1024 ∷ 2048 ∷ 4096 ∷ [])
-
 -- how many bytes a client may read or write in one call: at least 1 (own)
 abbrev pub is_host_size : ℕ → Bool
 is_host_size size = nat_le 1 size && nat_le size MOST_HOST_BYTES
@@ -124,12 +120,15 @@ abbrev pub group_error : QueueId → PacketId → ℕ → ℕ → ℕ → Rule �
 group_error queue id group item line rule =
     record { queue = queue; packet = id; rule = rule; place = Some (record { group = group; item = item; line = line }) }
 
--- what a group of a kernel dispatch comes to: it leaves its writes, or it faults, leaves nothing and releases its packet (own)
+-- a group that breaks a rule leaves nothing, and its packet is released (own)
+abbrev pub fault_owed : QueueError → Owed
+fault_owed error = enters (outcome.Worked (Faulted error)) (effect.Release error.queue error.packet ∷ [])
+
+-- what a group of a kernel dispatch comes to: it leaves its writes, or it faults (own)
 abbrev pub group_owed : QueueId → PacketId → KernelDispatch → ℕ → GroupResult → Owed
 group_owed queue id d group (wrote runs) =
     enters (outcome.Worked (Ran group (groups_of (packet.Kernel d) - (group + 1)))) (map write_of_run runs)
-group_owed queue id d group (broke_rule item line rule) =
-    enters (outcome.Worked (Faulted (group_error queue id group item line rule))) (effect.Release queue id ∷ [])
+group_owed queue id d group (broke_rule item line rule) = fault_owed (group_error queue id group item line rule)
 
 -- the next group of a packet in flight, in order, by what the packet was given at its launch: a kernel's work-groups are run one at a
 -- time; an agent dispatch has one group, number 0, and never faults
@@ -168,11 +167,15 @@ is_finished p so_far = if is_barrier p then is_ready p so_far.satisfied else nat
 abbrev pub signal_decrement : List ℤ → SignalHandle → List Effect
 signal_decrement values signal = if signal.0 == 0 then [] else elim (value_of values signal.0) [ None ↦ [] | Some v ↦ effect.Signal signal v (applied (op.Subtract (pos 1)) v) ∷ [] ]
 
+-- the changes of a completion: the decrement of its signal, if it has one, and its release (PSA, Signals)
+abbrev pub completion_of : List ℤ → QueueId → PacketId → Packet → List Effect
+completion_of values queue id p = signal_decrement values (completion_signal p) ++ effect.Release queue id ∷ []
+
 -- the completion of a packet in flight (PSA, Signals: the completion signal is decremented; the refusal is own)
 abbrev pub owed_finish : List ℤ → QueueId → PacketId → Packet → Progress → Owed
 owed_finish values queue id p so_far =
     refuse_unless (is_finished p so_far) refusal.NotFinished
-    (enters outcome.Accepted (signal_decrement values (completion_signal p) ++ effect.Release queue id ∷ []))
+    (enters outcome.Accepted (completion_of values queue id p))
 
 -- the release of a packet, if there is one (own)
 abbrev pub release_of : QueueId → Option PacketId → List Effect

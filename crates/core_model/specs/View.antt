@@ -1,6 +1,7 @@
 -- What a work-group is given: the regions that its packet holds, and the arguments that it had at its launch.
-use Rattle.std.specs.Prelude.{ℕ, ◌*◌, ◌^◌, ◌==◌, ◌&&◌, not, List, filter, length, map, replicate, if◌then◌else◌}
+use Rattle.std.specs.Prelude.{ℕ, ◌*◌, ◌==◌, ◌&&◌, not, List, filter, length, map, replicate, if◌then◌else◌}
 use Rattle.std.specs.List.{list_any, range_with_len, zip}
+use Rattle.aql_packet.specs.declared.memory.TheConstants.{REGION_SPAN}
 use Rattle.aql_packet.specs.declared.ids.QueueId.{QueueId}
 use Rattle.aql_packet.specs.declared.ids.PacketId.{PacketId}
 use Rattle.aql_packet.specs.declared.packet.KernelDispatch.{KernelDispatch}
@@ -46,9 +47,9 @@ held_regions start all =
     filter (λ region. not (region.rights.0 == 0))
     (map (held_region all) (zip (range_with_len 1 (length (region_lengths start))) (region_lengths start)))
 
--- the first address of a region: region h covers addresses from h * 2^32 (own)
+-- the first address of a region (own)
 abbrev pub first_address : HeldRegion → ℕ
-first_address region = region.number * 2 ^ 32
+first_address region = region.number * REGION_SPAN
 
 -- a held region as it is lent: only where READ is held its bytes are those of memory
 abbrev pub lent : Start → List Entry → HeldRegion → LentRegion

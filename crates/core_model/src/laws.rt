@@ -43,7 +43,7 @@ ghost use Rattle.core_model.specs.declared.refusal.Refusal.TheVariants as refusa
 ghost use Rattle.core_model.specs.History.{Start, History};
 ghost use Rattle.core_model.specs.Grants.{in_force};
 ghost use Rattle.core_model.specs.Memory.{memory_from, region_lengths, signals};
-ghost use Rattle.regions.specs.Memory.{are_region_lengths};
+ghost use Rattle.aql_packet.specs.Memory.{are_region_lengths};
 ghost use Rattle.core_model.specs.Holds.{packet_rights};
 ghost use Rattle.core_model.specs.View.{Given, given};
 ghost use Rattle.core_model.specs.Queues.{Opening, error_of, next_id};

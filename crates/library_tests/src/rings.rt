@@ -1,9 +1,9 @@
 //! Worked rows of the ring: who waits for whom, and what is refused.
 
-use aql_packet::PacketId;
+use aql_packet::{INVALID, PacketId, is_ring_size};
 use ring_core::{
-    ALLOWANCE, Access, INVALID, Part, ReplayFault, RingState, Seen, Step, StepFault, is_invalid,
-    is_ring_size, replay, word_place,
+    ALLOWANCE, Access, Part, ReplayFault, RingState, Seen, Step, StepFault, is_invalid,
+    replay, word_place,
 };
 use std::alloc::Global;
 use std::process::Abort;

@@ -3,12 +3,12 @@ use Rattle.std.specs.Prelude.{Bool, List, filter, map}
 use Rattle.policy.specs.declared.object.Object.{Object}
 use Rattle.policy.specs.declared.rights.Right.{Right}
 use Rattle.policy.specs.declared.rights.Rights.{Rights}
-use Rattle.policy.specs.Rights.{bit_of}
+use Rattle.policy.specs.Rights.{set_of}
 use Rattle.core_model.specs.Holds.{ObjectRight}
 
 -- the set of a right that is held
 abbrev pub as_rights : ObjectRight → Object × Rights
-as_rights h = (h.0, record { 0 = bit_of h.1 })
+as_rights h = (h.0, set_of h.1)
 
 -- those of some rights on an object that pass a test, each as a set
 abbrev pub among : (Right → Bool) → Object → List Right → List (Object × Rights)

@@ -1,6 +1,7 @@
 -- A file that is read, and a text that is refused for its file.
 use Rattle.std.proofs.Common.{◌≡◌, ℕ, ◌≤◌, ◌^◌, List, [], length, ℤ, Result, Ok, Err, IfErr}
 use Rattle.toml.specs.Data.{Members}
+use Rattle.policy.specs.declared.limits.TheConstants.{MOST_AGENTS, MOST_ALLOW_ROWS, MOST_CLIENTS, MOST_KERNELS, MOST_POLICY_BYTES, MOST_SIGNALS}
 use Rattle.policy.specs.declared.fault.ReadPolicyError.{ReadPolicyError}
 use Rattle.policy.specs.declared.fault.ReadPolicyError.TheVariants as error
 use Rattle.policy.specs.declared.fault.PolicyFault.{PolicyFault}
@@ -12,15 +13,15 @@ use Rattle.policy.specs.Reading.{◌>>=◌, FileGives, FileFails}
 use Rattle.policy.specs.Format.{file_head, regions_of, objects_of, declared_by, array_of, named_row, allow_row, client_keys, agent_keys, signal_keys, kernel_keys, nothing, takes, initial_value, kernel_source, IsFile, IsRefused, in_file}
 
 -- a fault of the file is the text's
-pub refused_in_file : (text : List ℕ) (file : Members) → length text ≤ 2 ^ 20 → IsFile text file → (r : Result Declared ReadPolicyError) → FileGives r (declared_by file) → IfErr r (IsRefused text)
+pub refused_in_file : (text : List ℕ) (file : Members) → length text ≤ MOST_POLICY_BYTES → IsFile text file → (r : Result Declared ReadPolicyError) → FileGives r (declared_by file) → IfErr r (IsRefused text)
 refused_in_file text file short is_file (Ok p) gives = tt
 refused_in_file text file short is_file (Err error.OutOfMemory) gives = tt
 refused_in_file text file short is_file (Err (error.Fault fault)) gives = in_file short file is_file gives
 
 -- a fault in the last array is the file's
 pub fails_at_allows : (file : Members) (declared : Declared) (e : ReadPolicyError) → Ok tt ≡ file_head file → objects_of file ≡ Ok declared
-    → FileFails e (array_of Allow 4096 (λ _ row. allow_row declared row) file) → FileFails e (declared_by file)
-fails_at_allows file declared e head objects fails = rw (← head, objects) (after e (array_of Allow 4096 (λ _ row. allow_row declared row) file) fails)
+    → FileFails e (array_of Allow MOST_ALLOW_ROWS (λ _ row. allow_row declared row) file) → FileFails e (declared_by file)
+fails_at_allows file declared e head objects fails = rw (← head, objects) (after e (array_of Allow MOST_ALLOW_ROWS (λ _ row. allow_row declared row) file) fails)
   where
     after : (e : ReadPolicyError) (allows : Result (List AllowRow) PolicyFault) → FileFails e allows → FileFails e (allows >>= (λ rows. Ok (record declared { allows = rows })))
     after error.OutOfMemory allows fails = tt
@@ -28,10 +29,10 @@ fails_at_allows file declared e head objects fails = rw (← head, objects) (aft
 
 -- a fault in the kernels is the objects'
 pub fails_at_kernels : (file : Members) (clients : List (Name × Unit {0})) (agents : List (Name × Takes)) (regions : List (Name × ℕ)) (signals : List (Name × ℤ)) (e : ReadPolicyError)
-    → array_of Client 64 (named_row client_keys nothing) file ≡ Ok clients → array_of Agent 16 (named_row agent_keys takes) file ≡ Ok agents
-    → regions_of file ≡ Ok regions → array_of Signal 1024 (named_row signal_keys initial_value) file ≡ Ok signals
-    → FileFails e (array_of Kernel 64 (named_row kernel_keys kernel_source) file) → FileFails e (objects_of file)
-fails_at_kernels file clients agents regions signals e c a r s fails = rw (c, a, r, s) (after e (array_of Kernel 64 (named_row kernel_keys kernel_source) file) fails)
+    → array_of Client MOST_CLIENTS (named_row client_keys nothing) file ≡ Ok clients → array_of Agent MOST_AGENTS (named_row agent_keys takes) file ≡ Ok agents
+    → regions_of file ≡ Ok regions → array_of Signal MOST_SIGNALS (named_row signal_keys initial_value) file ≡ Ok signals
+    → FileFails e (array_of Kernel MOST_KERNELS (named_row kernel_keys kernel_source) file) → FileFails e (objects_of file)
+fails_at_kernels file clients agents regions signals e c a r s fails = rw (c, a, r, s) (after e (array_of Kernel MOST_KERNELS (named_row kernel_keys kernel_source) file) fails)
   where
     after : (e : ReadPolicyError) (kernels : Result (List (Name × Source)) PolicyFault) → FileFails e kernels
         → FileFails {B = Declared} e (kernels >>= (λ ks. Ok (record { clients = names clients; agents = agents; regions = regions; signals = signals; kernels = ks; allows = [] })))

@@ -5,6 +5,8 @@ use Rattle.std.specs.Str.{bytes_eq}
 use Rattle.std.proofs.lemmas.List.{map-append, append_assoc}
 use Rattle.std.proofs.lemmas.List.Sums.{sum-map}
 use Rattle.toml.specs.Data.{Data, Members, get_member, as_table}
+use Rattle.aql_packet.specs.declared.memory.TheConstants.{MOST_REGIONS}
+use Rattle.policy.specs.declared.limits.TheConstants.{MOST_AGENTS, MOST_ALLOW_ROWS, MOST_CLIENTS, MOST_KERNELS, MOST_MEMORY_BYTES, MOST_SIGNALS}
 use Rattle.policy.specs.declared.fault.Cause.{Cause}
 use Rattle.policy.specs.declared.fault.Cause.TheVariants.{BadValue, DoubleName, UnknownName, TooMany}
 use Rattle.policy.specs.declared.fault.Section.{Section}
@@ -122,22 +124,22 @@ kernel_agrees row = check_after (key (codes "entry") an_entry row) _ _ (λ entry
 
 -- ---- regions
 
-regions_agree : (file : Members) → fault_of (regions_of file) ≡ first_of (named_array_checks section.Region 64 region_keys region_rest file ++ sum_check file ∷ [])
+regions_agree : (file : Members) → fault_of (regions_of file) ≡ first_of (named_array_checks section.Region MOST_REGIONS region_keys region_rest file ++ sum_check file ∷ [])
 regions_agree file =
-    step_after (array_of section.Region 64 (named_row region_keys region_length) file) _ (named_array_checks section.Region 64 region_keys region_rest file) (sum_check file ∷ [])
-    (named_array region_keys region_length section.Region 64 file region_rest (λ row. check_alone (region_length row)))
+    step_after (array_of section.Region MOST_REGIONS (named_row region_keys region_length) file) _ (named_array_checks section.Region MOST_REGIONS region_keys region_rest file) (sum_check file ∷ [])
+    (named_array region_keys region_length section.Region MOST_REGIONS file region_rest (λ row. check_alone (region_length row)))
     (λ rows h. total rows h)
   where
-    sizes : (rows : List (Name × ℕ)) → array_of section.Region 64 (named_row region_keys region_length) file ≡ Ok rows
+    sizes : (rows : List (Name × ℕ)) → array_of section.Region MOST_REGIONS (named_row region_keys region_length) file ≡ Ok rows
         → sum_by (λ region. region.1) rows ≡ sum (said_by row_length (rows_at section.Region file))
     sizes rows h =
         sym (sum-map (λ region. region.1) rows)
         ∙ ap sum (array_says section.Region (named_row region_keys region_length) (λ row. row.1) row_length
-        (λ before row r e. key_says (codes "length") a_length row r.1 (named_parts region_keys region_length before row r e).1) 64 file rows h)
+        (λ before row r e. key_says (codes "length") a_length row r.1 (named_parts region_keys region_length before row r e).1) MOST_REGIONS file rows h)
 
-    total : (rows : List (Name × ℕ)) → array_of section.Region 64 (named_row region_keys region_length) file ≡ Ok rows
-        → fault_of (unless (nat_le (sum_by (λ region. region.1) rows) (2 ^ 26)) (fault_in section.Region 0 TooMany) >>= (λ _. Ok rows)) ≡ first_of (sum_check file ∷ [])
-    total rows h = rw (sizes rows h) (check_last (unless (nat_le (sum (said_by row_length (rows_at section.Region file))) (2 ^ 26)) (fault_in section.Region 0 TooMany)) (λ _. rows))
+    total : (rows : List (Name × ℕ)) → array_of section.Region MOST_REGIONS (named_row region_keys region_length) file ≡ Ok rows
+        → fault_of (unless (nat_le (sum_by (λ region. region.1) rows) MOST_MEMORY_BYTES) (fault_in section.Region 0 TooMany) >>= (λ _. Ok rows)) ≡ first_of (sum_check file ∷ [])
+    total rows h = rw (sizes rows h) (check_last (unless (nat_le (sum (said_by row_length (rows_at section.Region file))) MOST_MEMORY_BYTES) (fault_in section.Region 0 TooMany)) (λ _. rows))
 
 -- ---- allow rows
 
@@ -160,15 +162,15 @@ allow_agrees declared clients objects same_clients same_objects row =
         check_last (or_fault UnknownName (target_of on (names_of declared on) object)) _)))
 
 allows_agree : (declared : Declared) (file : Members) → declared.clients ≡ names_at section.Client file → ((on : Kind) → names_of declared on ≡ names_at (section_of on) file)
-    → fault_of (array_of section.Allow 4096 (λ _ row. allow_row declared row) file)
-    ≡ first_of (array_checks section.Allow 4096 (λ above. allow_checks (names_at section.Client file) (λ on. names_at (section_of on) file)) file)
+    → fault_of (array_of section.Allow MOST_ALLOW_ROWS (λ _ row. allow_row declared row) file)
+    ≡ first_of (array_checks section.Allow MOST_ALLOW_ROWS (λ above. allow_checks (names_at section.Client file) (λ on. names_at (section_of on) file)) file)
 allows_agree declared file clients objects =
     array_agrees section.Allow (λ _ row. allow_row declared row) (λ above. allow_checks (names_at section.Client file) (λ on. names_at (section_of on) file))
     (λ before above. length before ≡ length above)
     (λ before above fits. fits)
     (λ before above d r fits h. length-append before (r ∷ []) ∙ ap (λ n. n + 1) fits ∙ sym (length-append above (d ∷ [])))
     (λ before above fits row. allow_agrees declared (names_at section.Client file) (λ on. names_at (section_of on) file) clients objects row)
-    refl 4096 file
+    refl MOST_ALLOW_ROWS file
 
 -- ---- the file
 
@@ -186,15 +188,15 @@ no_rest row = refl
 
 objects_agree : (file : Members) → fault_of (objects_of file) ≡ first_of (object_checks file)
 objects_agree file =
-    step_after (array_of section.Client 64 (named_row client_keys nothing) file) _ (named_array_checks section.Client 64 client_keys client_rest file) _
-    (named_array client_keys nothing section.Client 64 file client_rest no_rest) (λ clients c.
-    step_after (array_of section.Agent 16 (named_row agent_keys takes) file) _ (named_array_checks section.Agent 16 agent_keys agent_rest file) _
-    (named_array agent_keys takes section.Agent 16 file agent_rest (λ row. check_alone (takes row))) (λ agents a.
-    step_after (regions_of file) _ (named_array_checks section.Region 64 region_keys region_rest file ++ sum_check file ∷ []) _ (regions_agree file) (λ regions r.
-    step_after (array_of section.Signal 1024 (named_row signal_keys initial_value) file) _ (named_array_checks section.Signal 1024 signal_keys signal_rest file) _
-    (named_array signal_keys initial_value section.Signal 1024 file signal_rest (λ row. check_alone (initial_value row))) (λ signals s.
-    last_step (array_of section.Kernel 64 (named_row kernel_keys kernel_source) file) _ (named_array_checks section.Kernel 64 kernel_keys kernel_rest file)
-    (named_array kernel_keys kernel_source section.Kernel 64 file kernel_rest kernel_agrees)))))
+    step_after (array_of section.Client MOST_CLIENTS (named_row client_keys nothing) file) _ (named_array_checks section.Client MOST_CLIENTS client_keys client_rest file) _
+    (named_array client_keys nothing section.Client MOST_CLIENTS file client_rest no_rest) (λ clients c.
+    step_after (array_of section.Agent MOST_AGENTS (named_row agent_keys takes) file) _ (named_array_checks section.Agent MOST_AGENTS agent_keys agent_rest file) _
+    (named_array agent_keys takes section.Agent MOST_AGENTS file agent_rest (λ row. check_alone (takes row))) (λ agents a.
+    step_after (regions_of file) _ (named_array_checks section.Region MOST_REGIONS region_keys region_rest file ++ sum_check file ∷ []) _ (regions_agree file) (λ regions r.
+    step_after (array_of section.Signal MOST_SIGNALS (named_row signal_keys initial_value) file) _ (named_array_checks section.Signal MOST_SIGNALS signal_keys signal_rest file) _
+    (named_array signal_keys initial_value section.Signal MOST_SIGNALS file signal_rest (λ row. check_alone (initial_value row))) (λ signals s.
+    last_step (array_of section.Kernel MOST_KERNELS (named_row kernel_keys kernel_source) file) _ (named_array_checks section.Kernel MOST_KERNELS kernel_keys kernel_rest file)
+    (named_array kernel_keys kernel_source section.Kernel MOST_KERNELS file kernel_rest kernel_agrees)))))
 
 -- what is declared before the allow rows has the names that the rows say
 module _ (file : Members) (declared : Declared) (h : objects_of file ≡ Ok declared) where
@@ -203,20 +205,20 @@ module _ (file : Members) (declared : Declared) (h : objects_of file ≡ Ok decl
 
   objects_say : SaysNames declared
   objects_say =
-      let a = then_ok (array_of section.Client 64 (named_row client_keys nothing) file) _ declared h in
-      let b = then_ok (array_of section.Agent 16 (named_row agent_keys takes) file) _ declared a.2 in
+      let a = then_ok (array_of section.Client MOST_CLIENTS (named_row client_keys nothing) file) _ declared h in
+      let b = then_ok (array_of section.Agent MOST_AGENTS (named_row agent_keys takes) file) _ declared a.2 in
       let c = then_ok (regions_of file) _ declared b.2 in
-      let d = then_ok (array_of section.Signal 1024 (named_row signal_keys initial_value) file) _ declared c.2 in
-      let e = then_ok (array_of section.Kernel 64 (named_row kernel_keys kernel_source) file) _ declared d.2 in
-      let r = then_ok (array_of section.Region 64 (named_row region_keys region_length) file) _ c.0 c.1 in
-      let u = then_ok (unless (nat_le (sum_by (λ region. region.1) r.0) (2 ^ 26)) (fault_in section.Region 0 TooMany)) _ c.0 r.2 in
+      let d = then_ok (array_of section.Signal MOST_SIGNALS (named_row signal_keys initial_value) file) _ declared c.2 in
+      let e = then_ok (array_of section.Kernel MOST_KERNELS (named_row kernel_keys kernel_source) file) _ declared d.2 in
+      let r = then_ok (array_of section.Region MOST_REGIONS (named_row region_keys region_length) file) _ c.0 c.1 in
+      let u = then_ok (unless (nat_le (sum_by (λ region. region.1) r.0) MOST_MEMORY_BYTES) (fault_in section.Region 0 TooMany)) _ c.0 r.2 in
       let same : r.0 ≡ c.0 = cc in
       let whole : record { clients = names a.0; agents = b.0; regions = c.0; signals = d.0; kernels = e.0; allows = [] } ≡ declared = cc in
       subst SaysNames whole (
-        named_says client_keys nothing section.Client 64 file a.0 a.1,
-        by_kind b.0 c.0 d.0 e.0 (named_says agent_keys takes section.Agent 16 file b.0 b.1)
-            (subst (λ x. names x ≡ names_at section.Region file) same (named_says region_keys region_length section.Region 64 file r.0 r.1))
-            (named_says signal_keys initial_value section.Signal 1024 file d.0 d.1) (named_says kernel_keys kernel_source section.Kernel 64 file e.0 e.1) (names a.0),
+        named_says client_keys nothing section.Client MOST_CLIENTS file a.0 a.1,
+        by_kind b.0 c.0 d.0 e.0 (named_says agent_keys takes section.Agent MOST_AGENTS file b.0 b.1)
+            (subst (λ x. names x ≡ names_at section.Region file) same (named_says region_keys region_length section.Region MOST_REGIONS file r.0 r.1))
+            (named_says signal_keys initial_value section.Signal MOST_SIGNALS file d.0 d.1) (named_says kernel_keys kernel_source section.Kernel MOST_KERNELS file e.0 e.1) (names a.0),
       )
     where
       by_kind : (agents : List (Name × Takes)) (regions : List (Name × ℕ)) (signals : List (Name × ℤ)) (kernels : List (Name × Source))
@@ -233,6 +235,6 @@ pub faults_agree : (file : Members) → fault_of (declared_by file) ≡ first_of
 faults_agree file =
     step_after (file_head file) _ (head_checks file) _ (head_agrees file) (λ u e.
     step_after (objects_of file) _ (object_checks file) _ (objects_agree file) (λ declared d.
-    last_step (array_of section.Allow 4096 (λ _ row. allow_row declared row) file) _
-    (array_checks section.Allow 4096 (λ above. allow_checks (names_at section.Client file) (λ on. names_at (section_of on) file)) file)
+    last_step (array_of section.Allow MOST_ALLOW_ROWS (λ _ row. allow_row declared row) file) _
+    (array_checks section.Allow MOST_ALLOW_ROWS (λ above. allow_checks (names_at section.Client file) (λ on. names_at (section_of on) file)) file)
     (let said = objects_say file declared d in allows_agree declared file said.0 said.1)))

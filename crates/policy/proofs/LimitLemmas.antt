@@ -6,6 +6,8 @@ use Rattle.std.proofs.lemmas.Bool.Decides.{nat_tests}
 use Rattle.std.proofs.lemmas.List.{length-map}
 use Rattle.std.proofs.lemmas.List.Folds.{list_all-append, list_all-map}
 use Rattle.toml.specs.Data.{Data, integer, Members, get_member, as_table}
+use Rattle.aql_packet.specs.declared.memory.TheConstants.{MOST_REGIONS}
+use Rattle.policy.specs.declared.limits.TheConstants.{MOST_AGENTS, MOST_ALLOW_ROWS, MOST_CLIENTS, MOST_KERNELS, MOST_MEMORY_BYTES, MOST_SIGNALS}
 use Rattle.policy.specs.declared.fault.Cause.{Cause}
 use Rattle.policy.specs.declared.fault.Cause.TheVariants.{BadValue, DoubleName, TooMany}
 use Rattle.policy.specs.declared.fault.Section.{Section}
@@ -14,7 +16,8 @@ use Rattle.policy.specs.declared.row.AllowRow.{AllowRow}
 use Rattle.policy.specs.declared.row.Takes.{Takes}
 use Rattle.policy.specs.Policy.{Name, Source, Declared, names, number_in}
 use Rattle.policy.specs.Reading.{◌>>=◌, unless, or_fault, fault_in}
-use Rattle.policy.specs.Limits.{is_region_length, are_region_lengths, IsWithinLimits}
+use Rattle.aql_packet.specs.Memory.{are_region_lengths, is_region_length}
+use Rattle.policy.specs.Limits.{IsWithinLimits}
 use Rattle.policy.specs.Format.{in_row, of_table, is_table, tables_in, rows_in, items_in, read_each, array_of, right_value, key, a_name, a_length, length_of_number, only, named_row, region_keys, region_length, regions_of, allow_row, nothing, takes, initial_value, kernel_source, client_keys, agent_keys, signal_keys, kernel_keys}
 use Rattle.policy.specs.SectionNames.{name_of_section}
 
@@ -91,7 +94,7 @@ if_some false x y h = cc
 
 number_fits : (z : ℤ) (n : ℕ) → length_of_number z ≡ Some n → is_region_length n ≡ true
 number_fits (pos m) n h =
-    let p = if_some (nat_le 1 m && nat_le m 16777216) m n h in
+    let p = if_some (is_region_length m) m n h in
     subst (λ x. is_region_length x ≡ true) p.0 p.1
 number_fits (negsuc m) n h = cc
 
@@ -121,43 +124,43 @@ region_fits before row region h =
 
 -- the regions are few, each of a fitting length, and not too long together
 regions_fit : (file : Members) (regions : List (Name × ℕ)) → regions_of file ≡ Ok regions
-    → (are_region_lengths (map (λ row. row.1) regions) ≡ true) × (sum_by (λ region. region.1) regions ≤ 2 ^ 26)
+    → (are_region_lengths (map (λ row. row.1) regions) ≡ true) × (sum_by (λ region. region.1) regions ≤ MOST_MEMORY_BYTES)
 regions_fit file regions h =
-    let a = then_ok (array_of section.Region 64 (named_row region_keys region_length) file)
-    (λ rows. unless (nat_le (sum_by (λ region. region.1) rows) (2 ^ 26)) (fault_in section.Region 0 TooMany) >>= (λ _. Ok rows)) regions h in
-    let b = then_ok (unless (nat_le (sum_by (λ region. region.1) a.0) (2 ^ 26)) (fault_in section.Region 0 TooMany)) (λ _. Ok a.0) regions a.2 in
+    let a = then_ok (array_of section.Region MOST_REGIONS (named_row region_keys region_length) file)
+    (λ rows. unless (nat_le (sum_by (λ region. region.1) rows) MOST_MEMORY_BYTES) (fault_in section.Region 0 TooMany) >>= (λ _. Ok rows)) regions h in
+    let b = then_ok (unless (nat_le (sum_by (λ region. region.1) a.0) MOST_MEMORY_BYTES) (fault_in section.Region 0 TooMany)) (λ _. Ok a.0) regions a.2 in
     let e : a.0 ≡ regions = cc in
-    subst (λ rows. (are_region_lengths (map (λ row. row.1) rows) ≡ true) × (sum_by (λ region. region.1) rows ≤ 2 ^ 26)) e (fit a.0 a.1, within a.0 (passed _ _ b.0 b.1))
+    subst (λ rows. (are_region_lengths (map (λ row. row.1) rows) ≡ true) × (sum_by (λ region. region.1) rows ≤ MOST_MEMORY_BYTES)) e (fit a.0 a.1, within a.0 (passed _ _ b.0 b.1))
   where
-    within : (rows : List (Name × ℕ)) → nat_le (sum_by (λ region. region.1) rows) (2 ^ 26) ≡ true → sum_by (λ region. region.1) rows ≤ 2 ^ 26
+    within : (rows : List (Name × ℕ)) → nat_le (sum_by (λ region. region.1) rows) MOST_MEMORY_BYTES ≡ true → sum_by (λ region. region.1) rows ≤ MOST_MEMORY_BYTES
     within rows t = grind (arith, nat_tests)
 
-    fit : (rows : List (Name × ℕ)) → array_of section.Region 64 (named_row region_keys region_length) file ≡ Ok rows → are_region_lengths (map (λ row. row.1) rows) ≡ true
+    fit : (rows : List (Name × ℕ)) → array_of section.Region MOST_REGIONS (named_row region_keys region_length) file ≡ Ok rows → are_region_lengths (map (λ row. row.1) rows) ≡ true
     fit rows h =
-        let few = few_rows section.Region (named_row region_keys region_length) 64 file rows h in
-        let test : nat_le (length rows) 64 ≡ true = grind (arith, nat_tests) in
-        and_from (nat_le (length (map (λ row. row.1) rows)) 64) (list_all is_region_length (map (λ row. row.1) rows))
-        (ap (λ n. nat_le n 64) (length-map rows (λ row. row.1)) ∙ test)
-        (list_all-map is_region_length (λ row. row.1) rows ∙ each_row section.Region (named_row region_keys region_length) 64 file rows h (λ row. is_region_length row.1) region_fits)
+        let few = few_rows section.Region (named_row region_keys region_length) MOST_REGIONS file rows h in
+        let test : nat_le (length rows) MOST_REGIONS ≡ true = grind (arith, nat_tests) in
+        and_from (nat_le (length (map (λ row. row.1) rows)) MOST_REGIONS) (list_all is_region_length (map (λ row. row.1) rows))
+        (ap (λ n. nat_le n MOST_REGIONS) (length-map rows (λ row. row.1)) ∙ test)
+        (list_all-map is_region_length (λ row. row.1) rows ∙ each_row section.Region (named_row region_keys region_length) MOST_REGIONS file rows h (λ row. is_region_length row.1) region_fits)
 
 -- what is declared before the allow rows keeps to the limits
 pub objects_within : (file : Members) (clients : List (Name × Unit {0})) (agents : List (Name × Takes)) (regions : List (Name × ℕ)) (signals : List (Name × ℤ)) (kernels : List (Name × Source))
-    → array_of section.Client 64 (named_row client_keys nothing) file ≡ Ok clients → array_of section.Agent 16 (named_row agent_keys takes) file ≡ Ok agents
-    → regions_of file ≡ Ok regions → array_of section.Signal 1024 (named_row signal_keys initial_value) file ≡ Ok signals
-    → array_of section.Kernel 64 (named_row kernel_keys kernel_source) file ≡ Ok kernels
+    → array_of section.Client MOST_CLIENTS (named_row client_keys nothing) file ≡ Ok clients → array_of section.Agent MOST_AGENTS (named_row agent_keys takes) file ≡ Ok agents
+    → regions_of file ≡ Ok regions → array_of section.Signal MOST_SIGNALS (named_row signal_keys initial_value) file ≡ Ok signals
+    → array_of section.Kernel MOST_KERNELS (named_row kernel_keys kernel_source) file ≡ Ok kernels
     → IsWithinLimits (record { clients = names clients; agents = agents; regions = regions; signals = signals; kernels = kernels; allows = [] })
 objects_within file clients agents regions signals kernels c a r s k =
     let fit = regions_fit file regions r in
     record {
-      clients = subst (λ n. n ≤ 64) (sym (length-map clients (λ row. row.0))) (few_rows section.Client (named_row client_keys nothing) 64 file clients c);
-      agents = few_rows section.Agent (named_row agent_keys takes) 16 file agents a;
+      clients = subst (λ n. n ≤ MOST_CLIENTS) (sym (length-map clients (λ row. row.0))) (few_rows section.Client (named_row client_keys nothing) MOST_CLIENTS file clients c);
+      agents = few_rows section.Agent (named_row agent_keys takes) MOST_AGENTS file agents a;
       regions = fit.0;
       memory = fit.1;
-      signals = few_rows section.Signal (named_row signal_keys initial_value) 1024 file signals s;
-      kernels = few_rows section.Kernel (named_row kernel_keys kernel_source) 64 file kernels k;
+      signals = few_rows section.Signal (named_row signal_keys initial_value) MOST_SIGNALS file signals s;
+      kernels = few_rows section.Kernel (named_row kernel_keys kernel_source) MOST_KERNELS file kernels k;
       allows = omega arith;
     }
 
 -- the allow rows are few
-pub few_allow_rows : (declared : Declared) (file : Members) (rows : List AllowRow) → array_of section.Allow 4096 (λ _ row. allow_row declared row) file ≡ Ok rows → length rows ≤ 4096
-few_allow_rows declared file rows h = few_rows section.Allow (λ _ row. allow_row declared row) 4096 file rows h
+pub few_allow_rows : (declared : Declared) (file : Members) (rows : List AllowRow) → array_of section.Allow MOST_ALLOW_ROWS (λ _ row. allow_row declared row) file ≡ Ok rows → length rows ≤ MOST_ALLOW_ROWS
+few_allow_rows declared file rows h = few_rows section.Allow (λ _ row. allow_row declared row) MOST_ALLOW_ROWS file rows h

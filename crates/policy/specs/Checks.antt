@@ -1,9 +1,11 @@
 -- The checks of a policy file, each by itself, in the order in which their faults are told: the file's keys and its
 -- version, then array by array and row by row; in a row its keys, their values in order, and its names (own).
-use Rattle.std.specs.Prelude.{ℕ, ◌+◌, ◌^◌, ◌==◌, nat_le, codes, List, [], ◌∷◌, ◌++◌, length, map, sum, Option, Some, None, option_map, option_and_then, Result, Ok, Err}
+use Rattle.std.specs.Prelude.{ℕ, ◌+◌, ◌==◌, nat_le, codes, List, [], ◌∷◌, ◌++◌, length, map, sum, Option, Some, None, option_map, option_and_then, Result, Ok, Err}
 use Rattle.std.specs.List.{list_any, list_all}
 use Rattle.std.specs.Str.{bytes_eq}
 use Rattle.toml.specs.Data.{Data, Members, get_member, as_table}
+use Rattle.aql_packet.specs.declared.memory.TheConstants.{MOST_REGIONS}
+use Rattle.policy.specs.declared.limits.TheConstants.{MOST_AGENTS, MOST_ALLOW_ROWS, MOST_CLIENTS, MOST_KERNELS, MOST_MEMORY_BYTES, MOST_SIGNALS}
 use Rattle.policy.specs.declared.fault.Cause.{Cause}
 use Rattle.policy.specs.declared.fault.Cause.TheVariants.{BadValue, DoubleName, UnknownName, TooMany}
 use Rattle.policy.specs.declared.fault.PolicyFault.{PolicyFault}
@@ -153,10 +155,10 @@ array_checks at limit checks file = member_checks at limit checks (get_member (n
 abbrev pub named_array_checks : Section → ℕ → List Name → (Members → List (Option Cause)) → Members → List (Option PolicyFault)
 named_array_checks at limit known rest = array_checks at limit (λ above. named_checks known rest (said_by row_name above))
 
--- the regions together have at most 2^26 bytes
+-- the regions together don't have too many bytes
 abbrev pub sum_check : Members → Option PolicyFault
 sum_check file =
-    fault_of (unless (nat_le (sum (said_by row_length (rows_at section.Region file))) (2 ^ 26)) (fault_in section.Region 0 TooMany))
+    fault_of (unless (nat_le (sum (said_by row_length (rows_at section.Region file))) MOST_MEMORY_BYTES) (fault_in section.Region 0 TooMany))
 
 -- ---- the file
 
@@ -168,14 +170,14 @@ head_checks file =
 
 abbrev pub object_checks : Members → List (Option PolicyFault)
 object_checks file =
-    named_array_checks section.Client 64 client_keys client_rest file
-    ++ (named_array_checks section.Agent 16 agent_keys agent_rest file
-    ++ ((named_array_checks section.Region 64 region_keys region_rest file ++ sum_check file ∷ [])
-    ++ (named_array_checks section.Signal 1024 signal_keys signal_rest file
-    ++ named_array_checks section.Kernel 64 kernel_keys kernel_rest file)))
+    named_array_checks section.Client MOST_CLIENTS client_keys client_rest file
+    ++ (named_array_checks section.Agent MOST_AGENTS agent_keys agent_rest file
+    ++ ((named_array_checks section.Region MOST_REGIONS region_keys region_rest file ++ sum_check file ∷ [])
+    ++ (named_array_checks section.Signal MOST_SIGNALS signal_keys signal_rest file
+    ++ named_array_checks section.Kernel MOST_KERNELS kernel_keys kernel_rest file)))
 
 -- all checks of a file
 abbrev pub file_checks : Members → List (Option PolicyFault)
 file_checks file =
     head_checks file ++ (object_checks file
-    ++ array_checks section.Allow 4096 (λ above. allow_checks (names_at section.Client file) (λ on. names_at (section_of on) file)) file)
+    ++ array_checks section.Allow MOST_ALLOW_ROWS (λ above. allow_checks (names_at section.Client file) (λ on. names_at (section_of on) file)) file)

@@ -1,9 +1,12 @@
 -- The policy file: its arrays, the keys of their rows, and the order in which faults are looked for.
-use Rattle.std.specs.Prelude.{ℕ, ◌+◌, ◌^◌, ◌≡◌, ◌<◌, ◌≤◌, ℤ, pos, negsuc, Bool, true, false, ◌&&◌, ◌||◌, ◌==◌, nat_lt, nat_le, codes, List, [], ◌∷◌, ◌++◌, length, sum_by, slice_index, Option, Some, None, option_map, option_and_then, Result, Ok, Err, if◌then◌else◌, IsUtf8}
+use Rattle.std.specs.Prelude.{ℕ, ◌+◌, ◌≡◌, ◌<◌, ◌≤◌, ℤ, pos, negsuc, Bool, true, false, ◌&&◌, ◌||◌, ◌==◌, nat_lt, nat_le, codes, List, [], ◌∷◌, ◌++◌, length, sum_by, slice_index, Option, Some, None, option_map, option_and_then, Result, Ok, Err, if◌then◌else◌, IsUtf8}
 use Rattle.std.specs.List.{list_any, list_all}
 use Rattle.std.specs.Str.{bytes_eq}
+use Rattle.aql_packet.specs.Memory.{is_region_length}
 use Rattle.toml.specs.Data.{Data, string, integer, table, Items, no_items, item, Members, no_members, member, get_member, as_str, as_integer, as_array, as_table}
 use Rattle.toml.specs.Parse.{parse_document}
+use Rattle.aql_packet.specs.declared.memory.TheConstants.{MOST_REGIONS}
+use Rattle.policy.specs.declared.limits.TheConstants.{MOST_AGENTS, MOST_ALLOW_ROWS, MOST_CLIENTS, MOST_KERNELS, MOST_MEMORY_BYTES, MOST_NAME_BYTES, MOST_POLICY_BYTES, MOST_SIGNALS}
 use Rattle.policy.specs.declared.fault.Cause.{Cause}
 use Rattle.policy.specs.declared.fault.Cause.TheVariants.{NotToml, MissingKey, BadValue, UnknownName, DoubleName, TooMany}
 use Rattle.policy.specs.declared.fault.PolicyFault.{PolicyFault}
@@ -36,9 +39,9 @@ abbrev pub is_name_byte : ℕ → Bool
 is_name_byte b =
     (((nat_le 97 b && nat_le b 122) || (nat_le 65 b && nat_le b 90)) || (nat_le 48 b && nat_le b 57)) || (b == 95 || b == 45)
 
--- a name is 1 to 64 of these
+-- a name is some of these, and not too many (own)
 abbrev pub is_name : List ℕ → Bool
-is_name text = (nat_le 1 (length text) && nat_le (length text) 64) && list_all is_name_byte text
+is_name text = (nat_le 1 (length text) && nat_le (length text) MOST_NAME_BYTES) && list_all is_name_byte text
 
 abbrev pub a_text_that : (List ℕ → Bool) → Data → Option (List ℕ)
 a_text_that test (string text) = if test text then Some text else None
@@ -78,9 +81,9 @@ dispatches_in ds =
 abbrev pub some_dispatches : Data → Option Takes
 some_dispatches d = option_and_then dispatches_in (items_in d)
 
--- 1 to 16,777,216
+-- a region's length
 abbrev pub length_of_number : ℤ → Option ℕ
-length_of_number (pos n) = if nat_le 1 n && nat_le n 16777216 then Some n else None
+length_of_number (pos n) = if is_region_length n then Some n else None
 length_of_number (negsuc n) = None
 
 abbrev pub a_length : Data → Option ℕ
@@ -278,21 +281,21 @@ file_head file = do
   _ ← unless (list_all (λ k. list_any (bytes_eq k) file_keys) (keys_in file)) (fault_of_file BadValue)
   unless (is_version (get_member (codes "version") file)) (fault_of_file BadValue)
 
--- the regions, whose sum is at most 2^26 bytes
+-- the regions, which have not too many bytes together
 abbrev pub regions_of : Members → Result (List (Name × ℕ)) PolicyFault
 regions_of file = do
-  regions ← array_of section.Region 64 (named_row region_keys region_length) file
-  _ ← unless (nat_le (sum_by (λ region. region.1) regions) (2 ^ 26)) (fault_in section.Region 0 TooMany)
+  regions ← array_of section.Region MOST_REGIONS (named_row region_keys region_length) file
+  _ ← unless (nat_le (sum_by (λ region. region.1) regions) MOST_MEMORY_BYTES) (fault_in section.Region 0 TooMany)
   Ok regions
 
 -- the clients and the objects, with no allow rows yet
 abbrev pub objects_of : Members → Result Declared PolicyFault
 objects_of file = do
-  clients ← array_of section.Client 64 (named_row client_keys nothing) file
-  agents ← array_of section.Agent 16 (named_row agent_keys takes) file
+  clients ← array_of section.Client MOST_CLIENTS (named_row client_keys nothing) file
+  agents ← array_of section.Agent MOST_AGENTS (named_row agent_keys takes) file
   regions ← regions_of file
-  signals ← array_of section.Signal 1024 (named_row signal_keys initial_value) file
-  kernels ← array_of section.Kernel 64 (named_row kernel_keys kernel_source) file
+  signals ← array_of section.Signal MOST_SIGNALS (named_row signal_keys initial_value) file
+  kernels ← array_of section.Kernel MOST_KERNELS (named_row kernel_keys kernel_source) file
   Ok (record { clients = names clients; agents = agents; regions = regions; signals = signals; kernels = kernels; allows = [] })
 
 -- what a file declares, or its first fault: the file's keys, and then the arrays in order
@@ -300,7 +303,7 @@ abbrev pub declared_by : Members → Result Declared PolicyFault
 declared_by file = do
   _ ← file_head file
   declared ← objects_of file
-  allows ← array_of section.Allow 4096 (λ _ row. allow_row declared row) file
+  allows ← array_of section.Allow MOST_ALLOW_ROWS (λ _ row. allow_row declared row) file
   Ok (record declared { allows = allows })
 
 -- the text is the TOML document of a file
@@ -309,16 +312,16 @@ IsFile text file = IsUtf8 text × (parse_document text ≡ Some file)
 
 -- the text declares this
 pub record Declares (text : List ℕ) (declared : Declared) : Type 0 where
-  pub short : length text ≤ 2 ^ 20
+  pub short : length text ≤ MOST_POLICY_BYTES
   pub file : Members
   pub is_file : IsFile text file
   pub rows : declared_by file ≡ Ok declared
 
 -- the first fault of a text: it is too long, it is no TOML document, or the file that it is has that fault first
 pub data HasFault (text : List ℕ) (fault : PolicyFault) : Type 0 where
-  too_long : 2 ^ 20 < length text → fault ≡ fault_of_file TooMany → HasFault text fault
-  not_toml : length text ≤ 2 ^ 20 → ((file : Members) → IsFile text file → ⊥) → fault ≡ fault_of_file NotToml → HasFault text fault
-  in_file : length text ≤ 2 ^ 20 → (file : Members) → IsFile text file → declared_by file ≡ Err fault → HasFault text fault
+  too_long : MOST_POLICY_BYTES < length text → fault ≡ fault_of_file TooMany → HasFault text fault
+  not_toml : length text ≤ MOST_POLICY_BYTES → ((file : Members) → IsFile text file → ⊥) → fault ≡ fault_of_file NotToml → HasFault text fault
+  in_file : length text ≤ MOST_POLICY_BYTES → (file : Members) → IsFile text file → declared_by file ≡ Err fault → HasFault text fault
 
 -- why a text isn't read: its first fault, or no memory
 abbrev pub IsRefused : List ℕ → ReadPolicyError → Type 0

@@ -1,5 +1,5 @@
 -- What a policy declares, as plain lists, and what it allows.
-use Rattle.std.specs.Prelude.{ℕ, ℤ, Bool, true, ◌&&◌, ◌==◌, nat_lt, nat_le, List, length, Option, option_map}
+use Rattle.std.specs.Prelude.{ℕ, ℤ, Bool, true, ◌&&◌, ◌==◌, nat_lt, nat_le, List, length, map, Option, option_map}
 use Rattle.std.specs.List.{list_any}
 use Rattle.aql_packet.specs.declared.ids.ClientId.{ClientId}
 use Rattle.policy.specs.declared.object.Kind.{Kind}
@@ -32,6 +32,14 @@ pub record Declared : Type 0 where
   pub kernels : List (Name × Source)
   -- the allow rows
   pub allows : List AllowRow
+
+-- the lengths of the regions, in order
+abbrev pub region_lengths : Declared → List ℕ
+region_lengths policy = map (λ row. row.1) policy.regions
+
+-- the values with which the signals begin, in order
+abbrev pub initial_values : Declared → List ℤ
+initial_values policy = map (λ row. row.1) policy.signals
 
 -- the names of a kind's objects
 abbrev pub names_of : Declared → Kind → List Name

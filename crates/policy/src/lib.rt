@@ -7,6 +7,7 @@ mod coverage;
 mod fault;
 mod kernel_source;
 mod laws;
+mod limits;
 mod object;
 mod policy;
 mod read;
@@ -18,6 +19,10 @@ pub use coverage::rows_allow;
 pub use fault::{Cause, PolicyFault, ReadPolicyError, Section};
 pub use kernel_source::KernelSource;
 pub use laws::faults_are_first;
+pub use limits::{
+    MOST_AGENTS, MOST_ALLOW_ROWS, MOST_CLIENTS, MOST_KERNELS, MOST_MEMORY_BYTES, MOST_NAME_BYTES,
+    MOST_POLICY_BYTES, MOST_SIGNALS,
+};
 pub use object::{Kind, Object};
 pub use policy::Policy;
 pub use read::read_policy;

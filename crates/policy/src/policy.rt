@@ -2,6 +2,7 @@
 
 ghost use Rattle.std.specs.Prelude.{◌≡◌, ◌<◌, ◌≤◌, [], length, Some, IfSome};
 ghost use Rattle.std.specs.Option.{option_copied};
+ghost use Rattle.policy.specs.declared.limits.TheConstants.{MOST_ALLOW_ROWS, MOST_SIGNALS};
 ghost use Rattle.policy.specs.Object.{kind_of, number_of};
 ghost use Rattle.policy.specs.Limits.{IsWithinLimits};
 ghost use Rattle.policy.specs.Names.{AreDistinct};
@@ -95,25 +96,25 @@ impl Policy {
 
     // Puts allow rows in the place of those before.
     pub(crate) fn set_allow_rows(&mut self, allows: Sequence<AllowRow>)
-        requires { length allows ≤ 4096 }
+        requires { length allows ≤ MOST_ALLOW_ROWS }
         ensures { self.new ≡ record self.old { allows = allows } }
     {
         self.allows = allows;
     }
 
-    /// How many clients there are: at most 64.
+    /// How many clients there are.
     pub fn client_count(&self) -> usize
         ensures count { result ≡ length self.now.clients }
-        ensures bound { result ≤ 1024 }
+        ensures bound { result ≤ MOST_SIGNALS }
         ensures limits { IsWithinLimits self.now }
     {
         self.clients.len()
     }
 
-    /// How many objects of a kind there are: at most 16 agents, 64 regions, 1,024 signals and 64 kernels.
+    /// How many objects of a kind there are.
     pub fn object_count(&self, kind: Kind) -> usize
         ensures count { result ≡ count_of self.now kind }
-        ensures bound { result ≤ 1024 }
+        ensures bound { result ≤ MOST_SIGNALS }
         ensures limits { IsWithinLimits self.now }
     {
         match kind {

@@ -75,9 +75,11 @@ bitflag_items! {
 impl Flags for Rights {
     type Bits = u8;
 
+    ghost use Rattle.policy.specs.declared.rights.TheConstants.Rights.{USE, READ, WRITE, WAIT, CHANGE, LAUNCH};
+
     ghost exact = { ⊤ };
 
-    ghost table = { (codes "USE", 1) ∷ (codes "READ", 2) ∷ (codes "WRITE", 4) ∷ (codes "WAIT", 8) ∷ (codes "CHANGE", 16) ∷ (codes "LAUNCH", 32) ∷ [] };
+    ghost table = { (codes "USE", USE.0) ∷ (codes "READ", READ.0) ∷ (codes "WRITE", WRITE.0) ∷ (codes "WAIT", WAIT.0) ∷ (codes "CHANGE", CHANGE.0) ∷ (codes "LAUNCH", LAUNCH.0) ∷ [] };
 
     ghost set_of = { λ rights. rights.0 };
 
@@ -96,14 +98,14 @@ impl Flags for Rights {
 
 impl Rights {
     ghost use Rattle.std.specs.Prelude.{◌||◌, ◌&&◌, not};
-    ghost use Rattle.policy.specs.Rights.{has, bit_of, each_right, rights_that, among};
+    ghost use Rattle.policy.specs.Rights.{has, set_of, each_right, rights_that, among};
 
     /// No right.
     pub const NONE: Rights = Rights(0);
 
     /// The set of one right.
     pub fn of(right: Right) -> Rights
-        ensures { result.0 ≡ bit_of right }
+        ensures { result ≡ set_of right }
     {
         match right {
             Right::Use => Rights::USE,
@@ -143,19 +145,19 @@ impl Rights {
         ensures { result ≡ rights_that (among use_agent read write wait change launch) }
     {
         Rights(
-            bit(use_agent, 1)
-                + bit(read, 2)
-                + bit(write, 4)
-                + bit(wait, 8)
-                + bit(change, 16)
-                + bit(launch, 32),
+            bit(use_agent, Rights::USE)
+                + bit(read, Rights::READ)
+                + bit(write, Rights::WRITE)
+                + bit(wait, Rights::WAIT)
+                + bit(change, Rights::CHANGE)
+                + bit(launch, Rights::LAUNCH),
         )
     }
 }
 
-// The bit, where it is set.
-fn bit(is_set: bool, bit: u8) -> u8
-    ensures { result ≡ (if is_set then bit else 0) }
+// The bit of a right, where it is set.
+fn bit(is_set: bool, right: Rights) -> u8
+    ensures { result ≡ (if is_set then right.0 else 0) }
 {
-    if is_set { bit } else { 0 }
+    if is_set { right.0 } else { 0 }
 }

@@ -3,6 +3,7 @@
 ghost use Rattle.std.specs.Prelude.{◌≡◌, ◌<◌, ◌≤◌, ◌++◌, [], ◌∷◌, length, position, option_map, string_bytes, sum_by, IfSome, OnOk, OnErr};
 ghost use Rattle.std.specs.Option.{option_copied};
 ghost use Rattle.std.specs.Str.{bytes_eq};
+ghost use Rattle.policy.specs.declared.limits.TheConstants.{MOST_SIGNALS};
 ghost use Rattle.policy.specs.Names.{names, numbered, number_in, AreDistinct};
 ghost use Rattle.policy.specs.Table.{named_row};
 
@@ -27,11 +28,12 @@ impl<V> Model for Table<V> {
 
     ghost Value = { List (List ℕ × V) };
 
+    ghost use Rattle.policy.specs.declared.limits.TheConstants.{MOST_SIGNALS};
     ghost use Rattle.policy.specs.Table.{named_rows};
 
     ghost view = { λ table. named_rows table.rows.entries };
 
-    ghost invariant = { λ table. length table.rows.entries ≤ 1024 };
+    ghost invariant = { λ table. length table.rows.entries ≤ MOST_SIGNALS };
 }
 
 impl<V> Table<V> {
@@ -47,7 +49,7 @@ impl<V> Table<V> {
     /// How many rows there are.
     pub fn len(&self) -> usize
         ensures count { result ≡ length self.now }
-        ensures bound { length self.now ≤ 1024 }
+        ensures bound { length self.now ≤ MOST_SIGNALS }
     {
         self.rows.len()
     }
@@ -69,7 +71,7 @@ impl<V> Table<V> {
     where
         V: Drop,
         requires new_name { number_in (names self.old) (string_bytes name) ≡ 0 }
-        requires room { length self.old < 1024 }
+        requires room { length self.old < MOST_SIGNALS }
         ensures ok { OnOk result (self.new ≡ self.old ++ (string_bytes name, row) ∷ []) }
         ensures err { OnErr result (self.new ≡ self.old) }
     {
@@ -88,7 +90,7 @@ impl<V> Table<V> {
     // The place of a name, from 0.
     fn index_of(&self, name: &[u8]) -> Option<usize>
         ensures place { result ≡ position (bytes_eq name.now) (names self.now) }
-        ensures bound { length self.now ≤ 1024 }
+        ensures bound { length self.now ≤ MOST_SIGNALS }
     {
         match std::str::from_utf8(name) {
             Ok(text) => self.rows.get_index_of(text),

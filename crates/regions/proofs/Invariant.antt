@@ -5,7 +5,8 @@ use Rattle.std.proofs.lemmas.Bool.{leb-true, and_parts}
 use Rattle.std.proofs.lemmas.List.{length-replicate, length-take, length-drop, length-map, length-set, map-set, set-get_or, get_or-map}
 use Rattle.std.proofs.lemmas.List.Elements.{All-nil, All-cons, All-map, All-replicate, All-append, All-take, All-drop, All-set}
 use Rattle.regions.specs.declared.regions.Place.{Place}
-use Rattle.regions.specs.Memory.{IsMemory, are_region_lengths, is_region_length, lengths_of, overlaid, zeros}
+use Rattle.aql_packet.specs.Memory.{are_region_lengths, is_region_length}
+use Rattle.regions.specs.Memory.{IsMemory, lengths_of, overlaid, zeros}
 use Rattle.regions.specs.Place.{laid_at}
 
 -- each length is 1 to 2^24 where the test says so

@@ -1,14 +1,14 @@
 -- The byte memory: a list of regions, each the list of its bytes. All of it is this project's own.
-use Rattle.std.specs.Prelude.{◌≡◌, ℕ, ◌+◌, ◌-◌, ◌/◌, ◌%◌, ◌^◌, ◌<◌, ◌≤◌, Bool, ◌&&◌, nat_lt, nat_le, if◌then◌else◌, List, [], ◌∷◌, ◌++◌, length, take, drop, map, replicate, slice_get, slice_index, slice_index_or, Option, All}
-use Rattle.std.specs.List.{list_all}
+use Rattle.std.specs.Prelude.{◌≡◌, ℕ, ◌+◌, ◌-◌, ◌/◌, ◌%◌, ◌<◌, ◌≤◌, Bool, ◌&&◌, nat_lt, nat_le, if◌then◌else◌, List, [], ◌∷◌, ◌++◌, length, take, drop, map, replicate, slice_get, slice_index, slice_index_or, Option, All}
+use Rattle.aql_packet.specs.declared.memory.TheConstants.{MOST_REGIONS, MOST_REGION_BYTES, REGION_SPAN}
 
--- the number of the region in which an address would lie: region h covers addresses from h * 2^32 (own)
+-- the number of the region in which an address would lie: region h covers addresses from h * REGION_SPAN (own)
 abbrev pub region_of : ℕ → ℕ
-region_of address = address / 2 ^ 32
+region_of address = address / REGION_SPAN
 
 -- how far an address lies past the first address of its region (own)
 abbrev pub offset_of : ℕ → ℕ
-offset_of address = address % 2 ^ 32
+offset_of address = address % REGION_SPAN
 
 -- the bytes of the region with this number: regions count from 1, so region 0 and unknown ones are empty (own)
 abbrev pub region_bytes : List (List ℕ) → ℕ → List ℕ
@@ -53,18 +53,10 @@ abbrev pub IsWritten : List (List ℕ) → ℕ → List ℕ → List (List ℕ) 
 IsWritten old address bytes new =
     (x : ℕ) → byte_at new x ≡ (if covers address (length bytes) x then slice_get bytes (x - address) else byte_at old x)
 
--- the length of a region: 1 to 2^24 bytes (own)
-abbrev pub is_region_length : ℕ → Bool
-is_region_length size = nat_le 1 size && nat_le size (2 ^ 24)
-
--- the lengths of a memory: at most 64 regions, each of 1 to 2^24 bytes (own)
-abbrev pub are_region_lengths : List ℕ → Bool
-are_region_lengths lengths = nat_le (length lengths) 64 && list_all is_region_length lengths
-
--- what every memory is: at most 64 regions, each of 1 to 2^24 bytes, each byte below 256 (own)
+-- what every memory is: so many regions at most, each of at least 1 byte and so many at most, each byte below 256 (own)
 pub record IsMemory (regions : List (List ℕ)) : Type 0 where
-  pub few : length regions ≤ 64
-  pub lengths : All (λ bytes. (1 ≤ length bytes) × (length bytes ≤ 2 ^ 24)) regions
+  pub few : length regions ≤ MOST_REGIONS
+  pub lengths : All (λ bytes. (1 ≤ length bytes) × (length bytes ≤ MOST_REGION_BYTES)) regions
   pub bytes : All (λ bytes. All (λ byte. byte < 256) bytes) regions
 
 -- a memory that was never written: regions of these lengths, all zeros (own)

@@ -2,24 +2,16 @@
 ghost use Rattle.std.specs.Prelude.{◌≡◌, ◌+◌, ◌<◌, IfOk, OnOk, OnErr, IsTrue, true, length, replicate};
 ghost use Rattle.std.specs.List.{list_all};
 ghost use Rattle.std.specs.Result.{result_err};
-ghost use Rattle.regions.specs.Memory.{are_region_lengths, bytes_from, is_region_length, is_within, IsMemory, IsWritten, lengths_of, offset_of, region_length, region_of, zeros};
+ghost use Rattle.aql_packet.specs.Memory.{are_region_lengths, is_region_length};
+ghost use Rattle.regions.specs.Memory.{bytes_from, is_within, IsMemory, IsWritten, lengths_of, offset_of, region_length, region_of, zeros};
 ghost use Rattle.regions.specs.Faults.{range_fault, copy_fault};
 ghost use Rattle.regions.specs.Place.{IsPlaceOf, LiesInside, handle_at, laid_at, length_of_region, part_at};
 
 use crate::fault::RegionFault;
 use crate::region::Region;
-use aql_packet::{Address, RegionHandle};
+use aql_packet::{Address, MOST_REGION_BYTES, MOST_REGIONS, REGION_SPAN, RegionHandle};
 use std::alloc::{AllocError, Global};
 use std::marker::Model;
-
-/// How many addresses lie between the first of one region and the first of the next (own).
-const SPAN: u64 = 1 << 32;
-
-/// How many regions a memory has at most (own).
-const MOST_REGIONS: usize = 64;
-
-/// How many bytes a region has at most (own).
-const MOST_BYTES: u32 = 1 << 24;
 
 /// The byte memory. Region number `h`, from 1, is the item `h - 1` of the list that a contract sees,
 /// and covers addresses from `h * 2^32`, as many as its length. There are at most 64 regions, each
@@ -44,7 +36,7 @@ impl Model for Regions {
 pub fn region_of(address: Address) -> RegionHandle
     ensures { result.0 ≡ region_of address.0 }
 {
-    RegionHandle((address.0 / SPAN) as u32)
+    RegionHandle((address.0 / REGION_SPAN) as u32)
 }
 
 /// Where a range lies: the index of its region, and the offset of its first byte there.
@@ -80,7 +72,7 @@ impl Regions {
         ensures memory { IsMemory self.now }
     {
         let region = region_of(address);
-        if address.0 % SPAN < self.room(region) {
+        if address.0 % REGION_SPAN < self.room(region) {
             Some(region)
         } else {
             None
@@ -205,7 +197,7 @@ impl Regions {
         ensures place { IfOk result (λ place. IsPlaceOf self.now address.0 length place) }
         ensures memory { IsMemory self.now }
     {
-        let offset = address.0 % SPAN;
+        let offset = address.0 % REGION_SPAN;
         let room = self.room(region_of(address));
         if offset >= room {
             return Err(RegionFault::NoRegion);
@@ -224,8 +216,8 @@ fn place_of(address: Address) -> Place
     ensures offset { result.offset ≡ offset_of address.0 }
 {
     Place {
-        index: (address.0 / SPAN) as usize - 1,
-        offset: (address.0 % SPAN) as usize,
+        index: (address.0 / REGION_SPAN) as usize - 1,
+        offset: (address.0 % REGION_SPAN) as usize,
     }
 }
 
@@ -235,7 +227,7 @@ fn are_sized(lengths: &[u32]) -> bool
 {
     lengths
         .iter()
-        .all(|length| 1 <= *length && *length <= MOST_BYTES)
+        .all(|length| 1 <= *length && *length <= MOST_REGION_BYTES)
 }
 
 /// Lays `size` bytes at one place over those at another, as if by a copy aside.

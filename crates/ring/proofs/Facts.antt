@@ -1,22 +1,19 @@
 -- What the ring rule tells a seat that makes a step.
 use Rattle.std.proofs.Common.{◌≡◌, ℕ, zero, suc, ◌+◌, ◌*◌, ◌%◌, ◌^◌, ◌<◌, ◌≤◌, true, List, [], ◌∷◌, length, get_or, refl, ap, ◌∙◌, sym, subst, arith, inl, inr, ◌⊎◌}
-use Rattle.std.proofs.lemmas.Bool.Decides.{nat_tests}
 use Rattle.ring_core.specs.declared.access.Access.{Access}
 use Rattle.ring_core.specs.declared.access.Access.TheVariants.{Reserve, RaiseReadIndex}
 use Rattle.ring_core.specs.declared.part.Part.{Part}
 use Rattle.ring_core.specs.declared.part.Part.TheVariants.{Producer, Processor}
 use Rattle.ring_core.specs.declared.part.ProcessorPart.{ProcessorPart}
 use Rattle.ring_core.specs.Parts.{may_make, nobody}
-use Rattle.ring_core.specs.Machine.{Machine, part_at, found, place_of, word_after, read_index, is_allowed, is_ring_size, producers_of}
+use Rattle.aql_packet.specs.Ring.{is_ring_size}
+use Rattle.ring_core.specs.Machine.{Machine, part_at, found, place_of, word_after, read_index, is_allowed, producers_of}
 use Rattle.ring_core.specs.Rule.{AreSeats, IsRule, IsRing, processor_of}
 use Rattle.ring_core.proofs.Kept.{producer_of, producers_all}
-use Rattle.ring_core.proofs.Sizes.{ring_size_bounds}
+use Rattle.ring_core.proofs.Sizes.{producer_bounds, ring_size_bounds}
 use Rattle.ring_core.proofs.States.{names_word, within, raises, fits_by}
-use Rattle.ring.specs.Opening.{is_producer_count}
+use Rattle.ring_core.specs.Machine.{is_producer_count}
 use Rattle.ring.specs.Steps.{KnowsIndex}
-
-pub few : (producers : ℕ) → is_producer_count producers ≡ true → (1 ≤ producers) × (producers ≤ 16)
-few producers h = grind (arith, nat_tests)
 
 seats_count : (n : ℕ) (parts : List Part) → AreSeats n parts → length parts ≡ suc n
 seats_count n [] seats = absurd seats
@@ -30,7 +27,7 @@ ring_of n size machine rule sized fits count =
     let d : producers_of machine ≡ n = omega (arith, e) in
     record {
       rule = subst (λ (k : ℕ). IsRule k machine) (sym d) rule;
-      few_producers = let f = (few n count).1 in omega (arith, d, f);
+      few_producers = let f = (producer_bounds n count).1 in omega (arith, d, f);
       ring_size = ap is_ring_size sized ∙ fits;
     }
 

@@ -10,10 +10,11 @@ use Rattle.ring_core.specs.declared.part.Part.TheVariants.{Producer, Processor}
 use Rattle.ring_core.specs.declared.access.Step.{Step}
 use Rattle.ring_core.specs.declared.part.Part.{Part}
 use Rattle.ring_core.specs.Parts.{may_make, part_after, seen_by, nobody}
-use Rattle.ring_core.specs.Machine.{Machine, Makes, machine_of, part_at, touched, found, made, opened, word_after, place_of, read_index, is_allowed, is_ring_size}
+use Rattle.aql_packet.specs.Ring.{is_ring_size}
+use Rattle.ring_core.specs.Machine.{Machine, Makes, machine_of, part_at, touched, found, made, opened, word_after, place_of, read_index, is_allowed}
 use Rattle.ring_core.specs.Rule.{IsRule, IsRing}
 use Rattle.ring_core.proofs.Sizes.{ring_size_bounds}
-use Rattle.ring.specs.Opening.{is_producer_count}
+use Rattle.ring_core.specs.Machine.{is_producer_count}
 use Rattle.ring.specs.Passes.{RingSeen, only_part}
 use Rattle.ring.proofs.Facts.{ring_of, index_of, adds}
 use Rattle.ring_core.proofs.Kept.{replays_keep, seated}

@@ -11,13 +11,14 @@ use Rattle.ring_core.specs.declared.part.Part.TheVariants.{Processor}
 use Rattle.ring_core.specs.declared.part.ProcessorPart.{ProcessorPart}
 use Rattle.ring_core.specs.Words.{is_invalid, packet_of}
 use Rattle.ring_core.specs.Parts.{after_processing, collected_packet}
-use Rattle.ring_core.specs.Machine.{Machine, Leads, made, opened, read_index, is_ring_size, producers_of}
+use Rattle.aql_packet.specs.Ring.{is_ring_size}
+use Rattle.ring_core.specs.Machine.{Machine, Leads, made, opened, read_index, producers_of}
 use Rattle.ring_core.specs.Rule.{IsRule, IsRing}
 use Rattle.ring_core.proofs.Kept.{replays_keep}
 use Rattle.ring_core.proofs.Sizes.{ring_size_bounds}
 use Rattle.ring_core.proofs.States.{raises, fits_by}
 use Rattle.ring.specs.declared.share.Numbered.{Numbered}
-use Rattle.ring.specs.Opening.{is_producer_count}
+use Rattle.ring_core.specs.Machine.{is_producer_count}
 use Rattle.ring.specs.Shares.{alone}
 use Rattle.ring.specs.Passes.{only_part, as_processor, collected_of, IsProcessorPass}
 use Rattle.ring.specs.Made.{WasMade, WereMade, Gained, knowing_all, read, stored, showing, retiring}

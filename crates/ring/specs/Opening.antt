@@ -1,12 +1,9 @@
 -- A ring as it opens (own).
-use Rattle.std.specs.Prelude.{◌≡◌, ℕ, Bool, true, false, ◌&&◌, nat_le}
-use Rattle.ring_core.specs.Machine.{is_ring_size}
+use Rattle.std.specs.Prelude.{◌≡◌, ℕ, true, false}
+use Rattle.aql_packet.specs.Ring.{is_ring_size}
+use Rattle.ring_core.specs.Machine.{is_producer_count}
 use Rattle.ring.specs.declared.ring.RingFault.{RingFault}
 use Rattle.ring.specs.declared.ring.RingFault.TheVariants.{OutOfMemory, BadSize, BadProducers}
-
--- how many producers a ring may have
-abbrev pub is_producer_count : ℕ → Bool
-is_producer_count producers = nat_le 1 producers && nat_le producers 16
 
 -- the size is judged before the number of producers, and both before memory is asked for
 abbrev pub IsRingFault : ℕ → ℕ → RingFault → Type 0

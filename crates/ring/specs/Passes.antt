@@ -9,8 +9,9 @@ use Rattle.ring_core.specs.Words.{no_words}
 use Rattle.ring_core.specs.Parts.{nobody}
 use Rattle.ring.specs.declared.share.Numbered.{Numbered}
 use Rattle.ring.specs.declared.share.Shape.{Shape}
-use Rattle.ring_core.specs.Machine.{is_ring_size, word_count}
-use Rattle.ring.specs.Opening.{is_producer_count}
+use Rattle.aql_packet.specs.Ring.{is_ring_size}
+use Rattle.ring_core.specs.Machine.{word_count}
+use Rattle.ring_core.specs.Machine.{is_producer_count}
 use Rattle.ring.specs.Shares.{alone, shape_of}
 
 -- a ring: which table of words it is, how many slots it has, and how many producers

@@ -1,7 +1,7 @@
 //! The processor's pass: it is shown packets, in the order of their ids, and retires them.
 
 ghost use Rattle.std.specs.Prelude.{◌≡◌, ◌↔◌, ℕ, ◌+◌, [], ◌∷◌, IsTrue, length, true};
-ghost use Rattle.ring_core.specs.Machine.{is_ring_size};
+ghost use Rattle.aql_packet.specs.Ring.{is_ring_size};
 ghost use Rattle.ring.specs.Bytes.{words_of};
 ghost use Rattle.ring.specs.Made.{retiring};
 ghost use Rattle.ring.specs.Showing.{IsShownBy, ProcessorGains, HasPeeked, ShowsAgain, IsLoadable, HasLoaded};

@@ -1,17 +1,19 @@
 //! The ring: its words, and how its passes are cut from one seat.
 
 ghost use Rattle.std.specs.Prelude.{◌≡◌, ◌≤◌, ℕ, [], IfOk, IfErr, true, take, drop, replicate, All};
-ghost use Rattle.ring_core.specs.Machine.{is_ring_size};
+ghost use Rattle.aql_packet.specs.Ring.{is_ring_size};
 ghost use Rattle.ring_core.specs.Parts.{new_producer};
 ghost use Rattle.ring.specs.Dealt.{dealt, new_processor_pass};
 ghost use Rattle.ring.specs.Shares.{first_share, numbered, shape_of};
-ghost use Rattle.ring.specs.Opening.{IsRingFault, is_producer_count};
+ghost use Rattle.ring_core.specs.Machine.{is_producer_count};
+ghost use Rattle.ring.specs.Opening.{IsRingFault};
 
 use crate::processor::ProcessorPass;
 use crate::producer::ProducerPass;
 use crate::share::{FirstOff, Kept, RingSeat, Shape, Share};
+use aql_packet::is_ring_size;
 use atomic_table::Table;
-use ring_core::{ALLOWANCE, is_ring_size, opening_words};
+use ring_core::{ALLOWANCE, is_producer_count, opening_words};
 use std::alloc::{AllocError, Global};
 use std::marker::Model;
 
@@ -54,13 +56,6 @@ impl From<AllocError> for RingFault {
     fn from(_: AllocError) -> RingFault {
         RingFault::OutOfMemory
     }
-}
-
-/// Whether a ring may have so many producers: 1 to 16.
-fn is_producer_count(producers: u64) -> bool
-    ensures { result ≡ is_producer_count producers }
-{
-    1 <= producers && producers <= 16
 }
 
 /// A ring with all its parts in one seat.

@@ -2,7 +2,7 @@
 //! machine does.
 
 ghost use Rattle.std.specs.Prelude.{◌≡◌, true};
-ghost use Rattle.ring_core.specs.Machine.{is_ring_size};
+ghost use Rattle.aql_packet.specs.Ring.{is_ring_size};
 ghost use Rattle.ring.specs.Steps.{IsTold, IsReady, IsLoad, IsStore, IsAdd};
 
 use crate::ring::Ring;

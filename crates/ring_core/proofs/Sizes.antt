@@ -1,14 +1,18 @@
--- The sizes of rings are powers of two, so that a mask finds a packet's slot.
+-- The bounds of rings; their sizes are powers of two, so that a mask finds a packet's slot.
 use Rattle.std.proofs.Common.{◌≡◌, ℕ, ◌-◌, ◌%◌, ◌^◌, ◌<◌, ◌≤◌, true, List, [], ◌∷◌, map, arith, inl, inr, sym, ap, subst, ◌∙◌, ◌||◌}
 use Rattle.std.specs.Prelude.{◌==◌}
 use Rattle.std.specs.Int.Bits.{bit_and}
 use Rattle.std.specs.List.{list_any}
 use Rattle.std.proofs.lemmas.Bool.Decides.{nat_tests, eqb_tells}
 use Rattle.std.proofs.lemmas.Nat.{and_mask}
-use Rattle.ring_core.specs.Machine.{is_ring_size}
+use Rattle.aql_packet.specs.Ring.{is_ring_size}
+use Rattle.ring_core.specs.Machine.{is_producer_count}
 
 pub ring_size_bounds : (size : ℕ) → is_ring_size size ≡ true → (0 < size) × (size ≤ 4096)
 ring_size_bounds size h = grind (arith, nat_tests)
+
+pub producer_bounds : (producers : ℕ) → is_producer_count producers ≡ true → (1 ≤ producers) × (producers ≤ 16)
+producer_bounds producers h = grind (arith, nat_tests)
 
 -- what is among some powers of two is one of them
 power_of : (exponents : List ℕ) (size : ℕ) → list_any (λ s. s == size) (map (λ k. 2 ^ k) exponents) ≡ true → (k : ℕ) × (size ≡ 2 ^ k)

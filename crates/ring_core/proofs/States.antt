@@ -16,7 +16,8 @@ use Rattle.ring_core.specs.declared.part.Part.TheVariants.{Producer, Processor}
 use Rattle.ring_core.specs.Words.{word, is_body, has_body, is_invalid}
 use Rattle.ring_core.specs.Tickets.{blank, is_published, shows_room, open_ticket, IsAbove}
 use Rattle.ring_core.specs.Parts.{may_make, part_after, new_producer, nobody, seen_by, passes, SuitsPart}
-use Rattle.ring_core.specs.Machine.{Machine, Makes, Leads, Replays, StopsAt, slot_word, write_index, read_index, place_of, word_after, part_at, is_allowed, touched, found, made, opened, is_ring_size, producers_of, Fits64, NamesWord}
+use Rattle.aql_packet.specs.Ring.{is_ring_size}
+use Rattle.ring_core.specs.Machine.{Machine, Makes, Leads, Replays, StopsAt, slot_word, write_index, read_index, place_of, word_after, part_at, is_allowed, touched, found, made, opened, producers_of, Fits64, NamesWord}
 use Rattle.ring_core.specs.Rule.{tickets_of, all_tickets, ticket_of, times, allowance_of, AreSeats, processor_of, IsRule, IsRing}
 use Rattle.ring_core.proofs.Places.{place_in}
 use Rattle.ring_core.proofs.Sizes.{ring_size_bounds}

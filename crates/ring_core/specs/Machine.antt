@@ -1,17 +1,14 @@
 -- The ring machine: its words and parts, and what a step is (own; over PSA, User Mode Queuing).
-use Rattle.std.specs.Prelude.{◌≡◌, ℕ, ◌+◌, ◌*◌, ◌%◌, ◌-◌, ◌<◌, ◌≤◌, ◌==◌, length, zero, suc, Bool, true, false, List, [], ◌∷◌, get_or, slice_index, slice_set, replicate, ◌^◌, ⊤}
-use Rattle.std.specs.List.{list_any}
+use Rattle.std.specs.Prelude.{◌≡◌, ℕ, ◌+◌, ◌*◌, ◌%◌, ◌-◌, ◌<◌, length, zero, suc, Bool, ◌&&◌, nat_le, true, false, List, [], ◌∷◌, get_or, slice_index, slice_set, replicate, ◌^◌, ⊤}
 use Rattle.ring_core.specs.declared.access.Access.{Access}
 use Rattle.ring_core.specs.declared.access.Access.TheVariants.{Reserve, LoadReadIndex, StoreBody, StoreHeader, LoadHeader, LoadBody, ClearHeader, RaiseReadIndex}
+use Rattle.aql_packet.specs.declared.ring.TheConstants.{INVALID}
+use Rattle.ring_core.specs.declared.access.TheConstants.{FIRST_SLOT, READ_PLACE, WRITE_PLACE}
+use Rattle.ring_core.specs.declared.state.TheConstants.{MOST_PRODUCERS}
 use Rattle.ring_core.specs.declared.access.Step.{Step}
 use Rattle.ring_core.specs.declared.access.Seen.{Seen}
 use Rattle.ring_core.specs.declared.part.Part.{Part}
 use Rattle.ring_core.specs.Parts.{may_make, part_after, seen_by, new_producer, new_processor, nobody}
-
--- the sizes that a ring may have: the powers of two from 2 to 4,096 (own)
-abbrev pub is_ring_size : ℕ → Bool
-is_ring_size size =
-    list_any (λ s. s == size) (2 ∷ 4 ∷ 8 ∷ 16 ∷ 32 ∷ 64 ∷ 128 ∷ 256 ∷ 512 ∷ 1024 ∷ 2048 ∷ 4096 ∷ [])
 
 -- a ring: how many slots it has, its words, and the part of each seat, that of the processor first
 pub record Machine : Type 0 where
@@ -22,49 +19,39 @@ pub record Machine : Type 0 where
 abbrev pub machine_of : ℕ → List ℕ → List Part → Machine
 machine_of size words parts = record { size = size; words = words; parts = parts }
 
--- where the write index, the read index and the first slot lie (own)
-abbrev pub write_place : ℕ
-write_place = 0
-
-abbrev pub read_place : ℕ
-read_place = 1
-
-abbrev pub first_slot : ℕ
-first_slot = 2
-
 -- how many words a ring has, and where word k of the packet with an id lies: eight words a slot (own)
 abbrev pub word_count : ℕ → ℕ
-word_count size = first_slot + 8 * size
+word_count size = FIRST_SLOT + 8 * size
 
 unfoldable pub word_place : ℕ → ℕ → ℕ → ℕ
-word_place size id k = first_slot + 8 * (id % size) + k
+word_place size id k = FIRST_SLOT + 8 * (id % size) + k
 
 abbrev pub write_index : Machine → ℕ
-write_index machine = slice_index machine.words write_place
+write_index machine = slice_index machine.words WRITE_PLACE
 
 abbrev pub read_index : Machine → ℕ
-read_index machine = slice_index machine.words read_place
+read_index machine = slice_index machine.words READ_PLACE
 
 abbrev pub slot_word : Machine → ℕ → ℕ → ℕ
 slot_word machine id k = slice_index machine.words (word_place machine.size id k)
 
 -- the word that an access touches
 abbrev pub place_of : ℕ → ℕ → Access → ℕ
-place_of size read_index Reserve = write_place
-place_of size read_index (LoadReadIndex ticket) = read_place
+place_of size read_index Reserve = WRITE_PLACE
+place_of size read_index (LoadReadIndex ticket) = READ_PLACE
 place_of size read_index (StoreBody ticket place word) = word_place size ticket.0 place
 place_of size read_index (StoreHeader ticket word) = word_place size ticket.0 0
 place_of size read_index LoadHeader = word_place size read_index 0
 place_of size read_index (LoadBody place) = word_place size read_index place
 place_of size read_index ClearHeader = word_place size read_index 0
-place_of size read_index RaiseReadIndex = read_place
+place_of size read_index RaiseReadIndex = READ_PLACE
 
 -- that word afterwards; a load leaves it
 abbrev pub word_after : Access → ℕ → ℕ
 word_after Reserve old = old + 1
 word_after (StoreBody ticket place word) old = word
 word_after (StoreHeader ticket word) old = word
-word_after ClearHeader old = 1
+word_after ClearHeader old = INVALID
 word_after RaiseReadIndex old = old + 1
 word_after _ old = old
 
@@ -109,11 +96,11 @@ pub record Makes (machine : Machine) (step : Step) (seen : Seen) (next : Machine
 -- the words of so many free slots: word 0 has the type INVALID
 abbrev pub free_slots : ℕ → List ℕ
 free_slots zero = []
-free_slots (suc n) = 1 ∷ 0 ∷ 0 ∷ 0 ∷ 0 ∷ 0 ∷ 0 ∷ 0 ∷ free_slots n
+free_slots (suc n) = INVALID ∷ 0 ∷ 0 ∷ 0 ∷ 0 ∷ 0 ∷ 0 ∷ 0 ∷ free_slots n
 
 -- how many producers a ring may have (own)
-abbrev pub IsProducerCount : ℕ → Type 0
-IsProducerCount producers = (1 ≤ producers) × (producers ≤ 16)
+abbrev pub is_producer_count : ℕ → Bool
+is_producer_count producers = nat_le 1 producers && nat_le producers MOST_PRODUCERS
 
 -- a ring as it opens: both indices 0, each slot free
 abbrev pub opened : ℕ → ℕ → Machine

@@ -1,6 +1,6 @@
 -- What each seat may do and knows: the eight steps, as far as the part of the step's own seat goes
 -- (own; over PSA, User Mode Queuing).
-use Rattle.std.specs.Prelude.{◌≡◌, ℕ, ◌-◌, ◌^◌, Bool, true, false, not, ◌&&◌, nat_lt, List, [], ◌∷◌, ◌++◌, slice_set, Option, Some, None, ⊤, is_some, if◌then◌else◌}
+use Rattle.std.specs.Prelude.{◌≡◌, ℕ, ◌-◌, Bool, true, false, not, ◌&&◌, nat_lt, List, [], ◌∷◌, ◌++◌, slice_set, Option, Some, None, ⊤, is_some, if◌then◌else◌}
 use Rattle.std.specs.List.{list_all}
 use Rattle.ring_core.specs.declared.ticket.Ticket.{Ticket}
 use Rattle.ring_core.specs.declared.ticket.Reserved.{Reserved}
@@ -11,6 +11,7 @@ use Rattle.ring_core.specs.declared.access.Seen.TheVariants.{Read, Stored}
 use Rattle.ring_core.specs.declared.access.Made.{Made}
 use Rattle.ring_core.specs.declared.part.ProducerPart.{ProducerPart}
 use Rattle.ring_core.specs.declared.part.ProcessorPart.{ProcessorPart}
+use Rattle.ring_core.specs.declared.part.TheConstants.{ALLOWANCE}
 use Rattle.ring_core.specs.declared.part.Part.{Part}
 use Rattle.ring_core.specs.declared.part.Part.TheVariants.{Producer, Processor}
 use Rattle.ring_core.specs.Words.{word, no_words, is_body, has_body, packet_of, is_invalid}
@@ -130,9 +131,9 @@ abbrev pub SuitsPart : Part → Access → ℕ → Type 0
 SuitsPart (Producer p) access old = Suits access old p.tickets
 SuitsPart (Processor p) access old = ⊤
 
--- the parts at the opening: 2 ^ 40 ids to reserve, no ticket, nothing retired or collected, no step made
+-- the parts at the opening: the whole allowance of ids to reserve, no ticket, nothing retired or collected, no step made
 abbrev pub new_producer : Part
-new_producer = Producer record { allowance = 2 ^ 40; tickets = []; steps = [] }
+new_producer = Producer record { allowance = ALLOWANCE; tickets = []; steps = [] }
 
 abbrev pub new_processor : Part
 new_processor = Processor record { retired = []; collected = no_words; raising = false; steps = [] }

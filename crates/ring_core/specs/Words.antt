@@ -1,6 +1,7 @@
 -- The eight words of a packet, as far as they are known.
 use Rattle.std.specs.Prelude.{ℕ, Bool, List, [], ◌∷◌, ◌==◌, ◌&&◌, nat_le, Option, None, is_some, get_or, drop, map, unwrap_or}
 use Rattle.std.specs.List.{list_all}
+use Rattle.aql_packet.specs.declared.ring.TheConstants.{INVALID}
 use Rattle.aql_packet.specs.Numbers.{bits}
 
 -- no word is known
@@ -23,6 +24,6 @@ has_body words = list_all is_some (drop 1 words)
 abbrev pub packet_of : List (Option ℕ) → List ℕ
 packet_of words = map (λ w. unwrap_or w 0) words
 
--- whether a header word has the type INVALID, which is 1 (PSA, Architected Queuing Language)
+-- whether a header word has the type INVALID (PSA, Architected Queuing Language)
 abbrev pub is_invalid : ℕ → Bool
-is_invalid header = bits header 7 0 == 1
+is_invalid header = bits header 7 0 == INVALID

@@ -1,10 +1,11 @@
 //! The eight steps, and what each reads and writes in a ring's words.
 
 ghost use Rattle.std.specs.Prelude.{◌≡◌, ◌%◌, ◌<◌, true};
-ghost use Rattle.ring_core.specs.Machine.{is_ring_size, word_place, place_of, word_after, Fits64, NamesWord};
+ghost use Rattle.aql_packet.specs.Ring.{is_ring_size};
+ghost use Rattle.ring_core.specs.Machine.{word_place, place_of, word_after, Fits64, NamesWord};
 ghost use Rattle.ring_core.specs.Parts.{seen_by};
 
-use aql_packet::PacketId;
+use aql_packet::{INVALID, PacketId};
 
 /// The place of the write index among a ring's words.
 pub const WRITE_PLACE: usize = 0;
@@ -61,7 +62,7 @@ pub enum Access {
     LoadBody {
         place: u64,
     },
-    /// The processor writes 1, type INVALID, to word 0 of the slot at the read index.
+    /// The processor writes the type INVALID to word 0 of the slot at the read index.
     ClearHeader,
     /// The processor adds 1 to the read index, and so retires the packet.
     RaiseReadIndex,
@@ -128,7 +129,7 @@ impl Access {
         match self {
             Access::Reserve | Access::RaiseReadIndex => old + 1,
             Access::StoreBody { word, .. } | Access::StoreHeader { word, .. } => word,
-            Access::ClearHeader => 1,
+            Access::ClearHeader => INVALID as u64,
             _ => old,
         }
     }

@@ -3,7 +3,8 @@
 ghost use Rattle.std.specs.Prelude.{ℕ, ◌<◌, ◌≤◌, ◌≡◌, List, length, true};
 ghost use Rattle.ring_core.specs.declared.access.Step.{Step};
 ghost use Rattle.ring_core.specs.declared.access.Seen.{Seen};
-ghost use Rattle.ring_core.specs.Machine.{Machine, Makes, Replays, is_ring_size, read_index};
+ghost use Rattle.aql_packet.specs.Ring.{is_ring_size};
+ghost use Rattle.ring_core.specs.Machine.{Machine, Makes, Replays, read_index};
 ghost use Rattle.ring_core.specs.Rule.{IsRule};
 ghost use Rattle.ring_core.specs.Runs.{KnowsItsOwn, retired_at, ticket_words, all_known};
 

@@ -19,7 +19,7 @@ pub use laws::{
 pub use log::Log;
 pub use part::{ALLOWANCE, Part, ProcessorPart, ProducerPart};
 pub use state::{
-    RING_SIZES, ReplayFault, RingState, StepFault, is_ring_size, opening_words, replay,
+    MOST_PRODUCERS, ReplayFault, RingState, StepFault, is_producer_count, opening_words, replay,
 };
-pub use ticket::{INVALID, Reserved, Ticket, TicketChange, is_invalid};
+pub use ticket::{Reserved, Ticket, TicketChange, is_invalid};
 pub use tickets::Tickets;

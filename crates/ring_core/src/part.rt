@@ -44,7 +44,7 @@ pub enum Part {
 }
 
 /// How many ids a producer may reserve: 2^40.
-pub const ALLOWANCE: u64 = 1_099_511_627_776;
+pub const ALLOWANCE: u64 = 1 << 40;
 
 impl ProducerPart {
     /// Whether the producer may make an access, in a ring of this size.

@@ -1,12 +1,14 @@
 //! The machine: a ring's words and the part of each seat.
 
 ghost use Rattle.std.specs.Prelude.{◌≡◌, ◌≤◌, ◌↔◌, IfOk, IfErr, OnErr, Err, true, false};
-ghost use Rattle.ring_core.specs.Machine.{Makes, is_allowed, opened, Replays, is_ring_size, IsProducerCount, producers_of, write_index, read_index};
+ghost use Rattle.aql_packet.specs.Ring.{is_ring_size};
+ghost use Rattle.ring_core.specs.Machine.{Makes, is_allowed, opened, Replays, is_producer_count, producers_of, write_index, read_index};
 ghost use Rattle.ring_core.specs.Rule.{IsRule, processor_of};
 ghost use Rattle.ring_core.specs.Faults.{IsReplayFault, fault_at};
 
 use crate::access::{READ_PLACE, Seen, Step, WRITE_PLACE};
 use crate::part::{Part, ProcessorPart};
+use aql_packet::INVALID;
 use std::alloc::{AllocError, Global};
 use std::marker::Model;
 
@@ -51,21 +53,21 @@ impl From<AllocError> for StepFault {
     }
 }
 
-/// The numbers of slots that a ring may have.
-pub const RING_SIZES: [u64; 12] = [2, 4, 8, 16, 32, 64, 128, 256, 512, 1024, 2048, 4096];
+/// How many producers a ring has at the most.
+pub const MOST_PRODUCERS: u64 = 16;
 
-/// Whether a ring may have so many slots: a power of two from 2 to 4,096.
-pub fn is_ring_size(size: u64) -> bool
-    ensures { result ≡ is_ring_size size }
+/// Whether a ring may have so many producers: at least one.
+pub fn is_producer_count(producers: u64) -> bool
+    ensures { result ≡ is_producer_count producers }
 {
-    RING_SIZES.contains(&size)
+    1 <= producers && producers <= MOST_PRODUCERS
 }
 
 impl RingState {
     /// The ring as it opens: both indices 0, each slot free, and no step made.
     pub fn new(alloc: Global, size: u64, producers: u64) -> Result<RingState, AllocError>
         requires size { is_ring_size size ≡ true }
-        requires producers { IsProducerCount producers }
+        requires producers { is_producer_count producers ≡ true }
         ensures { IfOk result (λ ring. ring ≡ opened size producers) }
     {
         let words = opening_words(alloc, size)?;
@@ -181,7 +183,7 @@ pub fn replay(
     steps: &[Step],
 ) -> Result<RingState, ReplayFault>
     requires size { is_ring_size size ≡ true }
-    requires producers { IsProducerCount producers }
+    requires producers { is_producer_count producers ≡ true }
     ensures replays { IfOk result (λ ring. Replays size producers steps.now ring) }
     ensures rule { IfOk result (λ ring. IsRule producers ring) }
     ensures stops { IfErr result (λ fault. IsReplayFault size producers steps.now fault) }
@@ -215,7 +217,7 @@ pub fn opening_words(alloc: Global, size: u64) -> Result<Vec<u64>, AllocError>
     words.push(0)?;
     words.push(0)?;
     for _slot in 0..size {
-        words.extend_from_slice(&[1, 0, 0, 0, 0, 0, 0, 0])?;
+        words.extend_from_slice(&[INVALID as u64, 0, 0, 0, 0, 0, 0, 0])?;
     }
     Ok(words)
 }

@@ -5,7 +5,7 @@ ghost use Rattle.std.specs.List.{list_all};
 ghost use Rattle.ring_core.specs.Words.{no_words, is_body, has_body, packet_of, is_invalid};
 ghost use Rattle.ring_core.specs.Tickets.{blank, is_published, shows_room};
 
-use aql_packet::{PacketId, header_of};
+use aql_packet::{INVALID, PacketId, header_of};
 
 /// A reserved id, as its producer knows it: open until its header word is written, published from
 /// then on.
@@ -133,9 +133,6 @@ pub(crate) fn packet_of(words: &[Option<u64>; 8]) -> [u64; 8]
     }
     packet
 }
-
-/// The packet type INVALID (PSA, Architected Queuing Language).
-pub const INVALID: u8 = 1;
 
 /// Whether a header word has the type INVALID (PSA, Architected Queuing Language).
 pub fn is_invalid(header: u64) -> bool

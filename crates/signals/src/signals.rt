@@ -2,7 +2,7 @@
 
 ghost use Rattle.signals.specs.Values.{after, meets, unknown_signal, value_of};
 ghost use Rattle.std.specs.Option.{ok_or, option_map};
-ghost use Rattle.std.specs.Prelude.{IfOk, MatchOption, length, ◌+◌, ◌<◌, ◌==◌, ◌≡◌, ◌⊎◌};
+ghost use Rattle.std.specs.Prelude.{IfOk, is_some, length, true, ◌==◌, ◌≡◌};
 
 use crate::operation::{Condition, SignalOp};
 use aql_packet::SignalHandle;
@@ -52,27 +52,44 @@ impl Signals {
         self.values.is_empty()
     }
 
+    /// A signal's value, if there is a signal of this number. It takes no memory.
+    #[tactic(auto, unfolding(crate::specs::Values::value_of))]
+    pub fn value(&self, signal: SignalHandle) -> Option<i64>
+        ensures { result ≡ value_of self.now signal.0 }
+    {
+        if signal.0 == 0 {
+            return None;
+        }
+        self.values.get(signal.0 as usize - 1).copied()
+    }
+
+    /// Changes the value of a signal that is there. It takes no memory.
+    pub fn change(&mut self, signal: SignalHandle, operation: SignalOp)
+        requires { is_some (value_of self.old signal.0) ≡ true }
+        ensures { self.new ≡ after self.old signal.0 operation }
+    {
+        let index = (signal.0 - 1) as usize;
+        self.values[index] = operation.applied(self.values[index]);
+    }
+
     /// A signal's value (PRM, signal load). It takes no memory.
     pub fn load(&self, signal: SignalHandle) -> Result<i64, UnknownSignal>
         ensures { result ≡ ok_or (value_of self.now signal.0) unknown_signal }
     {
-        let Some(index) = index_of(signal, self.values.len()) else {
-            return Err(UnknownSignal);
-        };
-        Ok(self.values[index])
+        self.value(signal).ok_or(UnknownSignal)
     }
 
     /// Changes a signal's value, and answers the old one. Where no signal has the number, all stay.
     /// It takes no memory.
+    #[tactic(auto, using(crate::proofs::ValueLemmas::unchanged))]
     pub fn apply(&mut self, signal: SignalHandle, operation: SignalOp) -> Result<i64, UnknownSignal>
         ensures old { result ≡ ok_or (value_of self.old signal.0) unknown_signal }
         ensures values { self.new ≡ after self.old signal.0 operation }
     {
-        let Some(index) = index_of(signal, self.values.len()) else {
+        let Some(old) = self.value(signal) else {
             return Err(UnknownSignal);
         };
-        let old = self.values[index];
-        self.values[index] = operation.applied(old);
+        self.change(signal, operation);
         Ok(old)
     }
 
@@ -90,17 +107,6 @@ impl Signals {
         let value = self.load(signal)?;
         Ok(condition.is_met(value, against))
     }
-}
-
-// Where the signal's value stands among `count`, if it is one of them.
-fn index_of(signal: SignalHandle, count: usize) -> Option<usize>
-    ensures { MatchOption result ((signal.0 ≡ 0) ⊎ (count < signal.0))
-        (λ index. (signal.0 ≡ index + 1) × (index < count)) }
-{
-    if signal.0 == 0 || signal.0 > count as u64 {
-        return None;
-    }
-    Some((signal.0 - 1) as usize)
 }
 
 impl fmt::Display for UnknownSignal {

@@ -9,23 +9,23 @@ use Rattle.core_model.specs.declared.event.Event.TheVariants.{OpenQueue, Take}
 use Rattle.core_model.specs.declared.outcome.Outcome.{Outcome}
 use Rattle.core_model.specs.declared.refusal.Refusal as cores
 use Rattle.core_model.specs.History.{History}
-use Rattle.core_model.specs.Owed as owed_size
 use Rattle.core_model.specs.Owed.{Owed, refuses, answers, enters}
 use Rattle.core_model.specs.Legal.{MeetsOrLacks, due, empty_history, reply_of}
 use Rattle.ring_core.specs.Parts.{collected_packet}
-use Rattle.ring_core.specs.Machine.{is_ring_size, read_index}
+use Rattle.aql_packet.specs.Ring.{is_ring_size}
+use Rattle.ring_core.specs.Machine.{is_producer_count, read_index}
 use Rattle.ring_core.specs.Rule.{processor_of}
 use Rattle.world.specs.declared.queue_ring.Next.{Next}
 use Rattle.world.specs.declared.queue_ring.QueueRing.{QueueRing}
 use Rattle.world.specs.declared.reply.Refusal.TheVariants as refusal
 use Rattle.world.specs.Bytes.{bytes_of}
-use Rattle.world.specs.Dues.{are_producers, asked_size}
+use Rattle.world.specs.Dues.{asked_size}
 use Rattle.world.specs.InStep.{IsJoined}
 use Rattle.world.specs.Making.{AreDecided}
 use Rattle.world.specs.Obeying.{HandsOver, TakesAt, next_of, next_where}
 use Rattle.world.proofs.Numbering.{numbered_none, numbered_set}
 use Rattle.world.proofs.Entering.{due_answers, due_enters}
-use Rattle.world.proofs.OpeningKept.{opening_owed, same_sizes, size_asked}
+use Rattle.world.proofs.OpeningKept.{opening_owed, size_asked}
 use Rattle.world.proofs.Kept.{begins}
 use Rattle.world.proofs.Obeyed.{World}
 
@@ -46,16 +46,16 @@ handed_refused core core' rings queue r next bytes why found is filled meets =
         )
 
 -- a queue whose ring there can't be is not opened
-pub never_opened : (core core' : History) (client : ClientId) (agent : AgentHandle) (size producers asked : ℕ) (told : Outcome) → (are_producers producers && is_ring_size size) ≡ false → asked ≡ asked_size size producers
+pub never_opened : (core core' : History) (client : ClientId) (agent : AgentHandle) (size producers asked : ℕ) (told : Outcome) → (is_producer_count producers && is_ring_size size) ≡ false → asked ≡ asked_size size producers
     → MeetsOrLacks (OpenQueue client agent asked) core core' (Ok told) → ⊥
 never_opened core core' client agent size producers asked told unfit is (inr lacks) = let e = lacks.reply_is in cc
 never_opened core core' client agent size producers asked told unfit is (inl meets) = by_owing (due core (OpenQueue client agent asked)) refl meets.reply_is
   where
-    fits_not : owed_size.is_ring_size asked ≡ true → ⊥
+    fits_not : is_ring_size asked ≡ true → ⊥
     fits_not fits =
-        let good = size_asked size producers (ap owed_size.is_ring_size (sym is) ∙ fits) in
-        let size_good : is_ring_size size ≡ true = sym (same_sizes size) ∙ ap owed_size.is_ring_size (sym good.0 ∙ sym is) ∙ fits in
-        let both_good : (are_producers producers && is_ring_size size) ≡ true = (λ i. good.1 i && size_good i) in
+        let good = size_asked size producers (ap is_ring_size (sym is) ∙ fits) in
+        let size_good : is_ring_size size ≡ true = ap is_ring_size (sym good.0 ∙ sym is) ∙ fits in
+        let both_good : (is_producer_count producers && is_ring_size size) ≡ true = (λ i. good.1 i && size_good i) in
         cc
 
     by_owing : (owing : Owed) → due core (OpenQueue client agent asked) ≡ owing → Ok told ≡ reply_of owing → ⊥

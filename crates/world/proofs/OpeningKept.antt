@@ -1,7 +1,7 @@
 -- A queue that is opened gets a ring of its own, in which nothing happened.
 use Rattle.std.proofs.Common.{◌≡◌, ◌≢◌, ℕ, ◌+◌, ◌≤◌, List, [], ◌∷◌, ◌++◌, length, refl, sym, ap, ◌∙◌, subst, Bool, true, false, Option, Some, None, inl, inr, arith, length-append}
-use Rattle.std.specs.Prelude.{◌==◌, ◌||◌, ◌&&◌, nat_le, if◌then◌else◌}
-use Rattle.std.proofs.lemmas.Bool.Decides.{eqb_tells, nat_tests}
+use Rattle.std.specs.Prelude.{◌==◌, nat_le, if◌then◌else◌}
+use Rattle.std.proofs.lemmas.Bool.Decides.{eqb_tells}
 use Rattle.aql_packet.specs.declared.ids.AgentHandle.{AgentHandle}
 use Rattle.aql_packet.specs.declared.ids.ClientId.{ClientId}
 use Rattle.aql_packet.specs.declared.ids.QueueId.{QueueId}
@@ -19,15 +19,16 @@ use Rattle.core_model.specs.declared.refusal.Refusal.{Refusal}
 use Rattle.core_model.specs.History.{Start, History}
 use Rattle.core_model.specs.Grants.{in_force}
 use Rattle.core_model.specs.Queues.{openings}
-use Rattle.core_model.specs.Owed as owed_size
 use Rattle.core_model.specs.Owed.{Owed, owed, refuses, answers, enters, refuse_if, refuse_unless}
 use Rattle.core_model.specs.Legal.{IsLegal, due, entry_of, history_after, reply_of}
 use Rattle.core_model.proofs.More.{next_id-more, openings-more}
 use Rattle.ring_core.specs.Machine as machine
-use Rattle.ring_core.specs.Machine.{Machine, is_ring_size}
+use Rattle.aql_packet.specs.Ring.{is_ring_size}
+use Rattle.ring_core.specs.Machine.{Machine, is_producer_count}
+use Rattle.ring_core.proofs.Sizes.{producer_bounds}
 use Rattle.ring_core.proofs.States.{ring_opens}
 use Rattle.world.specs.States.{Joined, joined, ring_of}
-use Rattle.world.specs.Dues.{are_producers, asked_size, rings_after}
+use Rattle.world.specs.Dues.{asked_size, rings_after}
 use Rattle.world.specs.InStep as InStep
 use Rattle.world.specs.InStep.{IsInStep, IsJoined, IsUntouched, Stands}
 use Rattle.world.proofs.Numbering.{map_more, numbered_new, numbered_next, numbered_old}
@@ -46,28 +47,19 @@ through_if false why rest owing some is = is
 
 -- what isn't refused is an entry, and the size is one that a ring may have
 pub opening_owed : (start : Start) (es : List Entry) (client : ClientId) (agent : AgentHandle) (size : ℕ) (owing : Owed) → ((w : Refusal) → owing ≢ refuses w) → owed start es (OpenQueue client agent size) ≡ owing
-    → (owed_size.is_ring_size size ≡ true) × (enters (outcome.Opened (record { 0 = length (openings start es) + 1 })) [] ≡ owing)
+    → (is_ring_size size ≡ true) × (enters (outcome.Opened (record { 0 = length (openings start es) + 1 })) [] ≡ owing)
 unfolding owed
 opening_owed start es client agent size owing some is =
     let one = through_unless (declares_client start.policy client) _ _ owing some is in
     let two = through_unless (in_force start es client (object.Agent agent) right.Use) _ _ owing some one.1 in
-    let three = through_unless (owed_size.is_ring_size size) _ _ owing some two.1 in
+    let three = through_unless (is_ring_size size) _ _ owing some two.1 in
     (three.0, through_if (nat_le QUEUES (length (openings start es))) _ _ owing some three.1)
 
--- the two crates' sizes are the same
-flip : (a b : ℕ) → (a == b) ≡ (b == a)
-flip a b = grind (arith, nat_tests)
-
-pub same_sizes : (size : ℕ) → owed_size.is_ring_size size ≡ is_ring_size size
-same_sizes size = λ i.
-    flip size 2 i || (flip size 4 i || (flip size 8 i || (flip size 16 i || (flip size 32 i || (flip size 64 i
-    || (flip size 128 i || (flip size 256 i || (flip size 512 i || (flip size 1024 i || (flip size 2048 i || (flip size 4096 i || false)))))))))))
-
 -- a size that was asked for and is a ring's comes with good producers
-pub size_asked : (size producers : ℕ) → owed_size.is_ring_size (asked_size size producers) ≡ true → (asked_size size producers ≡ size) × (are_producers producers ≡ true)
-size_asked size producers fits = by_test (are_producers producers) refl fits
+pub size_asked : (size producers : ℕ) → is_ring_size (asked_size size producers) ≡ true → (asked_size size producers ≡ size) × (is_producer_count producers ≡ true)
+size_asked size producers fits = by_test (is_producer_count producers) refl fits
   where
-    by_test : (b : Bool) → are_producers producers ≡ b → owed_size.is_ring_size (if b then size else 0) ≡ true → ((if b then size else 0) ≡ size) × (are_producers producers ≡ true)
+    by_test : (b : Bool) → is_producer_count producers ≡ b → is_ring_size (if b then size else 0) ≡ true → ((if b then size else 0) ≡ size) × (is_producer_count producers ≡ true)
     by_test true is fits = (refl, is)
     by_test false is fits = absurd (cc)
 
@@ -99,17 +91,17 @@ module _ (world : Joined) (h : IsJoined world) (client : ClientId) (agent : Agen
     abbrev NewRing : Machine
     NewRing = machine.opened size producers
 
-    good : (owed_size.is_ring_size (asked_size size producers) ≡ true) × (enters (outcome.Opened (record { 0 = length (openings world.core.start world.core.entries) + 1 })) [] ≡ enters told effects)
+    good : (is_ring_size (asked_size size producers) ≡ true) × (enters (outcome.Opened (record { 0 = length (openings world.core.start world.core.entries) + 1 })) [] ≡ enters told effects)
     good = opening_owed world.core.start world.core.entries client agent (asked_size size producers) (enters told effects) (λ w e. cc) (due_enters world.core Opening told effects owing)
 
-    asked : (asked_size size producers ≡ size) × (are_producers producers ≡ true)
+    asked : (asked_size size producers ≡ size) × (is_producer_count producers ≡ true)
     asked = size_asked size producers good.0
 
     fits : is_ring_size size ≡ true
-    fits = sym (same_sizes size) ∙ ap owed_size.is_ring_size (sym asked.0) ∙ good.0
+    fits = ap is_ring_size (sym asked.0) ∙ good.0
 
     few : producers ≤ 16
-    few = let are : (nat_le 1 producers && nat_le producers 16) ≡ true = asked.1 in grind (arith, nat_tests)
+    few = (producer_bounds producers asked.1).1
 
     after : (queue : QueueId) (o : Option Machine) → Stands world.core queue o → Stands New queue o
     after queue o = stands_along world.core New queue o (next_id-more world.core.start world.core.entries TheEntry queue) (takes_more world.core.entries TheEntry queue)

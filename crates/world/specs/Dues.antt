@@ -20,7 +20,7 @@ use Rattle.ring_core.specs.declared.access.Step.{Step}
 use Rattle.ring_core.specs.declared.part.Part.{Part}
 use Rattle.ring_core.specs.declared.part.Part.TheVariants.{Producer, Processor}
 use Rattle.ring_core.specs.Parts.{collected_packet, seen_by}
-use Rattle.ring_core.specs.Machine.{Machine, found, is_allowed, made, opened, read_index}
+use Rattle.ring_core.specs.Machine.{Machine, found, is_allowed, is_producer_count, made, opened, read_index}
 use Rattle.ring_core.specs.Rule.{processor_of}
 use Rattle.world.specs.declared.request.Request.{Request}
 use Rattle.world.specs.declared.request.Request.TheVariants as request
@@ -146,13 +146,9 @@ due_take world queue (Some ring) = due_collected world queue (read_index ring) (
 
 -- ---- openings
 
--- a ring has 1 to 16 producers (own)
-abbrev pub are_producers : ℕ → Bool
-are_producers count = nat_le 1 count && nat_le count 16
-
 -- the size that the core is asked for: wrong producers are refused as a wrong size is, in its place among the refusals (own)
 abbrev pub asked_size : ℕ → ℕ → ℕ
-asked_size size producers = if are_producers producers then size else 0
+asked_size size producers = if is_producer_count producers then size else 0
 
 -- the rings after an opening that came to this: an opened queue has a ring of its size and producers, in which nothing happened
 abbrev pub rings_after : List Machine → ℕ → ℕ → Result Outcome cores.Refusal → List Machine

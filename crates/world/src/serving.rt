@@ -4,9 +4,10 @@ ghost use Rattle.std.specs.Prelude.{◌≡◌, ◌&&◌, false, true};
 ghost use Rattle.policy.specs.Policy.{numbered};
 ghost use Rattle.core_model.specs.declared.answer.Answer.TheVariants as told;
 ghost use Rattle.core_model.specs.declared.outcome.Outcome.TheVariants as outcome;
-ghost use Rattle.ring_core.specs.Machine.{is_ring_size, opened};
+ghost use Rattle.aql_packet.specs.Ring.{is_ring_size};
+ghost use Rattle.ring_core.specs.Machine.{is_producer_count, opened};
 ghost use Rattle.world.specs.declared.reply.Answer.TheVariants as answer;
-ghost use Rattle.world.specs.Dues.{are_producers, asked_size};
+ghost use Rattle.world.specs.Dues.{asked_size};
 ghost use Rattle.world.specs.Obeying.{Asks, IsNext, MayOpen, Obeys, Opens, TakesAt};
 
 use crate::bytes::bytes_of;
@@ -15,9 +16,9 @@ use crate::reply::{Answer, Refusal, Reply};
 use crate::request::Request;
 use crate::rings::{make_step, next_packet, note_taken};
 use access_core::AccessCore;
-use aql_packet::{AgentHandle, ClientId, QueueId};
+use aql_packet::{AgentHandle, ClientId, QueueId, is_ring_size};
 use core_model::Outcome;
-use ring_core::{RingState, is_ring_size};
+use ring_core::{RingState, is_producer_count};
 use std::alloc::Global;
 
 /// Who opens a queue, on which agent, and with which ring.
@@ -105,23 +106,16 @@ fn hand_over(
 
 // Whether a ring may have so many slots and producers.
 fn is_ring(size: u64, producers: u64) -> bool
-    ensures { result ≡ (are_producers producers && is_ring_size size) }
+    ensures { result ≡ (is_producer_count producers && is_ring_size size) }
 {
-    are_producers(producers) & is_ring_size(size)
-}
-
-// Whether a ring may have so many producers: 1 to 16.
-fn are_producers(count: u64) -> bool
-    ensures { result ≡ are_producers count }
-{
-    1 <= count && count <= 16
+    is_producer_count(producers) & is_ring_size(size)
 }
 
 // The size that the core is asked for: none, where the number of producers is wrong.
 fn asked_size(size: u64, producers: u64) -> u64
     ensures { result ≡ asked_size size producers }
 {
-    if are_producers(producers) { size } else { 0 }
+    if is_producer_count(producers) { size } else { 0 }
 }
 
 // Opens a queue, with its ring. Memory for the ring is got where the core will open the queue.
@@ -145,7 +139,7 @@ fn open_fit(
     rings: &mut Vec<QueueRing>,
     opening: Opening,
 ) -> Reply
-    requires fits { (are_producers opening.producers && is_ring_size opening.size) ≡ true }
+    requires fits { (is_producer_count opening.producers && is_ring_size opening.size) ≡ true }
     requires due { MayOpen core.old opening.client opening.agent opening.size opening.producers }
     ensures { Opens opening.client opening.agent opening.size opening.producers core.old rings.old.items result core.new rings.new.items }
 {
@@ -162,7 +156,7 @@ fn refuse_opening(
     rings: &mut Vec<QueueRing>,
     opening: Opening,
 ) -> Reply
-    requires { (are_producers opening.producers && is_ring_size opening.size) ≡ false }
+    requires { (is_producer_count opening.producers && is_ring_size opening.size) ≡ false }
     ensures { Opens opening.client opening.agent opening.size opening.producers core.old rings.old.items result core.new rings.new.items }
 {
     let _ = rings;

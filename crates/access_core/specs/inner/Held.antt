@@ -6,23 +6,18 @@ use Rattle.aql_packet.specs.declared.ids.QueueId.{QueueId}
 use Rattle.aql_packet.specs.declared.ids.PacketId.{PacketId}
 use Rattle.policy.specs.declared.object.Object.{Object}
 use Rattle.policy.specs.declared.rights.Right.{Right}
-use Rattle.policy.specs.declared.rights.Rights.{Rights}
 use Rattle.policy.specs.Object.{same_object}
-use Rattle.policy.specs.Rights.{has, bit_of}
+use Rattle.policy.specs.Rights.{has, set_of}
 use Rattle.core_model.specs.declared.flight.InFlight.{InFlight}
 use Rattle.core_model.specs.Queues.{Opening}
 use Rattle.core_model.specs.Flight.{is_packet}
 use Rattle.core_model.specs.Holds.{ObjectRight}
 
--- the set of one right
-abbrev pub as_rights : Right → Rights
-as_rights right = record { 0 = bit_of right }
-
 -- whether a packet of a queue with this opening, which holds all these, holds a client's right on an object
 abbrev pub holds_by : Option Opening → ClientId → Object → Right → List ObjectRight → Bool
 holds_by None client on right all = false
 holds_by (Some opening) client on right all =
-    opening.client.0 == client.0 && list_any (λ h. same_object on h.0 && has (as_rights h.1) right) all
+    opening.client.0 == client.0 && list_any (λ h. same_object on h.0 && has (set_of h.1) right) all
 
 -- whether the packet in flight with this queue and id holds a client's right on an object, by the openings of the queues and what
 -- each packet holds

@@ -1,11 +1,10 @@
 -- What packets in flight are owed, by what their places tell.
-use Rattle.std.specs.Prelude.{◌≡◌, ℕ, ℤ, ◌+◌, ◌==◌, ◌||◌, Bool, true, List, [], ◌∷◌, ◌++◌, fold, Option, Some, None}
+use Rattle.std.specs.Prelude.{◌≡◌, ℕ, ◌+◌, ◌==◌, ◌||◌, Bool, true, List, fold, Option, Some, None}
 use Rattle.aql_packet.specs.declared.ids.QueueId.{QueueId}
 use Rattle.aql_packet.specs.declared.ids.PacketId.{PacketId}
 use Rattle.aql_packet.specs.declared.packet.Packet.{Packet}
 use Rattle.regions.specs.Memory.{byte_at, is_within}
 use Rattle.core_model.specs.declared.entry.Effect.{Effect}
-use Rattle.core_model.specs.declared.entry.Effect.TheVariants as effect
 use Rattle.core_model.specs.declared.flight.InFlight.{InFlight}
 use Rattle.core_model.specs.declared.flight.Progress.{Progress}
 use Rattle.core_model.specs.declared.outcome.Outcome.TheVariants as outcome
@@ -13,11 +12,10 @@ use Rattle.core_model.specs.declared.refusal.Refusal.{Refusal}
 use Rattle.core_model.specs.History.{History}
 use Rattle.aql_packet.specs.declared.packet.Packet.TheVariants as packet
 use Rattle.core_model.specs.LaunchRules.{has_sizes}
-use Rattle.core_model.specs.Needs.{completion_signal}
 use Rattle.core_model.specs.Queues.{Opening, owner}
 use Rattle.core_model.specs.Flight.{in_flight, progress}
 use Rattle.core_model.specs.Memory.{byte_after, region_lengths, signals}
-use Rattle.core_model.specs.Owed.{Owed, refuses, enters, signal_decrement, for_packet}
+use Rattle.core_model.specs.Owed.{Owed, refuses, enters, completion_of, for_packet}
 use Rattle.packet_processor.specs.declared.places.Place.{Place}
 
 -- a packet of an open queue is in flight, and this is its place
@@ -37,10 +35,6 @@ IsSized _ = Unit {0}
 -- a call about this packet is refused, whatever it asks
 abbrev pub RefusedAt : History → QueueId → PacketId → Refusal → Type 0
 RefusedAt history queue id why = (rest : Packet → Progress → Owed) → for_packet history.start history.entries queue id rest ≡ refuses why
-
--- the changes of a completion: the decrement of its signal, if it has one, and its release (PSA, Signals)
-abbrev pub completion_of : List ℤ → QueueId → PacketId → Packet → List Effect
-completion_of values queue id p = signal_decrement values (completion_signal p) ++ effect.Release queue id ∷ []
 
 -- what the completion of a packet whose work is done is owed
 abbrev pub finish_owed : History → QueueId → PacketId → Packet → Owed

@@ -1,12 +1,8 @@
 -- What a group of a kernel dispatch is owed, by what it came to.
-use Rattle.std.specs.Prelude.{◌≡◌, ◌==◌, ℕ, List, [], ◌∷◌, Option, None, Some, map, if◌then◌else◌}
+use Rattle.std.specs.Prelude.{◌≡◌, ◌==◌, ℕ, List, Option, None, Some, map, if◌then◌else◌}
 use Rattle.aql_packet.specs.declared.ids.ClientId.{ClientId}
 use Rattle.aql_packet.specs.declared.ids.PacketId.{PacketId}
 use Rattle.aql_packet.specs.declared.ids.QueueId.{QueueId}
-use Rattle.queue_error.specs.declared.error.QueueError.{QueueError}
-use Rattle.core_model.specs.declared.entry.Effect.TheVariants as effect
-use Rattle.core_model.specs.declared.outcome.Outcome.TheVariants as outcome
-use Rattle.core_model.specs.declared.outcome.Worked.TheVariants.{Faulted}
 use Rattle.core_model.specs.declared.flight.InFlight.{InFlight}
 use Rattle.core_model.specs.Flight.{in_flight}
 use Rattle.core_model.specs.History.{History, Start}
@@ -21,7 +17,7 @@ use Rattle.executor.specs.declared.fault.RunFault.{RunFault}
 use Rattle.executor.specs.declared.fault.RunFault.TheVariants.{Fault, OutOfMemory}
 use Rattle.packet_processor.specs.declared.places.Place.{Place}
 use Rattle.regions.specs.Memory.{region_length}
-use Rattle.core_model.specs.Owed.{Owed, enters}
+pub use Rattle.core_model.specs.Owed.{fault_owed}
 use Rattle.core_model.specs.Queues.{Opening, owner}
 
 -- a packet in flight, of a queue of this client
@@ -31,10 +27,6 @@ pub record IsHolder (history : History) (queue : QueueId) (id : PacketId) (clien
   pub client_is : opening.client ≡ client
   pub flying : InFlight
   pub found : in_flight history.start history.entries queue id ≡ Some flying
-
--- a group that breaks a rule leaves nothing, and releases its packet
-abbrev pub fault_owed : QueueError → Owed
-fault_owed error = enters (outcome.Worked (Faulted error)) (effect.Release error.queue error.packet ∷ [])
 
 -- a held region as it is lent to the executor: all its bytes are those of memory
 abbrev pub lent_whole : Start → List Entry → HeldRegion → LentRegion

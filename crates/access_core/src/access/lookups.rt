@@ -27,7 +27,7 @@ impl AccessCore {
     pub(crate) fn signal_value(&self, signal: SignalHandle) -> Option<i64>
         ensures { result ≡ value_of (signals self.now.start self.now.entries) signal.0 }
     {
-        self.signals.load(signal).ok()
+        self.signals.value(signal)
     }
 
     // The kernel that a dispatch names, if there is one of its number.

@@ -1,11 +1,12 @@
 //! A core is opened.
 
 ghost use Rattle.std.specs.Prelude.{◌≡◌, ◌+◌, ◌<◌, All, IfOk, IfSome, IsTrue, Some, length, map, true};
-ghost use Rattle.policy.specs.Policy.{initial_of, length_of};
-ghost use Rattle.regions.specs.Memory.{are_region_lengths, zeros};
+ghost use Rattle.policy.specs.Policy.{initial_of, initial_values, length_of, region_lengths};
+ghost use Rattle.aql_packet.specs.Memory.{are_region_lengths};
+ghost use Rattle.regions.specs.Memory.{zeros};
 ghost use Rattle.core_model.specs.Kernels.{segments_of};
 ghost use Rattle.core_model.specs.Legal.{empty_history};
-ghost use Rattle.access_core.specs.Opening.{first_missing, has_entry, is_capacity, IsUntouched, lengths_of_rows, open_fault, Opens, program_of, values_of_rows};
+ghost use Rattle.access_core.specs.Opening.{first_missing, has_entry, is_capacity, IsUntouched, open_fault, Opens, program_of};
 
 use crate::access::{AccessCore, OpenFault};
 use crate::argument_blocks::ArgumentBlocks;
@@ -119,7 +120,7 @@ fn segments(alloc: Global, kernels: &[Kernel]) -> Result<Sequence<KernelSegments
 
 // A policy's regions, all zeros.
 fn zeroed(alloc: Global, policy: &Policy) -> Result<Regions, AllocError>
-    ensures { IfOk result (λ memory. memory ≡ zeros (lengths_of_rows policy.now)) }
+    ensures { IfOk result (λ memory. memory ≡ zeros (region_lengths policy.now)) }
 {
     let lengths = region_lengths(alloc, policy)?;
     lengths_fit(policy, lengths.as_slice());
@@ -128,7 +129,7 @@ fn zeroed(alloc: Global, policy: &Policy) -> Result<Regions, AllocError>
 
 // A policy's signals, with their initial values.
 fn begun(alloc: Global, policy: &Policy) -> Result<Signals, AllocError>
-    ensures { IfOk result (λ signals. signals ≡ values_of_rows policy.now) }
+    ensures { IfOk result (λ signals. signals ≡ initial_values policy.now) }
 {
     let values = signal_values(alloc, policy)?;
     Signals::new(alloc, values.as_slice())
@@ -143,7 +144,7 @@ fn is_capacity(capacity: usize) -> bool
 
 // The lengths of a policy's regions, in order.
 fn region_lengths(alloc: Global, policy: &Policy) -> Result<Sequence<u32>, AllocError>
-    ensures { IfOk result (λ lengths. lengths ≡ lengths_of_rows policy.now) }
+    ensures { IfOk result (λ lengths. lengths ≡ region_lengths policy.now) }
 {
     let mut lengths = Sequence::new(alloc);
     for before in 0..policy.object_count(Kind::Region) {
@@ -167,7 +168,7 @@ fn length_behind(policy: &Policy, before: usize) -> u32
 // Memory takes the lengths of a policy's regions: each policy is within its limits.
 #[tactic(none)]
 fn lengths_fit(policy: &Policy, lengths: &[u32])
-    requires { lengths.now ≡ lengths_of_rows policy.now }
+    requires { lengths.now ≡ region_lengths policy.now }
     ensures { IsTrue (are_region_lengths lengths.now) }
 {
     policy.object_count(Kind::Region);
@@ -175,7 +176,7 @@ fn lengths_fit(policy: &Policy, lengths: &[u32])
 
 // The initial values of a policy's signals, in order.
 fn signal_values(alloc: Global, policy: &Policy) -> Result<Sequence<i64>, AllocError>
-    ensures { IfOk result (λ values. values ≡ values_of_rows policy.now) }
+    ensures { IfOk result (λ values. values ≡ initial_values policy.now) }
 {
     let mut values = Sequence::new(alloc);
     for before in 0..policy.object_count(Kind::Signal) {

@@ -175,10 +175,7 @@ fn dependencies(packet: &Packet) -> Option<[SignalHandle; 5]>
 fn signal_value(signals: &Signals, signal: SignalHandle) -> i64
     ensures { result ≡ signal_value signals.now signal }
 {
-    match signals.load(signal) {
-        Ok(value) => value,
-        Err(_) => 0,
-    }
+    signals.value(signal).unwrap_or(0)
 }
 
 // Whether a dependency that is still looked at is negative.

@@ -3,27 +3,17 @@
 ghost use Rattle.std.specs.Prelude.{◌≡◌, ◌<◌, [], OnOk, IfErr, IfOk, length};
 ghost use Rattle.core_model.specs.declared.limits.TheConstants.{QUEUES};
 ghost use Rattle.core_model.specs.Queues.{openings};
-ghost use Rattle.core_model.specs.Owed.{enters, refuses, is_ring_size};
+ghost use Rattle.core_model.specs.Owed.{enters, refuses};
 ghost use Rattle.core_model.specs.Legal.{MeetsOrLacks, due, as_variant};
 
 use crate::access::{AccessCore, enter};
 use crate::queue::Queue;
-use aql_packet::{AgentHandle, ClientId, QueueId};
+use aql_packet::{AgentHandle, ClientId, QueueId, is_ring_size};
 use core_model::{Effects, Event, Outcome, QUEUES, Refusal, SLOTS};
 use packet_processor::Places;
 use policy::{Object, Right};
 use sequences::Reserved;
 use std::alloc::Global;
-
-// Whether a ring may have so many slots: a power of two from 2 to 4,096.
-fn is_ring_size(size: u64) -> bool
-    ensures { result ≡ is_ring_size size }
-{
-    matches!(
-        size,
-        2 | 4 | 8 | 16 | 32 | 64 | 128 | 256 | 512 | 1024 | 2048 | 4096
-    )
-}
 
 impl AccessCore {
     /// Opens a queue of `size` slots for a client, whose packets an agent runs.

@@ -5,12 +5,13 @@ ghost use Rattle.core_model.specs.declared.entry.Effect.TheVariants as effect;
 ghost use Rattle.core_model.specs.Memory.{region_lengths, signals_after};
 ghost use Rattle.core_model.specs.Queues.{owner};
 ghost use Rattle.core_model.specs.Needs.{completion_signal};
-ghost use Rattle.core_model.specs.Owed.{signal_decrement, refuses, is_finished};
+ghost use Rattle.core_model.specs.Owed.{completion_of, signal_decrement, refuses, is_finished};
 ghost use Rattle.core_model.specs.Legal.{Meets, as_accepted, due};
 ghost use Rattle.access_core.specs.inner.QueueChanges.{IsThere, freed, freed_by, with_queue, with_release, without_one};
 ghost use Rattle.access_core.specs.inner.LiesInRegions.{lies_in_regions};
-ghost use Rattle.access_core.specs.inner.InPlace.{completion_of, finish_owed, IsInPlace, IsSized, RefusedAt};
+ghost use Rattle.access_core.specs.inner.InPlace.{finish_owed, IsInPlace, IsSized, RefusedAt};
 
+use crate::access::host::change;
 use crate::access::kernels::group_count;
 use crate::access::lookups::queue_of;
 use crate::access::{AccessCore, enter};
@@ -104,11 +105,10 @@ fn complete(signals: &mut Signals, queue: QueueId, packet: PacketId, of: &Packet
     if signal.0 == 0 {
         return Effects::one(release);
     }
-    let decrement = SignalOp::Subtract(1);
-    match signals.apply(signal, decrement) {
-        Err(_) => Effects::one(release),
-        Ok(old) => {
-            let new = decrement.applied(old);
+    match signals.value(signal) {
+        None => Effects::one(release),
+        Some(old) => {
+            let new = change(signals, signal, SignalOp::Subtract(1), old);
             Effects::two(Effect::Signal { signal, old, new }, release)
         }
     }

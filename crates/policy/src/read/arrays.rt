@@ -6,12 +6,14 @@ ghost use Rattle.toml.specs.Data.{get_member, as_table};
 ghost use Rattle.toml.specs.View.{view, table_view};
 ghost use Rattle.policy.specs.declared.fault.Cause.TheVariants.{BadValue};
 ghost use Rattle.policy.specs.declared.fault.Section.TheVariants.{Allow};
+ghost use Rattle.policy.specs.declared.limits.TheConstants.{MOST_ALLOW_ROWS, MOST_SIGNALS};
 ghost use Rattle.policy.specs.Table.{named};
 ghost use Rattle.policy.specs.SectionNames.{name_of_section};
 ghost use Rattle.policy.specs.Reading.{or_fault, seen, placed, RowGives, FileGives};
 ghost use Rattle.policy.specs.Format.{is_table, rows_in, tables_in, of_table, named_row, allow_row, array_of};
 
 use crate::fault::{Cause, PolicyFault, ReadPolicyError, RowError, Section};
+use crate::limits::MOST_ALLOW_ROWS;
 use crate::policy::Policy;
 use crate::read::rows::{self, NamedRow};
 use crate::read::values;
@@ -99,7 +101,7 @@ pub fn named_array<V: NamedRow>(
     limit: usize,
     file: &Table,
 ) -> Result<Rows<V>, ReadPolicyError>
-    requires { limit ≤ 1024 }
+    requires { limit ≤ MOST_SIGNALS }
     ensures { FileGives result (array_of section limit (named_row V.known V.reading) (table_view file.now)) }
 {
     let rows = rows_in(section, limit, file)?;
@@ -125,9 +127,9 @@ pub fn allow_array(
     policy: &Policy,
     file: &Table,
 ) -> Result<Sequence<AllowRow>, ReadPolicyError>
-    ensures { FileGives result (array_of Allow 4096 (λ _ row. allow_row policy.now row) (table_view file.now)) }
+    ensures { FileGives result (array_of Allow MOST_ALLOW_ROWS (λ _ row. allow_row policy.now row) (table_view file.now)) }
 {
-    let rows = rows_in(Section::Allow, 4096, file)?;
+    let rows = rows_in(Section::Allow, MOST_ALLOW_ROWS, file)?;
     let mut allows = Sequence::new(alloc);
     for row in rows {
         let number = allows.len() as u32 + 1;

@@ -1,18 +1,23 @@
 //! A policy file as a whole.
 
-ghost use Rattle.std.specs.Prelude.{◌≡◌, ◌^◌, nat_le, sum_by, option_map, IfOk, IfErr};
+ghost use Rattle.std.specs.Prelude.{◌≡◌, nat_le, sum_by, option_map, IfOk, IfErr};
 ghost use Rattle.toml.specs.View.{view, table_view};
 ghost use Rattle.policy.specs.declared.fault.Cause.TheVariants.{TooMany};
 ghost use Rattle.policy.specs.declared.fault.Section.TheVariants.{Region};
+ghost use Rattle.policy.specs.declared.limits.TheConstants.{MOST_MEMORY_BYTES};
 ghost use Rattle.policy.specs.Reading.{unless, fault_in, FileGives};
 ghost use Rattle.policy.specs.Format.{file_keys, file_head, is_version, regions_of, objects_of, declared_by, Declares, IsRefused};
 
 use crate::fault::{Cause, PolicyFault, ReadPolicyError, Section};
+use crate::limits::{
+    MOST_AGENTS, MOST_CLIENTS, MOST_KERNELS, MOST_MEMORY_BYTES, MOST_POLICY_BYTES, MOST_SIGNALS,
+};
 use crate::policy::Policy;
 use crate::read::arrays::{allow_array, named_array};
 use crate::read::rows::{self, Keys};
 use crate::read::values::{self, same_text};
 use crate::table::Table as Rows;
+use aql_packet::MOST_REGIONS;
 use std::alloc::Global;
 use toml::{Table, Value};
 
@@ -58,20 +63,20 @@ fn check_keys(file: &Table) -> Result<(), PolicyFault>
 
 // How long the regions are together.
 fn check_lengths(regions: &Rows<u32>) -> Result<(), PolicyFault>
-    ensures { result ≡ unless (nat_le (sum_by (λ region. region.1) regions.now) (2 ^ 26)) (fault_in Region 0 TooMany) }
+    ensures { result ≡ unless (nat_le (sum_by (λ region. region.1) regions.now) MOST_MEMORY_BYTES) (fault_in Region 0 TooMany) }
 {
-    if regions.total() <= 1 << 26 {
+    if regions.total() <= MOST_MEMORY_BYTES {
         Ok(())
     } else {
         Err(Section::Region.fault(0, Cause::TooMany))
     }
 }
 
-// The regions, whose sum is at most 2^26 bytes.
+// The regions, which have not too many bytes together.
 fn read_regions(alloc: Global, file: &Table) -> Result<Rows<u32>, ReadPolicyError>
     ensures { FileGives result (regions_of (table_view file.now)) }
 {
-    let regions = named_array(alloc, Section::Region, 64, file)?;
+    let regions = named_array(alloc, Section::Region, MOST_REGIONS, file)?;
     check_lengths(&regions)?;
     Ok(regions)
 }
@@ -80,11 +85,11 @@ fn read_regions(alloc: Global, file: &Table) -> Result<Rows<u32>, ReadPolicyErro
 fn read_objects(alloc: Global, file: &Table) -> Result<Policy, ReadPolicyError>
     ensures { FileGives result (objects_of (table_view file.now)) }
 {
-    let clients = named_array(alloc, Section::Client, 64, file)?;
-    let agents = named_array(alloc, Section::Agent, 16, file)?;
+    let clients = named_array(alloc, Section::Client, MOST_CLIENTS, file)?;
+    let agents = named_array(alloc, Section::Agent, MOST_AGENTS, file)?;
     let regions = read_regions(alloc, file)?;
-    let signals = named_array(alloc, Section::Signal, 1024, file)?;
-    let kernels = named_array(alloc, Section::Kernel, 64, file)?;
+    let signals = named_array(alloc, Section::Signal, MOST_SIGNALS, file)?;
+    let kernels = named_array(alloc, Section::Kernel, MOST_KERNELS, file)?;
     Ok(Policy::new(alloc, clients, agents, regions, signals, kernels))
 }
 
@@ -105,7 +110,7 @@ pub fn read_policy(alloc: Global, text: &[u8]) -> Result<Policy, ReadPolicyError
     ensures declares { IfOk result (Declares text.now) }
     ensures refused { IfErr result (IsRefused text.now) }
 {
-    if text.len() > 1 << 20 {
+    if text.len() > MOST_POLICY_BYTES {
         return Err(PolicyFault::of_file(Cause::TooMany).into());
     }
     let Ok(text) = std::str::from_utf8(text) else {

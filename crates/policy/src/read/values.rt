@@ -11,9 +11,11 @@ ghost use Rattle.policy.specs.RightNames.{name_of_right};
 ghost use Rattle.policy.specs.Choice.{chosen};
 ghost use Rattle.policy.specs.Format.{is_name_byte, is_name, a_name, a_text, a_number, an_entry, a_length, length_of_number, is_text, items_in, dispatches_in, some_dispatches, kind_named, a_kind, kind_of_right, names_right, rights_in, some_rights, a_choice, choice_of};
 
+use crate::limits::MOST_NAME_BYTES;
 use crate::object::Kind;
 use crate::rights::{Right, Rights};
 use crate::row::Takes;
+use aql_packet::MOST_REGION_BYTES;
 use toml::{Table, Value};
 
 /// The value at a key, if it is there.
@@ -40,7 +42,7 @@ fn has_name_bytes(text: &[u8]) -> bool
 pub fn is_name(text: &str) -> bool
     ensures { result ≡ is_name text.now }
 {
-    1 <= text.len() && text.len() <= 64 && has_name_bytes(text.as_bytes())
+    1 <= text.len() && text.len() <= MOST_NAME_BYTES && has_name_bytes(text.as_bytes())
 }
 
 /// A name.
@@ -83,7 +85,7 @@ fn begins_with_ampersand(text: &[u8]) -> bool
     !text.is_empty() && text[0] == b'&'
 }
 
-/// A region's length: 1 to 16,777,216.
+/// A region's length: at least 1, and at most `MOST_REGION_BYTES`.
 pub fn a_length(value: &Value) -> Option<u32>
     ensures { result ≡ a_length (view value.now) }
 {
@@ -96,7 +98,7 @@ pub fn a_length(value: &Value) -> Option<u32>
 fn length_of_number(number: i64) -> Option<u32>
     ensures { result ≡ length_of_number number }
 {
-    if 1 <= number && number <= 16_777_216 {
+    if 1 <= number && number <= MOST_REGION_BYTES as i64 {
         Some(number as u32)
     } else {
         None

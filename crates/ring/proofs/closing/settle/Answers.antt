@@ -1,6 +1,6 @@
 use Rattle.std.proofs.Common.{◌≡◌, ◌<◌, ◌∙◌, List, ◌∷◌, ◌++◌, map, sym, ap, subst}
 use Rattle.ring_core.specs.declared.part.Part.TheVariants.{Processor}
-use Rattle.ring_core.specs.Machine.{is_ring_size}
+use Rattle.aql_packet.specs.Ring.{is_ring_size}
 use Rattle.ring_core.proofs.Sizes.{ring_size_bounds}
 use Rattle.ring.specs.declared.share.Numbered.{Numbered}
 use Rattle.ring.specs.Shares.{alone}

@@ -1,8 +1,8 @@
 use Rattle.std.proofs.Common.{◌≡◌, ◌+◌, ◌^◌, ◌<◌, ◌∙◌, ℕ, true, arith, sym, ap, subst}
 use Rattle.std.specs.Prelude.{length}
 use Rattle.ring_core.specs.declared.part.Part.TheVariants.{Processor}
-use Rattle.ring_core.specs.Machine.{is_ring_size}
-use Rattle.ring.specs.Opening.{is_producer_count}
+use Rattle.aql_packet.specs.Ring.{is_ring_size}
+use Rattle.ring_core.specs.Machine.{is_producer_count}
 use Rattle.ring.specs.Made.{Gained, retiring}
 use Rattle.ring.specs.Passes.{ProcessorSeen, as_processor, only_part, packet_if}
 use Rattle.ring.proofs.Processing.{retired_steps, found_index, retired_pass}

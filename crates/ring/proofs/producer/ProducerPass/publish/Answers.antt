@@ -3,7 +3,7 @@ use Rattle.std.specs.Prelude.{is_some, nat_lt, get_or}
 use Rattle.std.proofs.lemmas.Bool.Decides.{nat_tests}
 use Rattle.ring_core.specs.declared.part.Part.TheVariants.{Producer}
 use Rattle.ring_core.specs.Words.{is_invalid}
-use Rattle.ring_core.specs.Machine.{is_ring_size}
+use Rattle.aql_packet.specs.Ring.{is_ring_size}
 use Rattle.ring_core.specs.Tickets.{open_ticket}
 use Rattle.ring_core.proofs.Sizes.{ring_size_bounds}
 use Rattle.ring.specs.Bytes.{words_of}

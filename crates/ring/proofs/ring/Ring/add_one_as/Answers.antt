@@ -1,8 +1,8 @@
 use Rattle.std.proofs.Common.{◌≡◌, ◌+◌, ◌*◌, ◌%◌, ◌^◌, ◌<◌, ◌∙◌, ℕ, true, arith, sym, ap, subst}
 use Rattle.atomic_table.specs.Table.{Allows}
 use Rattle.ring_core.specs.declared.access.Access.{Access}
-use Rattle.ring_core.specs.Machine.{is_ring_size}
-use Rattle.ring.specs.Opening.{is_producer_count}
+use Rattle.aql_packet.specs.Ring.{is_ring_size}
+use Rattle.ring_core.specs.Machine.{is_producer_count}
 use Rattle.ring.specs.Passes.{only_part}
 use Rattle.ring.specs.Shares.{shape_of, IsKept}
 use Rattle.ring.specs.Steps.{IsTold}

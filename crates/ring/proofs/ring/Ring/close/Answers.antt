@@ -1,6 +1,6 @@
 use Rattle.std.proofs.Common.{◌≡◌, ◌+◌, ◌*◌, ◌<◌, ◌∙◌, ℕ, suc, List, ◌∷◌, length, get_or, set, inl, inr, arith, sym, ap, subst, length-set, get_or-set_same, get_or-set_other}
 use Rattle.std.proofs.lemmas.Bool.Decides.{eqb_tells}
-use Rattle.ring_core.specs.Machine.{is_ring_size}
+use Rattle.aql_packet.specs.Ring.{is_ring_size}
 use Rattle.ring_core.proofs.Sizes.{ring_size_bounds}
 use Rattle.ring.specs.Shares.{shape_of}
 use Rattle.ring.specs.Settling.{IsClosed}

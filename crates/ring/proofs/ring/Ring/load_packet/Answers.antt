@@ -2,7 +2,8 @@ use Rattle.std.proofs.Common.{rules, ◌≡◌, ◌+◌, ◌*◌, ◌<◌, ◌�
 use Rattle.ring_core.specs.declared.access.Access.TheVariants.{LoadHeader}
 use Rattle.ring_core.specs.declared.access.Made.{Made}
 use Rattle.ring_core.specs.Words.{is_invalid}
-use Rattle.ring_core.specs.Machine.{word_place, is_ring_size}
+use Rattle.aql_packet.specs.Ring.{is_ring_size}
+use Rattle.ring_core.specs.Machine.{word_place}
 use Rattle.ring_core.proofs.Places.{place_in}
 use Rattle.ring_core.proofs.Sizes.{ring_size_bounds}
 use Rattle.ring.specs.Made.{body_read, read}

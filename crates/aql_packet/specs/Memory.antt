@@ -1,0 +1,12 @@
+-- How many regions there are, and how long each is.
+use Rattle.std.specs.Prelude.{ℕ, Bool, ◌&&◌, nat_le, List, length}
+use Rattle.std.specs.List.{list_all}
+use Rattle.aql_packet.specs.declared.memory.TheConstants.{MOST_REGIONS, MOST_REGION_BYTES}
+
+-- The length of a region in bytes: at least 1 (own).
+abbrev pub is_region_length : ℕ → Bool
+is_region_length size = nat_le 1 size && nat_le size MOST_REGION_BYTES
+
+-- The lengths of all regions (own).
+abbrev pub are_region_lengths : List ℕ → Bool
+are_region_lengths lengths = nat_le (length lengths) MOST_REGIONS && list_all is_region_length lengths
