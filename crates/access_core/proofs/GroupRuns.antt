@@ -1,5 +1,5 @@
 -- Groups of kernel dispatches in flight: that they can be run, and that what they come to is what the history says.
-use Rattle.std.proofs.Common.{◌≡◌, ℕ, ◌-◌, ◌<◌, ◌≤◌, List, length, get_or, refl, sym, ◌∙◌, ap, subst, Bool, true, Option, Some, None, arith, All, map, option_map, slice_get, ◌==◌}
+use Rattle.std.proofs.Common.{◌≡◌, ℕ, ◌-◌, ◌<◌, ◌≤◌, List, length, get_or, refl, sym, ◌∙◌, ap, subst, true, Option, Some, None, arith, All, map, option_map, slice_get, ◌==◌}
 use Rattle.std.specs.Option.{unwrap_or}
 use Rattle.std.proofs.lemmas.Bool.{and_parts, eqb-true, ltb-true}
 use Rattle.std.proofs.lemmas.List.Elements.{All-weaker}
@@ -31,7 +31,7 @@ use Rattle.access_core.specs.inner.Running.{FaultsAs, view_whole}
 use Rattle.access_core.proofs.GroupLemmas.{CanRun, can-run, launch-of}
 use Rattle.access_core.proofs.KernelLemmas.{views-alike}
 use Rattle.access_core.proofs.Terms.{History, InFlight, Inside, IsCached, IsInPlace, IsLegal, PacketId, Place, QueueId, are_region_lengths, flight, history_of, is_packet, is_within}
-use Rattle.access_core.proofs.Terms.{numbered, numbered-map, region_lengths, start_of}
+use Rattle.access_core.proofs.Terms.{numbered, numbered-map, region_lengths}
 
 -- what is known of all of a list is known of the one of a number
 numbered-all : {X : Type 0} (P : X → Type 0) (xs : List X) (n : ℕ) (x : X) → All P xs → numbered xs n ≡ Some x → P x

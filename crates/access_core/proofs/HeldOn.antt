@@ -1,5 +1,5 @@
 -- The rights that a packet in flight holds on an object: those of the grants are those of the history.
-use Rattle.std.proofs.Common.{◌≡◌, List, [], ◌∷◌, refl, sym, ◌∙◌, ap, Bool, true, false, Option, Some, arith, ◌&&◌, ◌||◌, ◌==◌, find}
+use Rattle.std.proofs.Common.{◌≡◌, List, [], ◌∷◌, refl, ◌∙◌, ap, Bool, true, false, Option, Some, arith, ◌&&◌, ◌==◌, find}
 use Rattle.std.specs.List.{list_any}
 use Rattle.std.proofs.lemmas.Bool.{and_parts, eqb-true}
 use Rattle.policy.specs.Object.{same_object}

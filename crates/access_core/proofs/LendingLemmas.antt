@@ -1,5 +1,5 @@
 -- The regions that a packet in flight holds, as they are lent one after another.
-use Rattle.std.proofs.Common.{◌≡◌, ℕ, zero, suc, ◌+◌, ◌*◌, ◌/◌, ◌%◌, ◌^◌, ◌<◌, ◌≤◌, List, [], ◌∷◌, ◌++◌, length, get_or, refl, sym, ◌∙◌, ap, subst, Bool, true, false, Option, Some, None, arith, append_assoc, if◌then◌else◌}
+use Rattle.std.proofs.Common.{◌≡◌, ℕ, zero, suc, ◌+◌, ◌*◌, ◌%◌, ◌^◌, ◌<◌, ◌≤◌, List, [], ◌∷◌, ◌++◌, length, get_or, refl, sym, ◌∙◌, ap, subst, Bool, true, false, Option, Some, None, arith, append_assoc, if◌then◌else◌}
 use Rattle.std.proofs.Common.{map, filter, not, ◌==◌, ◌&&◌, nat_le, nat_lt, cond, option_map, option_to_list}
 use Rattle.std.specs.List.{list_all, range_with_len, zip}
 use Rattle.std.proofs.lemmas.Bool.{and_parts, leb-true}

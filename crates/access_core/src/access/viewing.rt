@@ -1,7 +1,8 @@
 //! What the groups of a kernel dispatch in flight are lent: the regions that their packet holds.
 
 ghost use Rattle.std.specs.Prelude.{◌≡◌, ◌<◌, IfOk, map, option_map, true};
-ghost use Rattle.regions.specs.Memory.{are_region_lengths, region_length};
+ghost use Rattle.aql_packet.specs.Memory.{are_region_lengths};
+ghost use Rattle.regions.specs.Memory.{region_length};
 ghost use Rattle.executor.specs.Items.{lent_region};
 ghost use Rattle.policy.specs.declared.object.Object.TheVariants as object;
 ghost use Rattle.core_model.specs.Holds.{packet_rights};
@@ -11,14 +12,11 @@ ghost use Rattle.access_core.specs.inner.InPlace.{IsInPlace};
 ghost use Rattle.access_core.specs.inner.Running.{IsHolder, lent_if_held, region_numbered, view_whole};
 
 use crate::access::AccessCore;
-use aql_packet::{Address, ClientId, PacketId, QueueId, RegionHandle};
+use aql_packet::{Address, ClientId, PacketId, QueueId, REGION_SPAN, RegionHandle};
 use executor::HeldRegion;
 use packet_processor::Place;
 use policy::{Kind, Object, Rights};
 use std::alloc::{AllocError, Global};
-
-// How many addresses lie between the first of one region and the first of the next.
-const SPAN: u64 = 1 << 32;
 
 impl AccessCore {
     // The client whose queue has a packet in flight.
@@ -76,7 +74,7 @@ impl AccessCore {
         if rights == Rights::NONE {
             return None;
         }
-        let first = Address(region.0 as u64 * SPAN);
+        let first = Address(region.0 as u64 * REGION_SPAN);
         let length = self.memory.length(region).unwrap_or(0);
         Some(HeldRegion {
             handle: region,

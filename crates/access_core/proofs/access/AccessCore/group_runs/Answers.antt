@@ -8,7 +8,7 @@ use Rattle.executor.specs.declared.run.Run.{Run}
 use Rattle.executor.specs.Items.{lent_region}
 use Rattle.access_core.specs.declared.kernel.Kernel.{Kernel}
 use Rattle.access_core.specs.inner.Running.{FaultsAs, next_result}
-use Rattle.access_core.proofs.GroupRuns.{IsAsked, block-is, entry-below, faults-as, kernel-there, program-is, program-there, program_at, result-is, runnable, runs-within}
+use Rattle.access_core.proofs.GroupRuns.{block-is, entry-below, faults-as, kernel-there, program-is, program-there, program_at, result-is, runnable, runs-within}
 use Rattle.access_core.proofs.Terms.{is_within, numbered, region_lengths}
 use Rattle.access_core.proofs.access.AccessCore.group_runs.Goals as goal
 

@@ -1,5 +1,5 @@
 -- Its bytes are those that the history has there.
-use Rattle.std.proofs.Common.{◌≡◌, ◌∙◌, ◌*◌, ◌^◌, ℕ, List, Option, Bool, ap, sym, rules, false, ◌==◌}
+use Rattle.std.proofs.Common.{◌≡◌, ◌∙◌, ◌*◌, ◌^◌, ℕ, List, Option, ap, rules, false, ◌==◌}
 use Rattle.std.specs.Option.{unwrap_or}
 use Rattle.regions.proofs.Lookups.{unwrap_or-length_of_region}
 use Rattle.regions.specs.Memory.{region_length}
