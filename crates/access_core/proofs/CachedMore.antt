@@ -28,7 +28,7 @@ arguments_behind a event outcome queue id =
 pub record GrantsAfter (a : Inside) (new : Ledger) (blocks : List ArgumentBlock) (event : Event) (outcome : Outcome) (effects : List Effect) : Type 0 where
   pub granted : (client : ClientId) (on : Object) (right : Right) → ledger.in_force new client on right ≡ in_force_after client on right (ledger.in_force a.grants client on right) event
   pub rules : ledger.rules_in new ≡ ledger.rules_in a.grants
-  pub packet_rights : (queue : QueueId) (id : PacketId) (client : ClientId) (on : Object) (right : Right)
+  pub held : (queue : QueueId) (id : PacketId) (client : ClientId) (on : Object) (right : Right)
       → ledger.holds new queue id client on right ≡ packet_holds (owner (start_of a) (with_entry a.audit.items event outcome effects)) (packet_rights (start_of a) (with_entry a.audit.items event outcome effects)) (flight (start_of a) (with_entry a.audit.items event outcome effects)) queue id client on right
   pub arguments : All (λ f. block_of blocks f.queue f.id ≡ arguments_behind a event outcome f.queue f.id) (flight (start_of a) (with_entry a.audit.items event outcome effects))
 
