@@ -1,5 +1,5 @@
 -- Which kernels of a policy are let pass, what packets may then launch, and which is the first that isn't let pass (own).
-use Rattle.std.specs.Prelude.{ℕ, ◌≡◌, ◌<◌, ◌≤◌, List, [], length, map, position, Option, Some, None, option_map, Result, Ok, Err, ⊤}
+use Rattle.std.specs.Prelude.{ℕ, ◌≡◌, ◌<◌, ◌≤◌, Bool, not, List, [], length, map, position, Option, Some, None, is_some, option_map, Result, Ok, Err, ⊤}
 use Rattle.std.specs.Option.{unwrap_or}
 use Rattle.std.specs.Str.{bytes_eq}
 use Rattle.access_core.specs.declared.kernel.Kernel.{Kernel}
@@ -52,6 +52,14 @@ kernel_of source = record {
   checked = programs_in (checked_text source.text);
   entry = entry_in (programs_in (checked_text source.text)) source.entry;
 }
+
+-- whether a source's module has a kernel of its entry's name
+abbrev pub has_its_entry : Source → Bool
+has_its_entry source = is_some (position (λ kernel. bytes_eq source.entry kernel.name) (programs_in (checked_text source.text)))
+
+-- the index of the first kernel whose module has none of its entry's name, if there is one
+abbrev pub first_without_entry : List (Name × Source) → Option ℕ
+first_without_entry kernels = position (λ row. not (has_its_entry row.1)) kernels
 
 -- nothing is wrong with the kernel of a number, if there is one
 abbrev pub Passes : List (Name × Source) → ℕ → Type 0
