@@ -6,11 +6,13 @@
 mod check;
 mod failure;
 mod kernels;
+mod laws;
 mod run;
 mod status;
 
 pub use check::check_policy;
 pub use failure::Failure;
 pub use kernels::{KernelCause, KernelError, KernelFault, check_kernels};
+pub use laws::missing_entries_are_told;
 pub use run::run_policy;
 pub use status::Status;
