@@ -28,7 +28,7 @@ arguments_behind a event outcome queue id =
 pub record GrantsAfter (a : Inside) (new : Ledger) (blocks : List ArgumentBlock) (event : Event) (outcome : Outcome) (effects : List Effect) : Type 0 where
   pub granted : (client : ClientId) (on : Object) (right : Right) → ledger.in_force new client on right ≡ in_force_after client on right (ledger.in_force a.grants client on right) event
   pub rules : ledger.rules_in new ≡ ledger.rules_in a.grants
-  pub packet_rights : (queue : QueueId) (id : PacketId) (client : ClientId) (on : Object) (right : Right)
+  pub held : (queue : QueueId) (id : PacketId) (client : ClientId) (on : Object) (right : Right)
       → ledger.holds new queue id client on right ≡ packet_holds (owner (start_of a) (with_entry a.audit.items event outcome effects)) (packet_rights (start_of a) (with_entry a.audit.items event outcome effects)) (flight (start_of a) (with_entry a.audit.items event outcome effects)) queue id client on right
   pub arguments : All (λ f. block_of blocks f.queue f.id ≡ arguments_behind a event outcome f.queue f.id) (flight (start_of a) (with_entry a.audit.items event outcome effects))
 
@@ -125,7 +125,7 @@ module _ (a b : Inside) (event : Event) (outcome : Outcome) (effects : List Effe
       record {
         granted = granted-after;
         rules = rw after.same.0.0 (after.grants.rules ∙ was.rules);
-        held = λ queue id client on right. rw (after.same.0.0, after.same.0.1, after.audit.items) (after.grants.held queue id client on right);
+        packet_rights = λ queue id client on right. rw (after.same.0.0, after.same.0.1, after.audit.items) (after.grants.packet_rights queue id client on right);
         arguments = rw (after.same.0.0, after.same.0.1, after.audit.items) (arguments-after (owed-inside a was old seen_as event outcome effects is_due));
         entries = rw after.same.0.1 was.entries;
         segments = rw (after.same.0.1, after.same.0.2) was.segments;

@@ -14,8 +14,10 @@ const PLACES: usize = 65536;
 #[derive(Drop)]
 pub struct Setting<'a> {
     pub kind: Kind,
-    /// The policy of scripts, or the frame of kernels' and policies' texts; empty where there is none.
+    /// The policy of scripts; empty where there is none.
     pub over: &'a str,
+    /// The frame of kernels' and policies' texts; empty where there is none.
+    pub frame: &'a str,
     /// What stands before each script.
     pub before: &'a str,
     pub names: &'a Names,
@@ -139,7 +141,15 @@ pub fn read_settings(
     Ok(settings)
 }
 
-/// What comes of a text.
+/// The settings of a case with the text of a kernel in place of `{KERNEL}` in the policy.
+pub fn with_kernel(alloc: Global, settings: &Settings, kernel: &str) -> Result<Settings, Error> {
+    Ok(Settings {
+        policy: changed(alloc, settings.policy.as_str(), "{KERNEL}", kernel)?,
+        places: settings.places,
+    })
+}
+
+/// What comes of a text; of a kernel that is run, of the script that runs it.
 pub fn answer(
     alloc: Global,
     kind: Kind,
@@ -147,7 +157,9 @@ pub fn answer(
     asked: &[u8],
 ) -> Result<String, Error> {
     match kind {
-        Kind::Scripts => script_answer(alloc, settings.policy.as_str(), settings.places, asked),
+        Kind::Scripts | Kind::Runs => {
+            script_answer(alloc, settings.policy.as_str(), settings.places, asked)
+        }
         Kind::Kernels => kernel_answer(alloc, asked),
         Kind::Policies => policy_answer(alloc, asked),
     }

@@ -1,6 +1,6 @@
 //! Tries cases, and tells which differ.
 
-use crate::answers::{Setting, Settings, answer, read_settings};
+use crate::answers::{Setting, Settings, answer, read_settings, with_kernel};
 use crate::file::{Case, Kind, Wanted, read_front};
 use crate::spelling::{bytes_of, choices, chosen};
 use anyhow::{Context, Error, anyhow};
@@ -128,9 +128,10 @@ fn asked_of(
             choice,
         );
     }
-    let frame = match setting.kind {
-        Kind::Kernels | Kind::Policies if !setting.over.is_empty() => setting.over,
-        _ => "{1}",
+    let frame = if setting.frame.is_empty() {
+        "{1}"
+    } else {
+        setting.frame
     };
     framed(alloc, frame, case.asked.as_slice(), choice)
 }
@@ -184,7 +185,7 @@ fn asked_behind(
 }
 
 // What comes of a text behind a front.
-fn answer_to(
+fn answer_behind(
     alloc: Global,
     setting: &Setting<'_>,
     front: &Case<'_>,
@@ -193,6 +194,32 @@ fn answer_to(
 ) -> Result<String, Error> {
     let bytes = asked_behind(alloc, setting, front, behind)?;
     answer(alloc, setting.kind, settings, bytes.as_slice())
+}
+
+// What comes of a front that runs a kernel of this text.
+fn answer_with(
+    alloc: Global,
+    setting: &Setting<'_>,
+    front: &Case<'_>,
+    settings: &Settings,
+    kernel: &str,
+) -> Result<String, Error> {
+    let settings = with_kernel(alloc, settings, kernel)?;
+    answer_behind(alloc, setting, front, &settings, "")
+}
+
+// What comes of what a case asks.
+fn answer_to(
+    alloc: Global,
+    setting: &Setting<'_>,
+    front: &Case<'_>,
+    settings: &Settings,
+    asked: &str,
+) -> Result<String, Error> {
+    match setting.kind {
+        Kind::Runs => answer_with(alloc, setting, front, settings, asked),
+        _ => answer_behind(alloc, setting, front, settings, asked),
+    }
 }
 
 fn push_all_wanted(

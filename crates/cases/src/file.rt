@@ -12,14 +12,18 @@ pub enum Kind {
     Kernels,
     /// Texts of policies, and their counts or their fault.
     Policies,
+    /// Texts of kernels that a script launches and runs, and the replies to it.
+    Runs,
 }
 
 /// The head of a file, with the names of the files beside it that it speaks of.
 #[derive(Drop)]
 pub struct Head<'a> {
     pub kind: Kind,
-    /// The policy of scripts, or the frame of kernels' and policies' texts.
+    /// The policy of scripts.
     pub over: Option<&'a str>,
+    /// The frame of kernels' and policies' texts.
+    pub frame: Option<&'a str>,
     /// What stands before each script.
     pub before: Option<&'a str>,
     /// Names for packets and other texts.
@@ -114,7 +118,8 @@ fn kind_of(word: &str) -> Result<Kind, Error> {
         "scripts" => Ok(Kind::Scripts),
         "kernels" => Ok(Kind::Kernels),
         "policies" => Ok(Kind::Policies),
-        _ => Err(anyhow!("a file of cases begins with `scripts`, `kernels` or `policies`")),
+        "runs" => Ok(Kind::Runs),
+        _ => Err(anyhow!("a file of cases begins with `scripts`, `kernels`, `policies` or `runs`")),
     }
 }
 
@@ -124,6 +129,7 @@ enum Role {
     /// The name of a role.
     Role,
     Over,
+    Frame,
     Before,
     Names,
     Text,
@@ -132,7 +138,8 @@ enum Role {
 // The role that a word names. Any other word has none, and the next is looked at.
 fn role_of(word: &str) -> Role {
     match word {
-        "over" | "in" => Role::Over,
+        "over" => Role::Over,
+        "in" => Role::Frame,
         "after" => Role::Before,
         "names" => Role::Names,
         "text" => Role::Text,
@@ -146,6 +153,7 @@ impl<'a> Head<'a> {
         match role {
             Role::Role => return Ok(role_of(word)),
             Role::Over => self.over = Some(word),
+            Role::Frame => self.frame = Some(word),
             Role::Before => self.before = Some(word),
             Role::Names => self.names = Some(word),
             Role::Text => self.texts.push(word)?,
@@ -160,6 +168,7 @@ fn read_head<'a>(alloc: Global, line: &'a str) -> Result<Head<'a>, Error> {
     let mut head = Head {
         kind: kind_of(kind)?,
         over: None,
+        frame: None,
         before: None,
         names: None,
         texts: Vec::new(alloc),

@@ -57,10 +57,12 @@ fn read_names(rt: &HostRuntime, path: &str, head: &Head<'_>) -> Result<Names, Er
 fn try_cases(rt: &HostRuntime, path: &str, cases: &CaseFile<'_>) -> Result<Tally, Error> {
     let names = read_names(rt, path, &cases.head)?;
     let over = read_named(rt, path, cases.head.over)?;
+    let frame = read_named(rt, path, cases.head.frame)?;
     let before = read_named(rt, path, cases.head.before)?;
     let setting = Setting {
         kind: cases.head.kind,
         over: over.as_str(),
+        frame: frame.as_str(),
         before: before.as_str(),
         names: &names,
     };

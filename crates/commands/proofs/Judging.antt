@@ -5,9 +5,10 @@ use Rattle.std.specs.Io.KnownBytes.{Appends, Keeps}
 use Rattle.policy.specs.Policy.{Declared}
 use Rattle.policy.specs.Format.{Declares}
 use Rattle.commands.specs.declared.failure.Failure.{Failure}
-use Rattle.commands.specs.declared.failure.Failure.TheVariants.{OutOfMemory, Policy, Kernel, Capacity, Line, Read, Write}
+use Rattle.commands.specs.declared.check.Setup.{Setup}
+use Rattle.commands.specs.declared.failure.Failure.TheVariants.{OutOfMemory, Policy, Kernel, KernelCount, NoEntry, Capacity, Line, Read, Write}
 use Rattle.commands.specs.Commands.{JudgesPolicy, PassesPolicy, text_of_count}
-use Rattle.commands.specs.Kernels.{ArePassed}
+use Rattle.commands.specs.Kernels.{AreLaunchable}
 
 -- bytes that were appended and then kept
 pub appends_kept : (old mid new : Option (List ℕ)) (bytes : List ℕ) → Appends old mid bytes → Keeps mid new → Appends old new bytes
@@ -47,11 +48,13 @@ appended (Ok x) old mid new bytes a k = appends_kept old mid new bytes a k
 appended (Err e) old mid new bytes a k = tt
 
 -- a policy that was read, by the check of its kernels
-pub judged : (text : List ℕ) (policy : Declared) (r : Result Declared Failure) → Declares text policy → PassesPolicy policy r → JudgesPolicy text r
-judged text policy (Ok same) declares p = (subst (Declares text) (sym p.0) declares, subst (λ x. ArePassed x.kernels) (sym p.0) p.1)
+pub judged : (text : List ℕ) (policy : Declared) (r : Result Setup Failure) → Declares text policy → PassesPolicy policy r → JudgesPolicy text r
+judged text policy (Ok setup) declares p = (subst (Declares text) (sym p.0) declares, subst (λ x. AreLaunchable x.kernels setup.kernels.items) (sym p.0) p.1)
 judged text policy (Err OutOfMemory) declares p = tt
 judged text policy (Err (Kernel fault)) declares p = (policy, declares, p)
 judged text policy (Err (Policy fault)) declares p = absurd p
+judged text policy (Err KernelCount) declares p = absurd p
+judged text policy (Err (NoEntry kernel)) declares p = absurd p
 judged text policy (Err Capacity) declares p = absurd p
 judged text policy (Err (Line number)) declares p = absurd p
 judged text policy (Err Read) declares p = absurd p

@@ -5,36 +5,42 @@ use Rattle.std.specs.Io.KnownBytes.{Appends}
 use Rattle.policy.specs.Format.{Declares, HasFault}
 use Rattle.policy.specs.Policy.{Declared}
 use Rattle.access_core.specs.declared.access.OpenFault.{OpenFault}
+use Rattle.access_core.specs.declared.kernel.Kernel as cores
 use Rattle.script.specs.declared.fault.ScriptFault.{ScriptFault}
 use Rattle.script.specs.Runs.{worlds}
 use Rattle.script.specs.Scripts.{RunsScript}
 use Rattle.world.specs.Starting.{Begins}
 use Rattle.world.specs.States.{Joined}
 use Rattle.commands.specs.declared.failure.Failure.{Failure}
-use Rattle.commands.specs.declared.failure.Failure.TheVariants.{OutOfMemory, Policy, Kernel, Capacity, Line, Read, Write}
+use Rattle.commands.specs.declared.check.Setup.{Setup}
+use Rattle.commands.specs.declared.failure.Failure.TheVariants.{OutOfMemory, Policy, Kernel, KernelCount, NoEntry, Capacity, Line, Read, Write}
 use Rattle.commands.specs.declared.status.Status.{Status}
 use Rattle.commands.specs.declared.status.Status.TheVariants.{Done}
 use Rattle.commands.specs.Failures.{NamesFailure, failure_of_opening, failure_of_script}
-use Rattle.commands.specs.Kernels.{ArePassed, IsFirstRefused}
+use Rattle.commands.specs.Kernels.{AreLaunchable, IsFirstRefused}
 
--- what the reading of a policy and the check of its kernels come to: the policy, all of whose kernels pass; its first
--- fault; or that of its first kernel with one
-abbrev pub JudgesPolicy : List ℕ → Result Declared Failure → Type 0
-JudgesPolicy text (Ok policy) = Declares text policy × ArePassed policy.kernels
+-- what the reading of a policy and the check of its kernels come to: the policy, all of whose kernels pass, with what packets may
+-- launch by them; its first fault; or that of its first kernel with one. A kernel without its entry has no fault here
+abbrev pub JudgesPolicy : List ℕ → Result Setup Failure → Type 0
+JudgesPolicy text (Ok setup) = Declares text setup.policy × AreLaunchable setup.policy.kernels setup.kernels.items
 JudgesPolicy text (Err OutOfMemory) = ⊤
 JudgesPolicy text (Err (Policy fault)) = HasFault text fault
 JudgesPolicy text (Err (Kernel fault)) = (policy : Declared) × Declares text policy × IsFirstRefused policy.kernels fault
+JudgesPolicy text (Err KernelCount) = ⊥
+JudgesPolicy text (Err (NoEntry kernel)) = ⊥
 JudgesPolicy text (Err Capacity) = ⊥
 JudgesPolicy text (Err (Line number)) = ⊥
 JudgesPolicy text (Err Read) = ⊥
 JudgesPolicy text (Err Write) = ⊥
 
 -- the policy itself, where its kernels are let pass, and else the failure
-abbrev pub PassesPolicy : Declared → Result Declared Failure → Type 0
-PassesPolicy policy (Ok same) = (same ≡ policy) × ArePassed policy.kernels
+abbrev pub PassesPolicy : Declared → Result Setup Failure → Type 0
+PassesPolicy policy (Ok setup) = (setup.policy ≡ policy) × AreLaunchable policy.kernels setup.kernels.items
 PassesPolicy policy (Err OutOfMemory) = ⊤
 PassesPolicy policy (Err (Kernel fault)) = IsFirstRefused policy.kernels fault
 PassesPolicy policy (Err (Policy fault)) = ⊥
+PassesPolicy policy (Err KernelCount) = ⊥
+PassesPolicy policy (Err (NoEntry kernel)) = ⊥
 PassesPolicy policy (Err Capacity) = ⊥
 PassesPolicy policy (Err (Line number)) = ⊥
 PassesPolicy policy (Err Read) = ⊥
@@ -60,14 +66,14 @@ TellsCounts policy out counted err named status =
     (Appends out counted (text_of_counts policy) × (named ≡ err) × (status ≡ Done)) ⊎ NamesFailure Write err named status
 
 -- the counts of a good policy are told, or the failure of another
-abbrev pub TellsVerdict : Result Declared Failure → (out counted err named : Option (List ℕ)) → Status → Type 0
-TellsVerdict (Ok policy) out counted err named status = TellsCounts policy out counted err named status
+abbrev pub TellsVerdict : Result Setup Failure → (out counted err named : Option (List ℕ)) → Status → Type 0
+TellsVerdict (Ok setup) out counted err named status = TellsCounts setup.policy out counted err named status
 TellsVerdict (Err failure) out counted err named status = (counted ≡ out) × NamesFailure failure err named status
 
 -- a policy is judged, and its counts or its failure told: the bytes of both writers before and after
 abbrev pub ChecksPolicy : List ℕ → (out counted err named : Option (List ℕ)) → Status → Type 0
 ChecksPolicy text out counted err named status =
-    (verdict : Result Declared Failure) × JudgesPolicy text verdict × TellsVerdict verdict out counted err named status
+    (verdict : Result Setup Failure) × JudgesPolicy text verdict × TellsVerdict verdict out counted err named status
 
 -- ---- `run`
 
@@ -105,22 +111,23 @@ RunsIn world before after status =
     (ended : Result ⊤ ScriptFault) × RunsFrom world before.script after.script before.replies after.replies ended
     × TellsEnd ended before.faults after.faults status
 
--- the script runs over the world, where one was opened
+-- the script runs over the world, where one was opened; else the failure is named: that of the first kernel without its entry, where
+-- there is one
 abbrev pub RunsWorld : Result Joined OpenFault → (before after : Streams) → Status → Type 0
 RunsWorld (Ok world) before after status = RunsIn world before after status
 RunsWorld (Err fault) before after status = StopsBefore (failure_of_opening fault) before after status
 
--- a world is opened under a policy, with so many places in its audit, and the script runs over it
-abbrev pub RunsUnder : Declared → ℕ → (before after : Streams) → Status → Type 0
-RunsUnder policy places before after status =
-    (opened : Result Joined OpenFault) × Begins policy places opened × RunsWorld opened before after status
+-- a world is opened under a policy, with what packets may launch and so many places in its audit, and the script runs over it
+abbrev pub RunsUnder : Declared → List cores.Kernel → ℕ → (before after : Streams) → Status → Type 0
+RunsUnder policy kernels places before after status =
+    (opened : Result Joined OpenFault) × Begins policy kernels places opened × RunsWorld opened before after status
 
 -- the same, where the policy is good
-abbrev pub RunsVerdict : Result Declared Failure → ℕ → (before after : Streams) → Status → Type 0
-RunsVerdict (Ok policy) places before after status = RunsUnder policy places before after status
+abbrev pub RunsVerdict : Result Setup Failure → ℕ → (before after : Streams) → Status → Type 0
+RunsVerdict (Ok setup) places before after status = RunsUnder setup.policy setup.kernels.items places before after status
 RunsVerdict (Err failure) places before after status = StopsBefore failure before after status
 
 -- a policy is judged, and the script runs over it, or its failure is named
 abbrev pub RunsPolicy : List ℕ → ℕ → (before after : Streams) → Status → Type 0
 RunsPolicy text places before after status =
-    (verdict : Result Declared Failure) × JudgesPolicy text verdict × RunsVerdict verdict places before after status
+    (verdict : Result Setup Failure) × JudgesPolicy text verdict × RunsVerdict verdict places before after status

@@ -10,7 +10,7 @@ use Rattle.access_core.specs.declared.access.OpenFault.TheVariants as opening
 use Rattle.script.specs.declared.fault.ScriptFault.{ScriptFault}
 use Rattle.script.specs.declared.fault.ScriptFault.TheVariants as script
 use Rattle.commands.specs.declared.failure.Failure.{Failure}
-use Rattle.commands.specs.declared.failure.Failure.TheVariants.{OutOfMemory, Policy, Kernel, Capacity, Line, Read, Write}
+use Rattle.commands.specs.declared.failure.Failure.TheVariants.{OutOfMemory, Policy, Kernel, KernelCount, NoEntry, Capacity, Line, Read, Write}
 use Rattle.commands.specs.declared.kernels.KernelError.{KernelError}
 use Rattle.commands.specs.declared.kernels.KernelError.TheVariants as kernels
 use Rattle.commands.specs.declared.status.Status.{Status}
@@ -22,6 +22,8 @@ abbrev pub text_of_failure : Failure → List ℕ
 text_of_failure OutOfMemory = codes "no memory"
 text_of_failure (Policy fault) = codes "policy: " ++ text_of_fault fault
 text_of_failure (Kernel fault) = text_of_kernel_fault fault
+text_of_failure KernelCount = codes "kernels: one for each kernel of the policy"
+text_of_failure (NoEntry kernel) = codes "kernel " ++ decimal kernel.0 ++ codes ": no entry"
 text_of_failure Capacity = codes "audit: 1 to 1048576 entries"
 text_of_failure (Line number) = codes "line " ++ decimal number ++ codes ": bad request"
 text_of_failure Read = codes "read fault"
@@ -32,6 +34,8 @@ abbrev pub status_of : Failure → Status
 status_of OutOfMemory = Failed
 status_of (Policy fault) = Refused
 status_of (Kernel fault) = Refused
+status_of KernelCount = Refused
+status_of (NoEntry kernel) = Refused
 status_of Capacity = Refused
 status_of (Line number) = Refused
 status_of Read = Failed
@@ -56,6 +60,8 @@ failure_of_kernels (kernels.Fault fault) = Kernel fault
 -- the failure of the opening of its core
 abbrev pub failure_of_opening : OpenFault → Failure
 failure_of_opening opening.OutOfMemory = OutOfMemory
+failure_of_opening opening.KernelCount = KernelCount
+failure_of_opening (opening.NoEntry kernel) = NoEntry kernel
 failure_of_opening opening.BadCapacity = Capacity
 
 -- the failure of the run of a script

@@ -7,6 +7,7 @@ ghost use Rattle.commands.specs.Commands.{JudgesPolicy, PassesPolicy, text_of_co
 use crate::failure::{Failure, name_failure};
 use crate::kernels::check_kernels;
 use crate::status::Status;
+use access_core::Kernel;
 use policy::{Kind, Policy, read_policy};
 use std::alloc::Global;
 use std::io;
@@ -39,6 +40,13 @@ fn write_counts<W: io::Write>(policy: &Policy, out: &mut W) -> io::Result<()>
     out.flush()
 }
 
+/// A policy that was let pass, with what packets may launch by its kernels, in order.
+#[derive(Drop)]
+pub(crate) struct Setup {
+    pub policy: Policy,
+    pub kernels: Vec<Kernel>,
+}
+
 // Counts the rows of a policy on `out`.
 fn count_rows<O: io::Write, E: io::Write>(policy: &Policy, out: &mut O, err: &mut E) -> Status
     ensures { TellsCounts policy.now (O.contents out.old) (O.contents out.new) (E.contents err.old) (E.contents err.new) result }
@@ -49,18 +57,18 @@ fn count_rows<O: io::Write, E: io::Write>(policy: &Policy, out: &mut O, err: &mu
     }
 }
 
-// The policy itself, where its kernels are let pass.
-fn checked(alloc: Global, policy: Policy) -> Result<Policy, Failure>
+// The policy with its kernels, where these are let pass.
+fn checked(alloc: Global, policy: Policy) -> Result<Setup, Failure>
     ensures { PassesPolicy policy result }
 {
     match check_kernels(alloc, &policy) {
-        Ok(()) => Ok(policy),
+        Ok(kernels) => Ok(Setup { policy, kernels }),
         Err(why) => Err(Failure::of_kernels(why)),
     }
 }
 
 /// Reads the text of a policy, and checks its kernels in order.
-pub(crate) fn judge(alloc: Global, text: &[u8]) -> Result<Policy, Failure>
+pub(crate) fn judge(alloc: Global, text: &[u8]) -> Result<Setup, Failure>
     ensures { JudgesPolicy text.now result }
 {
     match read_policy(alloc, text) {
@@ -81,7 +89,7 @@ pub fn check_policy<O: io::Write, E: io::Write>(
     ensures { ChecksPolicy text.now (O.contents out.old) (O.contents out.new) (E.contents err.old) (E.contents err.new) result }
 {
     match judge(alloc, text) {
-        Ok(policy) => count_rows(&policy, out, err),
+        Ok(setup) => count_rows(&setup.policy, out, err),
         Err(why) => name_failure(why, err),
     }
 }

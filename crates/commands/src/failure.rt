@@ -6,6 +6,7 @@ ghost use Rattle.commands.specs.Failures.{status_of, NamesFailure, failure_of_re
 use crate::kernels::{KernelError, KernelFault};
 use crate::status::Status;
 use access_core::OpenFault;
+use aql_packet::KernelObject;
 use policy::{PolicyFault, ReadPolicyError};
 use script::ScriptFault;
 use std::{fmt, io};
@@ -19,6 +20,10 @@ pub enum Failure {
     Policy(PolicyFault),
     /// A kernel of the policy has this one.
     Kernel(KernelFault),
+    /// The kernels that were handed to the core aren't one for each of the policy's.
+    KernelCount,
+    /// The module of this kernel, the least such, has no kernel of its entry's name.
+    NoEntry(KernelObject),
     /// An audit can't have so many places.
     Capacity,
     /// The script's line of this number, from 1, is too long or of no form.
@@ -35,9 +40,12 @@ impl Failure {
         ensures { result ≡ status_of self }
     {
         match self {
-            Failure::Policy(_) | Failure::Kernel(_) | Failure::Capacity | Failure::Line(_) => {
-                Status::Refused
-            }
+            Failure::Policy(_)
+            | Failure::Kernel(_)
+            | Failure::KernelCount
+            | Failure::NoEntry(_)
+            | Failure::Capacity
+            | Failure::Line(_) => Status::Refused,
             Failure::OutOfMemory | Failure::Read | Failure::Write => Status::Failed,
         }
     }
@@ -68,6 +76,8 @@ impl Failure {
     {
         match why {
             OpenFault::OutOfMemory => Failure::OutOfMemory,
+            OpenFault::KernelCount => Failure::KernelCount,
+            OpenFault::NoEntry(kernel) => Failure::NoEntry(kernel),
             OpenFault::BadCapacity => Failure::Capacity,
         }
     }
@@ -85,7 +95,7 @@ impl Failure {
     }
 }
 
-/// It prints as `policy: 4 UnknownName allow 7`, `kernel 2: read 3 line 4 column 1`, `line 3: bad request`,
+/// It prints as `policy: 4 UnknownName allow 7`, `kernel 2: read 3 line 4 column 1`, `kernel 2: no entry`, `line 3: bad request`,
 /// `no memory`, `read fault` or `write fault`.
 impl fmt::Display for Failure {
     ghost use Rattle.std.specs.Prelude.{Some};
@@ -98,6 +108,11 @@ impl fmt::Display for Failure {
             Failure::OutOfMemory => f.write_str("no memory"),
             Failure::Policy(fault) => write!(f, "policy: {fault}"),
             Failure::Kernel(fault) => write!(f, "{fault}"),
+            Failure::KernelCount => f.write_str("kernels: one for each kernel of the policy"),
+            Failure::NoEntry(kernel) => {
+                let number = kernel.0;
+                write!(f, "kernel {number}: no entry")
+            }
             Failure::Capacity => f.write_str("audit: 1 to 1048576 entries"),
             Failure::Line(number) => write!(f, "line {number}: bad request"),
             Failure::Read => f.write_str("read fault"),

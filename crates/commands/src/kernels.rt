@@ -1,15 +1,16 @@
 //! The kernels of a policy are read and checked.
 
-ghost use Rattle.std.specs.Prelude.{◌≡◌, IfOk, IfErr};
+ghost use Rattle.std.specs.Prelude.{◌≡◌, ◌+◌, ◌<◌, ◌++◌, ◌∷◌, [], IfOk, IfErr, OnOk, Some, length};
+ghost use Rattle.policy.specs.Policy.{source_of};
 ghost use Rattle.kernel_check.specs.Checks.{checking};
-ghost use Rattle.commands.specs.declared.kernels.KernelError.TheVariants.{OutOfMemory};
-ghost use Rattle.commands.specs.Kernels.{cause_of, cause_of_check, JudgesKernel, JudgesKernels};
+ghost use Rattle.commands.specs.Kernels.{AreLaunchable, AreRefused, ChecksSource, ChecksText, checked_or_cause, checked_text, entry_in, JudgesKernel};
 
+use access_core::Kernel;
 use aql_packet::KernelObject;
 use hsail_reader::{Module, ReadError, ReadFault, read_module};
-use kernel_check::{CheckError, CheckFault, check};
-use policy::{Kind, Policy};
-use std::alloc::Global;
+use kernel_check::{CheckError, CheckFault, Checked, check};
+use policy::{KernelSource, Kind, Policy};
+use std::alloc::{AllocError, Global};
 use std::fmt;
 
 /// What is wrong with a kernel.
@@ -65,53 +66,105 @@ pub enum KernelError {
     Fault(KernelFault),
 }
 
-// What is wrong with a kernel's text, if anything is.
-#[tactic(auto, unfolding(crate::specs::Kernels::cause_of))]
-fn cause_in(alloc: Global, text: &[u8]) -> Result<Option<KernelCause>, KernelError>
-    ensures cause { IfOk result (λ cause. cause ≡ cause_of text.now) }
-    ensures memory { IfErr result (λ error. error ≡ OutOfMemory) }
+impl From<AllocError> for KernelError {
+    ghost use Rattle.std.specs.Prelude.{◌≡◌};
+    ghost use Rattle.commands.specs.declared.kernels.KernelError.TheVariants as error;
+
+    ghost from_gives = { λ _ why. why ≡ error.OutOfMemory };
+
+    fn from(_want: AllocError) -> KernelError {
+        KernelError::OutOfMemory
+    }
+}
+
+// The checked kernels of the text of the kernel of a number.
+#[tactic(auto, unfolding(crate::specs::Kernels::checked_text))]
+fn checked_text(alloc: Global, number: u32, text: &[u8]) -> Result<Checked, KernelError>
+    ensures { ChecksText (checked_text text.now) number result }
 {
     match read_module(alloc, text) {
-        Ok(module) => cause_in_module(alloc, &module),
+        Ok(module) => checked_module(alloc, number, &module),
         Err(ReadError::OutOfMemory) => Err(KernelError::OutOfMemory),
-        Err(ReadError::Fault(fault)) => Ok(Some(KernelCause::Read(fault))),
-    }
-}
-
-// What is wrong with a module, if anything is.
-fn cause_in_module(alloc: Global, source: &Module) -> Result<Option<KernelCause>, KernelError>
-    ensures cause { IfOk result (λ cause. cause ≡ cause_of_check (checking source.now)) }
-    ensures memory { IfErr result (λ error. error ≡ OutOfMemory) }
-{
-    match check(alloc, source) {
-        Ok(_) => Ok(None),
-        Err(CheckError::OutOfMemory) => Err(KernelError::OutOfMemory),
-        Err(CheckError::Fault(fault)) => Ok(Some(KernelCause::Check(fault))),
-    }
-}
-
-// Reads and checks the kernel of a number, if there is one.
-fn check_kernel(alloc: Global, policy: &Policy, number: u32) -> Result<(), KernelError>
-    ensures { JudgesKernel policy.now.kernels number result }
-{
-    let Some(source) = policy.kernel_source(KernelObject(u64::from(number))) else {
-        return Ok(());
-    };
-    match cause_in(alloc, source.text().as_bytes())? {
-        None => Ok(()),
-        Some(cause) => Err(KernelError::Fault(KernelFault {
+        Err(ReadError::Fault(fault)) => Err(KernelError::Fault(KernelFault {
             kernel: number,
-            cause,
+            cause: KernelCause::Read(fault),
         })),
     }
 }
 
-/// Reads and checks each kernel of a policy, in order, and tells the first that is refused.
-pub fn check_kernels(alloc: Global, policy: &Policy) -> Result<(), KernelError>
-    ensures { JudgesKernels policy.now.kernels result }
+// The checked kernels of its module.
+fn checked_module(alloc: Global, number: u32, source: &Module) -> Result<Checked, KernelError>
+    ensures { ChecksText (checked_or_cause (checking source.now)) number result }
 {
-    'kernels: for before in 0..policy.object_count(Kind::Kernel) {
-        check_kernel(alloc, policy, before as u32 + 1)?;
+    match check(alloc, source) {
+        Ok(checked) => Ok(checked),
+        Err(CheckError::OutOfMemory) => Err(KernelError::OutOfMemory),
+        Err(CheckError::Fault(fault)) => Err(KernelError::Fault(KernelFault {
+            kernel: number,
+            cause: KernelCause::Check(fault),
+        })),
     }
-    Ok(())
+}
+
+// The index of the kernel that an entry names. Where none has the name it is that behind them all, by
+// which no core is opened.
+fn entry_in(checked: &Checked, entry: &[u8]) -> u32
+    ensures { result ≡ entry_in checked.now entry.now }
+{
+    checked.find(entry).unwrap_or(checked.count())
+}
+
+// What packets may launch by a source, that of the kernel of a number.
+fn check_source(alloc: Global, number: u32, source: &KernelSource) -> Result<Kernel, KernelError>
+    ensures { ChecksSource source.now number result }
+{
+    match checked_text(alloc, number, source.text().as_bytes()) {
+        Ok(checked) => {
+            let entry = entry_in(&checked, source.entry().as_bytes());
+            Ok(Kernel { checked, entry })
+        }
+        Err(why) => Err(why),
+    }
+}
+
+// The source of the kernel behind so many others.
+fn source_behind(policy: &Policy, before: usize) -> &KernelSource
+    requires there { before < length policy.now.kernels }
+    requires small { before < 1024 }
+    ensures { source_of policy.now (before + 1) ≡ Some result.now }
+{
+    policy
+        .kernel_source(KernelObject(before as u64 + 1))
+        .unwrap()
+}
+
+// What packets may launch by the kernel behind so many others.
+fn check_kernel(alloc: Global, policy: &Policy, before: usize) -> Result<Kernel, KernelError>
+    requires there { before < length policy.now.kernels }
+    requires small { before < 1024 }
+    ensures { JudgesKernel policy.now.kernels (before + 1) result }
+{
+    check_source(alloc, before as u32 + 1, source_behind(policy, before))
+}
+
+// Puts a kernel behind the others.
+fn put_kernel(kernels: &mut Vec<Kernel>, kernel: Kernel) -> Result<(), AllocError>
+    ensures { OnOk result (kernels.new.items ≡ kernels.old.items ++ kernel ∷ []) }
+{
+    Ok(kernels.push(kernel)?)
+}
+
+/// Reads and checks each kernel of a policy, in order, and tells what packets may launch by them, or the
+/// first that is refused. A kernel whose module has none of its entry's name is let pass: its index is
+/// that of no kernel, and no core is opened with it.
+pub fn check_kernels(alloc: Global, policy: &Policy) -> Result<Vec<Kernel>, KernelError>
+    ensures passed { IfOk result (λ kernels. AreLaunchable policy.now.kernels kernels.items) }
+    ensures refused { IfErr result (AreRefused policy.now.kernels) }
+{
+    let mut kernels = Vec::new(alloc);
+    'kernels: for before in 0..policy.object_count(Kind::Kernel) {
+        let kernel = check_kernel(alloc, policy, before)?;
+        put_kernel(&mut kernels, kernel)?;
+    }
+    Ok(kernels)
 }

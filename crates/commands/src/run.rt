@@ -3,10 +3,10 @@
 ghost use Rattle.commands.specs.Commands.{RunsOver, RunsFrom, TellsEnd, RunsUnder, RunsPolicy, streams};
 ghost use Rattle.world.specs.Starting.{Begins};
 
-use crate::check::judge;
+use crate::check::{Setup, judge};
 use crate::failure::{Failure, name_failure};
 use crate::status::Status;
-use access_core::OpenFault;
+use access_core::{Kernel, OpenFault};
 use policy::Policy;
 use script::{ScriptFault, run_script};
 use std::alloc::Global;
@@ -27,10 +27,15 @@ fn tell_end<E: io::Write>(ended: Result<(), ScriptFault>, err: &mut E) -> Status
 // don't carry it.
 
 // Opens a world under a policy.
-fn open_world(alloc: Global, policy: Policy, places: usize) -> Result<World, OpenFault>
-    ensures { Begins policy places result }
+fn open_world(
+    alloc: Global,
+    policy: Policy,
+    kernels: Vec<Kernel>,
+    places: usize,
+) -> Result<World, OpenFault>
+    ensures { Begins policy kernels.items places result }
 {
-    World::open(alloc, policy, places)
+    World::open(alloc, policy, kernels, places)
 }
 
 // Runs a script.
@@ -59,19 +64,20 @@ fn run_in<R: io::Read, O: io::Write>(
     run_through(alloc, &mut world, script, out)
 }
 
-// Runs a script over a policy that was read.
+// Runs a script over a policy that was let pass.
 fn run_under<R: io::Read, O: io::Write, E: io::Write>(
     alloc: Global,
-    policy: Policy,
+    setup: Setup,
     places: usize,
     script: &mut R,
     out: &mut O,
     err: &mut E,
 ) -> Status
-    ensures { RunsUnder policy places (streams (R.remaining script.old) (O.contents out.old) (E.contents err.old))
+    ensures { RunsUnder setup.policy setup.kernels.items places (streams (R.remaining script.old) (O.contents out.old) (E.contents err.old))
         (streams (R.remaining script.new) (O.contents out.new) (E.contents err.new)) result }
 {
-    match open_world(alloc, policy, places) {
+    let Setup { policy, kernels } = setup;
+    match open_world(alloc, policy, kernels, places) {
         Ok(world) => tell_end(run_in(alloc, world, script, out), err),
         Err(why) => name_failure(Failure::of_opening(why), err),
     }
@@ -79,7 +85,9 @@ fn run_under<R: io::Read, O: io::Write, E: io::Write>(
 
 /// Runs a script over the policy in a text, with places for so many entries (1 to 2^20) in the
 /// audit. Replies go to `out`. A fault of the policy or of a kernel is named on `err` as
-/// `check_policy` does, before any reply; a line of no form as `line 3: bad request`, after the replies to the lines before it.
+/// `check_policy` does, and behind all of these the first kernel whose module has none of its entry's
+/// name as `kernel 2: no entry`, before any reply; a line of no form as `line 3: bad request`, after the
+/// replies to the lines before it.
 pub fn run_policy<R: io::Read, O: io::Write, E: io::Write>(
     alloc: Global,
     text: &[u8],
@@ -92,7 +100,7 @@ pub fn run_policy<R: io::Read, O: io::Write, E: io::Write>(
         (streams (R.remaining script.new) (O.contents out.new) (E.contents err.new)) result }
 {
     match judge(alloc, text) {
-        Ok(policy) => run_under(alloc, policy, places, script, out, err),
+        Ok(setup) => run_under(alloc, setup, places, script, out, err),
         Err(why) => name_failure(why, err),
     }
 }

@@ -2,7 +2,7 @@
 
 ghost use Rattle.std.specs.Prelude.{◌≡◌, ℕ, List, Some, true};
 ghost use Rattle.std.specs.List.{list_all};
-ghost use Rattle.policy.specs.Policy.{Declared};
+ghost use Rattle.kernel_check.specs.Programs.{Program};
 ghost use Rattle.world.specs.Headline.{Headline, begun};
 ghost use Rattle.world.specs.States.{Joined};
 ghost use Rattle.script.specs.declared.command.Command.{Command};
@@ -11,6 +11,7 @@ ghost use Rattle.script.specs.Runs.{Reaches, Runs, Told, lines_of, worlds};
 ghost use Rattle.script.specs.Splitting.{digits_of, ended, is_line, joined, sum_of_digits};
 ghost use Rattle.script.specs.Words.{address_word, decimal_word};
 
+use policy::Policy;
 use world::the_headline;
 
 /// The lines of a text, each with a line feed behind it, are the text, with a line feed behind a last line that has
@@ -27,11 +28,11 @@ pub fn numbers_are_sums_of_their_digits()
 {}
 
 /// What a line does is some requests to the world, served in turn; so after any script, over a world that was just
-/// opened, the headline holds.
-pub fn scripts_are_requests()
+/// opened over a policy, with any kernels, the headline holds.
+pub fn scripts_are_requests(policy: &Policy)
     ensures line { (asked : Command) (old : Joined) (told : Told) (new : Joined) → does asked old told new → Reaches old new }
-    ensures headline { (policy : Declared) (capacity : ℕ) (lines : List (List ℕ)) (text : List ℕ) (world : Joined) →
-        Runs worlds (begun policy capacity) lines text world → Headline world }
+    ensures headline { (kernels : List Program) (capacity : ℕ) (lines : List (List ℕ)) (text : List ℕ) (world : Joined) →
+        Runs worlds (begun policy.now kernels capacity) lines text world → Headline world }
 {
-    the_headline();
+    the_headline(policy);
 }

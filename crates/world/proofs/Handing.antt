@@ -4,6 +4,7 @@ use Rattle.std.specs.Prelude.{◌&&◌}
 use Rattle.aql_packet.specs.declared.ids.AgentHandle.{AgentHandle}
 use Rattle.aql_packet.specs.declared.ids.ClientId.{ClientId}
 use Rattle.aql_packet.specs.declared.ids.QueueId.{QueueId}
+use Rattle.kernel_check.specs.Programs.{Program}
 use Rattle.policy.specs.Policy.{Declared, numbered}
 use Rattle.core_model.specs.declared.event.Event.TheVariants.{OpenQueue, Take}
 use Rattle.core_model.specs.declared.outcome.Outcome.{Outcome}
@@ -64,8 +65,9 @@ never_opened core core' client agent size producers asked told unfit is (inl mee
     by_owing (enters other effects) e reply = fits_not (opening_owed core.start core.entries client agent asked (enters other effects) (λ w x. cc) (due_enters core (OpenQueue client agent asked) other effects e)).0
 
 -- a world begins joined
-pub starts : (policy : Declared) (capacity : ℕ) (core : History) (rings : List QueueRing) → core ≡ empty_history policy capacity → rings ≡ [] → IsJoined (World core rings) × AreDecided core rings
-starts policy capacity core rings is none = (
-  subst (λ (h : History). IsJoined (World h rings)) (sym is) (subst (λ (rs : List QueueRing). IsJoined (World (empty_history policy capacity) rs)) (sym none) (begins policy capacity)),
+pub starts : (policy : Declared) (kernels : List Program) (capacity : ℕ) (core : History) (rings : List QueueRing) → core ≡ empty_history policy kernels capacity → rings ≡ []
+    → IsJoined (World core rings) × AreDecided core rings
+starts policy kernels capacity core rings is none = (
+  subst (λ (h : History). IsJoined (World h rings)) (sym is) (subst (λ (rs : List QueueRing). IsJoined (World (empty_history policy kernels capacity) rs)) (sym none) (begins policy kernels capacity)),
   λ queue r found. absurd (let nothing = numbered_none rings queue.0 (ap length none) in cc),
 )

@@ -1,8 +1,9 @@
 -- Whatever is asked, the world stays joined.
 use Rattle.std.proofs.Common.{◌≡◌, ℕ, List, [], ◌∷◌, refl, sym, subst, Bool, true, false, Option, Some, None, inl, inr}
-use Rattle.std.proofs.Common.{ap}
+use Rattle.std.proofs.Common.{ap, ◌∙◌}
 use Rattle.std.specs.Prelude.{◌&&◌, length, slice_get, if◌then◌else◌}
 use Rattle.aql_packet.specs.declared.ids.QueueId.{QueueId}
+use Rattle.kernel_check.specs.Programs.{Program}
 use Rattle.policy.specs.Policy.{Declared}
 use Rattle.core_model.specs.Legal.{empty_history}
 use Rattle.ring_core.specs.declared.access.Step.{Step}
@@ -92,14 +93,51 @@ replies_kept world new (asked ∷ requests) (reply ∷ replies) h are = replies_
 replies_kept world new [] (reply ∷ replies) h are = absurd are
 replies_kept world new (asked ∷ requests) [] h are = absurd are
 
+-- ---- what the history begins from
+
+-- a request leaves it
+owed_start : (world : Joined) (asked : Request) → (owed_to world asked).after.core.start ≡ world.core.start
+owed_start world (request.Step queue step) = by_ring (ring_of world queue)
+  where
+    by_hindrance : (ring : Machine) (why : Option Refusal) → (due_where world queue ring step why).after.core.start ≡ world.core.start
+    by_hindrance ring None = refl
+    by_hindrance ring (Some why) = refl
+
+    by_ring : (o : Option Machine) → (due_step world queue step o).after.core.start ≡ world.core.start
+    by_ring None = refl
+    by_ring (Some ring) = by_hindrance ring (hindrance (is_decided world.core queue ring) ring step)
+owed_start world (request.Take queue) = by_ring (ring_of world queue)
+  where
+    by_packet : (id : ℕ) (packet : Option (List ℕ)) → (due_collected world queue id packet).after.core.start ≡ world.core.start
+    by_packet id None = refl
+    by_packet id (Some words) = refl
+
+    by_ring : (o : Option Machine) → (due_take world queue o).after.core.start ≡ world.core.start
+    by_ring None = refl
+    by_ring (Some ring) = by_packet (read_index ring) (collected_packet (processor_of ring.parts))
+owed_start world (request.OpenQueue client agent size producers) = refl
+owed_start world (request.Call asked) = refl
+owed_start world (request.Query asked) = refl
+
+served_start : (world new : Joined) (asked : Request) (reply : Reply) → IsServed world asked reply new → new.core.start ≡ world.core.start
+served_start world new asked reply (inl served) = ap (λ w. w.core.start) served.1 ∙ owed_start world asked
+served_start world new asked reply (inr lacked) = ap (λ w. w.core.start) lacked.2
+
+-- any list of requests leaves it
+pub replies_start : (world new : Joined) (requests : List Request) (replies : List Reply) → AreReplies world requests replies new → new.core.start ≡ world.core.start
+replies_start world new [] [] are = ap (λ w. w.core.start) are
+replies_start world new (asked ∷ requests) (reply ∷ replies) are = replies_start are.0 new requests replies are.2 ∙ served_start world are.0 asked reply are.1
+replies_start world new [] (reply ∷ replies) are = absurd are
+replies_start world new (asked ∷ requests) [] are = absurd are
+
 -- ---- the opening
 
-pub begins : (policy : Declared) (capacity : ℕ) → IsJoined (joined (empty_history policy capacity) [])
-begins policy capacity = record {
+pub begins : (policy : Declared) (kernels : List Program) (capacity : ℕ) → IsJoined (joined (empty_history policy kernels capacity) [])
+begins policy kernels capacity = record {
   legal = tt;
-  count = sym (ap length (no_openings (record { policy = policy })));
+  count = sym (ap length (no_openings (empty_history policy kernels capacity).start));
   sizes = sym no_sizes;
   each = λ queue.
-      subst (Stands (empty_history policy capacity) queue) (sym (numbered_none (joined (empty_history policy capacity) []).rings queue.0 refl))
-      (record { next = none_next (record { policy = policy }) queue; takes = no_takes queue });
+      subst (Stands (empty_history policy kernels capacity) queue) (sym (numbered_none (joined (empty_history policy kernels capacity) []).rings queue.0 refl))
+      (record { next = none_next (empty_history policy kernels capacity).start queue; takes = no_takes queue });
 }

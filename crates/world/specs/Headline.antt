@@ -11,12 +11,15 @@ use Rattle.policy.specs.declared.object.Object.TheVariants as object
 use Rattle.policy.specs.declared.rights.Right.TheVariants as right
 use Rattle.policy.specs.declared.rights.Rights.{Rights}
 use Rattle.policy.specs.Policy.{Declared}
+use Rattle.kernel_check.specs.Programs.{Program}
 use Rattle.queue_error.specs.declared.error.QueueError.{QueueError}
 use Rattle.core_model.specs.declared.answer.Answer.{Answer}
 use Rattle.core_model.specs.declared.answer.Answer.TheVariants as answer
 use Rattle.core_model.specs.declared.entry.Effect.{Effect}
 use Rattle.core_model.specs.declared.entry.Effect.TheVariants as effect
 use Rattle.core_model.specs.declared.entry.Entry.{Entry}
+use Rattle.core_model.specs.declared.flight.InFlight.{InFlight}
+use Rattle.core_model.specs.declared.flight.Progress.{Progress}
 use Rattle.core_model.specs.declared.event.Event.TheVariants.{RunNext, Take}
 use Rattle.core_model.specs.declared.event.Query.TheVariants as query
 use Rattle.core_model.specs.declared.outcome.Outcome.{Outcome}
@@ -28,16 +31,20 @@ use Rattle.core_model.specs.History.{Start}
 use Rattle.core_model.specs.Grants.{in_force}
 use Rattle.core_model.specs.Memory.{memory_from}
 use Rattle.core_model.specs.Queues.{Opening}
+use Rattle.core_model.specs.Flight.{in_flight, progress}
+use Rattle.core_model.specs.Holds.{packet_rights}
+use Rattle.core_model.specs.View.{Given, given}
+use Rattle.core_model.specs.Owed.{enters, owed_group}
 use Rattle.core_model.specs.Legal.{IsLegal, entry_of, empty_history}
 use Rattle.core_model.specs.Queries.{query_answer}
-use Rattle.core_model.specs.Headline.{ChangeIsGranted, InFlightSince, IsDenied, IsEntryBehind, IsListed, MayBeLaunched, MayReach, MayReachRange, WriteIsGranted, packet_named, reads_of}
+use Rattle.core_model.specs.Headline.{ChangeIsGranted, InFlightSince, IsDenied, IsEntryBehind, IsListed, MayBeLaunched, MayReach, MayReachRange, WriteIsGranted, packet_named, ranges_seen}
 use Rattle.ring_core.specs.Machine.{Machine}
 use Rattle.world.specs.States.{Joined, joined, ring_of}
 use Rattle.world.specs.InStep.{IsInStep}
 
--- a world that was just opened: no entry, and no queue
-abbrev pub begun : Declared → ℕ → Joined
-begun policy capacity = joined (empty_history policy capacity) []
+-- a world that was just opened over a policy with these kernels: no entry, and no queue
+abbrev pub begun : Declared → List Program → ℕ → Joined
+begun policy kernels capacity = joined (empty_history policy kernels capacity) []
 
 -- each packet that was launched may be by the grants in force at that moment, and its launch changed nothing
 abbrev pub EachLaunchWasGranted : Start → List Entry → Type 0
@@ -70,12 +77,29 @@ abbrev pub EachChangeWasGranted : Start → List Entry → Type 0
 EachChangeWasGranted start entries =
     (before : List Entry) (entry : Entry) → IsEntryBehind entries before entry → All (ChangeIsGranted start before entry.event) entry.effects
 
--- each group that ran is one of a packet in flight that was launched with READ in force on all that its work reads
+-- each group that ran is one of a packet in flight that was launched with READ in force on all that its work reads: of a kernel
+-- dispatch, each region that it holds with READ
 abbrev pub EachGroupReadWasGranted : Start → List Entry → Type 0
 EachGroupReadWasGranted start entries =
     (before : List Entry) (queue : QueueId) (id : PacketId) (told : Outcome) (effects : List Effect) →
     IsEntryBehind entries before (entry_of (RunNext queue id) told effects) →
-    (s : InFlightSince start before queue id) × All (MayReachRange start s.launch.before s.launch.opening.client right.Read) (reads_of s.flying.packet)
+    (s : InFlightSince start before queue id)
+    × All (MayReachRange start s.launch.before s.launch.opening.client right.Read) (ranges_seen start (packet_rights start before queue id) s.flying.packet)
+
+-- what comes of each group that ran is what it was owed: of an agent dispatch its function's writes, of a kernel the meaning of the
+-- kernel that its packet names, over the regions and the arguments that were given to the packet at its launch
+abbrev pub EachGroupCameToItsMeaning : Start → List Entry → Type 0
+EachGroupCameToItsMeaning start entries =
+    (before : List Entry) (queue : QueueId) (id : PacketId) (told : Outcome) (effects : List Effect) (flying : InFlight) →
+    IsEntryBehind entries before (entry_of (RunNext queue id) told effects) → in_flight start before queue id ≡ Some flying →
+    owed_group start before queue id (given start before queue id) flying.packet (progress start before queue id) ≡ enters told effects
+
+-- a group depends on no byte of memory but those of the ranges that its work reads
+abbrev pub GroupsDependOnWhatTheyRead : Start → Type 0
+GroupsDependOnWhatTheyRead start =
+    (one other : List Entry) (queue : QueueId) (id : PacketId) (own : Given) (p : Packet) (so_far : Progress) →
+    All (λ range. memory_from start one range.address.0 range.size ≡ memory_from start other range.address.0 range.size) (ranges_seen start own.rights p) →
+    owed_group start one queue id own p so_far ≡ owed_group start other queue id own p so_far
 
 -- each byte that a client is told is one of memory, with READ in force
 abbrev pub EachReadIsGranted : Start → List Entry → Type 0
@@ -105,6 +129,8 @@ pub record Headline (world : Joined) : Type 0 where
   pub writes : EachWriteWasGranted world.core.start world.core.entries
   pub changes : EachChangeWasGranted world.core.start world.core.entries
   pub group_reads : EachGroupReadWasGranted world.core.start world.core.entries
+  pub group_means : EachGroupCameToItsMeaning world.core.start world.core.entries
+  pub group_depends : GroupsDependOnWhatTheyRead world.core.start
   pub reads : EachReadIsGranted world.core.start world.core.entries
   pub looks : EachLookIsGranted world.core.start world.core.entries
   pub listed : EachHandleListedIsGranted world.core.start world.core.entries

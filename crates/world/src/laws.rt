@@ -1,7 +1,7 @@
 //! The headline, as a law of all lists of requests.
 
 ghost use Rattle.std.specs.Prelude.{◌≡◌, ℕ, List, Err};
-ghost use Rattle.policy.specs.Policy.{Declared};
+ghost use Rattle.kernel_check.specs.Programs.{Program};
 ghost use Rattle.world.specs.declared.reply.Refusal.{Refusal};
 ghost use Rattle.world.specs.declared.request.Request.{Request};
 ghost use Rattle.world.specs.Dues.{AreReplies, IsServed, Reply};
@@ -12,25 +12,28 @@ use core_model::{
     denials_name_the_first_rule, each_launch_was_granted, each_listed_right_is_in_force,
     each_look_at_a_signal_is_granted, each_read_of_a_client_is_granted,
     each_read_of_a_group_was_granted, each_signal_change_was_granted, each_write_was_granted,
-    faults_release_alone,
+    faults_release_alone, groups_depend_on_what_they_read,
 };
+use policy::{Kind, Policy};
 
-/// After any list of requests, in any interleaving of producers, processors, grants, revocations and
+/// Over any policy, with any kernels, after any list of requests, in any interleaving of producers, processors, grants, revocations and
 /// calls of clients, the history is legal: every launch, byte accessed, signal changed and handle listed
 /// is one that a packet or a call of that client asked for and a grant in force allowed, at launch for a
 /// packet; each denial changes nothing and names the packet and the first rule that failed; a group that
 /// faults leaves nothing; and what was launched or denied of each queue is what was published in its ring,
 /// whole, each once, in order.
-pub fn the_headline()
-    ensures { (policy : Declared) (capacity : ℕ) (requests : List Request) (replies : List Reply) (world : Joined) →
-        AreReplies (begun policy capacity) requests replies world → Headline world }
+pub fn the_headline(policy: &Policy)
+    ensures { (kernels : List Program) (capacity : ℕ) (requests : List Request) (replies : List Reply) (world : Joined) →
+        AreReplies (begun policy.now kernels capacity) requests replies world → Headline world }
 {
+    policy.object_count(Kind::Region);
     each_launch_was_granted();
     denials_name_the_first_rule();
     faults_release_alone();
     each_write_was_granted();
     each_signal_change_was_granted();
     each_read_of_a_group_was_granted();
+    groups_depend_on_what_they_read();
     each_read_of_a_client_is_granted();
     each_look_at_a_signal_is_granted();
     each_listed_right_is_in_force();

@@ -11,7 +11,7 @@ use crate::reply::Reply;
 use crate::request::Request;
 use crate::rings::ring_at;
 use crate::serving::obey;
-use access_core::{AccessCore, OpenFault};
+use access_core::{AccessCore, Kernel, OpenFault};
 use aql_packet::QueueId;
 use policy::Policy;
 use sequences::Reserved;
@@ -46,12 +46,17 @@ impl Model for World {
 }
 
 impl World {
-    /// Opens a world over a policy, with places for `capacity` entries in its audit: no queue is open.
-    /// Refused as the core's opening is.
-    pub fn open(alloc: Global, policy: Policy, capacity: usize) -> Result<World, OpenFault>
-        ensures { Begins policy capacity result }
+    /// Opens a world over a policy, with a kernel for each of the policy's, and places for `capacity`
+    /// entries in its audit: no queue is open. Refused as the core's opening is.
+    pub fn open(
+        alloc: Global,
+        policy: Policy,
+        kernels: Vec<Kernel>,
+        capacity: usize,
+    ) -> Result<World, OpenFault>
+        ensures { Begins policy kernels.items capacity result }
     {
-        let core = AccessCore::open(alloc, policy, capacity)?;
+        let core = AccessCore::open(alloc, policy, kernels, capacity)?;
         Ok(World {
             core,
             rings: Vec::new(alloc),

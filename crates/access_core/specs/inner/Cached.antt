@@ -51,7 +51,7 @@ pub record IsCached (a : Inside) : Type 0 where
   -- what the policy declares and allows
   pub rules : ledger.rules_in a.grants ≡ rules_of a.policy
   -- the rights that packets in flight hold
-  pub packet_rights : (queue : QueueId) (id : PacketId) (client : ClientId) (on : Object) (right : Right)
+  pub held : (queue : QueueId) (id : PacketId) (client : ClientId) (on : Object) (right : Right)
       → ledger.holds a.grants queue id client on right ≡ packet_holds (owner (start_of a) a.audit.items) (packet_rights (start_of a) a.audit.items) (flight (start_of a) a.audit.items) queue id client on right
   -- the argument blocks of packets in flight
   pub arguments : All (λ f. block_of a.blocks f.queue f.id ≡ arguments (start_of a) a.audit.items f.queue f.id) (flight (start_of a) a.audit.items)

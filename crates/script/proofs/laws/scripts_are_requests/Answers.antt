@@ -6,6 +6,6 @@ pub returns-clause-line : goal.returns-clause-line
 returns-clause-line c = λ asked old told new done. line_reaches asked old told new done
 
 pub returns-clause-headline : goal.returns-clause-headline
-returns-clause-headline c = λ policy capacity lines text world ran.
-    let reached = runs_reach (begun policy capacity) world lines text ran in
-    c.the_headline.ensures policy capacity reached.0 reached.1 world reached.2
+returns-clause-headline c = λ kernels capacity lines text world ran.
+    let reached = runs_reach (begun c.args.policy.now kernels capacity) world lines text ran in
+    c.the_headline.ensures kernels capacity reached.0 reached.1 world reached.2
