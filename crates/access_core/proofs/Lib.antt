@@ -15,6 +15,7 @@ pub mod WorkLemmas
 pub mod WorkReadLemmas
 pub mod RunLemmas
 pub mod KernelLemmas
+pub mod LayingLemmas
 pub mod HostMemory
 pub mod HeldMore
 pub mod HeldRights

@@ -8,6 +8,7 @@ ghost use Rattle.access_core.specs.inner.Cached.{IsEntered, is_full};
 mod granting;
 mod host;
 mod kernels;
+mod laying;
 mod lookups;
 mod opening;
 mod polling;
