@@ -40,7 +40,7 @@ prog kernel &storing(kernarg_u64 %words)
   ld_kernarg_u64 $d0, [%words];
   workitemabsid_u32 $s0, 0;
   mov_u32 $s1, 6553;
-@again:
+@turn:
   mad_u32 $s0, $s0, 1664525, 1013904223;
   shr_u32 $s2, $s0, 21;
   cvt_u64_u32 $d1, $s2;
@@ -50,7 +50,7 @@ prog kernel &storing(kernarg_u64 %words)
   st_global_u32 $s3, [$d1];
   sub_u32 $s1, $s1, 1;
   cmp_ne_b1_u32 $c0, $s1, 0;
-  cbr_b1 $c0, @again;
+  cbr_b1 $c0, @turn;
   ret;
 };
 ";

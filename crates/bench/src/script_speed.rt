@@ -1,6 +1,7 @@
 //! The measurement of scripts: packets that are submitted, served, run and finished, a line each.
 
 use crate::fault::Fault;
+use aql_packet::{Address, AgentDispatch, Header, Packet, Scope, SignalHandle, encode};
 use commands::{Status, run_policy};
 use std::alloc::{AllocError, Global};
 use std::time::{Clock, Duration, Instant};
@@ -14,57 +15,60 @@ pub const LINES: u64 = 4;
 /// The most entries of an audit.
 const PLACES: usize = 1 << 20;
 
-/// A client that may have all, an agent, a region and a signal.
-const POLICY: &str = r#"[[client]]
-name = "alice"
-[[agent]]
-name = "gpu"
-takes = ["agent"]
-[[region]]
-name = "buf"
-length = 64
-[[signal]]
-name = "done"
-initial = 1
-[[allow]]
-client = "alice"
-kind = "agent"
-object = "*"
-rights = ["USE"]
-[[allow]]
-client = "alice"
-kind = "region"
-object = "*"
-rights = ["READ", "WRITE"]
-[[allow]]
-client = "alice"
-kind = "signal"
-object = "*"
-rights = ["WAIT", "CHANGE"]
+/// A client that may use an agent, write a region and change a signal.
+const POLICY: &str = r#"
+client = [{ name = "sender" }]
+agent = [{ name = "engine", takes = ["agent"] }]
+region = [{ name = "cells", length = 64 }]
+signal = [{ name = "through", initial = 1 }]
+allow = [
+    { client = "sender", kind = "agent", object = "engine", rights = ["USE"] },
+    { client = "sender", kind = "region", object = "cells", rights = ["WRITE"] },
+    { client = "sender", kind = "signal", object = "through", rights = ["CHANGE"] },
+]
 "#;
 
-/// Alice gets her rights, and a queue of 64 slots.
-const OPENING: &str = "grant alice agent gpu USE
-grant alice region buf READ,WRITE
-grant alice signal done WAIT,CHANGE
-queue alice gpu 64 1
+/// The client gets its rights, and a queue of 64 slots.
+const OPENING: &str = "grant sender agent engine USE
+grant sender region cells WRITE
+grant sender signal through CHANGE
+queue sender engine 64 1
 ";
 
 /// What the opening is answered.
 const OPENED: &str = "ok\nok\nok\nqueue 1\n";
 
 /// An agent dispatch that fills 4 bytes at the region's first address, and completes by the signal.
-const FILL: &str =
-    "04140080000000000000000000000000000000000100000004000000000000005a00000000000000000000000000000000000000000000000100000000000000";
+const FILL: Packet = Packet::Agent(AgentDispatch {
+    header: Header {
+        barrier: false,
+        acquire: Scope::System,
+        release: Scope::System,
+    },
+    function: 0x8000,
+    return_address: Address(0),
+    arguments: [0x1_0000_0000, 4, 0x5a, 0],
+    completion_signal: SignalHandle(1),
+});
+
+/// Bytes as scripts write them: in order, two digits each.
+fn spelled(alloc: Global, bytes: &[u8]) -> Result<String, AllocError> {
+    let mut text = String::new(alloc);
+    for byte in bytes {
+        write!(text, "{byte:02x}")?;
+    }
+    Ok(text)
+}
 
 /// The lines of so many packets, each through before the next comes.
 fn script(alloc: Global, packets: u64) -> Result<String, AllocError> {
+    let fill = spelled(alloc, &encode(&FILL))?;
     let mut text = String::new(alloc);
     text.push_str(OPENING)?;
     for packet in 0..packets {
         write!(
             text,
-            "submit 1 1 {FILL}\nserve 1\nrun 1 {packet}\nfinish 1 {packet}\n"
+            "submit 1 1 {fill}\nserve 1\nrun 1 {packet}\nfinish 1 {packet}\n"
         )?;
     }
     Ok(text)

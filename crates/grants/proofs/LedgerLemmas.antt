@@ -1,5 +1,5 @@
 -- What the calls of grants leave, by the table and the list of holds.
-use Rattle.std.proofs.Common.{◌≡◌, ℕ, ◌≤◌, Bool, true, false, List, ◌++◌, ◌&&◌, map, filter, not, Option, Some, None, refl, sym, ap, subst, ◌∙◌}
+use Rattle.std.proofs.Common.{◌≡◌, ℕ, ◌+◌, ◌≤◌, Bool, true, false, List, length, ◌++◌, ◌&&◌, map, filter, not, Option, Some, None, refl, sym, ap, subst, ◌∙◌}
 use Rattle.std.specs.Option.{is_some}
 use Rattle.std.specs.Prelude.{nat_lt}
 use Rattle.std.specs.List.{list_any}
@@ -43,14 +43,16 @@ module _ (table : Table) (list : List Hold) (room : ℕ) (old : Ledger) (view : 
 
   -- without the packet's holds it holds nothing
   pub released : (q : QueueId) (p : PacketId) (after : Table) (rest : List Hold) (left : ℕ)
-      → SameRights table after → rest ≡ filter (λ hold. not (is_of q p hold)) list → room ≤ left → Releases old (ledger after rest left) q p
-  released q p after rest left same dropped more =
+      → SameRights table after → rest ≡ filter (λ hold. not (is_of q p hold)) list → room ≤ left
+      → length rest + left ≡ length list + room → Releases old (ledger after rest left) q p
+  released q p after rest left same dropped more places =
       let moved : Releases (ledger table list room) (ledger after rest left) q p = record {
         released = λ q' p' c' o' right. ap (λ hs. held hs q' p' c' o' right) dropped ∙ held-dropped q p q' p' c' o' right list
             ∙ and_comm (not (same_packet q' p' q p)) (held list q' p' c' o' right);
         same_rules = same.same_rules;
         same_rights = same.same_rights;
         room = more;
+        same_places = places;
       } in subst (λ g. Releases g (ledger after rest left) q p) view moved
 
   -- a client and an object that have a cell are declared

@@ -1,5 +1,5 @@
 -- Grants as contracts see them: what is in force, and which packet holds what, by look-ups that hide how they are kept.
-use Rattle.std.specs.Prelude.{◌≡◌, ◌≤◌, Bool, true, false, not, ◌&&◌, ◌||◌, ℕ, List, map, filter, None, Some, Result, Ok, Err, if◌then◌else◌}
+use Rattle.std.specs.Prelude.{◌≡◌, ◌+◌, ◌≤◌, Bool, true, false, not, ◌&&◌, ◌||◌, ℕ, List, length, map, filter, None, Some, Result, Ok, Err, if◌then◌else◌}
 use Rattle.std.specs.List.{list_any, list_all}
 use Rattle.aql_packet.specs.declared.ids.ClientId.{ClientId}
 use Rattle.aql_packet.specs.declared.ids.QueueId.{QueueId}
@@ -27,6 +27,10 @@ pub record Ledger : Type 0 where
 -- what the policy declares and allows
 abbrev pub rules_in : Ledger → Rules
 rules_in grants = grants.table.rules
+
+-- how many places for holds there are, taken and free: as many as memory was taken for
+abbrev pub places : Ledger → ℕ
+places grants = length grants.list + grants.room
 
 -- whether a client's right on an object is in force
 abbrev pub in_force : Ledger → ClientId → Object → Right → Bool
@@ -71,6 +75,7 @@ pub record Gives (old new : Ledger) (client : ClientId) (object : Object) (right
   pub same_rules : rules_in new ≡ rules_in old
   pub same_holds : SameHolds old new
   pub same_room : new.room ≡ old.room
+  pub same_places : places new ≡ places old
 
 -- the rights of the client on the object went out of force, and nothing else changed
 pub record Takes (old new : Ledger) (client : ClientId) (object : Object) (rights : Rights) : Type 0 where
@@ -79,6 +84,7 @@ pub record Takes (old new : Ledger) (client : ClientId) (object : Object) (right
   pub same_rules : rules_in new ≡ rules_in old
   pub same_holds : SameHolds old new
   pub same_room : new.room ≡ old.room
+  pub same_places : places new ≡ places old
 
 -- the packet holds, beside what it held, all rights that the list names; nothing else changed
 pub record Holds (old new : Ledger) (client : ClientId) (queue : QueueId) (packet : PacketId) (rights : List (Object × Rights)) : Type 0 where
@@ -88,7 +94,7 @@ pub record Holds (old new : Ledger) (client : ClientId) (queue : QueueId) (packe
   pub same_rules : rules_in new ≡ rules_in old
   pub same_rights : SameRights old new
 
--- the packet holds nothing, and nothing else changed; room is never lost
+-- the packet holds nothing, and nothing else changed; room is never lost, and none is got
 pub record Releases (old new : Ledger) (queue : QueueId) (packet : PacketId) : Type 0 where
   pub released : (queue' : QueueId) (packet' : PacketId) (client' : ClientId) (object' : Object) (right : Right)
       → holds new queue' packet' client' object' right
@@ -96,6 +102,7 @@ pub record Releases (old new : Ledger) (queue : QueueId) (packet : PacketId) : T
   pub same_rules : rules_in new ≡ rules_in old
   pub same_rights : SameRights old new
   pub room : old.room ≤ new.room
+  pub same_places : places new ≡ places old
 
 -- ---- answers
 

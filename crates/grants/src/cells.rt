@@ -1,6 +1,7 @@
 //! The table: a cell for each client and object that a policy declares.
 
-ghost use Rattle.std.specs.Prelude.{◌≡◌, ◌+◌, ◌-◌, ◌<◌, ◌≤◌, ◌^◌, IfOk, true, false, if◌then◌else◌, ◌&&◌, ◌||◌, not, replicate};
+ghost use Rattle.std.specs.Box.{boxed_slice_items};
+ghost use Rattle.std.specs.Prelude.{◌≡◌, ◌+◌, ◌-◌, ◌<◌, ◌≤◌, ◌^◌, IfOk, true, false, if◌then◌else◌, ◌&&◌, ◌||◌, not, length, replicate, slice_get, slice_set};
 ghost use Rattle.std.specs.Option.{is_some};
 ghost use Rattle.aql_packet.specs.declared.ids.ClientId.{ClientId};
 ghost use Rattle.policy.specs.declared.object.Object.{Object};
@@ -16,34 +17,51 @@ use crate::hold::Hold;
 use crate::rules::Rules;
 use aql_packet::ClientId;
 use policy::{Object, Policy, Rights};
-use sequences::Sequence;
 use std::alloc::{AllocError, Global};
+use std::boxed::BoxedSlice;
 use std::marker::Model;
 
 /// The rules of a policy, and a cell for each client and object that it declares. A cell is found in
-/// one step, by the numbers of client and object.
+/// one step, by the numbers of client and object. The cells lie in a slice of their own, which no call can make
+/// longer.
 #[derive(Drop)]
 pub struct Cells {
     rules: Rules,
-    cells: Sequence<Cell>,
+    cells: BoxedSlice<Cell>,
 }
 
 impl Model for Cells {
+    ghost use Rattle.std.specs.Box.{boxed_slice_items};
     ghost use Rattle.std.specs.Prelude.{◌≡◌, ◌*◌, length};
     ghost use Rattle.grants.specs.Cells.{Table, object_count};
 
     ghost Value = { Table };
 
-    ghost view = { λ table. record { rules = table.rules; cells = table.cells } };
+    ghost view = { λ table. record { rules = table.rules; cells = boxed_slice_items table.cells } };
 
-    ghost invariant = { λ table. length table.cells ≡ table.rules.clients * object_count table.rules };
+    ghost invariant = { λ table. length (boxed_slice_items table.cells) ≡ table.rules.clients * object_count table.rules };
 }
 
 // This many empty cells.
-fn empty_cells(alloc: Global, count: usize) -> Result<Sequence<Cell>, AllocError>
-    ensures { IfOk result (λ cells. cells ≡ replicate count empty_cell) }
+fn empty_cells(alloc: Global, count: usize) -> Result<BoxedSlice<Cell>, AllocError>
+    ensures { IfOk result (λ cells. boxed_slice_items cells ≡ replicate count empty_cell) }
 {
-    Ok(Sequence::from_vec(vec![in alloc; Cell::EMPTY; count]?))
+    Ok(vec![in alloc; Cell::EMPTY; count]?.into_boxed_slice())
+}
+
+// The cell in a place, if there is one.
+fn cell_at(cells: &[Cell], place: usize) -> Option<Cell>
+    ensures { result ≡ slice_get cells.now place }
+{
+    cells.get(place).copied()
+}
+
+// Puts a cell in a place.
+fn put(cells: &mut BoxedSlice<Cell>, place: usize, cell: Cell)
+    requires { place < length (boxed_slice_items cells.old) }
+    ensures { boxed_slice_items cells.new ≡ slice_set (boxed_slice_items cells.old) place cell }
+{
+    cells[place] = cell;
 }
 
 impl Cells {
@@ -71,7 +89,7 @@ impl Cells {
         ensures declared { is_some result ≡ (knows_client self.now.rules client && knows self.now.rules object) }
     {
         let place = self.rules.place_of(client, object)?;
-        self.cells.get(place).copied()
+        cell_at(self.cells.as_slice(), place)
     }
 
     // Puts a cell in the place of that of a client and an object, if both are declared.
@@ -81,7 +99,7 @@ impl Cells {
         ensures rules { self.new.rules ≡ self.old.rules }
     {
         if let Some(place) = self.rules.place_of(client, object) {
-            self.cells.set(place, cell);
+            put(&mut self.cells, place, cell);
         }
     }
 

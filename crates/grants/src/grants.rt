@@ -43,7 +43,7 @@ impl Model for Grants {
 }
 
 impl Grants {
-    ghost use Rattle.grants.specs.Ledger.{IsNew, Gives, Takes, Holds, Releases, RevokeAnswers, rules_in, in_force, holds, grant_due, rights_on, are_in_force, listing, listing_by};
+    ghost use Rattle.grants.specs.Ledger.{IsNew, Gives, Takes, Holds, Releases, RevokeAnswers, rules_in, in_force, holds, grant_due, rights_on, are_in_force, listing, listing_by, places};
 
     /// No right is in force yet, and no packet holds one.
     pub fn new(alloc: Global, policy: &Policy) -> Result<Grants, AllocError>
@@ -228,6 +228,7 @@ impl Grants {
         requires room { length rights.now ≤ self.old.room }
         ensures holds { Holds self.old self.new client queue packet rights.now }
         ensures room { self.new.room + length rights.now ≡ self.old.room }
+        ensures places { places self.new ≡ places self.old }
     {
         put_holds(
             &mut self.table,

@@ -1,35 +1,79 @@
 //! Packets handed to the core itself. The calls of the core stand in functions of their own without contracts, so
 //! that the proofs of the tests don't carry what each call is owed.
 
-use crate::sample::{SAMPLE, fill, read};
-use access_core::{AccessCore, OpenFault};
-use aql_packet::{AgentHandle, ClientId, PacketId, QueueId, RegionHandle, SignalHandle};
+use crate::studio::{POLICY, kernels, read};
+use access_core::{AccessCore, Kernel, OpenFault};
+use aql_packet::{
+    Address, AgentDispatch, AgentHandle, ClientId, Header, KernelDispatch, KernelObject, Packet,
+    PacketId, QueueId, RegionHandle, Scope, SignalHandle, encode,
+};
 use bitflags::Flags;
 use core_model::{Answer, Event, Outcome, Query, Refusal, Reply, Request, Taken, Worked};
 use policy::{Object, Policy, Rights};
 use queue_error::{QueueError, Rule};
-use sequences::Reserved;
+use sequences::{Reserved, Sequence};
 use std::alloc::{AllocError, Global};
 use std::test::*;
 
-const ALICE: ClientId = ClientId(1);
+const NORA: ClientId = ClientId(1);
 
-const GPU: AgentHandle = AgentHandle(1);
+const MIXER: AgentHandle = AgentHandle(1);
 
-const BUF: RegionHandle = RegionHandle(1);
+const TAPE: RegionHandle = RegionHandle(1);
 
-const DONE: SignalHandle = SignalHandle(1);
+const NOTES: RegionHandle = RegionHandle(2);
+
+const CUE: SignalHandle = SignalHandle(1);
+
+const FADE: KernelObject = KernelObject(1);
 
 const QUEUE: QueueId = QueueId(1);
 
-fn open(alloc: Global, policy: Policy) -> Result<AccessCore, OpenFault> {
-    AccessCore::open(alloc, policy, 100)
+/// A place of the tape, and one of the notes.
+const SAMPLES: Address = Address(0x1_0000_0004);
+
+const ARGUMENTS: Address = Address(0x2_0000_0008);
+
+const HEADER: Header = Header {
+    barrier: false,
+    acquire: Scope::Agent,
+    release: Scope::System,
+};
+
+/// Fills 6 bytes of the tape.
+const FILL: Packet = Packet::Agent(AgentDispatch {
+    header: HEADER,
+    function: 0x8000,
+    return_address: Address(0),
+    arguments: [SAMPLES.0, 6, 0x33, 0],
+    completion_signal: CUE,
+});
+
+/// Fades 3 numbers of the tape, 2 in each work-group.
+const DISPATCH: Packet = Packet::Kernel(KernelDispatch {
+    header: HEADER,
+    dimensions: 1,
+    workgroup_size_x: 2,
+    workgroup_size_y: 1,
+    workgroup_size_z: 1,
+    grid_size_x: 3,
+    grid_size_y: 1,
+    grid_size_z: 1,
+    private_segment_size: 0,
+    group_segment_size: 0,
+    kernel_object: FADE,
+    kernarg_address: ARGUMENTS,
+    completion_signal: CUE,
+});
+
+fn open(alloc: Global, policy: Policy, kernels: Vec<Kernel>) -> Result<AccessCore, OpenFault> {
+    AccessCore::open(alloc, policy, kernels, 100)
 }
 
-/// A core over a policy.
-fn core_over(alloc: Global, text: &str) -> Result<AccessCore, Fail> {
+/// A core over a policy and its kernels.
+fn core_over(alloc: Global, text: &str, kernels: Vec<Kernel>) -> Result<AccessCore, Fail> {
     match read(alloc, text.as_bytes()) {
-        Ok(policy) => match open(alloc, policy) {
+        Ok(policy) => match open(alloc, policy, kernels) {
             Ok(core) => Ok(core),
             Err(_) => Err("no core is opened".into()),
         },
@@ -37,32 +81,45 @@ fn core_over(alloc: Global, text: &str) -> Result<AccessCore, Fail> {
     }
 }
 
-/// A core over the sample policy.
 fn fresh(alloc: Global) -> Result<AccessCore, Fail> {
-    core_over(alloc, SAMPLE)
+    core_over(alloc, POLICY, kernels(alloc)?)
 }
 
 fn granted(core: &mut AccessCore, object: Object, rights: Rights) -> Result<(), Refusal> {
-    core.grant(ALICE, object, rights)
+    core.grant(NORA, object, rights)
 }
 
-/// Whether Alice is granted rights.
+/// Whether Nora is granted rights.
 fn grants(core: &mut AccessCore, object: Object, rights: Rights) -> bool {
     granted(core, object, rights).is_ok()
 }
 
-/// Whether Alice is granted what her packets need.
+/// Whether Nora is granted what her packets need.
 fn grants_all(core: &mut AccessCore) -> bool {
-    grants(core, Object::Agent(GPU), Rights::USE)
-        && grants(core, Object::Region(BUF), Rights::READ.union(Rights::WRITE))
-        && grants(core, Object::Signal(DONE), Rights::CHANGE)
+    grants(core, Object::Agent(MIXER), Rights::USE)
+        && grants(
+            core,
+            Object::Region(TAPE),
+            Rights::READ.union(Rights::WRITE),
+        )
+        && grants(
+            core,
+            Object::Region(NOTES),
+            Rights::READ.union(Rights::WRITE),
+        )
+        && grants(
+            core,
+            Object::Signal(CUE),
+            Rights::CHANGE.union(Rights::WAIT),
+        )
+        && grants(core, Object::Kernel(FADE), Rights::LAUNCH)
 }
 
 fn opened_queue(alloc: Global, core: &mut AccessCore) -> Result<QueueId, Refusal> {
-    core.open_queue(alloc, ALICE, GPU, 2)
+    core.open_queue(alloc, NORA, MIXER, 2)
 }
 
-/// Whether Alice gets a queue.
+/// Whether Nora gets a queue.
 fn opens_queue(alloc: Global, core: &mut AccessCore) -> bool {
     opened_queue(alloc, core).is_ok()
 }
@@ -115,7 +172,7 @@ fn denied() -> Taken {
     })
 }
 
-/// Whether bytes are denied by rule L1 on a queue of Alice's.
+/// Whether bytes are denied by rule L1 on a queue of Nora's.
 fn breaks_the_first_rule(alloc: Global, core: &mut AccessCore, bytes: &[u8; 64]) -> bool {
     grants_all(core) && opens_queue(alloc, core) && becomes(alloc, core, 0, bytes, Ok(denied()))
 }
@@ -139,8 +196,8 @@ fn ones_are_no_packet(rt: HostRuntime) -> Result<(), Fail> {
 
 /// Whether the queue's first packet is launched in its turn alone, and runs.
 fn runs_in_its_turn(alloc: Global, core: &mut AccessCore) -> bool {
-    becomes(alloc, core, 1, &fill(), Err(Refusal::OutOfStep(0)))
-        && becomes(alloc, core, 0, &fill(), Ok(Taken::Launched))
+    becomes(alloc, core, 1, &encode(&FILL), Err(Refusal::OutOfStep(0)))
+        && becomes(alloc, core, 0, &encode(&FILL), Ok(Taken::Launched))
         && finishes(core, Err(Refusal::NotFinished))
         && runs(alloc, core, Ok(Worked::Ran { group: 0, left: 0 }))
         && runs(alloc, core, Ok(Worked::Done))
@@ -150,10 +207,10 @@ fn runs_in_its_turn(alloc: Global, core: &mut AccessCore) -> bool {
 fn ends_once(alloc: Global, core: &mut AccessCore) -> bool {
     finishes(core, Ok(()))
         && finishes(core, Err(Refusal::NotInFlight))
-        && becomes(alloc, core, 0, &fill(), Err(Refusal::OutOfStep(1)))
+        && becomes(alloc, core, 0, &encode(&FILL), Err(Refusal::OutOfStep(1)))
 }
 
-/// Whether a packet goes its way on a queue of Alice's.
+/// Whether a packet goes its way on a queue of Nora's.
 fn goes_its_way(alloc: Global, core: &mut AccessCore) -> bool {
     grants_all(core)
         && opens_queue(alloc, core)
@@ -175,7 +232,7 @@ fn hand_over() -> Request {
     Request::Event(Event::Take {
         queue: QUEUE,
         packet: PacketId(0),
-        bytes: fill(),
+        bytes: encode(&FILL),
     })
 }
 
@@ -222,10 +279,10 @@ fn served(
 fn tells_three(alloc: Global, core: &mut AccessCore) -> Result<bool, Fail> {
     let requests = three_requests(alloc)?;
     let replies = served(alloc, core, requests)?;
-    Ok(tell(replies.as_slice(), 5))
+    Ok(tell(replies.as_slice(), 7))
 }
 
-/// Whether three requests on a queue of Alice's are replied to.
+/// Whether three requests on a queue of Nora's are replied to.
 fn serves_three(alloc: Global, mut core: AccessCore) -> Result<bool, Fail> {
     if grants_all(&mut core) && opens_queue(alloc, &mut core) {
         tells_three(alloc, &mut core)
@@ -237,5 +294,81 @@ fn serves_three(alloc: Global, mut core: AccessCore) -> Result<bool, Fail> {
 #[test]
 fn requests_are_served_in_turn(rt: HostRuntime) -> Result<(), Fail> {
     assert!(rt; serves_three(rt.alloc(), fresh(rt.alloc())?)?);
+    Ok(())
+}
+
+fn written(
+    alloc: Global,
+    core: &mut AccessCore,
+    address: Address,
+    bytes: &[u8],
+) -> Result<(), Refusal> {
+    let bytes = Sequence::from_vec(Vec::from_slice(alloc, bytes)?);
+    core.host_write(alloc, NORA, address, bytes)
+}
+
+/// Whether Nora writes bytes.
+fn writes(alloc: Global, core: &mut AccessCore, address: Address, bytes: &[u8]) -> bool {
+    written(alloc, core, address, bytes).is_ok()
+}
+
+fn six_bytes(alloc: Global, core: &AccessCore) -> Result<Sequence<u8>, Refusal> {
+    core.host_read(alloc, NORA, SAMPLES, 6)
+}
+
+/// Whether the tape has these 6 bytes.
+fn reads(alloc: Global, core: &AccessCore, wanted: &[u8; 6]) -> bool {
+    match six_bytes(alloc, core) {
+        Ok(bytes) => bytes.as_slice() == wanted.as_slice(),
+        Err(_) => false,
+    }
+}
+
+fn cue(core: &AccessCore) -> Result<i64, Refusal> {
+    core.signal_load(NORA, CUE)
+}
+
+/// Whether Nora's numbers and her arguments, a move by 1 to the right from the numbers' place on, lie in memory.
+fn has_numbers(alloc: Global, core: &mut AccessCore) -> bool {
+    writes(alloc, core, SAMPLES, &[0, 1, 3, 0, 0xff, 0xff])
+        && writes(
+            alloc,
+            core,
+            ARGUMENTS,
+            &[1, 0, 0, 0, 0, 0, 0, 0, 4, 0, 0, 0, 1, 0, 0, 0],
+        )
+}
+
+/// Whether two items of the first work-group move their numbers, and the one of the second its own.
+fn fades(alloc: Global, core: &mut AccessCore) -> bool {
+    becomes(alloc, core, 0, &encode(&DISPATCH), Ok(Taken::Launched))
+        && runs(alloc, core, Ok(Worked::Ran { group: 0, left: 1 }))
+        && reads(alloc, core, &[0x80, 0, 1, 0, 0xff, 0xff])
+        && finishes(core, Err(Refusal::NotFinished))
+        && runs(alloc, core, Ok(Worked::Ran { group: 1, left: 0 }))
+        && reads(alloc, core, &[0x80, 0, 1, 0, 0xff, 0x7f])
+}
+
+/// Whether the dispatch ends, which lowers the cue from 3.
+fn ends(alloc: Global, core: &mut AccessCore) -> bool {
+    runs(alloc, core, Ok(Worked::Done)) && finishes(core, Ok(())) && cue(core) == Ok(2)
+}
+
+/// Whether a kernel dispatch goes its way on a queue of Nora's.
+fn goes_group_by_group(alloc: Global, core: &mut AccessCore) -> bool {
+    grants_all(core)
+        && opens_queue(alloc, core)
+        && has_numbers(alloc, core)
+        && fades(alloc, core)
+        && ends(alloc, core)
+}
+
+fn runs_group_by_group(alloc: Global, mut core: AccessCore) -> bool {
+    goes_group_by_group(alloc, &mut core)
+}
+
+#[test]
+fn a_dispatch_runs_group_by_group(rt: HostRuntime) -> Result<(), Fail> {
+    assert!(rt; runs_group_by_group(rt.alloc(), fresh(rt.alloc())?));
     Ok(())
 }

@@ -1,6 +1,6 @@
 //! How runs end early.
 
-use crate::sample::SAMPLE;
+use crate::studio::POLICY;
 use commands::{Status, check_policy, run_policy};
 use std::alloc::AllocError;
 use std::io;
@@ -38,14 +38,14 @@ impl<'a> io::Read for Broken<'a> {
 #[test]
 fn a_writer_that_fails_is_told(rt: HostRuntime) {
     let mut err = Vec::new(rt.alloc());
-    let status = check_policy(rt.alloc(), SAMPLE.as_bytes(), &mut Full, &mut err);
+    let status = check_policy(rt.alloc(), POLICY.as_bytes(), &mut Full, &mut err);
     assert_eq!(rt; status, Status::Failed);
     assert!(rt; err.as_slice() == b"write fault\n".as_slice());
     let mut err = Vec::new(rt.alloc());
     let mut script = "audit\n".as_bytes();
     let status = run_policy(
         rt.alloc(),
-        SAMPLE.as_bytes(),
+        POLICY.as_bytes(),
         10,
         &mut script,
         &mut Full,
@@ -64,7 +64,7 @@ fn a_reader_that_fails_is_told_behind_the_replies(rt: HostRuntime) {
     };
     let status = run_policy(
         rt.alloc(),
-        SAMPLE.as_bytes(),
+        POLICY.as_bytes(),
         10,
         &mut script,
         &mut out,

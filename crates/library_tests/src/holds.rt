@@ -1,6 +1,6 @@
 //! Grants with their holds: the calls that no case makes. What comes into force, is held, listed and revoked is told by cases.
 
-use crate::sample::{SAMPLE, read};
+use crate::studio::{POLICY, read};
 use aql_packet::{ClientId, PacketId, QueueId, RegionHandle};
 use bitflags::Flags;
 use grants::{Grants, Refusal};
@@ -9,11 +9,11 @@ use std::alloc::{AllocError, Global};
 use std::process::Abort;
 use std::test::*;
 
-const ALICE: ClientId = ClientId(1);
+const NORA: ClientId = ClientId(1);
 
 const QUEUE: QueueId = QueueId(1);
 
-const BUF: Object = Object::Region(RegionHandle(1));
+const TAPE: Object = Object::Region(RegionHandle(1));
 
 // The calls stand in functions of their own without contracts, so that the proofs of the tests don't carry what
 // is known of each.
@@ -30,27 +30,27 @@ fn opened_over(alloc: Global, text: &str) -> Result<Grants, Fail> {
 }
 
 fn opened(alloc: Global) -> Result<Grants, Fail> {
-    opened_over(alloc, SAMPLE)
+    opened_over(alloc, POLICY)
 }
 
 fn is_granted(grants: &mut Grants, rights: Rights) -> bool {
-    grants.grant(ALICE, BUF, rights).is_ok()
+    grants.grant(NORA, TAPE, rights).is_ok()
 }
 
 fn revoke(grants: &mut Grants, rights: Rights) -> Result<(), Refusal> {
-    grants.revoke(ALICE, BUF, rights)
+    grants.revoke(NORA, TAPE, rights)
 }
 
 fn in_force(grants: &Grants) -> Rights {
-    grants.in_force(ALICE, BUF)
+    grants.in_force(NORA, TAPE)
 }
 
 // Whether rights that are in force come to be held.
 fn comes_to_hold(grants: &mut Grants, rights: &[(Object, Rights)]) -> Result<bool, AllocError> {
-    if !grants.are_in_force(ALICE, rights) {
+    if !grants.are_in_force(NORA, rights) {
         return Ok(false);
     }
-    grants.hold(ALICE, QUEUE, PacketId(7), rights)?;
+    grants.hold(NORA, QUEUE, PacketId(7), rights)?;
     Ok(true)
 }
 
@@ -69,7 +69,7 @@ fn busy() -> Refusal {
 fn check_hold(rt: &impl Abort, grants: &mut Grants) -> Result<(), AllocError> {
     assert!(rt; is_granted(grants, both()));
     assert!(rt; in_force(grants) == both());
-    assert!(rt; comes_to_hold(grants, &[(BUF, Rights::WRITE), (BUF, Rights::READ)])?);
+    assert!(rt; comes_to_hold(grants, &[(TAPE, Rights::WRITE), (TAPE, Rights::READ)])?);
     assert!(rt; revoke(grants, Rights::READ) == Err(busy()));
     Ok(())
 }

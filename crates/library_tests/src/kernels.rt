@@ -1,29 +1,17 @@
 //! Checked kernels: each call once, and what faults print.
 
-use crate::sample::{inc, module_of};
-use hsail_reader::Module;
+use crate::studio::{checked, fade};
 use kernel_check::{
-    Cause, CheckError, CheckFault, Checked, check, faults_are_earliest, steps_are_faithful,
+    Cause, CheckError, CheckFault, Checked, faults_are_earliest, steps_are_faithful,
     wide_arguments_ascend,
 };
-use std::alloc::Global;
 use std::process::Abort;
 use std::test::Fail;
 
-// Checks a module. It has no contract, so that the proofs of its callers don't carry that of `check`.
-fn judge(alloc: Global, module: &Module) -> Result<Checked, CheckError> {
-    check(alloc, module)
-}
-
-fn checked(alloc: Global, text: &str) -> Result<Checked, Fail> {
-    let module = module_of(alloc, text.as_bytes())?;
-    Ok(judge(alloc, &module)?)
-}
-
 fn check_found(rt: &impl Abort, kernels: &Checked) {
     assert_eq!(rt; kernels.count(), 1);
-    assert_eq!(rt; kernels.find(b"&inc"), Some(0));
-    assert_eq!(rt; kernels.find(b"&m"), None);
+    assert_eq!(rt; kernels.find(b"&fade"), Some(0));
+    assert_eq!(rt; kernels.find(b"&sound"), None);
     assert_eq!(rt; kernels.find(b"&"), None);
 }
 
@@ -31,15 +19,15 @@ fn check_first(rt: &impl Abort, kernels: &Checked) -> Result<(), Fail> {
     if kernels.count() == 0 {
         return Err(Fail::from("a kernel"));
     }
-    assert_eq!(rt; kernels.kernarg_bytes(0), 8);
+    assert_eq!(rt; kernels.kernarg_bytes(0), 16);
     assert_eq!(rt; kernels.group_bytes(0), 0);
-    assert_eq!(rt; kernels.wide_arguments(0), [0].as_slice());
-    assert_eq!(rt; kernels.kernel(0).steps().len(), 9);
-    assert!(rt; kernels.kernel(0).is_named(b"&inc"));
+    assert_eq!(rt; kernels.wide_arguments(0), [8].as_slice());
+    assert_eq!(rt; kernels.kernel(0).steps().len(), 7);
+    assert!(rt; kernels.kernel(0).is_named(b"&fade"));
     Ok(())
 }
 
-fn check_inc(rt: &(impl Abort + AllocGlobal), text: &str) -> Result<(), Fail> {
+fn check_fade(rt: &(impl Abort + AllocGlobal), text: &str) -> Result<(), Fail> {
     let kernels = checked(rt.alloc(), text)?;
     check_found(rt, &kernels);
     check_first(rt, &kernels)
@@ -50,7 +38,7 @@ fn a_kernel_is_found_by_its_name(rt: HostRuntime) -> Result<(), Fail> {
     faults_are_earliest();
     steps_are_faithful();
     wide_arguments_ascend();
-    check_inc(&rt, inc())
+    check_fade(&rt, fade())
 }
 
 const FAULT: CheckFault = CheckFault {

@@ -27,7 +27,7 @@ mod policies;
 #[cfg(test)]
 mod rings;
 #[cfg(test)]
-mod sample;
+mod studio;
 #[cfg(test)]
 mod values;
 #[cfg(test)]

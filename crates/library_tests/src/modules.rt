@@ -1,6 +1,6 @@
 //! The tree of a text: what its module, its kernels, their arguments and their items say.
 
-use crate::sample::{inc, module_of};
+use crate::studio::{fade, module_of};
 use hsail_reader::{
     Access, Address, Alignment, Argument, BinaryOperation, Cause, DataType, Form, Indexed, Item,
     Kernel, Modifier, Modifiers, Module, Operand, Operation, Place, Profile, ReadError, ReadFault,
@@ -45,9 +45,9 @@ fn check_name(rt: &impl Abort, kernel: &Kernel, name: &[u8]) {
     assert_eq!(rt; kernel.name.as_slice(), name);
 }
 
-fn check_inc(rt: &(impl Abort + AllocGlobal), text: &str) -> Result<(), Fail> {
-    let inc = module(rt.alloc(), text)?;
-    check_head(rt, &inc, (b"&m", 0, Profile::Base, Rounding::Default, 1));
+fn check_fade(rt: &(impl Abort + AllocGlobal), text: &str) -> Result<(), Fail> {
+    let fade = module(rt.alloc(), text)?;
+    check_head(rt, &fade, (b"&sound", 1, Profile::Base, Rounding::Zero, 1));
     Ok(())
 }
 
@@ -60,7 +60,7 @@ fn check_two(rt: &(impl Abort + AllocGlobal), text: &str) -> Result<(), Fail> {
 
 #[test]
 fn a_module_is_its_line_and_kernels(rt: HostRuntime) -> Result<(), Fail> {
-    check_inc(&rt, inc())?;
+    check_fade(&rt, fade())?;
     check_two(
         &rt,
         "module &x:1:2:$full:$large:$near;kernel &a(){}kernel &b(){}",
@@ -341,7 +341,7 @@ fn check_beginnings(rt: &(impl Abort + AllocGlobal), text: &str, line: usize) ->
 
 #[test]
 fn beginnings_of_a_body_are_refused(rt: HostRuntime) -> Result<(), Fail> {
-    let (line, _) = inc().split_once("\n").ok_or("a line")?;
-    assert!(rt; inc().ends_with("\n};\n"));
-    check_beginnings(&rt, inc(), line.len())
+    let (line, _) = fade().split_once("\n").ok_or("a line")?;
+    assert!(rt; fade().ends_with("\n};\n"));
+    check_beginnings(&rt, fade(), line.len())
 }

@@ -1,54 +1,87 @@
 //! Packets read and written, and each change of one bit of one.
 
-use crate::sample::{bytes_of, fill, fill_with};
 use aql_packet::{
     Address, AgentDispatch, Barrier, CodecRule, Header, KernelDispatch, KernelObject, Packet,
     RawHeader, Scope, SignalHandle, decode, encode, header_in_first_word, header_of, one_spelling,
     reading_is_layout,
 };
+use byteorder::{BigEndian, ByteOrder};
 use std::test::*;
 
-const FIRST_WORD: u64 = 0x0214_0100_0200_0100;
+// The bytes of eight words that are written in the order of the bytes.
+fn bytes_of(words: [u64; 8]) -> [u8; 64] {
+    let mut bytes = [0; 64];
+    BigEndian::write_u64_into(&words, &mut bytes);
+    bytes
+}
 
-// A kernel dispatch of grid 4 in work-groups of 2, with another first word.
+const KERNEL_FIRST: u64 = 0x020d_0300_0400_0300;
+
+// A kernel dispatch with another first word; no two of its sizes are the same.
 fn kernel_with(first: u64) -> [u8; 64] {
     bytes_of([
         first,
-        0x0100_0000_0400_0000,
-        0x0100_0000_0100_0000,
+        0x0200_0000_0900_0000,
+        0x0700_0000_0500_0000,
+        0x1000_0000_0002_0000,
+        0x0700_0000_0000_0000,
+        0x1800_0000_0300_0000,
         0,
-        0x0100_0000_0000_0000,
-        0x0000_0000_0200_0000,
-        0,
-        0x0100_0000_0000_0000,
+        0x0900_0000_0000_0000,
     ])
 }
 
-const SYSTEM: Header = Header {
-    barrier: false,
-    acquire: Scope::System,
-    release: Scope::System,
+const KERNEL: KernelDispatch = KernelDispatch {
+    header: Header {
+        barrier: true,
+        acquire: Scope::System,
+        release: Scope::Agent,
+    },
+    dimensions: 3,
+    workgroup_size_x: 4,
+    workgroup_size_y: 3,
+    workgroup_size_z: 2,
+    grid_size_x: 9,
+    grid_size_y: 7,
+    grid_size_z: 5,
+    private_segment_size: 16,
+    group_segment_size: 512,
+    kernel_object: KernelObject(7),
+    kernarg_address: Address(0x3_0000_0018),
+    completion_signal: SignalHandle(9),
 };
 
-const KERNEL: KernelDispatch = KernelDispatch {
-    header: SYSTEM,
-    dimensions: 1,
-    workgroup_size_x: 2,
-    workgroup_size_y: 1,
-    workgroup_size_z: 1,
-    grid_size_x: 4,
-    grid_size_y: 1,
-    grid_size_z: 1,
-    private_segment_size: 0,
-    group_segment_size: 0,
-    kernel_object: KernelObject(1),
-    kernarg_address: Address(0x2_0000_0000),
-    completion_signal: SignalHandle(1),
+const AGENT_FIRST: u64 = 0x0410_0180_0000_0000;
+
+// An agent dispatch with another first word; no two of its numbers are the same.
+fn agent_with(first: u64) -> [u8; 64] {
+    bytes_of([
+        first,
+        0x1000_0000_0200_0000,
+        0x0600_0000_0100_0000,
+        0x0100_0000_0100_0000,
+        0x0300_0000_0000_0000,
+        0xefcd_ab89_6745_2301,
+        0,
+        0x0200_0000_0000_0000,
+    ])
+}
+
+const AGENT: AgentDispatch = AgentDispatch {
+    header: Header {
+        barrier: false,
+        acquire: Scope::None,
+        release: Scope::System,
+    },
+    function: 0x8001,
+    return_address: Address(0x2_0000_0010),
+    arguments: [0x1_0000_0006, 0x1_0000_0001, 3, 0x0123_4567_89ab_cdef],
+    completion_signal: SignalHandle(2),
 };
 
 #[test]
 fn a_kernel_dispatch_is_read_and_written(rt: HostRuntime) {
-    let bytes = kernel_with(FIRST_WORD);
+    let bytes = kernel_with(KERNEL_FIRST);
     let packet = Packet::Kernel(KERNEL);
     assert_eq!(rt; decode(&bytes), Ok(packet));
     assert!(rt; packet.well_formed());
@@ -61,7 +94,7 @@ fn a_dispatch_of_no_dimensions_is_read(rt: HostRuntime) {
         dimensions: 0,
         ..KERNEL
     };
-    let bytes = kernel_with(0x0214_0000_0200_0100);
+    let bytes = kernel_with(0x020d_0000_0400_0300);
     assert_eq!(rt; decode(&bytes), Ok(Packet::Kernel(flat)));
     let steep = KernelDispatch {
         dimensions: 4,
@@ -72,14 +105,8 @@ fn a_dispatch_of_no_dimensions_is_read(rt: HostRuntime) {
 
 #[test]
 fn an_agent_dispatch_is_read_and_written(rt: HostRuntime) {
-    let bytes = fill();
-    let packet = Packet::Agent(AgentDispatch {
-        header: SYSTEM,
-        function: 0x8000,
-        return_address: Address(0),
-        arguments: [0x1_0000_0000, 4, 0x5a, 0],
-        completion_signal: SignalHandle(1),
-    });
+    let bytes = agent_with(AGENT_FIRST);
+    let packet = Packet::Agent(AGENT);
     assert_eq!(rt; decode(&bytes), Ok(packet));
     assert!(rt; packet.well_formed());
     assert!(rt; encode(&packet) == bytes);
@@ -87,10 +114,26 @@ fn an_agent_dispatch_is_read_and_written(rt: HostRuntime) {
 
 #[test]
 fn barrier_packets_are_read_and_written(rt: HostRuntime) {
-    let first = 0x0100_0000_0000_0000;
-    let second = 0x0200_0000_0000_0000;
-    let all = bytes_of([0x0300_0000_0000_0000, first, second, 0, 0, 0, 0, 0]);
-    let one = bytes_of([0x0509_0000_0000_0000, 0, 0, 0, 0, second, 0, first]);
+    let all = bytes_of([
+        0x0300_0000_0000_0000,
+        0,
+        0x0500_0000_0000_0000,
+        0,
+        0x0600_0000_0000_0000,
+        0,
+        0,
+        0,
+    ]);
+    let one = bytes_of([
+        0x050b_0000_0000_0000,
+        0x0700_0000_0000_0000,
+        0,
+        0,
+        0,
+        0x0800_0000_0000_0000,
+        0,
+        0x0400_0000_0000_0000,
+    ]);
     let barrier_and = Packet::BarrierAnd(Barrier {
         header: Header {
             barrier: false,
@@ -98,10 +141,10 @@ fn barrier_packets_are_read_and_written(rt: HostRuntime) {
             release: Scope::None,
         },
         dependencies: [
-            SignalHandle(1),
-            SignalHandle(2),
             SignalHandle(0),
+            SignalHandle(5),
             SignalHandle(0),
+            SignalHandle(6),
             SignalHandle(0),
         ],
         completion_signal: SignalHandle(0),
@@ -109,17 +152,17 @@ fn barrier_packets_are_read_and_written(rt: HostRuntime) {
     let barrier_or = Packet::BarrierOr(Barrier {
         header: Header {
             barrier: true,
-            acquire: Scope::None,
+            acquire: Scope::Agent,
             release: Scope::Agent,
         },
         dependencies: [
+            SignalHandle(7),
             SignalHandle(0),
             SignalHandle(0),
             SignalHandle(0),
-            SignalHandle(0),
-            SignalHandle(2),
+            SignalHandle(8),
         ],
-        completion_signal: SignalHandle(1),
+        completion_signal: SignalHandle(4),
     });
     for (bytes, packet) in [(all, barrier_and), (one, barrier_or)] {
         assert_eq!(rt; decode(&bytes), Ok(packet));
@@ -133,17 +176,17 @@ fn the_first_rule_that_fails_is_answered(rt: HostRuntime) {
     let rows = [
         (
             "reserved bit of setup",
-            kernel_with(0x0214_0500_0200_0100),
+            kernel_with(0x020d_0700_0400_0300),
             CodecRule::L3,
         ),
         (
             "dimensions past two bits",
-            kernel_with(0x0214_0400_0200_0100),
+            kernel_with(0x020d_0400_0400_0300),
             CodecRule::L3,
         ),
         (
             "scope 3 and a reserved byte",
-            fill_with(0x0406_0080_0100_0000),
+            agent_with(0x0406_0180_0100_0000),
             CodecRule::L2,
         ),
         ("zeros", [0; 64], CodecRule::L1),
@@ -156,11 +199,11 @@ fn the_first_rule_that_fails_is_answered(rt: HostRuntime) {
 
 #[test]
 fn each_change_of_one_bit_is_judged(rt: HostRuntime) {
-    let fill = fill();
+    let agent = agent_with(AGENT_FIRST);
     let mut judged = [0u32; 4];
     for place in 0..64 {
         for bit in [1, 2, 4, 8, 16, 32, 64, 128] {
-            let mut bytes = fill;
+            let mut bytes = agent;
             bytes[place] ^= bit;
             let verdict = match decode(&bytes) {
                 Ok(packet) => {
@@ -175,7 +218,7 @@ fn each_change_of_one_bit_is_judged(rt: HostRuntime) {
             judged[verdict] = judged[verdict].saturating_add(1);
         }
     }
-    assert!(rt; judged == [403, 7, 5, 97]);
+    assert!(rt; judged == [404, 7, 4, 97]);
 }
 
 #[test]

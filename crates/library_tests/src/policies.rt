@@ -1,7 +1,7 @@
 //! Which objects a policy declares and what it allows. Its other calls are made by cases, as `check` counts its rows, scripts
 //! name its clients and objects, and listings, audits and refusals print them.
 
-use crate::sample::{SAMPLE, read};
+use crate::studio::{POLICY, read};
 use aql_packet::{AgentHandle, ClientId, KernelObject, RegionHandle, SignalHandle};
 use bitflags::Flags;
 use policy::{Object, Policy, Right, Rights};
@@ -9,44 +9,42 @@ use std::alloc::Global;
 use std::process::Abort;
 use std::test::Fail;
 
-const ALICE: ClientId = ClientId(1);
+const NORA: ClientId = ClientId(1);
 
-const BOB: ClientId = ClientId(2);
+const OMAR: ClientId = ClientId(2);
 
-const GPU: Object = Object::Agent(AgentHandle(1));
+const MIXER: Object = Object::Agent(AgentHandle(1));
 
-const BUF: Object = Object::Region(RegionHandle(1));
+const TAPE: Object = Object::Region(RegionHandle(1));
 
-const ARGS: Object = Object::Region(RegionHandle(2));
+const NOTES: Object = Object::Region(RegionHandle(2));
 
-const DONE: Object = Object::Signal(SignalHandle(1));
+const CUE: Object = Object::Signal(SignalHandle(1));
 
-const GO: Object = Object::Signal(SignalHandle(2));
+const HALT: Object = Object::Signal(SignalHandle(2));
 
-const SPIN: Object = Object::Kernel(KernelObject(2));
+const FADE: Object = Object::Kernel(KernelObject(1));
 
-const NO_GPU: Object = Object::Agent(AgentHandle(2));
+const NO_AGENT: Object = Object::Agent(AgentHandle(2));
 
 const NO_REGION: Object = Object::Region(RegionHandle(0));
 
-const NO_SIGNAL: Object = Object::Signal(SignalHandle(3));
-
-const NO_KERNEL: Object = Object::Kernel(KernelObject(3));
+const NO_KERNEL: Object = Object::Kernel(KernelObject(2));
 
 fn policy(alloc: Global, text: &str) -> Result<Policy, Fail> {
     Ok(read(alloc, text.as_bytes())?)
 }
 
-fn sample(alloc: Global) -> Result<Policy, Fail> {
-    policy(alloc, SAMPLE)
+fn studio(alloc: Global) -> Result<Policy, Fail> {
+    policy(alloc, POLICY)
 }
 
 /// Of each kind, the last object is declared, and none behind it.
 fn check_declared(rt: &impl Abort, policy: &Policy) {
-    for object in [GPU, ARGS, GO, SPIN] {
+    for object in [MIXER, NOTES, CUE, FADE] {
         assert!(rt; policy.declares(object));
     }
-    for object in [NO_GPU, NO_REGION, NO_SIGNAL, NO_KERNEL] {
+    for object in [NO_AGENT, NO_REGION, HALT, NO_KERNEL] {
         assert!(rt; !policy.declares(object));
     }
 }
@@ -58,7 +56,7 @@ fn check_its_declarations(rt: &impl Abort, policy: Policy) {
 
 #[test]
 fn objects_are_declared_by_their_numbers(rt: HostRuntime) -> Result<(), Fail> {
-    check_its_declarations(&rt, sample(rt.alloc())?);
+    check_its_declarations(&rt, studio(rt.alloc())?);
     Ok(())
 }
 
@@ -81,23 +79,29 @@ fn check_questions(rt: &impl Abort, policy: &Policy, questions: &[Question]) {
 }
 
 const LISTED: [Question; 11] = [
-    ("listed", BOB, BUF, &[Right::Read], true),
-    ("unlisted", BOB, BUF, &[Right::Write], false),
-    ("one_of_two", BOB, BUF, &[Right::Read, Right::Write], false),
-    ("other_region", BOB, ARGS, &[Right::Read], false),
-    ("other_kind", BOB, DONE, &[Right::Wait], false),
-    ("none", BOB, DONE, &[], true),
+    ("listed", OMAR, TAPE, &[Right::Read], true),
+    ("unlisted", OMAR, TAPE, &[Right::Write], false),
+    (
+        "one_of_two",
+        OMAR,
+        TAPE,
+        &[Right::Read, Right::Write],
+        false,
+    ),
+    ("other_region", OMAR, NOTES, &[Right::Read], false),
+    ("other_kind", OMAR, CUE, &[Right::Wait], false),
+    ("none", OMAR, CUE, &[], true),
     (
         "each_region",
-        ALICE,
-        ARGS,
+        NORA,
+        NOTES,
         &[Right::Read, Right::Write],
         true,
     ),
-    ("each_kernel", ALICE, SPIN, &[Right::Launch], true),
-    ("another_kinds_right", ALICE, BUF, &[Right::Use], false),
-    ("named_agent", BOB, GPU, &[Right::Use], true),
-    ("unknown_client", ClientId(3), BUF, &[Right::Read], false),
+    ("each_kernel", NORA, FADE, &[Right::Launch], true),
+    ("another_kinds_right", NORA, TAPE, &[Right::Use], false),
+    ("named_agent", OMAR, MIXER, &[Right::Use], true),
+    ("unknown_client", ClientId(3), TAPE, &[Right::Read], false),
 ];
 
 fn check_its_questions(rt: &impl Abort, policy: Policy, questions: &[Question]) {
@@ -105,45 +109,39 @@ fn check_its_questions(rt: &impl Abort, policy: Policy, questions: &[Question]) 
 }
 
 #[test]
-fn the_sample_allows_what_its_rows_list(rt: HostRuntime) -> Result<(), Fail> {
-    check_its_questions(&rt, sample(rt.alloc())?, &LISTED);
+fn what_rows_list_is_allowed(rt: HostRuntime) -> Result<(), Fail> {
+    check_its_questions(&rt, studio(rt.alloc())?, &LISTED);
     Ok(())
 }
 
 /// Every client may wait on a signal and change another; rows add to each other.
 const WILD: &str = r#"
-[[client]]
-name = "alice"
-[[client]]
-name = "bob"
-[[signal]]
-name = "done"
-initial = 0
-[[signal]]
-name = "go"
-initial = 0
+client = [{ name = "nora" }, { name = "omar" }]
+signal = [{ name = "cue", initial = 0 }, { name = "halt", initial = 0 }]
+
 [[allow]]
 client = "*"
 kind = "signal"
-object = "done"
+object = "cue"
 rights = ["WAIT"]
+
 [[allow]]
-client = "bob"
+client = "omar"
 kind = "signal"
 object = "*"
 rights = ["CHANGE", "CHANGE"]
 "#;
 
 const WILD_ROWS: [Question; 6] = [
-    ("each_client", ALICE, DONE, &[Right::Wait], true),
-    ("another_right", ALICE, DONE, &[Right::Change], false),
-    ("another_object", ALICE, GO, &[Right::Wait], false),
-    ("each_object", BOB, GO, &[Right::Change], true),
-    ("two_rows", BOB, DONE, &[Right::Wait, Right::Change], true),
+    ("each_client", NORA, CUE, &[Right::Wait], true),
+    ("another_right", NORA, CUE, &[Right::Change], false),
+    ("another_object", NORA, HALT, &[Right::Wait], false),
+    ("each_object", OMAR, HALT, &[Right::Change], true),
+    ("two_rows", OMAR, CUE, &[Right::Wait, Right::Change], true),
     (
         "not_two_rows",
-        BOB,
-        GO,
+        OMAR,
+        HALT,
         &[Right::Wait, Right::Change],
         false,
     ),

@@ -1,8 +1,8 @@
 //! One run of a world over what several seats ask of it in turn. The calls of the world stand in functions of their
 //! own without contracts, so that the proofs of the test don't carry what each request is owed.
 
-use crate::sample::{SAMPLE, read};
-use access_core::OpenFault;
+use crate::studio::{POLICY, kernels, read};
+use access_core::{Kernel, OpenFault};
 use aql_packet::{AgentHandle, ClientId, PacketId, QueueId};
 use core_model::{Outcome, Taken};
 use policy::{Object, Policy, Rights};
@@ -12,9 +12,9 @@ use std::alloc::{AllocError, Global};
 use std::test::*;
 use world::{Answer, Call, Refusal, Reply, Request, World};
 
-const ALICE: ClientId = ClientId(1);
+const NORA: ClientId = ClientId(1);
 
-const GPU: AgentHandle = AgentHandle(1);
+const MIXER: AgentHandle = AgentHandle(1);
 
 const QUEUE: QueueId = QueueId(1);
 
@@ -99,17 +99,17 @@ impl Rows {
         self.ask(Request::Take { queue: QUEUE }, wanted)
     }
 
-    /// Alice gets the agent, and a queue of two slots for two producers.
+    /// Nora gets the agent, and a queue of two slots for two producers.
     fn open(&mut self) -> Result<(), AllocError> {
         let grant = Call::Grant {
-            client: ALICE,
-            object: Object::Agent(GPU),
+            client: NORA,
+            object: Object::Agent(MIXER),
             rights: Rights::USE,
         };
         self.ask(Request::Call(grant), Wanted::Accepted)?;
         let opening = Request::OpenQueue {
-            client: ALICE,
-            agent: GPU,
+            client: NORA,
+            agent: MIXER,
             size: 2,
             producers: 2,
         };
@@ -171,8 +171,8 @@ impl Rows {
     }
 }
 
-fn open(alloc: Global, policy: Policy) -> Result<World, OpenFault> {
-    World::open(alloc, policy, 100)
+fn open(alloc: Global, policy: Policy, kernels: Vec<Kernel>) -> Result<World, OpenFault> {
+    World::open(alloc, policy, kernels, 100)
 }
 
 fn run(
@@ -212,15 +212,19 @@ fn answers_rows(alloc: Global, mut world: World) -> Result<bool, AllocError> {
     answers(alloc, &mut world, rows)
 }
 
-/// A world over the sample policy.
-fn fresh(alloc: Global) -> Result<World, Fail> {
-    match read(alloc, SAMPLE.as_bytes()) {
-        Ok(policy) => match open(alloc, policy) {
+/// A world over a policy and its kernels.
+fn world_over(alloc: Global, text: &str, kernels: Vec<Kernel>) -> Result<World, Fail> {
+    match read(alloc, text.as_bytes()) {
+        Ok(policy) => match open(alloc, policy, kernels) {
             Ok(world) => Ok(world),
             Err(_) => Err("no world is opened".into()),
         },
         Err(_) => Err("the policy is refused".into()),
     }
+}
+
+fn fresh(alloc: Global) -> Result<World, Fail> {
+    world_over(alloc, POLICY, kernels(alloc)?)
 }
 
 #[test]

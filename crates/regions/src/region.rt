@@ -3,20 +3,23 @@ ghost use Rattle.std.specs.Prelude.{◌≡◌, ◌+◌, ◌≤◌, IfOk, length,
 ghost use Rattle.regions.specs.Memory.{overlaid};
 
 use std::alloc::{AllocError, Global};
+use std::boxed::BoxedSlice;
 use std::marker::Model;
 
-/// The bytes of one region, whose number of bytes never changes. A contract sees them as a list.
+/// The bytes of one region, whose number of bytes never changes. A contract sees them as a list. They lie in a
+/// slice of its own, which no call can make longer.
 #[derive(Drop, Debug)]
 pub struct Region {
-    bytes: Vec<u8>,
+    bytes: BoxedSlice<u8>,
 }
 
 impl Model for Region {
+    ghost use Rattle.std.specs.Box.{boxed_slice_items};
     ghost use Rattle.std.specs.Prelude.{List, ℕ};
 
     ghost Value = { List ℕ };
 
-    ghost view = { λ r. r.bytes.items };
+    ghost view = { λ r. boxed_slice_items r.bytes };
 }
 
 impl Region {
@@ -25,7 +28,7 @@ impl Region {
         ensures { IfOk result (λ region. region ≡ replicate length 0) }
     {
         Ok(Region {
-            bytes: vec![in alloc; 0; length]?,
+            bytes: vec![in alloc; 0; length]?.into_boxed_slice(),
         })
     }
 
@@ -41,7 +44,7 @@ impl Region {
         requires { offset + size ≤ length self.now }
         ensures { result.now ≡ take size (drop offset self.now) }
     {
-        &self.bytes[offset..offset + size]
+        &self.bytes.as_slice()[offset..offset + size]
     }
 
     /// Lays `bytes` over the region from `offset` on.
@@ -49,7 +52,7 @@ impl Region {
         requires { offset + length bytes.now ≤ length self.old }
         ensures { self.new ≡ overlaid self.old offset bytes.now }
     {
-        self.bytes[offset..offset + bytes.len()].copy_from_slice(bytes);
+        self.bytes.as_mut_slice()[offset..offset + bytes.len()].copy_from_slice(bytes);
     }
 
     /// Makes each of `size` bytes from `offset` on the byte `byte`.
@@ -57,7 +60,7 @@ impl Region {
         requires { offset + size ≤ length self.old }
         ensures { self.new ≡ overlaid self.old offset (replicate size byte) }
     {
-        self.bytes[offset..offset + size].fill(byte);
+        self.bytes.as_mut_slice()[offset..offset + size].fill(byte);
     }
 
     /// Lays the `size` bytes from `source` on over those from `target` on, as if by a copy aside.

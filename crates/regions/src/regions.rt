@@ -11,25 +11,28 @@ use crate::fault::RegionFault;
 use crate::region::Region;
 use aql_packet::{Address, MOST_REGION_BYTES, MOST_REGIONS, REGION_SPAN, RegionHandle};
 use std::alloc::{AllocError, Global};
+use std::boxed::BoxedSlice;
 use std::marker::Model;
 
 /// The byte memory. Region number `h`, from 1, is the item `h - 1` of the list that a contract sees,
 /// and covers addresses from `h * 2^32`, as many as its length. There are at most 64 regions, each
-/// of 1 to 2^24 bytes. No call but `new` takes memory; a refused call leaves all as before (own).
+/// of 1 to 2^24 bytes. No call but `new` takes memory: regions and bytes lie in slices of their own, which no
+/// call can make longer. A refused call leaves all as before (own).
 #[derive(Drop, Debug)]
 pub struct Regions {
-    regions: Vec<Region>,
+    regions: BoxedSlice<Region>,
 }
 
 impl Model for Regions {
+    ghost use Rattle.std.specs.Box.{boxed_slice_items};
     ghost use Rattle.std.specs.Prelude.{List, ℕ};
     ghost use Rattle.regions.specs.Memory.{IsMemory};
 
     ghost Value = { List (List ℕ) };
 
-    ghost view = { λ r. r.regions.items };
+    ghost view = { λ r. boxed_slice_items r.regions };
 
-    ghost invariant = { λ r. IsMemory r.regions.items };
+    ghost invariant = { λ r. IsMemory (boxed_slice_items r.regions) };
 }
 
 /// The region in which an address would lie: region `h` covers addresses from `h * 2^32` (own).
@@ -63,7 +66,9 @@ impl Regions {
         for length in lengths {
             regions.push(Region::zeroed(alloc, *length as usize)?)?;
         }
-        Ok(Regions { regions })
+        Ok(Regions {
+            regions: regions.into_boxed_slice(),
+        })
     }
 
     /// The region in which an address lies, if it lies in one.

@@ -7,13 +7,15 @@ ghost use Rattle.std.specs.Prelude.{IfOk, is_some, length, true, ◌==◌, ◌�
 use crate::operation::{Condition, SignalOp};
 use aql_packet::SignalHandle;
 use std::alloc::{AllocError, Global};
+use std::boxed::BoxedSlice;
 use std::fmt;
 use std::marker::Model;
 
-/// The signals, numbered from 1 in their order. A contract sees the list of their values.
+/// The signals, numbered from 1 in their order. A contract sees the list of their values. They lie in a slice
+/// of its own, which no call can make longer: none but `new` takes memory.
 #[derive(Drop, Debug)]
 pub struct Signals {
-    values: Vec<i64>,
+    values: BoxedSlice<i64>,
 }
 
 /// No signal has the number: it is 0, or more than the count (refusal 1).
@@ -21,11 +23,12 @@ pub struct Signals {
 pub struct UnknownSignal;
 
 impl Model for Signals {
+    ghost use Rattle.std.specs.Box.{boxed_slice_items};
     ghost use Rattle.std.specs.Prelude.{List, ℤ};
 
     ghost Value = { List ℤ };
 
-    ghost view = { λ signals. signals.values.items };
+    ghost view = { λ signals. boxed_slice_items signals.values };
 }
 
 impl Signals {
@@ -34,7 +37,7 @@ impl Signals {
         ensures { IfOk result (λ signals. signals ≡ values.now) }
     {
         Ok(Signals {
-            values: Vec::from_slice(alloc, values)?,
+            values: BoxedSlice::from_slice(alloc, values)?,
         })
     }
 
@@ -49,7 +52,7 @@ impl Signals {
     pub fn is_empty(&self) -> bool
         ensures { result ≡ (length self.now == 0) }
     {
-        self.values.is_empty()
+        self.values.len() == 0
     }
 
     /// A signal's value, if there is a signal of this number. It takes no memory.

@@ -1,6 +1,8 @@
 -- There is a cell just for a declared client and object.
 use Rattle.std.proofs.Common.{◌∙◌, ap, sym, ◌&&◌}
+use Rattle.std.specs.Box.{boxed_slice_items}
 use Rattle.std.specs.Option.{is_some}
+use Rattle.std.specs.Prelude.{slice_get}
 use Rattle.grants.specs.Rules.{knows_client, knows}
 use Rattle.grants.specs.Cells.{item_at}
 use Rattle.grants.proofs.PlaceLemmas.{cell-declared}
@@ -8,6 +10,6 @@ use Rattle.grants.proofs.cells.Cells.get.Goals as goal
 
 pub returns-clause-declared : goal.returns-clause-declared
 returns-clause-declared c =
-    ap is_some (c.copied.ensures ∙ c.get.ensures ∙ ap (item_at c.self.inside.cells) (sym c.in_ok-place.was ∙ c.place_of.ensures))
-    ∙ cell-declared c.self.inside.rules c.self.inside.cells c.self.invariant c.args.client c.args.object
+    ap is_some (c.cell_at.ensures ∙ ap (λ cells. slice_get cells c.in_ok-place.place) c.as_slice.ensures.value ∙ ap (item_at (boxed_slice_items c.self.inside.cells)) (sym c.in_ok-place.was ∙ c.place_of.ensures))
+    ∙ cell-declared c.self.inside.rules (boxed_slice_items c.self.inside.cells) c.self.invariant c.args.client c.args.object
     ∙ ap (λ t. knows_client t.rules c.args.client && knows t.rules c.args.object) c.self.view_is

@@ -9,4 +9,4 @@ invariant_of-result c =
     let done : length c.args.lengths.now ≤ c.loop-length.length-index = omega arith in
     let all : c.loop-length.regions.items ≡ zeros c.args.lengths.now =
     c.loop-length.invariant ∙ ap zeros (take_all c.loop-length.length-index c.args.lengths.now done) in
-    rw all (IsMemory-zeros c.args.lengths.now c.requires)
+    rw (c.into_boxed_slice.ensures.items, all) (IsMemory-zeros c.args.lengths.now c.requires)
