@@ -1,11 +1,11 @@
 -- How many work-groups kernel dispatches have, and what is known of them in flight.
-use Rattle.std.proofs.Common.{List, ◌≡◌, ℕ, ◌<◌, ◌≤◌, ◌^◌, ◌&&◌, true, arith, nat_le, nat_lt}
+use Rattle.std.proofs.Common.{List, ◌≡◌, ◌<◌, ◌≤◌, ◌^◌, ◌&&◌, true, arith, nat_le}
 use Rattle.std.proofs.lemmas.Bool.{and_parts, ltb-true}
 use Rattle.std.proofs.lemmas.Bool.Decides.{nat_tests}
 use Rattle.aql_packet.specs.declared.packet.KernelDispatch.{KernelDispatch}
 use Rattle.executor.specs.Locations.{count_of, groups_of}
 use Rattle.core_model.specs.Kernels.{grid_size, group_size, segments_of}
-use Rattle.core_model.specs.LaunchRules.{Facts, are_sizes, asks_for_known_work, has_dimensions, has_form, has_segments, has_sizes, need_is_met}
+use Rattle.core_model.specs.LaunchRules.{Facts, asks_for_known_work, has_dimensions, has_segments, has_sizes, need_is_met}
 use Rattle.core_model.specs.declared.kernel.KernelSegments.{KernelSegments}
 use Rattle.std.proofs.Common.{Option, Some, None, sym, ap, ◌∙◌, subst, refl, false, option_map}
 use Rattle.std.specs.List.{list_all}

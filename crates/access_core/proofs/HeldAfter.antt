@@ -17,7 +17,7 @@ use Rattle.std.proofs.lemmas.List.Sums.{fold-append}
 use Rattle.core_model.proofs.Holding.{holding-legal}
 use Rattle.core_model.proofs.Lists.{filter-passes}
 use Rattle.core_model.specs.Headline.{HoldsInForce}
-use Rattle.core_model.specs.Holds.{arguments_if, arguments_of, packet_rights}
+use Rattle.core_model.specs.Holds.{arguments_of, packet_rights}
 use Rattle.access_core.specs.ArgumentBlocks.{block_behind, block_of, is_block}
 use Rattle.access_core.specs.declared.argument_blocks.ArgumentBlock.{ArgumentBlock}
 use Rattle.access_core.proofs.CachedMore.{arguments_behind}
@@ -25,9 +25,8 @@ use Rattle.access_core.proofs.HeldMore.{held-kept, held-unlaunched}
 use Rattle.access_core.proofs.HeldRights.{any-before}
 use Rattle.access_core.proofs.Terms.{ClientId, Effect, Entry, Event, ObjectRight, Holds, InFlight, Inside, IsCached, Ledger, Object, OpenQueue, Opening}
 use Rattle.access_core.proofs.Terms.{Outcome, Packet, PacketId, QueueId, Releases, Right, Rights, Start, are_in_force, bit_of, each_right, entry_of, flight}
-use Rattle.access_core.proofs.Terms.{has, rights_at_launch, holds_by, in_force, in_force_after, is_launch, is_packet, launched_by, numbered, openings, openings-more, owner, packet_holds}
+use Rattle.access_core.proofs.Terms.{has, holds_by, in_force, in_force_after, is_packet, launched_by, numbered, openings, openings-more, owner, packet_holds}
 use Rattle.access_core.proofs.Terms.{start_of, with_entry, with_some}
-use Rattle.policy.specs.declared.rights.Right.TheVariants as right
 use Rattle.grants.specs.Ledger as ledger
 
 -- ---- an entry that opens no queue

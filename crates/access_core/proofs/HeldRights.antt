@@ -1,5 +1,5 @@
 -- Tests of rights that packets hold, taken right by right or packet by packet.
-use Rattle.std.proofs.Common.{arith, ◌≡◌, List, [], ◌∷◌, refl, sym, ◌∙◌, ap, Bool, false, Option, Some, None, All, ◌&&◌, ◌||◌, ◌==◌}
+use Rattle.std.proofs.Common.{arith, ◌≡◌, List, [], ◌∷◌, refl, ◌∙◌, ap, Bool, false, Option, Some, None, ◌&&◌, ◌||◌, ◌==◌}
 use Rattle.std.specs.List.{list_any}
 use Rattle.policy.specs.Object.{same_object}
 use Rattle.access_core.specs.inner.Held.{as_rights}

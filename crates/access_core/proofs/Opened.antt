@@ -3,7 +3,7 @@ use Rattle.core_model.specs.Kernels.{segments_of}
 use Rattle.policy.specs.Policy.{Declared}
 use Rattle.access_core.specs.declared.access.OpenFault.TheVariants as fault
 use Rattle.access_core.specs.declared.kernel.Kernel.{Kernel}
-use Rattle.std.proofs.Common.{List, Option, Some, ◌∷◌, length, ◌==◌, sym, ap, not}
+use Rattle.std.proofs.Common.{List, Option, Some, ◌∷◌, length, ◌==◌}
 use Rattle.std.proofs.lemmas.List.Elements.{All-cons}
 use Rattle.std.proofs.Common.{All, map, ◌≡◌, ℕ, ◌≤◌, [], ◌∙◌, Bool, true, false, None, arith, refl, ◌-◌, slice_get, nat_lt, if◌then◌else◌}
 use Rattle.std.proofs.lemmas.List.Elements.{All-nil}

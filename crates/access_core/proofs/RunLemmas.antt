@@ -13,9 +13,9 @@ use Rattle.core_model.specs.View.{Given, given}
 use Rattle.access_core.proofs.Calls.{due-as}
 use Rattle.access_core.proofs.QueueAt.{IsAdvance}
 use Rattle.access_core.proofs.WorkLemmas.{owed-in_place}
-use Rattle.access_core.proofs.Terms.{Effect, Entry, Event, History, InFlight, Inside, IsInPlace, RefusedAt, PacketId, Place, Progress, QueueId}
+use Rattle.access_core.proofs.Terms.{Effect, Entry, History, InFlight, Inside, IsInPlace, RefusedAt, PacketId, Place, Progress, QueueId}
 use Rattle.access_core.proofs.Terms.{Refusal, RunNext, Start, agent_writes, due, enters, flight, flight_after_effect, function_of, function_result}
-use Rattle.access_core.proofs.Terms.{function_writes, history_of, is_full, lies_in_regions, memory_from, number_in_memory, owed_group, refuses, region_lengths}
+use Rattle.access_core.proofs.Terms.{function_writes, history_of, is_full, memory_from, number_in_memory, owed_group, refuses}
 use Rattle.access_core.proofs.Terms.{answers, result_writes, signals_after, start_of, write_of}
 use Rattle.core_model.specs.declared.outcome.Outcome.TheVariants as outcome
 use Rattle.core_model.specs.declared.refusal.Refusal.TheVariants as refusal

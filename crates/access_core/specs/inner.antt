@@ -7,4 +7,5 @@ pub mod Cached
 pub mod InPlace
 pub mod Polling
 pub mod Running
+pub mod Laying
 pub mod Held

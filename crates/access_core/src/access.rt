@@ -8,6 +8,7 @@ ghost use Rattle.access_core.specs.inner.Cached.{IsEntered, is_full};
 mod granting;
 mod host;
 mod kernels;
+mod laying;
 mod lookups;
 mod opening;
 mod polling;
@@ -17,6 +18,7 @@ mod running;
 mod serving;
 mod stopping;
 mod taking;
+mod viewing;
 mod working;
 
 use crate::argument_blocks::ArgumentBlocks;

@@ -1,5 +1,5 @@
 -- What the packet holds by its needs, and by its arguments.
-use Rattle.std.proofs.Common.{◌≡◌, ◌+◌, ◌≤◌, ◌∙◌, sym, Some, None, arith, rules, length}
+use Rattle.std.proofs.Common.{◌≡◌, ◌+◌, ◌≤◌, ◌∙◌, Some, None, arith, length}
 use Rattle.std.proofs.lemmas.List.Elements.{All-weaker}
 use Rattle.access_core.specs.inner.Deciding.{opening_of}
 use Rattle.access_core.proofs.LaunchLemmas.{block-long, both-held, needs-alone, no-arguments, only-needs, pointed-is}

@@ -1,7 +1,6 @@
 -- What is kept moves along with the group that ran, which is entered where there is room.
 use Rattle.std.proofs.Common.{◌≡◌, ◌∙◌, refl, sym, ap, subst, List, true, false, rules, nat_le, inl, inr}
-use Rattle.core_model.specs.declared.outcome.Worked.TheVariants.{Done, Ran}
-use Rattle.core_model.proofs.Meeting.{entered-owed}
+use Rattle.core_model.specs.declared.outcome.Worked.TheVariants.{Ran}
 use Rattle.access_core.proofs.Calls.{met-entry, met-refusal}
 use Rattle.access_core.proofs.HeldAfter.{grants-still}
 use Rattle.access_core.proofs.CachedMore.{IsCached-more}
@@ -9,7 +8,7 @@ use Rattle.access_core.proofs.QueueAt.{flight-advanced}
 use Rattle.access_core.proofs.RunLemmas.{agent-done, agent-due, agent-writes, one_group, pieces-inside, run-advances}
 use Rattle.access_core.proofs.TakeLemmas.{is-open, open-of}
 use Rattle.access_core.proofs.WorkLemmas.{place-inside, queues-advanced}
-use Rattle.access_core.proofs.Terms.{Effect, History, IsChanged, RunNext, agent_writes, answers, due, enters, lies_in_regions, refuses, region_lengths, start_of}
+use Rattle.access_core.proofs.Terms.{Effect, History, IsChanged, RunNext, agent_writes, due, enters, lies_in_regions, region_lengths, start_of}
 use Rattle.core_model.specs.declared.outcome.Outcome.TheVariants as outcome
 use Rattle.core_model.specs.declared.refusal.Refusal.TheVariants as refusal
 use Rattle.access_core.proofs.access.AccessCore.run_agent.Goals as goal

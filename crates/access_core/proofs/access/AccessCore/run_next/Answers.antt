@@ -1,5 +1,5 @@
 -- A packet that isn't in flight, or has no groups, is refused.
-use Rattle.std.proofs.Common.{◌≡◌, ◌∙◌, ap, refl, rules, inl, Err}
+use Rattle.std.proofs.Common.{◌≡◌, ap, refl, rules, inl, Err}
 use Rattle.core_model.specs.Owed.{owed_group}
 use Rattle.access_core.proofs.Calls.{met-refusal}
 use Rattle.access_core.proofs.RunLemmas.{no-groups, run-refused}

@@ -1,5 +1,5 @@
 -- The first that is missing is found, or none is missing.
-use Rattle.std.proofs.Common.{◌≡◌, [], sym, ap, ◌∙◌, arith, not, true, false}
+use Rattle.std.proofs.Common.{[], sym, ap, ◌∙◌, arith, not}
 use Rattle.kernel_check.proofs.Walks.{place_found, place_none}
 use Rattle.access_core.specs.Opening.{has_entry}
 use Rattle.access_core.specs.declared.kernel.Kernel.{Kernel}

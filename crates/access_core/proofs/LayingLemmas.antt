@@ -1,0 +1,45 @@
+-- Changes that are laid over memory one after another, and what a group of a kernel dispatch that ran is due.
+use Rattle.std.proofs.Common.{◌≡◌, ℕ, ◌+◌, List, [], ◌∷◌, ◌++◌, refl, sym, ◌∙◌, ap, Bool, true, false, Some, fold, length, map, nat_lt, if◌then◌else◌}
+use Rattle.std.proofs.Common.{All}
+use Rattle.std.proofs.lemmas.List.Elements.{All-map}
+use Rattle.std.proofs.lemmas.List.Sums.{fold-append}
+use Rattle.executor.specs.declared.run.Run.{Run}
+use Rattle.core_model.specs.declared.outcome.Worked.TheVariants.{Ran}
+use Rattle.core_model.specs.Legal.{may_lack}
+use Rattle.core_model.specs.Work.{write_of_run}
+use Rattle.access_core.specs.inner.Laying.{LiesWithin}
+use Rattle.access_core.proofs.Calls.{due-as}
+use Rattle.access_core.proofs.KernelLemmas.{runs-write}
+use Rattle.access_core.proofs.Terms.{Effect, History, InFlight, IsChanged, PacketId, QueueId, RunNext, byte_after, due, enters, flight, is_full, is_within, owed, refuses}
+use Rattle.core_model.specs.declared.outcome.Outcome.TheVariants as outcome
+use Rattle.core_model.specs.declared.refusal.Refusal.TheVariants as refusal
+
+-- ---- changes over memory
+
+-- changes are laid over memory, and one more over that
+pub changed-next : (old mid new : List (List ℕ)) (changes : List Effect) (change : Effect) → IsChanged old changes mid → IsChanged mid (change ∷ []) new → IsChanged old (changes ++ change ∷ []) new
+changed-next old mid new changes change before after = λ x byte was.
+    after x (fold (byte_after x) byte changes) (before x byte was) ∙ ap Some (sym (fold-append (byte_after x) byte changes (change ∷ [])))
+
+-- what runs write lies whole in regions where the runs do
+pub runs-within : (lengths : List ℕ) (runs : List Run) → All (λ run. is_within lengths run.address (length run.bytes) ≡ true) runs → All (LiesWithin lengths) (map write_of_run runs)
+runs-within lengths runs within = All-map (LiesWithin lengths) write_of_run runs within
+
+-- ---- what the group is due
+
+module _ (h : History) (queue : QueueId) (id : PacketId) (group left : ℕ) (runs : List Run)
+    (owing : owed h.start h.entries (RunNext queue id) ≡ enters (outcome.Worked (Ran group left)) (map write_of_run runs)) where
+  pub group-due : (full : Bool) → is_full h ≡ full → due h (RunNext queue id) ≡ (if full then refuses refusal.AuditFull else enters (outcome.Worked (Ran group left)) (map write_of_run runs))
+  group-due full room =
+      due-as h (RunNext queue id) (enters (outcome.Worked (Ran group left)) (map write_of_run runs)) owing
+      ∙ ap (λ (fs : List InFlight). if nat_lt h.capacity (length h.entries + 1 + length fs) then refuses refusal.AuditFull else enters (outcome.Worked (Ran group left)) (map write_of_run runs))
+      ((runs-write runs).flight (flight h.start h.entries))
+      ∙ ap (λ b. if b then refuses refusal.AuditFull else enters (outcome.Worked (Ran group left)) (map write_of_run runs)) room
+
+  -- its run may want memory, whether the audit has room or not
+  pub group-may_lack : may_lack (RunNext queue id) (due h (RunNext queue id)) ≡ true
+  group-may_lack = by_room (is_full h) refl
+    where
+      by_room : (full : Bool) → is_full h ≡ full → may_lack (RunNext queue id) (due h (RunNext queue id)) ≡ true
+      by_room true room = ap (may_lack (RunNext queue id)) (group-due true room)
+      by_room false room = ap (may_lack (RunNext queue id)) (group-due false room)

@@ -1,0 +1,99 @@
+//! What a group of a kernel dispatch wrote is laid over memory.
+
+ghost use Rattle.std.specs.Prelude.{◌≡◌, ◌∷◌, ◌-◌, ◌<◌, ◌^◌, All, IfOk, [], length, map, true};
+ghost use Rattle.regions.specs.Memory.{is_within, lengths_of};
+ghost use Rattle.core_model.specs.Legal.{MeetsOrLacks, as_variant};
+ghost use Rattle.core_model.specs.Memory.{region_lengths};
+ghost use Rattle.core_model.specs.Owed.{enters, owed};
+ghost use Rattle.core_model.specs.Work.{write_of_run};
+ghost use Rattle.access_core.specs.inner.InPlace.{IsChanged, IsInPlace};
+ghost use Rattle.access_core.specs.inner.Laying.{LiesWithin};
+
+use crate::access::running::{advance, one_more};
+use crate::access::{AccessCore, enter};
+use aql_packet::{Address, PacketId, QueueId};
+use core_model::{Effect, Effects, Event, Outcome, Refusal, Worked};
+use executor::Run;
+use packet_processor::Place;
+use regions::Regions;
+use sequences::Sequence;
+use std::alloc::{AllocError, Global};
+
+impl AccessCore {
+    // Enters a group of a kernel dispatch that ran: its runs are laid over memory, and its packet is one
+    // group further.
+    pub(crate) fn ran(
+        &mut self,
+        alloc: Global,
+        queue: QueueId,
+        packet: PacketId,
+        place: Place,
+        left: u32,
+        runs: Sequence<Run>,
+    ) -> Result<Worked, Refusal>
+        requires found { IsInPlace self.old queue packet place }
+        requires owed { owed self.old.start self.old.entries (Event.RunNext queue packet)
+            ≡ enters (Outcome.Worked (Worked.Ran place.progress.groups_run left)) (map write_of_run runs) }
+        requires written { All (λ run. is_within (region_lengths self.old.start) run.address (length run.bytes) ≡ true) runs }
+        requires room { place.progress.groups_run < 2 ^ 32 - 1 }
+        ensures { MeetsOrLacks (Event.RunNext queue packet) self.old self.new (as_variant Outcome.Worked result) }
+    {
+        let changes = changes_of(alloc, runs)?;
+        if self.is_full() {
+            return Err(Refusal::AuditFull);
+        }
+        lay_changes(&mut self.memory, changes.as_slice());
+        advance(&mut self.queues, queue, packet, one_more(&place.progress));
+        let group = place.progress.groups_run;
+        let worked = Worked::Ran { group, left };
+        let event = Event::RunNext { queue, packet };
+        let effects = Effects::many(changes);
+        enter(&mut self.audit, event, Outcome::Worked(worked), effects);
+        Ok(worked)
+    }
+}
+
+// The changes of memory that runs of written bytes are, with the runs' own bytes.
+fn changes_of(alloc: Global, runs: Sequence<Run>) -> Result<Vec<Effect>, AllocError>
+    ensures { IfOk result (λ changes. changes.items ≡ map write_of_run runs) }
+{
+    let mut changes = Vec::with_capacity(alloc, runs.len())?;
+    for run in runs.into_vec() {
+        changes.push(change_of(run))?;
+    }
+    Ok(changes)
+}
+
+// The change of memory that a run of written bytes is.
+fn change_of(run: Run) -> Effect
+    ensures { result ≡ write_of_run run }
+{
+    let Run { address, bytes } = run;
+    Effect::Write {
+        address: Address(address),
+        bytes,
+    }
+}
+
+// Lays changes over memory, one after another.
+fn lay_changes(memory: &mut Regions, changes: &[Effect])
+    requires { All (LiesWithin (lengths_of memory.old)) changes.now }
+    ensures changed { IsChanged memory.old changes.now memory.new }
+    ensures lengths { lengths_of memory.new ≡ lengths_of memory.old }
+{
+    for change in changes {
+        lay_change(memory, change);
+    }
+}
+
+// Lays a change over memory: the bytes of a write, and of another change nothing.
+fn lay_change(memory: &mut Regions, change: &Effect)
+    requires { LiesWithin (lengths_of memory.old) change.now }
+    ensures changed { IsChanged memory.old (change.now ∷ []) memory.new }
+    ensures lengths { lengths_of memory.new ≡ lengths_of memory.old }
+{
+    match change {
+        Effect::Write { address, bytes } => memory.lay(*address, bytes.as_slice()),
+        Effect::Signal { .. } | Effect::Release { .. } => {}
+    }
+}
