@@ -1,5 +1,6 @@
 -- The entry of a source is that of a kernel just where its module has one of the name.
-use Rattle.std.proofs.Common.{◌≡◌, ℕ, ◌==◌, List, map, length, refl, sym, ap, ◌∙◌, Bool, true, not, Option, Some, None, nat_lt, arith, nat_tests}
+use Rattle.std.proofs.Common.{◌≡◌, ℕ, ◌==◌, List, map, length, refl, sym, ap, ◌∙◌, Bool, true, not, Option, Some, None, nat_lt, arith, eq-eqb}
+use Rattle.std.proofs.lemmas.Bool.Decides.{nat_tests}
 use Rattle.std.specs.Prelude.{position, is_some}
 use Rattle.std.specs.Option.{unwrap_or}
 use Rattle.std.specs.Str.{bytes_eq}
@@ -36,5 +37,5 @@ opening-fault policy capacity = by_count refl
 
     by_count : length policy.kernels ≡ length policy.kernels → open_fault policy (map (λ row. kernel_of row.1) policy.kernels) capacity ≡ fault_behind capacity (first_without_entry policy.kernels)
     by_count _ =
-        let one : (length (map (λ (row : Name × Source). kernel_of row.1) policy.kernels) == length policy.kernels) ≡ true = rw same_count (grind (arith, nat_tests)) in
+        let one : (length (map (λ (row : Name × Source). kernel_of row.1) policy.kernels) == length policy.kernels) ≡ true = eq-eqb (length (map (λ (row : Name × Source). kernel_of row.1) policy.kernels)) (length policy.kernels) same_count in
         rw one (ap (fault_behind capacity) (first-missing policy.kernels))
