@@ -1,17 +1,18 @@
 -- Each line of the grammar decides its choices by the next token.
-use Rattle.std.proofs.Common.{◌≡◌, ℕ, ⊎_elim, inl, inr, List, [], ◌∷◌, Bool, true, false, Option, None, refl, sym, ap, subst, ◌∙◌}
+use Rattle.std.proofs.Common.{◌≡◌, ℕ, ⊎_elim, inl, inr, List, [], ◌∷◌, Bool, true, false, Option, Some, None, refl, sym, ap, subst, ◌∙◌}
 use Rattle.std.specs.Option.{option_map}
-use Rattle.hsail_reader.specs.Grammar.{signed, constant, source, offset, place, place_inside, index, address_inside, address, operand, next_operand, operation, operands, labelled, performed, unlabelled, item, items, body, alignment, kernarg_flaw, argument, next_argument, some_arguments, signature, kernel_begin, kernel, is_none_left, kernels, fields, module_text}
+use Rattle.hsail_reader.specs.Grammar.{signed, constant, source, offset, place, place_inside, index, address_inside, address, operand, next_operand, operation, operands, labelled, performed, extent, declared, aligned, plain, unlabelled, item, items, body, alignment, kernarg_flaw, argument, next_argument, some_arguments, signature, kernel_begin, kernel, is_none_left, kernels, fields, module_text}
 use Rattle.hsail_reader.specs.Grammars.{Grammar, give, behind, spells, begun_by, begins, read}
-use Rattle.hsail_reader.specs.Terminals.{mark_of, number_of, register_of, same_kind, same_word, word_at, picked, align_of, align, semicolon, open_bracket, close_parenthesis, close_brace, syntax, at_begin, behind_align}
+use Rattle.hsail_reader.specs.Terminals.{mark_of, number_of, register_of, same_kind, same_word, word_at, picked, align_of, align, group_of, semicolon, open_bracket, close_parenthesis, close_brace, syntax, at_begin, behind_align}
 use Rattle.hsail_reader.specs.TextTokens.{PlacedToken}
-use Rattle.hsail_reader.specs.Nouns.{Argument, Constant, DataType, Item, Kernel, Opcode, Operand, Operation, Place, Shape, TokenKind}
+use Rattle.hsail_reader.specs.WordSpelling.{SpellsWord}
+use Rattle.hsail_reader.specs.Nouns.{Alignment, Argument, Constant, DataType, Item, Kernel, Opcode, Operand, Operation, Place, Shape, TokenKind, Word}
 use Rattle.hsail_reader.specs.declared.token.TokenKind.TheVariants as kinds
 use Rattle.hsail_reader.specs.declared.rows.Shape.TheVariants as shapes
 use Rattle.hsail_reader.specs.declared.words.Word.TheVariants as words
 use Rattle.hsail_reader.proofs.Grammars.{Front, Behind, Next, Takes, Decides, shortens}
 use Rattle.hsail_reader.proofs.Loop.{Shortens}
-use Rattle.hsail_reader.proofs.Terminals.{unbegun, marks, registers, numbers, majors, minors, profiles_found, large_found, roundings_found, names, these_words, word_there, aligns, kernargs, opcodes, outsides}
+use Rattle.hsail_reader.proofs.Terminals.{unbegun, marks, registers, numbers, majors, minors, profiles_found, large_found, roundings_found, names, these_words, word_there, aligns, kernargs, groups, opcodes}
 
 -- the first token is of this kind
 abbrev pub FirstIs : TokenKind → Front
@@ -197,26 +198,68 @@ unfolding performed
 performeds F line =
     (opcodes, λ code. (operations code _ (λ to b. other_kind (mark_of 91) (kinds.Mark 59) to (b.3.2.0, b.3.1, b.3.2.1, b.3.2.2) refl), λ x. (marks 59, λ one. tt)))
 
+-- the first token is this word
+abbrev WordIs : Word → Front
+WordIs w from = (rest : List PlacedToken) × (t : PlacedToken) × (from ≡ t ∷ rest) × (t.kind ≡ kinds.Word) × SpellsWord w t.text
+
+-- what is picked of no such word begins nothing
+other_word : {X : Type 0} (pick : Word → Option X) (w : Word) (from : List PlacedToken) → WordIs w from → pick w ≡ None →
+    begun_by (λ t. picked pick (word_at t)) from ≡ false
+other_word pick w from (rest, t, at, kind, is) none = unbegun (λ t. picked pick (word_at t)) t from rest at (word_there pick w t (kind, is) ∙ none)
+
+any_word : (w : Word) (from : List PlacedToken) → WordIs w from → FirstIs kinds.Word from
+any_word w from (rest, t, at, kind, is) = (t, rest, at, kind)
+
 -- an instruction begins with its word
-performed_first : (i : Item) (from to : List PlacedToken) → spells performed i from to →
-    FirstIs kinds.Word from × (begins align from ≡ false)
+performed_first : (i : Item) (from to : List PlacedToken) → spells performed i from to → (code : Opcode) × WordIs (words.Instruction code) from
 unfolding performed
-performed_first i from to s =
-    let t = s.2.0 in
-    let none = word_there align_of (words.Instruction s.0) t s.2.2 in
-    ((t, s.1, s.2.1, s.2.2.0), unbegun (λ t. picked align_of (word_at t)) t from s.1 s.2.1 none)
+performed_first i from to s = (s.0, (s.1, s.2.0, s.2.1, s.2.2.0, s.2.2.1))
+
+extents : (F : Front) → BeforeNoBracket F → Decides extent F
+unfolding extent
+extents F law = (
+  (marks 91, λ one. (numbers, λ n. (marks 93, λ one. tt))),
+  tt,
+  λ x from to s may. subst (λ ts. begins open_bracket ts ≡ false) (sym s.0) (law to may),
+)
+
+variables : (line : ℕ) (a : Option Alignment) (kind : DataType) (F : Front) → Decides (declared line a kind) F
+unfolding declared
+variables line a kind F = (
+  names kinds.Variable refl,
+  λ x. (extents _ (λ to b. other_kind (mark_of 91) (kinds.Mark 59) to (b.3.2.0, b.3.1, b.3.2.1, b.3.2.2) refl), λ n. (marks 59, λ one. tt)),
+)
+
+plains : (F : Front) → Decides plain F
+unfolding plain
+plains F = (
+  λ line. (groups at_begin, λ kind. variables line None kind F),
+  performeds F,
+  λ i from to s may. let p = performed_first i from to s in other_word group_of (words.Instruction p.0) from p.1 refl,
+)
+
+-- an item without align(n) begins with another word
+plain_first : (i : Item) (from to : List PlacedToken) → spells plain i from to → FirstIs kinds.Word from × (begins align from ≡ false)
+unfolding plain
+plain_first i from to s =
+    ⊎_elim
+    (λ v. let is : WordIs (words.GroupVariable v.0) from = (v.1, v.2.0, v.2.1, v.2.2.0, v.2.2.1) in
+    (any_word (words.GroupVariable v.0) from is, other_word align_of (words.GroupVariable v.0) from is refl))
+    (λ q. let p = performed_first i from to q in
+    (any_word (words.Instruction p.0) from p.1, other_word align_of (words.Instruction p.0) from p.1 refl))
+    s
 
 unlabelleds : (F : Front) → Decides unlabelled F
-unfolding unlabelled
+unfolding unlabelled aligned
 unlabelleds F = (
-  (aligns, λ a. outsides behind_align),
-  performeds F,
-  λ i from to s may. (performed_first i from to s).1,
+  λ line. (aligns, λ a. (groups behind_align, λ kind. variables line (Some a) kind F)),
+  plains F,
+  λ i from to s may. (plain_first i from to s).1,
 )
 
 unlabelled_first : (i : Item) (from to : List PlacedToken) → spells unlabelled i from to → FirstIs kinds.Word from
 unfolding unlabelled
-unlabelled_first i from to s = ⊎_elim (λ p. absurd p.3.2) (λ q. (performed_first i from to q).0) s
+unlabelled_first i from to s = ⊎_elim (λ p. (p.2.0, p.1, p.2.1, p.2.2.0)) (λ q. (plain_first i from to q).0) s
 
 item_decides : (F : Front) → Decides item F
 unfolding item labelled
@@ -227,8 +270,8 @@ item_decides F = (
 )
 
 item_takes : Takes item
-unfolding item labelled unlabelled performed
-item_takes = (λ line. inl tt, (inl tt, λ line. inl tt))
+unfolding item labelled unlabelled plain performed
+item_takes = (λ line. inl tt, (λ line. inl tt, (λ line. inl tt, λ line. inl tt)))
 
 item_goes_on : (i : Item) (from to : List PlacedToken) → spells item i from to → begins close_brace from ≡ false
 unfolding item labelled

@@ -4,7 +4,7 @@ use Rattle.std.proofs.lemmas.Bool.{lt-ltb, ltb-true}
 use Rattle.std.proofs.lemmas.Bool.Decides.{eqb_tells}
 use Rattle.std.specs.Option.{option_map}
 use Rattle.hsail_reader.specs.Grammars.{Grammar, begun_by}
-use Rattle.hsail_reader.specs.Terminals.{of_kind, found, mark_of, mark, register_of, register, number_of, number, major_of, major, minor_of, minor, profile_header, profile_of, profile, large, rounding_header, rounding_of, rounding, same_kind, name_of, word_kind, word_at, picked, word, same_word, this_word, align_of, align, kernarg_of, kernarg, opcode_of, opcode, outside, syntax, at_begin}
+use Rattle.hsail_reader.specs.Terminals.{of_kind, found, mark_of, mark, register_of, register, number_of, number, major_of, major, minor_of, minor, profile_header, profile_of, profile, large, rounding_header, rounding_of, rounding, same_kind, name_of, word_kind, word_at, picked, word, same_word, this_word, align_of, align, kernarg_of, kernarg, group_of, group, opcode_of, opcode, syntax, at_begin}
 use Rattle.hsail_reader.specs.TextTokens.{PlacedToken}
 use Rattle.hsail_reader.specs.Types.{alignment_bytes}
 use Rattle.hsail_reader.specs.WordSpelling.{SpellsWord, stands_in_modules}
@@ -195,15 +195,16 @@ kernargs flaw = word_finds words.Argument kernarg_of flaw (λ kind. refl) back (
     back (words.Argument k) kind is = cc
     back _ kind is = cc
 
+pub groups : (flaw : PlacedToken → Flaw) → Finds (group flaw)
+groups flaw = word_finds words.GroupVariable group_of flaw (λ kind. refl) back (λ kind. refl)
+  where
+    back : (w : Word) (kind : DataType) → group_of w ≡ Some kind → w ≡ words.GroupVariable kind
+    back (words.GroupVariable k) kind is = cc
+    back _ kind is = cc
+
 pub opcodes : Finds opcode
 opcodes = word_finds words.Instruction opcode_of at_begin (λ code. refl) back (λ code. refl)
   where
     back : (w : Word) (code : Opcode) → opcode_of w ≡ Some code → w ≡ words.Instruction code
     back (words.Instruction c) code is = cc
     back _ code is = cc
-
-pub outsides : {X : Type 0} (flaw : PlacedToken → Flaw) → Finds {X = X} (outside flaw)
-outsides {X} flaw x t = (λ none. absurd none, λ is. nothing is)
-  where
-    nothing : ◌≡◌ {A = Option X} None (Some x) → ⊥
-    nothing e = cc

@@ -4,7 +4,7 @@ use Rattle.std.proofs.lemmas.Bool.{cases_Bool}
 use Rattle.std.proofs.lemmas.Bool.Decides.{nat_tests}
 use Rattle.hsail_reader.proofs.Options.{no_ok, same_ok}
 use Rattle.hsail_reader.specs.Faults.{error_of, too_long, Fails}
-use Rattle.hsail_reader.specs.Grammar.{AnswersByGrammar, is_none_left, kernels, module_text, SpellModule, IsTextOf, place_inside, index, address_inside, address, operands, performed, labelled, unlabelled, item, items, body, alignment, argument, next_argument, some_arguments, signature, kernel_begin, kernel, fields}
+use Rattle.hsail_reader.specs.Grammar.{AnswersByGrammar, is_none_left, kernels, module_text, SpellModule, IsTextOf, place_inside, index, address_inside, address, operands, performed, labelled, plain, unlabelled, item, items, body, alignment, argument, next_argument, some_arguments, signature, kernel_begin, kernel, fields}
 use Rattle.hsail_reader.specs.Grammars.{spells, read, ◌>>=◌}
 use Rattle.hsail_reader.specs.TextTokens.{PlacedToken}
 use Rattle.hsail_reader.specs.Syntax.{module_at, read_at, located, reading}
@@ -107,7 +107,7 @@ text_is_spelled text m is =
     (cases_Bool (nat_lt 65536 (length text)))
 
 sample_is_read : reading sample ≡ Ok sample_module
-unfolding sample sample_module reading module_at module_text fields kernels kernel kernel_begin body signature some_arguments next_argument argument alignment items item labelled unlabelled performed operands index place_inside address_inside address instruction_at word_of
+unfolding sample sample_module reading module_at module_text fields kernels kernel kernel_begin body signature some_arguments next_argument argument alignment items item labelled unlabelled plain performed operands index place_inside address_inside address instruction_at word_of
 sample_is_read = refl
 
 pub sample_is_text : IsTextOf sample sample_module

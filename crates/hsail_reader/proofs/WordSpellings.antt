@@ -2,10 +2,9 @@
 use Rattle.std.proofs.Common.{◌≡◌, ℕ, ◌+◌, ⊎_elim, List, [], ◌++◌, length, true, false, ◌==◌, if◌then◌else◌, Option, Some, None, refl, sym, ap, subst, ◌∙◌, codes, append-nil, length-append, arith}
 use Rattle.std.proofs.lemmas.Bool.{eq-eqb, eqb-true}
 use Rattle.std.specs.List.{Contains}
-use Rattle.std.specs.Option.{is_some}
 use Rattle.hsail_reader.specs.Bytes.{behind, align_at, ◌>>=◌}
-use Rattle.hsail_reader.specs.Rows.{InstructionRow, rows, types_of}
-use Rattle.hsail_reader.specs.Words.{is_spelled, is_end, type_among, opcode_at, opcode_among, instruction_at, argument_word, instruction_word, other_word, named_word, word_of}
+use Rattle.hsail_reader.specs.Rows.{InstructionRow, rows, types_of, type_name}
+use Rattle.hsail_reader.specs.Words.{is_spelled, is_end, type_among, opcode_at, opcode_among, instruction_at, variable_word, instruction_word, later_word, other_word, named_word, word_of}
 use Rattle.hsail_reader.specs.WordSpelling.{SpellsNumber, SpellsBehindStem, SpellsWord, stands_in_modules}
 use Rattle.hsail_reader.specs.Nouns.{DataType, Opcode, Prefix, Word, Memory}
 use Rattle.hsail_reader.specs.declared.words.Word.TheVariants as word
@@ -70,7 +69,8 @@ word_is_read word.Module text e = ap word_of e
 word_is_read word.Prog text e = ap word_of e
 word_is_read word.Kernel text e = ap word_of e
 word_is_read (word.Align n) text (number, e, spelled) = ap word_of e ∙ align_word n number spelled
-word_is_read (word.Argument t) text (e, c) = ap word_of e ∙ ap argument_word (name_is_read Memory t c)
+word_is_read (word.Argument t) text (e, c) = ap word_of e ∙ ap (variable_word word.Argument) (name_is_read Memory t c)
+word_is_read (word.GroupVariable t) text (e, c) = ap word_of e ∙ ap (variable_word word.GroupVariable) (name_is_read Memory t c)
 word_is_read (word.Instruction code) text (row, rest, c, e, spelled) =
     ap word_of e ∙ instruction_is_read row rest code c spelled
 word_is_read word.Outside text spelled = absurd spelled
@@ -99,13 +99,15 @@ align_is_word text m is whole =
       r.4,
     )
 
--- a word behind `kernarg_` is spelled
-argument_is_spelled : (text rest : List ℕ) (o : Option DataType) (w : Word) → text ≡ codes "kernarg_" ++ rest →
-    type_among (types_of Memory) rest ≡ o → argument_word o ≡ w → stands_in_modules w ≡ true → SpellsWord w text
-argument_is_spelled text rest None w parts found e stands = outside word.Outside w text refl e stands
-argument_is_spelled text rest (Some t) w parts found e stands =
+-- the word of a variable is spelled, by what stands at its front
+variable_is_spelled : (front : List ℕ) (spelled : DataType → Word) →
+    ((t : DataType) (text : List ℕ) → text ≡ front ++ type_name t → Contains (types_of Memory) t → SpellsWord (spelled t) text) →
+    (text rest : List ℕ) (o : Option DataType) (w : Word) → behind front text ≡ Some rest → type_among (types_of Memory) rest ≡ o →
+    variable_word spelled o ≡ w → stands_in_modules w ≡ true → SpellsWord w text
+variable_is_spelled front spelled spells text rest None w parts found e stands = outside word.Outside w text refl e stands
+variable_is_spelled front spelled spells text rest (Some t) w parts found e stands =
     let f = name_is_found (types_of Memory) rest t found in
-    spelled_of (word.Argument t) w text (parts ∙ ap (λ xs. codes "kernarg_" ++ xs) f.0, f.1) e
+    spelled_of (spelled t) w text (spells t text (behind_parts front text rest parts ∙ ap (λ xs. front ++ xs) f.0) f.1) e
 
 -- the word of an instruction is spelled
 instruction_is_spelled : (text : List ℕ) (o : Option Opcode) (w : Word) → opcode_among rows text ≡ o →
@@ -117,18 +119,20 @@ instruction_is_spelled text (Some code) w found e stands =
     spelled_of (word.Instruction code) w text
     (f.0, b.0, f.1, behind_parts f.0.stem text b.0 b.1, row_is_spelled f.0 code b.0 b.2) e
 
+-- a word that is not align(n) nor of an argument is spelled
+later_is_spelled : (o : Option (List ℕ)) (text : List ℕ) (w : Word) → behind (codes "group_") text ≡ o →
+    later_word o text ≡ w → stands_in_modules w ≡ true → SpellsWord w text
+unfolding instruction_at
+later_is_spelled (Some rest) text w found e stands =
+    variable_is_spelled (codes "group_") word.GroupVariable (λ t text parts c. (parts, c)) text rest (type_among (types_of Memory) rest) w found refl e stands
+later_is_spelled None text w found e stands = instruction_is_spelled text (opcode_among rows text) w refl e stands
+
 -- a word that is not align(n) is spelled
 other_is_spelled : (o : Option (List ℕ)) (text : List ℕ) (w : Word) → behind (codes "kernarg_") text ≡ o →
     other_word o text ≡ w → stands_in_modules w ≡ true → SpellsWord w text
-unfolding instruction_at
 other_is_spelled (Some rest) text w found e stands =
-    argument_is_spelled text rest (type_among (types_of Memory) rest) w
-    (behind_parts (codes "kernarg_") text rest found) refl e stands
-other_is_spelled None text w found e stands =
-    ⊎_elim
-    (λ g. outside word.Outside w text refl g.1 stands)
-    (λ g. instruction_is_spelled text (opcode_among rows text) w refl g.1 stands)
-    (chosen (is_some (behind (codes "group_") text)) word.Outside (instruction_word (instruction_at text)) w e)
+    variable_is_spelled (codes "kernarg_") word.Argument (λ t text parts c. (parts, c)) text rest (type_among (types_of Memory) rest) w found refl e stands
+other_is_spelled None text w found e stands = later_is_spelled (behind (codes "group_") text) text w refl e stands
 
 -- a word that is not one of a module's beginning is spelled
 named_is_spelled : (o : Option (Prefix ℕ)) (text : List ℕ) (w : Word) → align_at text ≡ o → named_word o text ≡ w →

@@ -4,7 +4,7 @@
 -- g that stands for x, and the last line says what the whole stands for. Single tokens stand in `Terminals`.
 use Rattle.std.specs.Prelude.{ℕ, ◌≤◌, List, [], ◌∷◌, Bool, true, false, Option, Some, None, Result, Ok, Err, length}
 use Rattle.hsail_reader.specs.Grammars.{Grammar, give, either, many, on_line, spells, begins}
-use Rattle.hsail_reader.specs.Terminals.{◌>>=◌, ◌>>◌, optional, open_parenthesis, close_parenthesis, open_bracket, close_bracket, open_brace, close_brace, plus, minus, comma, colon, semicolon, register, number, global, variable, label, major, minor, profile, large, rounding, module_word, prog, kernel_word, align, kernarg, opcode, outside, syntax, at_begin, behind_align}
+use Rattle.hsail_reader.specs.Terminals.{◌>>=◌, ◌>>◌, optional, open_parenthesis, close_parenthesis, open_bracket, close_bracket, open_brace, close_brace, plus, minus, comma, colon, semicolon, register, number, global, variable, label, major, minor, profile, large, rounding, module_word, prog, kernel_word, align, kernarg, group, opcode, syntax, at_begin, behind_align}
 use Rattle.hsail_reader.specs.TextTokens.{AreTokens, PlacedToken}
 use Rattle.hsail_reader.specs.Rows.{kind_at}
 use Rattle.hsail_reader.specs.Nouns.{Address, Alignment, Argument, Constant, DataType, Fields, Flaw, Item, Kernel, Module, Opcode, Operand, Operation, Place, ReadError, Shape, Source}
@@ -119,10 +119,33 @@ performed = on_line λ line. do
   semicolon
   give (an_item.Instruction (record { line = line; operation = x }))
 
--- an item that begins with no label: behind align(n) stands a variable of the group segment, which the
--- profile doesn't have
+-- behind the name of a group variable: [n], or nothing
+unfoldable pub extent : Grammar (Option ℕ)
+extent = either (do
+  open_bracket
+  n ← number
+  close_bracket
+  give (Some n)) (give None)
+
+-- %name, [n] which may be absent, and ; behind align(n) and group_T
+unfoldable pub declared : ℕ → Option Alignment → DataType → Grammar Item
+declared line a kind = do
+  x ← variable
+  n ← extent
+  semicolon
+  give (an_item.Variable (record { line = line; align = a; kind = kind; name = x; length = n }))
+
+-- group_T %name, [n] and ; behind align(n)
+unfoldable pub aligned : ℕ → Alignment → Grammar Item
+aligned line a = group behind_align >>= declared line (Some a)
+
+-- a variable of the group segment without align(n), or an instruction
+unfoldable pub plain : Grammar Item
+plain = either (on_line λ line. group at_begin >>= declared line None) performed
+
+-- an item that begins with no label: a variable of the group segment, or an instruction
 unfoldable pub unlabelled : Grammar Item
-unlabelled = either (align >> outside behind_align) performed
+unlabelled = either (on_line λ line. align >>= aligned line) plain
 
 -- an item of a kernel
 unfoldable pub item : Grammar Item

@@ -44,7 +44,7 @@ pub use Rattle.hsail_reader.specs.declared.words.Opcode.{Opcode}
 pub use Rattle.hsail_reader.specs.declared.words.Word.{Word}
 pub use Rattle.hsail_reader.specs.declared.types.RegisterClass.TheVariants.{Control, Double, Single}
 pub use Rattle.hsail_reader.specs.declared.types.DataType.TheVariants.{B1, B16, B32, B64, B8, S16, S32, S64, S8, U16, U32, U64, U8}
-pub use Rattle.hsail_reader.specs.declared.rows.TypeSet.TheVariants.{Bit, Bits, BitsAndIntegers, Convertible, Integers, Memory, Unsigned32, Unsigned32And64, Untyped}
+pub use Rattle.hsail_reader.specs.declared.rows.TypeSet.TheVariants.{Bit, Bits, Bits32And64, BitsAndIntegers, Convertible, Integers, Memory, Unsigned32, Unsigned32And64, Untyped}
 pub use Rattle.hsail_reader.specs.declared.types.Alignment.TheVariants.{Eight, Four, One, Sixteen, Two}
 pub use Rattle.hsail_reader.specs.declared.types.Width.TheVariants.{All, Number, WaveSize}
 pub use Rattle.hsail_reader.specs.declared.token.Header.TheVariants.{Base, Default, Full, Large, Near, Zero}

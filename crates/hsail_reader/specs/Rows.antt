@@ -1,12 +1,15 @@
 -- The table of instructions (PRM, the chapters on instructions; which rows and types there are is (own)), and what
 -- its rows name.
-use Rattle.std.specs.Prelude.{ℕ, List, [], ◌∷◌, Bool, true, false, codes}
-use Rattle.hsail_reader.specs.Nouns.{DataType, Form, KindAt, Modifier, ModifierEnd, ModifierRow, Modifiers, ModifierSet, Row, Shape, Shapes, TypeSet, All, Number, WaveSize, Bit, Bits, BitsAndIntegers, Convertible, Integers, Memory, Unsigned32, Unsigned32And64, Untyped}
+use Rattle.std.specs.Prelude.{ℕ, List, [], ◌∷◌, ◌++◌, Bool, true, false, codes}
+use Rattle.hsail_reader.specs.Nouns.{DataType, Form, KindAt, Modifier, ModifierEnd, ModifierRow, Modifiers, ModifierSet, Row, Shape, Shapes, TypeSet, All, Number, WaveSize, Bit, Bits, Bits32And64, BitsAndIntegers, Convertible, Integers, Memory, Unsigned32, Unsigned32And64, Untyped}
 use Rattle.hsail_reader.specs.declared.rows.Form.TheVariants as form
 use Rattle.hsail_reader.specs.declared.rows.KindAt.TheVariants.{Given, Own}
 use Rattle.hsail_reader.specs.declared.rows.Shape.TheVariants.{Absent as no, Address, Dimension, Label, Source, Target}
 use Rattle.hsail_reader.specs.declared.rows.ModifierEnd.TheVariants as end
-use Rattle.hsail_reader.specs.declared.rows.ModifierSet.TheVariants.{Align, AlignAndWidth, Plain, Width}
+use Rattle.hsail_reader.specs.declared.rows.ModifierSet.TheVariants.{Align, AlignAndWidth, OrderAndScope, Plain, Width}
+use Rattle.hsail_reader.specs.declared.types.AtomicOperation.TheVariants as atomic
+use Rattle.hsail_reader.specs.declared.types.MemoryOrder.TheVariants as order
+use Rattle.hsail_reader.specs.declared.types.MemoryScope.TheVariants as scope
 use Rattle.hsail_reader.specs.declared.types.Modifier.TheVariants as modifier
 use Rattle.hsail_reader.specs.declared.types.Modifiers.TheVariants as modifiers
 use Rattle.hsail_reader.specs.declared.types.DataType.TheVariants as type
@@ -42,6 +45,7 @@ row stem modifiers types form first second third fourth = record {
 abbrev pub types_of : TypeSet → List DataType
 types_of Bit = type.B1 ∷ []
 types_of Bits = type.B1 ∷ type.B32 ∷ type.B64 ∷ []
+types_of Bits32And64 = type.B32 ∷ type.B64 ∷ []
 types_of Integers = type.U32 ∷ type.S32 ∷ type.U64 ∷ type.S64 ∷ []
 types_of BitsAndIntegers =
     type.B1 ∷ type.B32 ∷ type.B64 ∷ type.U32 ∷ type.S32 ∷ type.U64 ∷ type.S64 ∷ []
@@ -62,10 +66,11 @@ pub record ModifierSpelling : Type 0 where
 abbrev pub spelling : List ℕ → ModifierEnd → ModifierSpelling
 spelling text e = record { text = text; end = e }
 
--- the modifier with this number in its brackets
+-- the modifier with this number in its brackets, if it has some
 abbrev pub with_number : Modifier → ℕ → Modifier
 with_number (modifier.Align _) n = modifier.Align n
 with_number (modifier.Width _) n = modifier.Width (Number n)
+with_number m n = m
 
 -- the modifiers with brackets (PRM, Width Modifier; Align Modifier): _align(n), and _width(n), _width(all) and
 -- _width(WAVESIZE); a word's lexeme has them inside or at its end
@@ -76,15 +81,26 @@ bracketed_rows =
     ∷ spelling (codes "_width(WAVESIZE)") (end.Whole (modifier.Width WaveSize))
     ∷ spelling (codes "_width(") (end.Number (modifier.Width (Number 0))) ∷ []
 
--- all modifiers that an instruction's row may name
+-- all modifiers that an instruction's row may name: those, the orders and the scopes of atomic operations (PRM,
+-- Memory Order; Memory Scope)
 abbrev pub modifier_rows : List ModifierSpelling
-modifier_rows = bracketed_rows
+modifier_rows =
+    bracketed_rows
+    ++ spelling (codes "_rlx") (end.Whole (modifier.Order order.Relaxed))
+    ∷ spelling (codes "_scacq") (end.Whole (modifier.Order order.Acquire))
+    ∷ spelling (codes "_screl") (end.Whole (modifier.Order order.Release))
+    ∷ spelling (codes "_scar") (end.Whole (modifier.Order order.AcquireRelease))
+    ∷ spelling (codes "_wave") (end.Whole (modifier.Scope scope.Wavefront))
+    ∷ spelling (codes "_wg") (end.Whole (modifier.Scope scope.WorkGroup))
+    ∷ spelling (codes "_agent") (end.Whole (modifier.Scope scope.Agent))
+    ∷ spelling (codes "_system") (end.Whole (modifier.Scope scope.System)) ∷ []
 
 -- a row of the code's table of modifiers, with its text as bytes
 abbrev pub modifier_view : ModifierRow → ModifierSpelling
 modifier_view r = spelling r.0.now r.1
 
--- whether a row takes these modifiers, in their order: each at most once, and no others
+-- whether a row takes these modifiers, in their order: each at most once, and no others; an atomic operation has
+-- an order, and behind it a scope
 abbrev pub allows : ModifierSet → Modifiers → Bool
 allows Plain modifiers.Plain = true
 allows Align modifiers.Plain = true
@@ -96,6 +112,7 @@ allows AlignAndWidth (modifiers.One (modifier.Align n)) = true
 allows AlignAndWidth (modifiers.One (modifier.Width w)) = true
 allows AlignAndWidth (modifiers.Two (modifier.Align n) (modifier.Width w)) = true
 allows AlignAndWidth (modifiers.Two (modifier.Width w) (modifier.Align n)) = true
+allows OrderAndScope (modifiers.Two (modifier.Order o) (modifier.Scope s)) = true
 allows _ _ = false
 
 -- the type at a place: that of the word, or the row's
@@ -169,10 +186,45 @@ rows =
     ∷ row (codes "cvt_s64") Plain Convertible (form.Unary (unary.Convert type.S64)) (d_of type.S64) a no no
     ∷ row (codes "ld_kernarg") AlignAndWidth Memory form.Load d (Address segment.Kernarg) no no
     ∷ row (codes "ld_global") AlignAndWidth Memory form.Load d (Address segment.Global) no no
+    ∷ row (codes "ld_group") AlignAndWidth Memory form.Load d (Address segment.Group) no no
     ∷ row (codes "st_global") Align Memory form.Store a (Address segment.Global) no no
+    ∷ row (codes "st_group") Align Memory form.Store a (Address segment.Group) no no
+    ∷ row (codes "atomic_add_global") OrderAndScope Integers (form.Atomic atomic.Add) d (Address segment.Global) a no
+    ∷ row (codes "atomic_sub_global") OrderAndScope Integers (form.Atomic atomic.Subtract) d (Address segment.Global) a no
+    ∷ row (codes "atomic_min_global") OrderAndScope Integers (form.Atomic atomic.Minimum) d (Address segment.Global) a no
+    ∷ row (codes "atomic_max_global") OrderAndScope Integers (form.Atomic atomic.Maximum) d (Address segment.Global) a no
+    ∷ row (codes "atomic_and_global") OrderAndScope Bits32And64 (form.Atomic atomic.And) d (Address segment.Global) a no
+    ∷ row (codes "atomic_or_global") OrderAndScope Bits32And64 (form.Atomic atomic.Or) d (Address segment.Global) a no
+    ∷ row (codes "atomic_xor_global") OrderAndScope Bits32And64 (form.Atomic atomic.Xor) d (Address segment.Global) a no
+    ∷ row (codes "atomic_exch_global") OrderAndScope Bits32And64 (form.Atomic atomic.Exchange) d (Address segment.Global) a no
+    ∷ row (codes "atomic_cas_global") OrderAndScope Bits32And64 (form.Atomic atomic.CompareAndSwap) d (Address segment.Global) a a
+    ∷ row (codes "atomic_add_group") OrderAndScope Integers (form.Atomic atomic.Add) d (Address segment.Group) a no
+    ∷ row (codes "atomic_sub_group") OrderAndScope Integers (form.Atomic atomic.Subtract) d (Address segment.Group) a no
+    ∷ row (codes "atomic_min_group") OrderAndScope Integers (form.Atomic atomic.Minimum) d (Address segment.Group) a no
+    ∷ row (codes "atomic_max_group") OrderAndScope Integers (form.Atomic atomic.Maximum) d (Address segment.Group) a no
+    ∷ row (codes "atomic_and_group") OrderAndScope Bits32And64 (form.Atomic atomic.And) d (Address segment.Group) a no
+    ∷ row (codes "atomic_or_group") OrderAndScope Bits32And64 (form.Atomic atomic.Or) d (Address segment.Group) a no
+    ∷ row (codes "atomic_xor_group") OrderAndScope Bits32And64 (form.Atomic atomic.Xor) d (Address segment.Group) a no
+    ∷ row (codes "atomic_exch_group") OrderAndScope Bits32And64 (form.Atomic atomic.Exchange) d (Address segment.Group) a no
+    ∷ row (codes "atomic_cas_group") OrderAndScope Bits32And64 (form.Atomic atomic.CompareAndSwap) d (Address segment.Group) a a
+    ∷ row (codes "atomicnoret_add_global") OrderAndScope Integers (form.AtomicNoReturn atomic.Add) (Address segment.Global) a no no
+    ∷ row (codes "atomicnoret_sub_global") OrderAndScope Integers (form.AtomicNoReturn atomic.Subtract) (Address segment.Global) a no no
+    ∷ row (codes "atomicnoret_min_global") OrderAndScope Integers (form.AtomicNoReturn atomic.Minimum) (Address segment.Global) a no no
+    ∷ row (codes "atomicnoret_max_global") OrderAndScope Integers (form.AtomicNoReturn atomic.Maximum) (Address segment.Global) a no no
+    ∷ row (codes "atomicnoret_and_global") OrderAndScope Bits32And64 (form.AtomicNoReturn atomic.And) (Address segment.Global) a no no
+    ∷ row (codes "atomicnoret_or_global") OrderAndScope Bits32And64 (form.AtomicNoReturn atomic.Or) (Address segment.Global) a no no
+    ∷ row (codes "atomicnoret_xor_global") OrderAndScope Bits32And64 (form.AtomicNoReturn atomic.Xor) (Address segment.Global) a no no
+    ∷ row (codes "atomicnoret_add_group") OrderAndScope Integers (form.AtomicNoReturn atomic.Add) (Address segment.Group) a no no
+    ∷ row (codes "atomicnoret_sub_group") OrderAndScope Integers (form.AtomicNoReturn atomic.Subtract) (Address segment.Group) a no no
+    ∷ row (codes "atomicnoret_min_group") OrderAndScope Integers (form.AtomicNoReturn atomic.Minimum) (Address segment.Group) a no no
+    ∷ row (codes "atomicnoret_max_group") OrderAndScope Integers (form.AtomicNoReturn atomic.Maximum) (Address segment.Group) a no no
+    ∷ row (codes "atomicnoret_and_group") OrderAndScope Bits32And64 (form.AtomicNoReturn atomic.And) (Address segment.Group) a no no
+    ∷ row (codes "atomicnoret_or_group") OrderAndScope Bits32And64 (form.AtomicNoReturn atomic.Or) (Address segment.Group) a no no
+    ∷ row (codes "atomicnoret_xor_group") OrderAndScope Bits32And64 (form.AtomicNoReturn atomic.Xor) (Address segment.Group) a no no
     ∷ row (codes "br") Plain Untyped form.Branch Label no no no
     ∷ row (codes "cbr") Width Bit form.ConditionalBranch a Label no no
     ∷ row (codes "ret") Plain Untyped form.Return no no no no
+    ∷ row (codes "barrier") Width Untyped form.Barrier no no no no
     ∷ row (codes "workitemid") Plain Unsigned32 (form.Identify query.WorkItemId) d Dimension no no
     ∷ row (codes "workgroupid") Plain Unsigned32 (form.Identify query.WorkGroupId) d Dimension no no
     ∷ row (codes "workgroupsize") Plain Unsigned32 (form.Identify query.WorkGroupSize) d Dimension no no

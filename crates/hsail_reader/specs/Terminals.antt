@@ -237,6 +237,14 @@ kernarg_of _ = None
 abbrev pub kernarg : (PlacedToken → Flaw) → Grammar DataType
 kernarg flaw = word words.Argument kernarg_of flaw
 
+abbrev pub group_of : Word → Option DataType
+group_of (words.GroupVariable kind) = Some kind
+group_of _ = None
+
+-- group_T
+abbrev pub group : (PlacedToken → Flaw) → Grammar DataType
+group flaw = word words.GroupVariable group_of flaw
+
 abbrev pub opcode_of : Word → Option Opcode
 opcode_of (words.Instruction code) = Some code
 opcode_of _ = None
@@ -244,7 +252,3 @@ opcode_of _ = None
 -- the word of an instruction
 abbrev pub opcode : Grammar Opcode
 opcode = word words.Instruction opcode_of at_begin
-
--- no token: what the format has here is outside the profile
-abbrev pub outside : {X : Type 0} → (PlacedToken → Flaw) → Grammar X
-outside flaw = token (λ x t. ⊥) (λ t. None) flaw

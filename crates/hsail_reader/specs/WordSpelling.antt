@@ -1,4 +1,4 @@
--- How words are spelled: `module`, `prog` and `kernel`, align(n), `kernarg_` and a type; and of an
+-- How words are spelled: `module`, `prog` and `kernel`, align(n), `kernarg_` or `group_` and a type; and of an
 -- instruction the stem of its row, the modifiers that its row allows, and a type of its row's where it has
 -- any (PRM, HSAIL Syntax and Semantics; the places of the modifiers are (own)).
 use Rattle.std.specs.Prelude.{◌≡◌, ℕ, ◌^◌, ◌<◌, ◌⊎◌, List, [], ◌++◌, Bool, true, false, codes}
@@ -73,6 +73,7 @@ SpellsWord word.Prog text = text ≡ codes "prog"
 SpellsWord word.Kernel text = text ≡ codes "kernel"
 SpellsWord (word.Align n) text = SpellsAlign n text
 SpellsWord (word.Argument t) text = (text ≡ codes "kernarg_" ++ type_name t) × Contains (types_of Memory) t
+SpellsWord (word.GroupVariable t) text = (text ≡ codes "group_" ++ type_name t) × Contains (types_of Memory) t
 SpellsWord (word.Instruction code) text = SpellsOpcode code text
 SpellsWord word.Outside text = ⊥
 SpellsWord word.Unknown text = ⊥

@@ -1,6 +1,6 @@
 -- How a text is read as a word (PRM, the chapters on instructions; the places of the modifiers are (own)).
 -- What spells each word stands in `WordSpelling`.
-use Rattle.std.specs.Prelude.{ℕ, List, [], ◌∷◌, Bool, true, false, ◌==◌, if◌then◌else◌, Option, Some, None, codes, drop, is_some, length}
+use Rattle.std.specs.Prelude.{ℕ, List, [], ◌∷◌, Bool, true, false, ◌==◌, if◌then◌else◌, Option, Some, None, codes, drop, length}
 use Rattle.std.specs.Option.{option_map}
 use Rattle.hsail_reader.specs.Bytes.{behind, first_of, align_at, numeral_at, ◌>>=◌}
 use Rattle.hsail_reader.specs.Rows.{InstructionRow, ModifierSpelling, allows, modifier_rows, rows, types_of, type_name, with_number}
@@ -85,20 +85,24 @@ alignment_of n =
     if n == 1 then Some One else if n == 2 then Some Two else if n == 4 then Some Four
     else if n == 8 then Some Eight else if n == 16 then Some Sixteen else None
 
-abbrev pub argument_word : Option DataType → Word
-argument_word None = word.Outside
-argument_word (Some t) = word.Argument t
+-- the word of a variable of a segment, by the type behind its front
+abbrev pub variable_word : (DataType → Word) → Option DataType → Word
+variable_word spelled None = word.Outside
+variable_word spelled (Some t) = spelled t
 
 abbrev pub instruction_word : Option Opcode → Word
 instruction_word None = word.Unknown
 instruction_word (Some code) = word.Instruction code
 
+-- a word that isn't align(n) nor of an argument
+abbrev pub later_word : Option (List ℕ) → List ℕ → Word
+later_word (Some rest) text = variable_word word.GroupVariable (type_among (types_of Memory) rest)
+later_word None text = instruction_word (instruction_at text)
+
 -- a word that isn't align(n)
 abbrev pub other_word : Option (List ℕ) → List ℕ → Word
-other_word (Some rest) text = argument_word (type_among (types_of Memory) rest)
-other_word None text =
-    if is_some (behind (codes "group_") text) then word.Outside
-    else instruction_word (instruction_at text)
+other_word (Some rest) text = variable_word word.Argument (type_among (types_of Memory) rest)
+other_word None text = later_word (behind (codes "group_") text) text
 
 abbrev pub named_word : Option (Prefix ℕ) → List ℕ → Word
 named_word (Some n) text = if n.length == length text then word.Align n.value else word.Unknown

@@ -1,17 +1,18 @@
 //! Items, arguments and kernels, each read at the front of some tokens.
 
 ghost use Rattle.std.specs.Prelude.{◌≡◌, Ok};
-ghost use Rattle.hsail_reader.specs.Faults.{Gives, Fails};
+ghost use Rattle.hsail_reader.specs.Faults.{Gives};
 ghost use Rattle.hsail_reader.specs.Tokens.{token_views, token_view};
 ghost use Rattle.hsail_reader.specs.Grammar as grammar;
 ghost use Rattle.hsail_reader.specs.Grammars.{read};
-ghost use Rattle.hsail_reader.specs.declared.module.Item.{Item};
 ghost use Rattle.hsail_reader.specs.Terminals as terminals;
 
 use crate::fault::{Flaw, Stop};
 use crate::instructions::operands;
-use crate::module::{Argument, Instruction, Item, Kernel, Label};
-use crate::operands::{Read, Tokens, copied, global, has_mark, line_of, mark, refused, variable};
+use crate::module::{Argument, GroupVariable, Instruction, Item, Kernel, Label};
+use crate::operands::{
+    Read, Tokens, copied, global, has_mark, line_of, mark, number, refused, variable,
+};
 use crate::token::{Token, TokenKind};
 use crate::types::{Alignment, DataType};
 use crate::words::{Word, classify, variable_alignment};
@@ -58,14 +59,80 @@ fn align_of(word: Option<Word>) -> Option<Alignment>
     }
 }
 
-/// The fault behind `align(n)` in a kernel's body: the profile has no variables there.
-fn refused_variable(tokens: &[Token<'_>]) -> Stop
-    ensures { Fails result (read {X = Item} (terminals.outside terminals.behind_align) (token_views tokens.now)) }
+/// The type of a variable of the group segment, if the word is one of its.
+fn group_of(word: Option<Word>) -> Option<DataType>
+    ensures { result ≡ terminals.picked terminals.group_of word }
 {
-    match tokens {
-        [] => refused(tokens, Flaw::Syntax),
-        [first, ..] => refused(tokens, flaw_behind_align(word_of_token(first))),
+    match word {
+        Some(Word::GroupVariable(kind)) => Some(kind),
+        _ => None,
     }
+}
+
+/// `group_T` behind `align(n)`.
+fn group_kind<'a, 't>(tokens: Tokens<'a, 't>) -> Read<'a, 't, DataType>
+    ensures { Gives (λ x. (x.0, token_views x.1.now)) result (read (terminals.group terminals.behind_align) (token_views tokens.now)) }
+{
+    let [first, rest @ ..] = tokens else {
+        return Err(refused(tokens, Flaw::Syntax));
+    };
+    let word = word_of_token(first);
+    match group_of(word) {
+        Some(kind) => Ok((kind, rest)),
+        None => Err(refused(tokens, flaw_behind_align(word))),
+    }
+}
+
+/// `[n]` behind the name of a group variable, which may be absent.
+#[tactic(auto, unfolding(crate::specs::Grammar::extent))]
+fn extent<'a, 't>(tokens: Tokens<'a, 't>) -> Read<'a, 't, Option<u64>>
+    ensures { Gives (λ x. (x.0, token_views x.1.now)) result (read grammar.extent (token_views tokens.now)) }
+{
+    if !has_mark(b'[', tokens) {
+        return Ok((None, tokens));
+    }
+    let rest = mark(b'[', tokens)?;
+    let (length, rest) = number(rest)?;
+    let rest = mark(b']', rest)?;
+    Ok((Some(length), rest))
+}
+
+/// `%name`, `[n]` and `;` behind `align(n)` and `group_T`.
+#[tactic(auto, unfolding(crate::specs::Grammar::declared))]
+fn declared<'a, 't>(
+    alloc: Global,
+    line: u32,
+    align: Option<Alignment>,
+    kind: DataType,
+    tokens: Tokens<'a, 't>,
+) -> Read<'a, 't, Item>
+    ensures { Gives (λ x. (x.0, token_views x.1.now)) result (read (grammar.declared line align kind) (token_views tokens.now)) }
+{
+    let (name, rest) = variable(alloc, tokens)?;
+    let (length, rest) = extent(rest)?;
+    let rest = mark(b';', rest)?;
+    let variable = GroupVariable {
+        line,
+        align,
+        kind,
+        name,
+        length,
+    };
+    Ok((Item::Variable(variable), rest))
+}
+
+/// `group_T %name`, `[n]` and `;` behind `align(n)`.
+#[tactic(auto, unfolding(crate::specs::Grammar::aligned))]
+fn aligned<'a, 't>(
+    alloc: Global,
+    line: u32,
+    align: Alignment,
+    tokens: Tokens<'a, 't>,
+) -> Read<'a, 't, Item>
+    ensures { Gives (λ x. (x.0, token_views x.1.now)) result (read (grammar.aligned line align) (token_views tokens.now)) }
+{
+    let (kind, rest) = group_kind(tokens)?;
+    declared(alloc, line, Some(align), kind, rest)
 }
 
 /// An instruction and `;`.
@@ -87,17 +154,30 @@ fn instruction<'a, 't>(alloc: Global, tokens: Tokens<'a, 't>) -> Read<'a, 't, It
     }
 }
 
+/// A variable of the group segment without `align(n)`, or an instruction.
+#[tactic(auto, unfolding(crate::specs::Grammar::plain))]
+fn plain<'a, 't>(alloc: Global, tokens: Tokens<'a, 't>) -> Read<'a, 't, Item>
+    ensures { Gives (λ x. (x.0, token_views x.1.now)) result (read grammar.plain (token_views tokens.now)) }
+{
+    if let [first, rest @ ..] = tokens {
+        if let Some(kind) = group_of(word_of_token(first)) {
+            return declared(alloc, first.line, None, kind, rest);
+        }
+    }
+    instruction(alloc, tokens)
+}
+
 /// An item that begins with no label.
 #[tactic(auto, unfolding(crate::specs::Grammar::unlabelled))]
 fn unlabelled<'a, 't>(alloc: Global, tokens: Tokens<'a, 't>) -> Read<'a, 't, Item>
     ensures { Gives (λ x. (x.0, token_views x.1.now)) result (read grammar.unlabelled (token_views tokens.now)) }
 {
     if let [first, rest @ ..] = tokens {
-        if align_of(word_of_token(first)).is_some() {
-            return Err(refused_variable(rest));
+        if let Some(align) = align_of(word_of_token(first)) {
+            return aligned(alloc, first.line, align, rest);
         }
     }
-    instruction(alloc, tokens)
+    plain(alloc, tokens)
 }
 
 /// An item of a kernel's body.

@@ -23,12 +23,13 @@ pub use grammar::{
     words_are_read_as_spelled,
 };
 pub use module::{
-    Access, Address, Argument, Indexed, Instruction, Item, Kernel, Label, Module, Operand,
-    Operands, Operation, Place, Profile, Relative, Rounding, Target, TypedSource,
+    Access, Address, Argument, GroupVariable, Indexed, Instruction, Item, Kernel, Label, Module,
+    Operand, Operands, Operation, Place, Profile, Relative, Rounding, Target, TypedSource,
 };
 pub use reading::read_module;
 pub use rows::Form;
 pub use types::{
-    Alignment, BinaryOperation, Comparison, Constant, DataType, Modifier, Modifiers, Query,
-    Register, RegisterClass, Segment, Source, TernaryOperation, UnaryOperation, Width,
+    Alignment, AtomicOperation, BinaryOperation, Comparison, Constant, DataType, MemoryOrder,
+    MemoryScope, Modifier, Modifiers, Query, Register, RegisterClass, Segment, Source,
+    TernaryOperation, UnaryOperation, Width,
 };

@@ -65,6 +65,7 @@ pub struct Argument {
 #[derive(Drop)]
 pub enum Item {
     Label(Label),
+    Variable(GroupVariable),
     Instruction(Instruction),
 }
 
@@ -73,6 +74,18 @@ pub enum Item {
 pub struct Label {
     pub line: u32,
     pub name: Sequence<u8>,
+}
+
+/// A variable of the group segment, `align(n) group_T %name[length];` (PRM, Group Segment), with the
+/// line of its first token. Its type is not b1.
+#[derive(Drop)]
+pub struct GroupVariable {
+    pub line: u32,
+    pub align: Option<Alignment>,
+    pub kind: DataType,
+    pub name: Sequence<u8>,
+    /// How many values of the type it has; one, where the text has no brackets.
+    pub length: Option<u64>,
 }
 
 /// An instruction, with the line of its first token.

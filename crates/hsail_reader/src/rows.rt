@@ -11,21 +11,25 @@ use crate::types::Modifiers::{One, Two};
 use crate::types::Query::{
     CurrentWorkGroupSize, GridSize, WorkGroupId, WorkGroupSize, WorkItemAbsoluteId, WorkItemId,
 };
-use crate::types::Segment::{Global, Kernarg};
+use crate::types::Segment::{Global, Group, Kernarg};
 use crate::types::TernaryOperation::{ConditionalMove, MultiplyAdd};
 use crate::types::UnaryOperation::{Convert, Move, Not};
 use crate::types::Width::{All, Number as WithNumber, WaveSize};
 use crate::types::{
-    BinaryOperation, DataType, Modifier, Modifiers, Query, Segment, TernaryOperation,
-    UnaryOperation,
+    AtomicOperation, BinaryOperation, DataType, MemoryOrder, MemoryScope, Modifier, Modifiers,
+    Query, Segment, TernaryOperation, UnaryOperation,
 };
-use Form::{Binary, Branch, ConditionalBranch, Identify, Load, Return, Store, Ternary, Unary};
+use Form::{
+    Atomic, AtomicNoReturn, Barrier, Binary, Branch, ConditionalBranch, Identify, Load, Return,
+    Store, Ternary, Unary,
+};
 use KindAt::{Given, Own};
 use ModifierEnd::{Number, Whole};
-use ModifierSet::{Align, AlignAndWidth, Plain, Width};
+use ModifierSet::{Align, AlignAndWidth, OrderAndScope, Plain, Width};
 use Shape::{Absent as NO, Address, Dimension, Label, Source, Target};
 use TypeSet::{
-    Bit, Bits, BitsAndIntegers, Convertible, Integers, Memory, Unsigned32, Unsigned32And64, Untyped,
+    Bit, Bits, Bits32And64, BitsAndIntegers, Convertible, Integers, Memory, Unsigned32,
+    Unsigned32And64, Untyped,
 };
 
 /// What a row does (PRM, HSAIL Instructions).
@@ -36,9 +40,14 @@ pub enum Form {
     Ternary(TernaryOperation),
     Load,
     Store,
+    /// `atomic`, which has the old value as its result
+    Atomic(AtomicOperation),
+    /// `atomicnoret`, which has no result
+    AtomicNoReturn(AtomicOperation),
     Branch,
     ConditionalBranch,
     Return,
+    Barrier,
     Identify(Query),
 }
 
@@ -92,6 +101,8 @@ pub enum ModifierSet {
     Width,
     /// both, in either order
     AlignAndWidth,
+    /// an order, and behind it a scope
+    OrderAndScope,
 }
 
 /// What stands behind the text of a modifier's row.
@@ -107,13 +118,24 @@ pub enum ModifierEnd {
 #[derive(Clone, Copy)]
 pub struct ModifierRow(pub &'static str, pub ModifierEnd);
 
-/// The table of modifiers, those with brackets: a word's lexeme has them inside or at its end. A text that
-/// begins with another's stands before it.
-const MODIFIERS: [ModifierRow; 4] = [
+/// How many modifiers have brackets.
+const BRACKETED: usize = 4;
+
+/// The table of modifiers, first those with brackets: a word's lexeme has them inside or at its end. A text
+/// that begins with another's stands before it.
+const MODIFIERS: [ModifierRow; 12] = [
     ModifierRow("_align(", Number(Modifier::Align(0))),
     ModifierRow("_width(all)", Whole(Modifier::Width(All))),
     ModifierRow("_width(WAVESIZE)", Whole(Modifier::Width(WaveSize))),
     ModifierRow("_width(", Number(Modifier::Width(WithNumber(0)))),
+    ModifierRow("_rlx", Whole(Modifier::Order(MemoryOrder::Relaxed))),
+    ModifierRow("_scacq", Whole(Modifier::Order(MemoryOrder::Acquire))),
+    ModifierRow("_screl", Whole(Modifier::Order(MemoryOrder::Release))),
+    ModifierRow("_scar", Whole(Modifier::Order(MemoryOrder::AcquireRelease))),
+    ModifierRow("_wave", Whole(Modifier::Scope(MemoryScope::Wavefront))),
+    ModifierRow("_wg", Whole(Modifier::Scope(MemoryScope::WorkGroup))),
+    ModifierRow("_agent", Whole(Modifier::Scope(MemoryScope::Agent))),
+    ModifierRow("_system", Whole(Modifier::Scope(MemoryScope::System))),
 ];
 
 /// Types that a row takes.
@@ -123,6 +145,8 @@ pub enum TypeSet {
     Bit,
     /// b1, b32, b64
     Bits,
+    /// b32, b64
+    Bits32And64,
     /// u32, s32, u64, s64
     Integers,
     /// those of `Bits` and of `Integers`
@@ -164,7 +188,7 @@ macro_rules! rows {
 
 /// The table of instructions, in the order of the format. A shift's count has 32 bits; a comparison's
 /// answer and the condition of `cmov` have one.
-const ROWS: [Row; 43] = rows! {
+const ROWS: [Row; 78] = rows! {
     "mov", Plain, BitsAndIntegers, Unary(Move), D, A, NO, NO;
     "add", Plain, Integers, Binary(Add), D, A, A, NO;
     "sub", Plain, Integers, Binary(Subtract), D, A, A, NO;
@@ -198,10 +222,45 @@ const ROWS: [Row; 43] = rows! {
     "cvt_s64", Plain, Convertible, Unary(Convert(S64)), Target(Given(S64)), A, NO, NO;
     "ld_kernarg", AlignAndWidth, Memory, Load, D, Address(Kernarg), NO, NO;
     "ld_global", AlignAndWidth, Memory, Load, D, Address(Global), NO, NO;
+    "ld_group", AlignAndWidth, Memory, Load, D, Address(Group), NO, NO;
     "st_global", Align, Memory, Store, A, Address(Global), NO, NO;
+    "st_group", Align, Memory, Store, A, Address(Group), NO, NO;
+    "atomic_add_global", OrderAndScope, Integers, Atomic(AtomicOperation::Add), D, Address(Global), A, NO;
+    "atomic_sub_global", OrderAndScope, Integers, Atomic(AtomicOperation::Subtract), D, Address(Global), A, NO;
+    "atomic_min_global", OrderAndScope, Integers, Atomic(AtomicOperation::Minimum), D, Address(Global), A, NO;
+    "atomic_max_global", OrderAndScope, Integers, Atomic(AtomicOperation::Maximum), D, Address(Global), A, NO;
+    "atomic_and_global", OrderAndScope, Bits32And64, Atomic(AtomicOperation::And), D, Address(Global), A, NO;
+    "atomic_or_global", OrderAndScope, Bits32And64, Atomic(AtomicOperation::Or), D, Address(Global), A, NO;
+    "atomic_xor_global", OrderAndScope, Bits32And64, Atomic(AtomicOperation::Xor), D, Address(Global), A, NO;
+    "atomic_exch_global", OrderAndScope, Bits32And64, Atomic(AtomicOperation::Exchange), D, Address(Global), A, NO;
+    "atomic_cas_global", OrderAndScope, Bits32And64, Atomic(AtomicOperation::CompareAndSwap), D, Address(Global), A, A;
+    "atomic_add_group", OrderAndScope, Integers, Atomic(AtomicOperation::Add), D, Address(Group), A, NO;
+    "atomic_sub_group", OrderAndScope, Integers, Atomic(AtomicOperation::Subtract), D, Address(Group), A, NO;
+    "atomic_min_group", OrderAndScope, Integers, Atomic(AtomicOperation::Minimum), D, Address(Group), A, NO;
+    "atomic_max_group", OrderAndScope, Integers, Atomic(AtomicOperation::Maximum), D, Address(Group), A, NO;
+    "atomic_and_group", OrderAndScope, Bits32And64, Atomic(AtomicOperation::And), D, Address(Group), A, NO;
+    "atomic_or_group", OrderAndScope, Bits32And64, Atomic(AtomicOperation::Or), D, Address(Group), A, NO;
+    "atomic_xor_group", OrderAndScope, Bits32And64, Atomic(AtomicOperation::Xor), D, Address(Group), A, NO;
+    "atomic_exch_group", OrderAndScope, Bits32And64, Atomic(AtomicOperation::Exchange), D, Address(Group), A, NO;
+    "atomic_cas_group", OrderAndScope, Bits32And64, Atomic(AtomicOperation::CompareAndSwap), D, Address(Group), A, A;
+    "atomicnoret_add_global", OrderAndScope, Integers, AtomicNoReturn(AtomicOperation::Add), Address(Global), A, NO, NO;
+    "atomicnoret_sub_global", OrderAndScope, Integers, AtomicNoReturn(AtomicOperation::Subtract), Address(Global), A, NO, NO;
+    "atomicnoret_min_global", OrderAndScope, Integers, AtomicNoReturn(AtomicOperation::Minimum), Address(Global), A, NO, NO;
+    "atomicnoret_max_global", OrderAndScope, Integers, AtomicNoReturn(AtomicOperation::Maximum), Address(Global), A, NO, NO;
+    "atomicnoret_and_global", OrderAndScope, Bits32And64, AtomicNoReturn(AtomicOperation::And), Address(Global), A, NO, NO;
+    "atomicnoret_or_global", OrderAndScope, Bits32And64, AtomicNoReturn(AtomicOperation::Or), Address(Global), A, NO, NO;
+    "atomicnoret_xor_global", OrderAndScope, Bits32And64, AtomicNoReturn(AtomicOperation::Xor), Address(Global), A, NO, NO;
+    "atomicnoret_add_group", OrderAndScope, Integers, AtomicNoReturn(AtomicOperation::Add), Address(Group), A, NO, NO;
+    "atomicnoret_sub_group", OrderAndScope, Integers, AtomicNoReturn(AtomicOperation::Subtract), Address(Group), A, NO, NO;
+    "atomicnoret_min_group", OrderAndScope, Integers, AtomicNoReturn(AtomicOperation::Minimum), Address(Group), A, NO, NO;
+    "atomicnoret_max_group", OrderAndScope, Integers, AtomicNoReturn(AtomicOperation::Maximum), Address(Group), A, NO, NO;
+    "atomicnoret_and_group", OrderAndScope, Bits32And64, AtomicNoReturn(AtomicOperation::And), Address(Group), A, NO, NO;
+    "atomicnoret_or_group", OrderAndScope, Bits32And64, AtomicNoReturn(AtomicOperation::Or), Address(Group), A, NO, NO;
+    "atomicnoret_xor_group", OrderAndScope, Bits32And64, AtomicNoReturn(AtomicOperation::Xor), Address(Group), A, NO, NO;
     "br", Plain, Untyped, Branch, Label, NO, NO, NO;
     "cbr", Width, Bit, ConditionalBranch, A, Label, NO, NO;
     "ret", Plain, Untyped, Return, NO, NO, NO, NO;
+    "barrier", Width, Untyped, Barrier, NO, NO, NO, NO;
     "workitemid", Plain, Unsigned32, Identify(WorkItemId), D, Dimension, NO, NO;
     "workgroupid", Plain, Unsigned32, Identify(WorkGroupId), D, Dimension, NO, NO;
     "workgroupsize", Plain, Unsigned32, Identify(WorkGroupSize), D, Dimension, NO, NO;
@@ -214,7 +273,7 @@ const ROWS: [Row; 43] = rows! {
 pub fn bracketed_table() -> &'static [ModifierRow]
     ensures { map modifier_view result.now ≡ bracketed_rows }
 {
-    &MODIFIERS
+    MODIFIERS.split_at(BRACKETED).0
 }
 
 /// The rows of all modifiers.
@@ -239,6 +298,9 @@ pub fn allowed(set: ModifierSet, modifiers: Modifiers) -> bool
                 | Two(Modifier::Align(_), Modifier::Width(_))
                 | Two(Modifier::Width(_), Modifier::Align(_))
         ),
+        ModifierSet::OrderAndScope => {
+            matches!(modifiers, Two(Modifier::Order(_), Modifier::Scope(_)))
+        }
     }
 }
 
@@ -256,6 +318,7 @@ pub fn types(set: TypeSet) -> &'static [DataType]
     match set {
         TypeSet::Bit => &[B1],
         TypeSet::Bits => &[B1, B32, B64],
+        TypeSet::Bits32And64 => &[B32, B64],
         TypeSet::Integers => &[U32, S32, U64, S64],
         TypeSet::BitsAndIntegers => &[B1, B32, B64, U32, S32, U64, S64],
         TypeSet::Convertible => &[B1, U8, U16, U32, U64, S8, S16, S32, S64],

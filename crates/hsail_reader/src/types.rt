@@ -102,11 +102,12 @@ impl Alignment {
     }
 }
 
-/// The segment that a load reads (PRM, Segments).
+/// The segment that an address lies in (PRM, Segments).
 #[derive(Clone, Copy, Debug, PartialEq, Eq)]
 pub enum Segment {
     Kernarg,
     Global,
+    Group,
 }
 
 /// The `_width(n)` modifier (PRM, Width Modifier). It has no effect here (own).
@@ -117,6 +118,32 @@ pub enum Width {
     WaveSize,
 }
 
+/// The memory order of an atomic operation (PRM, Memory Order). It has no effect here (own).
+#[derive(Clone, Copy)]
+pub enum MemoryOrder {
+    /// `rlx`
+    Relaxed,
+    /// `scacq`
+    Acquire,
+    /// `screl`
+    Release,
+    /// `scar`
+    AcquireRelease,
+}
+
+/// The memory scope of an atomic operation (PRM, Memory Scope). It has no effect here (own).
+#[derive(Clone, Copy)]
+pub enum MemoryScope {
+    /// `wave`
+    Wavefront,
+    /// `wg`
+    WorkGroup,
+    /// `agent`
+    Agent,
+    /// `system`
+    System,
+}
+
 /// A modifier of an operation (PRM, Operations). None has an effect (own).
 #[derive(Clone, Copy)]
 pub enum Modifier {
@@ -124,16 +151,21 @@ pub enum Modifier {
     Align(u64),
     /// `_width(w)`
     Width(Width),
+    /// the order of an atomic operation
+    Order(MemoryOrder),
+    /// the scope of an atomic operation
+    Scope(MemoryScope),
 }
 
 impl Modifier {
-    /// The modifier with a number in its brackets.
+    /// The modifier with a number in its brackets, if it has some.
     pub fn with_number(self, number: u64) -> Modifier
         ensures { result ≡ with_number self number }
     {
         match self {
             Modifier::Align(_) => Modifier::Align(number),
             Modifier::Width(_) => Modifier::Width(Width::Number(number)),
+            Modifier::Order(_) | Modifier::Scope(_) => self,
         }
     }
 }
@@ -194,6 +226,22 @@ pub enum TernaryOperation {
     MultiplyAdd,
     /// `cmov_T`
     ConditionalMove,
+}
+
+/// What an atomic operation does with memory (PRM, Atomic Memory Operations).
+#[derive(Clone, Copy, Debug, PartialEq, Eq)]
+pub enum AtomicOperation {
+    Add,
+    Subtract,
+    Minimum,
+    Maximum,
+    And,
+    Or,
+    Xor,
+    /// `exch`
+    Exchange,
+    /// `cas`
+    CompareAndSwap,
 }
 
 /// The operations `d, k`: what an item asks of its place in the grid (PRM, Dispatch Packet

@@ -22,6 +22,8 @@ pub enum Word {
     Align(u64),
     /// `kernarg_T`
     Argument(DataType),
+    /// `group_T`
+    GroupVariable(DataType),
     /// a word of a row of the table of instructions
     Instruction(Opcode),
     /// `kernarg_` or `group_` with anything else behind it
@@ -193,8 +195,11 @@ pub fn classify(text: &[u8]) -> Word
             None => Word::Outside,
         };
     }
-    if strip(b"group_", text).is_some() {
-        return Word::Outside;
+    if let Some(rest) = strip(b"group_", text) {
+        return match among(types(TypeSet::Memory), rest) {
+            Some(kind) => Word::GroupVariable(kind),
+            None => Word::Outside,
+        };
     }
     match instruction(text) {
         Some(opcode) => Word::Instruction(opcode),

@@ -18,4 +18,5 @@ noted q names new n m x rest behind is =
 
 pub number_behind_le : (n : ℕ) (x : Item) → number_behind n x ≤ n + 1
 number_behind_le n (item.Label l) = omega arith
+number_behind_le n (item.Variable v) = omega arith
 number_behind_le n (item.Instruction i) = omega arith

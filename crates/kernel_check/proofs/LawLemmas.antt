@@ -15,9 +15,11 @@ use Rattle.hsail_reader.specs.declared.types.Register.{Register}
 use Rattle.kernel_check.specs.declared.step.AddressForms.{AddressForms}
 use Rattle.hsail_reader.specs.declared.types.RegisterClass.{RegisterClass}
 use Rattle.hsail_reader.specs.declared.types.RegisterClass.TheVariants as class
+use Rattle.hsail_reader.specs.declared.types.Segment.{Segment}
+use Rattle.hsail_reader.specs.declared.types.Segment.TheVariants as segment
 use Rattle.hsail_reader.specs.declared.types.Source.{Source}
 use Rattle.hsail_reader.specs.declared.types.Source.TheVariants as source
-use Rattle.kernel_check.specs.Causes.{instruction_fails, misses_label, misses_argument, names_unknown, is_bad_place, is_bad_form, has_bad_address}
+use Rattle.kernel_check.specs.Causes.{instruction_fails, misses_label, misses_argument, names_unknown, is_same_segment, lies_elsewhere, is_bad_place, is_bad_form, has_bad_address}
 use Rattle.kernel_check.specs.Faults.{Checkpoint, first_fault, fault_or, least_cause, first_cause}
 use Rattle.kernel_check.specs.Laws.{IsFirst, IsEarliest, IsKept, IsKeptSource, IsPlace, IsReached, IsFaithfulOperand, IsFaithful}
 use Rattle.kernel_check.specs.Operands.{is_same_class, is_far, is_far_address, is_far_place, is_over, is_over_source, any_operand}
@@ -87,39 +89,53 @@ placed (Some k) (place.Absolute n) near good = tt
 placed (Some k) (place.Relative r) near good =
     (same_class k r.register.class (holds (is_same_class k r.register.class) good), kept r.register near)
 
-known : (o : Option Placed) → is_none o ≡ false → (p : Placed) × (o ≡ Some p)
-known None e = cc
-known (Some p) e = (p, refl)
+same_segment : (a b : Segment) → is_same_segment a b ≡ true → b ≡ a
+same_segment segment.Kernarg segment.Kernarg e = refl
+same_segment segment.Global segment.Global e = refl
+same_segment segment.Group segment.Group e = refl
+same_segment _ _ e = cc
+
+declared : (s : Segment) (o : Option Placed) → is_none o ≡ false → lies_elsewhere s o ≡ false
+    → (p : Placed) × (o ≡ Some p) × (p.segment ≡ s)
+declared s None e there = cc
+declared s (Some p) e there = (p, refl, same_segment s p.segment (holds (is_same_segment s p.segment) there))
 
 found : (o : Option ℕ) → is_none o ≡ false → o ≡ Some (unwrap_or o 0)
 found None e = cc
 found (Some n) e = refl
 
-module _ (arguments : List ℕ → Option Placed) (labels : List ℕ → Option ℕ) where
-  reached : (forms : AddressForms) (a : Address) → is_far_address a ≡ false → names_unknown arguments a ≡ false
-      → is_bad_form forms a ≡ false → IsReached arguments forms a
-  reached forms (address.Variable x) near there good = (holds forms.variable good, known (arguments x) there)
-  reached forms (address.Place p) near there good = placed forms.base p near good
-  reached forms (address.Indexed i) near there good = (
-    holds forms.indexed (first_false (not forms.indexed) (is_bad_place forms.base i.place) good),
-    known (arguments i.variable) there,
-    placed forms.base i.place near (second_false (not forms.indexed) (is_bad_place forms.base i.place) good),
-  )
+module _ (variables : List ℕ → Option Placed) (labels : List ℕ → Option ℕ) where
+  reached : (s : Segment) (forms : AddressForms) (a : Address) → is_far_address a ≡ false → names_unknown variables a ≡ false
+      → is_bad_form variables s forms a ≡ false → IsReached variables s forms a
+  reached s forms (address.Variable x) near there good =
+      let elsewhere = lies_elsewhere s (variables x) in (
+        holds forms.variable (first_false (not forms.variable) elsewhere good),
+        declared s (variables x) there (second_false (not forms.variable) elsewhere good),
+      )
+  reached s forms (address.Place p) near there good = placed forms.base p near good
+  reached s forms (address.Indexed i) near there good =
+      let elsewhere = lies_elsewhere s (variables i.variable) in
+      let bad = is_bad_place forms.base i.place in
+      let front = first_false (not forms.indexed || elsewhere) bad good in (
+        holds forms.indexed (first_false (not forms.indexed) elsewhere front),
+        declared s (variables i.variable) there (second_false (not forms.indexed) elsewhere front),
+        placed forms.base i.place near (second_false (not forms.indexed || elsewhere) bad good),
+      )
 
   -- an operand by which an instruction fails by no cause
-  faithful_operand : (o : Operand) → misses_label labels o ≡ false → misses_argument arguments o ≡ false → is_over o ≡ false
-      → has_bad_address o ≡ false → IsFaithfulOperand arguments labels o
+  faithful_operand : (o : Operand) → misses_label labels o ≡ false → misses_argument variables o ≡ false → is_over o ≡ false
+      → has_bad_address variables o ≡ false → IsFaithfulOperand variables labels o
   faithful_operand operand.Absent known there near good = tt
   faithful_operand (operand.Target t) known there near good = kept t.register near
   faithful_operand (operand.Source s) known there near good = kept_source s.kind s.source near
-  faithful_operand (operand.Address a) known there near good = reached (forms_of a.segment) a.address near there good
+  faithful_operand (operand.Address a) known there near good = reached a.segment (forms_of a.segment) a.address near there good
   faithful_operand (operand.Label x) known there near good = found (labels x) known
   faithful_operand (operand.Dimension n) known there near good = grind (arith, nat_tests)
 
-  pub faithful : (number : ℕ) (op : Operation) → least_cause (instruction_fails arguments labels number op) ≡ None
-      → IsFaithful arguments labels op
+  pub faithful : (number : ℕ) (op : Operation) → least_cause (instruction_fails variables labels number op) ≡ None
+      → IsFaithful variables labels op
   faithful number op none =
-      let fine = none_fails (instruction_fails arguments labels number op) none in
+      let fine = none_fails (instruction_fails variables labels number op) none in
       let known = four _ _ _ _ (fine cause.UnknownLabel) in
       let there = four _ _ _ _ (fine cause.UnknownArgument) in
       let near = four _ _ _ _ (second_false (nat_le 4096 number) (any_operand is_over op.operands) (fine cause.TooLarge)) in

@@ -8,6 +8,8 @@ use Rattle.hsail_reader.specs.declared.module.Operation.{Operation}
 use Rattle.hsail_reader.specs.declared.module.TypedSource.{TypedSource}
 use Rattle.hsail_reader.specs.declared.rows.Form.{Form}
 use Rattle.hsail_reader.specs.declared.rows.Form.TheVariants as form
+use Rattle.hsail_reader.specs.declared.types.AtomicOperation.{AtomicOperation}
+use Rattle.hsail_reader.specs.declared.types.AtomicOperation.TheVariants as atomic
 use Rattle.hsail_reader.specs.declared.types.BinaryOperation.{BinaryOperation}
 use Rattle.hsail_reader.specs.declared.types.BinaryOperation.TheVariants.{And, Or, Xor, ShiftLeft, ShiftRight, Compare}
 use Rattle.hsail_reader.specs.declared.types.DataType.{DataType}
@@ -23,8 +25,10 @@ use Rattle.hsail_reader.specs.declared.types.TernaryOperation.TheVariants.{Multi
 use Rattle.hsail_reader.specs.declared.types.UnaryOperation.{UnaryOperation}
 use Rattle.hsail_reader.specs.declared.types.UnaryOperation.TheVariants.{Move, Not, Convert}
 use Rattle.kernel_check.specs.Reads.{Is1, Is32, Is64, IsSource, AreSources, IsTarget, KeepsOrder}
-use Rattle.kernel_check.specs.Steps.{reads, sets, number_in, sources_of, step_of, form_step, slot_of, register_in, source1_at, source1_of, source32_at, source32_of, source64_at, source64_of, source_in, unary_in, unary_by, binary1, binary32, binary64, binary_in, ternary_in, is_signed, load_from, load_at, store_at, target_in, read_in, as_unary, as_binary, as_ternary}
+use Rattle.kernel_check.specs.Steps.{reads, sets, number_in, sources_of, step_of, form_step, slot_of, register_in, source1_at, source1_of, source32_at, source32_of, source64_at, source64_of, source_in, unary_in, unary_by, binary1, binary32, binary64, binary_in, ternary_in, is_signed, load_from, load_at, store_from, store_at, atomic_pointer, atomic32_of, atomic64_of, atomic32_reads, atomic64_reads, atomic_in, atomic_at, as_atomic, as_no_return, target_in, read_in, as_unary, as_binary, as_ternary}
 use Rattle.kernel_check.specs.declared.layout.Placed.{Placed}
+use Rattle.kernel_check.specs.declared.memory.Atomic.{Atomic}
+use Rattle.kernel_check.specs.declared.step.AtomicPointer.{AtomicPointer}
 use Rattle.kernel_check.specs.declared.step.Step.{Step}
 use Rattle.kernel_check.specs.declared.translate.Binary.{Binary}
 use Rattle.kernel_check.specs.declared.translate.Ternary.{Ternary}
@@ -120,27 +124,58 @@ ternary_keeps class.Single ConditionalMove t = (refl, (is1 t.first, (is32 t.seco
 ternary_keeps class.Double MultiplyAdd t = (refl, (is64 t.first, (is64 t.second, (is64 t.third, tt))))
 ternary_keeps class.Double ConditionalMove t = (refl, (is1 t.first, (is64 t.second, (is64 t.third, tt))))
 
-load_keeps : (arguments : List ℕ → Option Placed) (s : Segment) (r : Register) (a : Access) → Keeps (load_from arguments s r a) r []
-load_keeps arguments segment.Kernarg r a = (same_number (type_class a.kind) r, tt)
-load_keeps arguments _ r a = (same_number (type_class a.kind) r, tt)
+load_keeps : (variables : List ℕ → Option Placed) (s : Segment) (r : Register) (a : Access) → Keeps (load_from variables s r a) r []
+load_keeps variables segment.Kernarg r a = (same_number (type_class a.kind) r, tt)
+load_keeps variables _ r a = (same_number (type_class a.kind) r, tt)
 
-load_at_keeps : (arguments : List ℕ → Option Placed) (r : Register) (o : Operand) → Keeps (load_at arguments r o) r []
-load_at_keeps arguments r (operand.Address a) = load_keeps arguments a.segment r a
-load_at_keeps arguments r _ = (tt, tt)
+load_at_keeps : (variables : List ℕ → Option Placed) (r : Register) (o : Operand) → Keeps (load_at variables r o) r []
+load_at_keeps variables r (operand.Address a) = load_keeps variables a.segment r a
+load_at_keeps variables r _ = (tt, tt)
 
-store_at_keeps : (s : TypedSource) (r : Register) (o : Operand) → Keeps (store_at s o) r (s ∷ [])
-store_at_keeps s r (operand.Address a) = (tt, (is_source (type_class s.kind) s, tt))
-store_at_keeps s r _ = (tt, tt)
+store_keeps : (variables : List ℕ → Option Placed) (g : Segment) (s : TypedSource) (r : Register) (a : Access) → Keeps (store_from variables g s a) r (s ∷ [])
+store_keeps variables segment.Group s r a = (tt, (is_source (type_class s.kind) s, tt))
+store_keeps variables _ s r a = (tt, (is_source (type_class s.kind) s, tt))
 
-form_keeps : (arguments : List ℕ → Option Placed) (labels : List ℕ → Option ℕ) (f : Form) (op : Operation)
-    → Keeps (form_step arguments labels f op) (target_in op.operands.first) (sources_of f op)
-form_keeps arguments labels (form.Unary f) op = unary_keeps f (as_unary f op)
-form_keeps arguments labels (form.Binary f) op = binary_keeps (type_class op.kind) (as_binary f op)
-form_keeps arguments labels (form.Ternary f) op = ternary_keeps (type_class op.kind) f (as_ternary f op)
-form_keeps arguments labels form.Load op = load_at_keeps arguments (target_in op.operands.first) op.operands.second
-form_keeps arguments labels form.Store op = store_at_keeps (read_in op.operands.first) (target_in op.operands.first) op.operands.second
-form_keeps arguments labels _ op = search (same_number, is_source, is1, is32, is64)
+store_at_keeps : (variables : List ℕ → Option Placed) (s : TypedSource) (r : Register) (o : Operand) → Keeps (store_at variables s o) r (s ∷ [])
+store_at_keeps variables s r (operand.Address a) = store_keeps variables a.segment s r a
+store_at_keeps variables s r _ = (tt, tt)
 
-pub keeps_order : (arguments : List ℕ → Option Placed) (labels : List ℕ → Option ℕ) (op : Operation)
-    → KeepsOrder op (step_of arguments labels op)
-keeps_order arguments labels op = form_keeps arguments labels op.form op
+atomic32_keeps : (f : AtomicOperation) (signed : Bool) (s t : TypedSource)
+    → AreSources (atomic32_reads (atomic32_of f signed (source32_of s) (source32_of t))) (s ∷ t ∷ [])
+atomic32_keeps atomic.CompareAndSwap signed s t = (is32 s, (is32 t, tt))
+atomic32_keeps _ true s t = (is32 s, tt)
+atomic32_keeps _ false s t = (is32 s, tt)
+
+atomic64_keeps : (f : AtomicOperation) (signed : Bool) (s t : TypedSource)
+    → AreSources (atomic64_reads (atomic64_of f signed (source64_of s) (source64_of t))) (s ∷ t ∷ [])
+atomic64_keeps atomic.CompareAndSwap signed s t = (is64 s, (is64 t, tt))
+atomic64_keeps _ true s t = (is64 s, tt)
+atomic64_keeps _ false s t = (is64 s, tt)
+
+atomic_keeps : (k : RegisterClass) (a : Atomic) (p : AtomicPointer) (r : Register) → IsTarget a.target r
+    → Keeps (atomic_in k a p) r (a.first ∷ a.second ∷ [])
+atomic_keeps class.Double a p r target = (target, atomic64_keeps a.operation (is_signed a.kind) a.first a.second)
+atomic_keeps _ a p r target = (target, atomic32_keeps a.operation (is_signed a.kind) a.first a.second)
+
+atomic_at_keeps : (variables : List ℕ → Option Placed) (a : Atomic) (r : Register) → IsTarget a.target r
+    → (o : Operand) → Keeps (atomic_at variables a o) r (a.first ∷ a.second ∷ [])
+atomic_at_keeps variables a r target (operand.Address x) =
+    atomic_keeps (type_class a.kind) a (atomic_pointer variables x.segment x.address) r target
+atomic_at_keeps variables a r target _ = (tt, tt)
+
+form_keeps : (variables : List ℕ → Option Placed) (labels : List ℕ → Option ℕ) (f : Form) (op : Operation)
+    → Keeps (form_step variables labels f op) (target_in op.operands.first) (sources_of f op)
+form_keeps variables labels (form.Unary f) op = unary_keeps f (as_unary f op)
+form_keeps variables labels (form.Binary f) op = binary_keeps (type_class op.kind) (as_binary f op)
+form_keeps variables labels (form.Ternary f) op = ternary_keeps (type_class op.kind) f (as_ternary f op)
+form_keeps variables labels form.Load op = load_at_keeps variables (target_in op.operands.first) op.operands.second
+form_keeps variables labels form.Store op = store_at_keeps variables (read_in op.operands.first) (target_in op.operands.first) op.operands.second
+form_keeps variables labels (form.Atomic f) op =
+    atomic_at_keeps variables (as_atomic f op) (target_in op.operands.first) refl op.operands.second
+form_keeps variables labels (form.AtomicNoReturn f) op =
+    atomic_at_keeps variables (as_no_return f op) (target_in op.operands.first) tt op.operands.first
+form_keeps variables labels _ op = search (same_number, is_source, is1, is32, is64)
+
+pub keeps_order : (variables : List ℕ → Option Placed) (labels : List ℕ → Option ℕ) (op : Operation)
+    → KeepsOrder op (step_of variables labels op)
+keeps_order variables labels op = form_keeps variables labels op.form op

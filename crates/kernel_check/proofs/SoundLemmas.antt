@@ -10,6 +10,7 @@ use Rattle.hsail_reader.specs.Types.{type_bits, type_class}
 use Rattle.hsail_reader.specs.declared.module.Address.{Address}
 use Rattle.hsail_reader.specs.declared.module.Address.TheVariants as address
 use Rattle.hsail_reader.specs.declared.module.Argument.{Argument}
+use Rattle.hsail_reader.specs.declared.module.GroupVariable.{GroupVariable}
 use Rattle.hsail_reader.specs.declared.module.Item.{Item}
 use Rattle.hsail_reader.specs.declared.module.Item.TheVariants as item
 use Rattle.hsail_reader.specs.declared.module.Kernel.{Kernel}
@@ -27,20 +28,22 @@ use Rattle.hsail_reader.specs.declared.types.DataType.{DataType}
 use Rattle.hsail_reader.specs.declared.types.DataType.TheVariants as type
 use Rattle.hsail_reader.specs.declared.types.Segment.{Segment}
 use Rattle.hsail_reader.specs.declared.types.Segment.TheVariants as segment
-use Rattle.kernel_check.specs.Causes.{instruction_fails, differs, is_of_other_width, names_unknown, is_bad, has_wrong_type, misses_argument, has_bad_address}
-use Rattle.kernel_check.specs.Checks.{item_checks, steps_from, labels_from, lined, arguments_of, labels_of, program_of}
+use Rattle.kernel_check.specs.Causes.{instruction_fails, differs, is_same_segment, lies_elsewhere, is_of_other_width, names_unknown, is_bad, has_wrong_type, misses_argument, has_bad_address}
+use Rattle.kernel_check.specs.Checks.{Before, behind, before_of, item_checks, steps_from, labels_from, lined, labels_of, program_of, worked}
 use Rattle.kernel_check.specs.Constants.{deepest, is_in_range, constant_bits}
 use Rattle.kernel_check.specs.Faults.{first_fault, fault_or, least_cause}
-use Rattle.kernel_check.specs.Layout.{kind_bytes, is_wide, boundary_of, next_multiple, end_behind, placed_from, end_from, wide_at, wide_from}
-use Rattle.kernel_check.specs.Names.{Known, find}
+use Rattle.kernel_check.specs.Layout.{kind_bytes, is_wide, boundary_of, next_multiple, end_behind, group_placed, placed_from, end_from, wide_at, wide_from}
+use Rattle.kernel_check.specs.Names.{Known, find, or_else}
 use Rattle.kernel_check.specs.Operands.{any_operand, is_over, is_over_source}
 use Rattle.kernel_check.specs.Programs.{FitsIn, StaysWithin, IsSound}
-use Rattle.kernel_check.specs.Steps.{step_of, form_step, known_offset, offset_of, load_from, load_at, store_at, next_at, target_in, read_in, as_unary, as_binary, as_ternary, number_type, number_bytes, source32_at, source_in, source_of, unary_in, unary_by, binary32, binary64, binary_in, ternary_in, slot_of, is_signed, pair32_of, pair64_of, shift64_of}
+use Rattle.kernel_check.specs.Steps.{step_of, form_step, known_offset, offset_of, load_from, load_at, store_from, store_at, atomic_pointer, atomic_in, atomic_at, as_atomic, as_no_return, next_at, target_in, read_in, as_unary, as_binary, as_ternary, number_type, number_bytes, source32_at, source_in, source_of, unary_in, unary_by, binary32, binary64, binary_in, ternary_in, slot_of, is_signed, pair32_of, pair64_of, shift64_of}
 use Rattle.kernel_check.specs.declared.fault.Cause.{Cause}
 use Rattle.kernel_check.specs.declared.fault.Cause.TheVariants as cause
 use Rattle.kernel_check.specs.declared.fault.CheckFault.{CheckFault}
 use Rattle.kernel_check.specs.declared.layout.Placed.{Placed}
 use Rattle.kernel_check.specs.declared.step.AnySource.TheVariants as any
+use Rattle.kernel_check.specs.declared.memory.Atomic.{Atomic}
+use Rattle.kernel_check.specs.declared.step.AtomicPointer.{AtomicPointer}
 use Rattle.kernel_check.specs.declared.step.LinedStep.{LinedStep}
 use Rattle.kernel_check.specs.declared.step.Pair32.{Pair32}
 use Rattle.kernel_check.specs.declared.step.Pair64.{Pair64}
@@ -58,6 +61,7 @@ use Rattle.hsail_reader.specs.declared.types.TernaryOperation.{TernaryOperation}
 use Rattle.hsail_reader.specs.declared.types.TernaryOperation.TheVariants.{MultiplyAdd, ConditionalMove}
 use Rattle.hsail_reader.specs.declared.types.UnaryOperation.{UnaryOperation}
 use Rattle.hsail_reader.specs.declared.types.UnaryOperation.TheVariants.{Move, Not, Convert}
+use Rattle.kernel_check.proofs.NameLemmas.{find-append}
 
 -- a first test that finds nothing
 no_first : {X : Type 0} (b : Bool) (x : X) (rest : Option X) → cond b (Some x) rest ≡ None → (b ≡ false) × (rest ≡ None)
@@ -158,23 +162,47 @@ pub argument_within : (end : ℕ) (args : List Argument) (x : List ℕ) (p : Pla
     → p.offset + kind_bytes p.kind ≤ end_from end args
 argument_within end [] x p e = cc
 argument_within end (a ∷ args) x p e =
-    found_here (bytes_eq x a.name) (record { kind = a.kind; offset = next_multiple end (boundary_of a.kind a.align) }) p
+    found_here (bytes_eq x a.name) (record { segment = segment.Kernarg; kind = a.kind; offset = next_multiple end (boundary_of a.kind a.align) }) p
     (find (placed_from (end_behind end a) args) x)
     (λ r. r.offset + kind_bytes r.kind ≤ end_from (end_behind end a) args)
     (end_from_above (end_behind end a) args)
     (argument_within (end_behind end a) args x p) e
 
 -- a label stands before no more instructions than there are steps
-pub label_within : (arguments : List ℕ → Option Placed) (labels : List ℕ → Option ℕ) (n : ℕ) (items : List Item) (x : List ℕ) (v : ℕ)
-    → find (labels_from n items) x ≡ Some v → v ≤ n + length (steps_from arguments labels items)
-label_within arguments labels n [] x v e = cc
-label_within arguments labels n ((item.Label l) ∷ items) x v e =
+pub label_within : (labels : List ℕ → Option ℕ) (b : Before) (n : ℕ) (items : List Item) (x : List ℕ) (v : ℕ)
+    → find (labels_from n items) x ≡ Some v → v ≤ n + length (steps_from labels b items)
+label_within labels b n [] x v e = cc
+label_within labels b n ((item.Label l) ∷ items) x v e =
     found_here (bytes_eq x l.name) n v (find (labels_from n items) x)
-    (λ m. m ≤ n + length (steps_from arguments labels items)) (omega arith)
-    (label_within arguments labels n items x v) e
-label_within arguments labels n ((item.Instruction i) ∷ items) x v e =
-    let p : v ≤ (n + 1) + length (steps_from arguments labels items) = label_within arguments labels (n + 1) items x v e in
+    (λ m. m ≤ n + length (steps_from labels (behind b (item.Label l)) items)) (omega arith)
+    (label_within labels (behind b (item.Label l)) n items x v) e
+label_within labels b n ((item.Variable g) ∷ items) x v e = label_within labels (behind b (item.Variable g)) n items x v e
+label_within labels b n ((item.Instruction i) ∷ items) x v e =
+    let p : v ≤ (n + 1) + length (steps_from labels (behind b (item.Instruction i)) items) =
+    label_within labels (behind b (item.Instruction i)) (n + 1) items x v e in
     omega arith
+
+-- the arguments among some variables lie within the block
+abbrev Within : ℕ → (List ℕ → Option Placed) → Type 0
+Within bytes variables =
+    (x : List ℕ) (p : Placed) → variables x ≡ Some p → p.segment ≡ segment.Kernarg → p.offset + kind_bytes p.kind ≤ bytes
+
+-- a group variable is none of them
+group_none : (bytes end : ℕ) (v : GroupVariable) (p : Placed) (b : Bool) → cond b (Some (group_placed end v)) None ≡ Some p
+    → p.segment ≡ segment.Kernarg → p.offset + kind_bytes p.kind ≤ bytes
+group_none bytes end v p b e =
+    found_here b (group_placed end v) p None (λ r. r.segment ≡ segment.Kernarg → r.offset + kind_bytes r.kind ≤ bytes)
+    (λ same. cc) (λ none. cc) e
+
+within_more : (bytes end : ℕ) (names : Known Placed) (v : GroupVariable) → Within bytes (find names)
+    → Within bytes (find (names ++ (v.name, group_placed end v) ∷ []))
+within_more bytes end names v within x p e =
+    by (find names x) refl (sym (find-append x names ((v.name, group_placed end v) ∷ [])) ∙ e)
+  where
+    by : (o : Option Placed) → find names x ≡ o → or_else o (cond (bytes_eq x v.name) (Some (group_placed end v)) None) ≡ Some p
+        → p.segment ≡ segment.Kernarg → p.offset + kind_bytes p.kind ≤ bytes
+    by None found same = group_none bytes end v p (bytes_eq x v.name) same
+    by (Some q) found same = within x p (found ∙ same)
 
 wide_here : (end bytes : ℕ) (a : Argument) (b : Bool) → is_wide a.kind ≡ b → end_behind end a ≤ bytes
     → All (λ offset. offset + 8 ≤ bytes) (cond b (next_multiple end (boundary_of a.kind a.align) ∷ []) [])
@@ -238,38 +266,44 @@ fits_read : (o : Operand) → is_over o ≡ false → FitsIn (number_type (read_
 fits_read (operand.Source s) near = fits_in (type_class s.kind) s near
 fits_read _ near = tt
 
-module _ (arguments : List ℕ → Option Placed) (labels : List ℕ → Option ℕ) (count bytes : ℕ)
-    (known_label : (x : List ℕ) (v : ℕ) → labels x ≡ Some v → v ≤ count)
-    (known_argument : (x : List ℕ) (p : Placed) → arguments x ≡ Some p → p.offset + kind_bytes p.kind ≤ bytes) where
+-- a segment that is the arguments'
+same_kernarg : (s : Segment) → is_same_segment segment.Kernarg s ≡ true → s ≡ segment.Kernarg
+same_kernarg segment.Kernarg e = refl
+same_kernarg _ e = cc
+
+module _ (variables : List ℕ → Option Placed) (labels : List ℕ → Option ℕ) (count bytes : ℕ)
+    (known_label : (x : List ℕ) (v : ℕ) → labels x ≡ Some v → v ≤ count) (known_argument : Within bytes variables) where
   next_within : (x : List ℕ) (o : Option ℕ) → labels x ≡ o → unwrap_or o 0 ≤ count
   next_within x None e = omega arith
   next_within x (Some v) e = known_label x v e
 
-  known_within : (kind : DataType) (x : List ℕ) (o : Option Placed) → arguments x ≡ o → is_none o ≡ false → differs kind o ≡ false
-      → known_offset o + kind_bytes kind ≤ bytes
-  known_within kind x None e known same = cc
-  known_within kind x (Some p) e known same =
+  known_within : (kind : DataType) (x : List ℕ) (o : Option Placed) → variables x ≡ o → is_none o ≡ false → differs kind o ≡ false
+      → lies_elsewhere segment.Kernarg o ≡ false → known_offset o + kind_bytes kind ≤ bytes
+  known_within kind x None e known same there = cc
+  known_within kind x (Some p) e known same there =
+      let argument : is_same_segment segment.Kernarg p.segment ≡ true = holds_not (is_same_segment segment.Kernarg p.segment) there in
+      let no_other : not (type_bits p.kind == type_bits kind) ≡ false = rw argument at same in
       let width : type_bits p.kind ≡ type_bits kind = grind (arith, nat_tests) in
       let bits : kind_bytes p.kind ≡ kind_bytes kind = ap (λ n. (n + 7) / 8) width in
-      let fits : p.offset + kind_bytes p.kind ≤ bytes = known_argument x p e in
+      let fits : p.offset + kind_bytes p.kind ≤ bytes = known_argument x p e (same_kernarg p.segment argument) in
       omega arith
 
-  offset_within : (kind : DataType) (a : Address) → is_of_other_width arguments kind segment.Kernarg a ≡ false → names_unknown arguments a ≡ false
-      → is_bad segment.Kernarg a ≡ false → offset_of arguments a + kind_bytes kind ≤ bytes
-  offset_within kind (address.Variable x) same known good = known_within kind x (arguments x) refl known same
+  offset_within : (kind : DataType) (a : Address) → is_of_other_width variables kind segment.Kernarg a ≡ false → names_unknown variables a ≡ false
+      → is_bad variables segment.Kernarg a ≡ false → offset_of variables a + kind_bytes kind ≤ bytes
+  offset_within kind (address.Variable x) same known good = known_within kind x (variables x) refl known same good
   offset_within kind (address.Place p) same known good = cc
   offset_within kind (address.Indexed i) same known good = cc
 
-  load_within : (d : Register) (a : Access) (s : Segment) → is_of_other_width arguments a.kind s a.address ≡ false
-      → names_unknown arguments a.address ≡ false → is_bad s a.address ≡ false → StaysWithin count bytes (load_from arguments s d a)
+  load_within : (d : Register) (a : Access) (s : Segment) → is_of_other_width variables a.kind s a.address ≡ false
+      → names_unknown variables a.address ≡ false → is_bad variables s a.address ≡ false → StaysWithin count bytes (load_from variables s d a)
   load_within d a segment.Kernarg same known good =
-      let fits : offset_of arguments a.address + kind_bytes a.kind ≤ bytes = offset_within a.kind a.address same known good in
+      let fits : offset_of variables a.address + kind_bytes a.kind ≤ bytes = offset_within a.kind a.address same known good in
       let same_bytes : number_bytes (number_type a.kind) ≡ kind_bytes a.kind = number_bytes_are a.kind in
       omega arith
   load_within d a _ same known good = tt
 
-  load_at_within : (d : Register) (o : Operand) → has_wrong_type arguments o ≡ false → misses_argument arguments o ≡ false
-      → has_bad_address o ≡ false → StaysWithin count bytes (load_at arguments d o)
+  load_at_within : (d : Register) (o : Operand) → has_wrong_type variables o ≡ false → misses_argument variables o ≡ false
+      → has_bad_address variables o ≡ false → StaysWithin count bytes (load_at variables d o)
   load_at_within d (operand.Address a) same known good = load_within d a a.segment same known good
   load_at_within d operand.Absent same known good = tt
   load_at_within d (operand.Target t) same known good = tt
@@ -277,13 +311,32 @@ module _ (arguments : List ℕ → Option Placed) (labels : List ℕ → Option 
   load_at_within d (operand.Label x) same known good = tt
   load_at_within d (operand.Dimension n) same known good = tt
 
-  store_at_within : (s : TypedSource) (o : Operand) → FitsIn (number_type s.kind) (source_of s) → StaysWithin count bytes (store_at s o)
-  store_at_within s (operand.Address a) fits = fits
+  store_within : (g : Segment) (s : TypedSource) (a : Access) → FitsIn (number_type s.kind) (source_of s)
+      → StaysWithin count bytes (store_from variables g s a)
+  store_within segment.Group s a fits = fits
+  store_within segment.Kernarg s a fits = fits
+  store_within segment.Global s a fits = fits
+
+  store_at_within : (s : TypedSource) (o : Operand) → FitsIn (number_type s.kind) (source_of s) → StaysWithin count bytes (store_at variables s o)
+  store_at_within s (operand.Address a) fits = store_within a.segment s a fits
   store_at_within s operand.Absent fits = tt
   store_at_within s (operand.Target t) fits = tt
   store_at_within s (operand.Source r) fits = tt
   store_at_within s (operand.Label x) fits = tt
   store_at_within s (operand.Dimension n) fits = tt
+
+  atomic_within : (k : RegisterClass) (a : Atomic) (p : AtomicPointer) → StaysWithin count bytes (atomic_in k a p)
+  atomic_within class.Double a p = tt
+  atomic_within class.Control a p = tt
+  atomic_within class.Single a p = tt
+
+  atomic_at_within : (a : Atomic) (o : Operand) → StaysWithin count bytes (atomic_at variables a o)
+  atomic_at_within a (operand.Address x) = atomic_within (type_class a.kind) a (atomic_pointer variables x.segment x.address)
+  atomic_at_within a operand.Absent = tt
+  atomic_at_within a (operand.Target t) = tt
+  atomic_at_within a (operand.Source r) = tt
+  atomic_at_within a (operand.Label x) = tt
+  atomic_at_within a (operand.Dimension n) = tt
 
   next_at_within : (o : Operand) → next_at labels o ≤ count
   next_at_within (operand.Label x) = next_within x (labels x) refl
@@ -334,8 +387,8 @@ module _ (arguments : List ℕ → Option Placed) (labels : List ℕ → Option 
   ternary_within class.Double MultiplyAdd t = tt
   ternary_within class.Double ConditionalMove t = tt
 
-  form_within : (number : ℕ) (f : Form) (op : Operation) → ((c : Cause) → instruction_fails arguments labels number op c ≡ false)
-      → StaysWithin count bytes (form_step arguments labels f op)
+  form_within : (number : ℕ) (f : Form) (op : Operation) → ((c : Cause) → instruction_fails variables labels number op c ≡ false)
+      → StaysWithin count bytes (form_step variables labels f op)
   form_within number (form.Unary u) op fine = unary_by_within u (as_unary u op)
       (fits_read op.operands.second (four _ _ _ _ (second_false (nat_le 4096 number) (any_operand is_over op.operands) (fine cause.TooLarge))).1)
   form_within number (form.Binary b) op fine = binary_within (type_class op.kind) (as_binary b op)
@@ -344,41 +397,50 @@ module _ (arguments : List ℕ → Option Placed) (labels : List ℕ → Option 
       (four _ _ _ _ (fine cause.WrongType)).1 (four _ _ _ _ (fine cause.UnknownArgument)).1 (four _ _ _ _ (fine cause.BadAddress)).1
   form_within number form.Store op fine = store_at_within (read_in op.operands.first) op.operands.second
       (fits_read op.operands.first (four _ _ _ _ (second_false (nat_le 4096 number) (any_operand is_over op.operands) (fine cause.TooLarge))).0)
+  form_within number (form.Atomic f) op fine = atomic_at_within (as_atomic f op) op.operands.second
+  form_within number (form.AtomicNoReturn f) op fine = atomic_at_within (as_no_return f op) op.operands.first
   form_within number form.Branch op fine = next_at_within op.operands.first
   form_within number form.ConditionalBranch op fine = next_at_within op.operands.second
   form_within number _ op fine = tt
 
   -- the step of an instruction in which nothing fails
-  pub step_within : (number : ℕ) (op : Operation) → least_cause (instruction_fails arguments labels number op) ≡ None
-      → StaysWithin count bytes (step_of arguments labels op)
-  step_within number op none = form_within number op.form op (none_fails (instruction_fails arguments labels number op) none)
+  pub step_within : (number : ℕ) (op : Operation) → least_cause (instruction_fails variables labels number op) ≡ None
+      → StaysWithin count bytes (step_of variables labels op)
+  step_within number op none = form_within number op.form op (none_fails (instruction_fails variables labels number op) none)
 
-  -- the steps of items in which nothing fails
-  pub steps_within : (before : Known ℕ) (n : ℕ) (items : List Item) → first_fault (item_checks arguments labels before n items) ≡ None
-      → All (λ s. StaysWithin count bytes s.step) (steps_from arguments labels items)
-  steps_within before n [] none = All-nil (λ (s : LinedStep). StaysWithin count bytes s.step)
-  steps_within before n ((item.Label l) ∷ items) none =
-      steps_within (before ++ (l.name, n) ∷ []) n items (no_fault l.line _ _ none).1
-  steps_within before n ((item.Instruction i) ∷ items) none =
-      let p = no_fault i.line (least_cause (instruction_fails arguments labels n i.operation)) _ none in
-      All-cons (λ (s : LinedStep). StaysWithin count bytes s.step) (lined i.line arguments labels i.operation)
-      (steps_from arguments labels items) (step_within n i.operation p.0) (steps_within (before ++ []) (n + 1) items p.1)
+-- the steps of items in which nothing fails
+pub steps_within : (labels : List ℕ → Option ℕ) (count bytes : ℕ) → ((x : List ℕ) (v : ℕ) → labels x ≡ Some v → v ≤ count)
+    → (b : Before) (items : List Item) → Within bytes (find b.variables) → first_fault (item_checks labels b items) ≡ None
+    → All (λ s. StaysWithin count bytes s.step) (steps_from labels b items)
+steps_within labels count bytes known b [] within none = All-nil (λ (s : LinedStep). StaysWithin count bytes s.step)
+steps_within labels count bytes known b ((item.Label l) ∷ items) within none =
+    steps_within labels count bytes known (behind b (item.Label l)) items within (no_fault l.line _ _ none).1
+steps_within labels count bytes known b ((item.Variable v) ∷ items) within none =
+    steps_within labels count bytes known (behind b (item.Variable v)) items (within_more bytes b.group_end b.variables v within)
+    (no_fault v.line _ _ none).1
+steps_within labels count bytes known b ((item.Instruction i) ∷ items) within none =
+    let p = no_fault i.line (least_cause (instruction_fails (find b.variables) labels b.count i.operation)) _ none in
+    All-cons (λ (s : LinedStep). StaysWithin count bytes s.step) (lined i.line (find b.variables) labels i.operation)
+    (steps_from labels (behind b (item.Instruction i)) items)
+    (step_within (find b.variables) labels count bytes known within b.count i.operation p.0)
+    (steps_within labels count bytes known (behind b (item.Instruction i)) items within p.1)
 
 -- a kernel in which nothing fails, within the limits
-pub sound : (k : Kernel) → first_fault (item_checks (arguments_of k) (labels_of k) [] 0 k.items) ≡ None
-    → end_from 0 k.arguments ≤ 4096 → length (steps_from (arguments_of k) (labels_of k) k.items) ≤ 4096 → IsSound (program_of k)
-sound k none bytes count =
-    let lined : List LinedStep = steps_from (arguments_of k) (labels_of k) k.items in
+pub sound : (k : Kernel) → first_fault (item_checks (labels_of k) (before_of k) k.items) ≡ None
+    → end_from 0 k.arguments ≤ 4096 → (worked (labels_of k) (before_of k) k.items).group_bytes ≤ 65536
+    → length (worked (labels_of k) (before_of k) k.items).steps ≤ 4096 → IsSound (program_of k)
+sound k none bytes group count =
+    let lined : List LinedStep = steps_from (labels_of k) (before_of k) k.items in
     let stepped : length (map (λ (s : LinedStep). s.step) lined) ≡ length lined = length-map lined (λ s. s.step) in
     record {
       steps_stay =
           All-map (StaysWithin (length (map (λ (s : LinedStep). s.step) lined)) (end_from 0 k.arguments)) (λ (s : LinedStep). s.step) lined
-          (steps_within (arguments_of k) (labels_of k) (length (map (λ (s : LinedStep). s.step) lined)) (end_from 0 k.arguments)
-          (λ x v e. omega (arith, stepped, label_within (arguments_of k) (labels_of k) 0 k.items x v e))
-          (argument_within 0 k.arguments) [] 0 k.items none);
+          (steps_within (labels_of k) (length (map (λ (s : LinedStep). s.step) lined)) (end_from 0 k.arguments)
+          (λ x v e. omega (arith, stepped, label_within (labels_of k) (before_of k) 0 k.items x v e))
+          (before_of k) k.items (λ x p e is. argument_within 0 k.arguments x p e) none);
       lined = length-map lined (λ s. s.line) ∙ sym stepped;
       wide_stay = wide_within 0 k.arguments;
       few_bytes = bytes;
-      few_group_bytes = lit≤ tt;
+      few_group_bytes = group;
       few_steps = omega (arith, stepped, count);
     }

@@ -16,6 +16,7 @@ use Rattle.hsail_reader.specs.declared.module.Place.TheVariants as place
 use Rattle.kernel_check.specs.declared.step.AddressForms.{AddressForms}
 use Rattle.hsail_reader.specs.declared.types.Register.{Register}
 use Rattle.hsail_reader.specs.declared.types.RegisterClass.{RegisterClass}
+use Rattle.hsail_reader.specs.declared.types.Segment.{Segment}
 use Rattle.hsail_reader.specs.declared.types.Source.{Source}
 use Rattle.hsail_reader.specs.declared.types.Source.TheVariants as source
 
@@ -55,16 +56,16 @@ IsPlace None p = ⊥
 IsPlace (Some class) (place.Absolute n) = Unit {0}
 IsPlace (Some class) (place.Relative r) = (r.register.class ≡ class) × IsKept r.register
 
--- a variable that is there
-abbrev pub IsDeclared : (List ℕ → Option Placed) → List ℕ → Type 0
-IsDeclared arguments x = (p : Placed) × (arguments x ≡ Some p)
+-- a variable that is there, in a segment
+abbrev pub IsDeclared : (List ℕ → Option Placed) → Segment → List ℕ → Type 0
+IsDeclared variables s x = (p : Placed) × (variables x ≡ Some p) × (p.segment ≡ s)
 
--- an address that its segment has: each variable is there, and each place is one of the segment's
-abbrev pub IsReached : (List ℕ → Option Placed) → AddressForms → Address → Type 0
-IsReached arguments forms (address.Variable x) = (forms.variable ≡ true) × IsDeclared arguments x
-IsReached arguments forms (address.Place p) = IsPlace forms.base p
-IsReached arguments forms (address.Indexed i) =
-    (forms.indexed ≡ true) × IsDeclared arguments i.variable × IsPlace forms.base i.place
+-- an address that its segment has: each variable is there in that segment, and each place is one of the segment's
+abbrev pub IsReached : (List ℕ → Option Placed) → Segment → AddressForms → Address → Type 0
+IsReached variables s forms (address.Variable x) = (forms.variable ≡ true) × IsDeclared variables s x
+IsReached variables s forms (address.Place p) = IsPlace forms.base p
+IsReached variables s forms (address.Indexed i) =
+    (forms.indexed ≡ true) × IsDeclared variables s i.variable × IsPlace forms.base i.place
 
 -- a label that is there
 abbrev pub IsThere : (List ℕ → Option ℕ) → List ℕ → Type 0
@@ -73,16 +74,16 @@ IsThere labels x = labels x ≡ Some (next_of labels x)
 -- an operand that makes nothing up: each number is kept, each name stands for something, and a dimension is
 -- 0, 1 or 2
 abbrev pub IsFaithfulOperand : (List ℕ → Option Placed) → (List ℕ → Option ℕ) → Operand → Type 0
-IsFaithfulOperand arguments labels operand.Absent = Unit {0}
-IsFaithfulOperand arguments labels (operand.Target t) = IsKept t.register
-IsFaithfulOperand arguments labels (operand.Source s) = IsKeptSource s.source
-IsFaithfulOperand arguments labels (operand.Address a) = IsReached arguments (forms_of a.segment) a.address
-IsFaithfulOperand arguments labels (operand.Label x) = IsThere labels x
-IsFaithfulOperand arguments labels (operand.Dimension n) = n ≤ 2
+IsFaithfulOperand variables labels operand.Absent = Unit {0}
+IsFaithfulOperand variables labels (operand.Target t) = IsKept t.register
+IsFaithfulOperand variables labels (operand.Source s) = IsKeptSource s.source
+IsFaithfulOperand variables labels (operand.Address a) = IsReached variables a.segment (forms_of a.segment) a.address
+IsFaithfulOperand variables labels (operand.Label x) = IsThere labels x
+IsFaithfulOperand variables labels (operand.Dimension n) = n ≤ 2
 
 -- the step of an instruction makes nothing up
-pub record IsFaithful (arguments : List ℕ → Option Placed) (labels : List ℕ → Option ℕ) (op : Operation) : Type 0 where
-  pub first : IsFaithfulOperand arguments labels op.operands.first
-  pub second : IsFaithfulOperand arguments labels op.operands.second
-  pub third : IsFaithfulOperand arguments labels op.operands.third
-  pub fourth : IsFaithfulOperand arguments labels op.operands.fourth
+pub record IsFaithful (variables : List ℕ → Option Placed) (labels : List ℕ → Option ℕ) (op : Operation) : Type 0 where
+  pub first : IsFaithfulOperand variables labels op.operands.first
+  pub second : IsFaithfulOperand variables labels op.operands.second
+  pub third : IsFaithfulOperand variables labels op.operands.third
+  pub fourth : IsFaithfulOperand variables labels op.operands.fourth

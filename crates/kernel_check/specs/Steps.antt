@@ -2,7 +2,7 @@
 -- number is below 64, each constant fits its place and each name stands for something, so the zeros below
 -- never come in; and no text spells an operation with a type that it has no row for, so neither do the moves
 -- that stand for those.
-use Rattle.std.specs.Prelude.{ℕ, ◌%◌, ◌^◌, List, [], ◌∷◌, Bool, true, false, ◌==◌, nat_lt, if◌then◌else◌, Option, Some, None, unwrap_or}
+use Rattle.std.specs.Prelude.{ℕ, ◌+◌, ◌%◌, ◌^◌, List, [], ◌∷◌, Bool, true, false, ◌==◌, nat_lt, if◌then◌else◌, Option, Some, None, unwrap_or}
 use Rattle.kernel_check.specs.Constants.{constant_bits}
 use Rattle.kernel_check.specs.declared.layout.Placed.{Placed}
 use Rattle.kernel_check.specs.declared.step.AddressForms.{AddressForms}
@@ -14,12 +14,15 @@ use Rattle.kernel_check.specs.declared.step.AtomicOperation32.{AtomicOperation32
 use Rattle.kernel_check.specs.declared.step.AtomicOperation32.TheVariants as atomic32
 use Rattle.kernel_check.specs.declared.step.AtomicOperation64.{AtomicOperation64}
 use Rattle.kernel_check.specs.declared.step.AtomicOperation64.TheVariants as atomic64
+use Rattle.kernel_check.specs.declared.step.AtomicPointer.{AtomicPointer}
+use Rattle.kernel_check.specs.declared.step.AtomicPointer.TheVariants as places
 use Rattle.kernel_check.specs.declared.step.ControlOperation.{ControlOperation}
 use Rattle.kernel_check.specs.declared.step.ControlOperation.TheVariants as control
 use Rattle.kernel_check.specs.declared.step.Dimension.{Dimension}
 use Rattle.kernel_check.specs.declared.step.Dimension.TheVariants.{X, Y, Z}
 use Rattle.kernel_check.specs.declared.step.DoubleOperation.{DoubleOperation}
 use Rattle.kernel_check.specs.declared.step.DoubleOperation.TheVariants as double
+use Rattle.kernel_check.specs.declared.step.GroupPointer.{GroupPointer}
 use Rattle.kernel_check.specs.declared.step.NumberType.{NumberType}
 use Rattle.kernel_check.specs.declared.step.NumberType.TheVariants as number
 use Rattle.kernel_check.specs.declared.step.Pair1.{Pair1}
@@ -40,6 +43,7 @@ use Rattle.kernel_check.specs.declared.step.Step.TheVariants as step
 use Rattle.hsail_reader.specs.Types.{type_class}
 use Rattle.hsail_reader.specs.declared.module.Address.{Address}
 use Rattle.hsail_reader.specs.declared.module.Address.TheVariants as address
+use Rattle.kernel_check.specs.declared.memory.Atomic.{Atomic}
 use Rattle.kernel_check.specs.declared.translate.Binary.{Binary}
 use Rattle.hsail_reader.specs.declared.module.Access.{Access}
 use Rattle.hsail_reader.specs.declared.module.Operand.{Operand}
@@ -52,6 +56,8 @@ use Rattle.hsail_reader.specs.declared.module.Place.{Place}
 use Rattle.hsail_reader.specs.declared.module.Place.TheVariants as place
 use Rattle.kernel_check.specs.declared.translate.Ternary.{Ternary}
 use Rattle.kernel_check.specs.declared.translate.Unary.{Unary}
+use Rattle.hsail_reader.specs.declared.types.AtomicOperation.{AtomicOperation}
+use Rattle.hsail_reader.specs.declared.types.AtomicOperation.TheVariants as atomic
 use Rattle.hsail_reader.specs.declared.types.BinaryOperation.{BinaryOperation}
 use Rattle.hsail_reader.specs.declared.types.BinaryOperation.TheVariants.{Add, Subtract, Multiply, Divide, Remainder, Minimum, Maximum, And, Or, Xor, ShiftLeft, ShiftRight, Compare}
 use Rattle.hsail_reader.specs.declared.types.Comparison.{Comparison}
@@ -156,6 +162,7 @@ source_of t = source_in (type_class t.kind) t
 abbrev pub forms_of : Segment → AddressForms
 forms_of segment.Kernarg = record { variable = true; base = None; indexed = false }
 forms_of segment.Global = record { variable = false; base = Some class.Double; indexed = false }
+forms_of segment.Group = record { variable = true; base = Some class.Single; indexed = true }
 
 -- a place of global memory; what is taken away is added modulo 2^64
 abbrev pub pointer_of : Place → Pointer
@@ -167,14 +174,26 @@ abbrev pub pointer_in : Address → Pointer
 pointer_in (address.Place p) = pointer_of p
 pointer_in _ = record { base = None; offset = 0 }
 
--- where a known argument lies
+-- where a known variable lies
 abbrev pub known_offset : Option Placed → ℕ
 known_offset None = 0
 known_offset (Some p) = p.offset
 
 abbrev pub offset_of : (List ℕ → Option Placed) → Address → ℕ
-offset_of arguments (address.Variable x) = known_offset (arguments x)
-offset_of arguments _ = 0
+offset_of variables (address.Variable x) = known_offset (variables x)
+offset_of variables _ = 0
+
+-- a place of group memory, counted from a number of bytes; sums wrap at 2^32 (own)
+abbrev pub group_place : ℕ → Place → GroupPointer
+group_place start (place.Absolute n) = record { base = None; offset = (start + n) % 2 ^ 32 }
+group_place start (place.Relative r) =
+    record { base = Some (slot_of r.register); offset = (start + constant_bits U64 r.offset) % 2 ^ 32 }
+
+-- a variable stands for where it lies
+abbrev pub group_pointer : (List ℕ → Option Placed) → Address → GroupPointer
+group_pointer variables (address.Variable x) = record { base = None; offset = known_offset (variables x) }
+group_pointer variables (address.Place p) = group_place 0 p
+group_pointer variables (address.Indexed i) = group_place (known_offset (variables i.variable)) i.place
 
 -- the dimensions by number
 abbrev pub dimension_of : ℕ → Dimension
@@ -365,31 +384,115 @@ ternary_of t = ternary_in (type_class t.kind) t.operation t
 -- ---- the other steps
 
 abbrev pub load_from : (List ℕ → Option Placed) → Segment → Register → Access → Step
-load_from arguments segment.Kernarg d a = step.Argument (record {
+load_from variables segment.Kernarg d a = step.Argument (record {
   kind = number_type a.kind;
   target = register_of a.kind d;
-  offset = offset_of arguments a.address;
+  offset = offset_of variables a.address;
 })
-load_from arguments segment.Global d a = step.Load (record {
+load_from variables segment.Global d a = step.Load (record {
   kind = number_type a.kind;
   target = register_of a.kind d;
   pointer = pointer_in a.address;
 })
+load_from variables segment.Group d a = step.LoadGroup (record {
+  kind = number_type a.kind;
+  target = register_of a.kind d;
+  pointer = group_pointer variables a.address;
+})
 
 abbrev pub load_at : (List ℕ → Option Placed) → Register → Operand → Step
-load_at arguments d (operand.Address a) = load_from arguments a.segment d a
-load_at arguments d _ = step.Return
+load_at variables d (operand.Address a) = load_from variables a.segment d a
+load_at variables d _ = step.Return
 
-abbrev pub store_of : TypedSource → Access → Step
-store_of s a = step.Store (record {
+abbrev pub store_from : (List ℕ → Option Placed) → Segment → TypedSource → Access → Step
+store_from variables segment.Group s a = step.StoreGroup (record {
+  kind = number_type s.kind;
+  source = source_of s;
+  pointer = group_pointer variables a.address;
+})
+store_from variables _ s a = step.Store (record {
   kind = number_type s.kind;
   source = source_of s;
   pointer = pointer_in a.address;
 })
 
-abbrev pub store_at : TypedSource → Operand → Step
-store_at s (operand.Address a) = store_of s a
-store_at s _ = step.Return
+abbrev pub store_at : (List ℕ → Option Placed) → TypedSource → Operand → Step
+store_at variables s (operand.Address a) = store_from variables a.segment s a
+store_at variables s _ = step.Return
+
+-- ---- atomic operations
+
+-- the place of one in its segment
+abbrev pub atomic_pointer : (List ℕ → Option Placed) → Segment → Address → AtomicPointer
+atomic_pointer variables segment.Group a = places.Group (group_pointer variables a)
+atomic_pointer variables _ a = places.Global (pointer_in a)
+
+-- the operations of 32 bits, for types with a sign and without
+abbrev pub atomic32_of : AtomicOperation → Bool → Source32 → Source32 → AtomicOperation32
+atomic32_of atomic.Add signed s r = atomic32.Add s
+atomic32_of atomic.Subtract signed s r = atomic32.Subtract s
+atomic32_of atomic.Minimum false s r = atomic32.LeastUnsigned s
+atomic32_of atomic.Minimum true s r = atomic32.LeastSigned s
+atomic32_of atomic.Maximum false s r = atomic32.GreatestUnsigned s
+atomic32_of atomic.Maximum true s r = atomic32.GreatestSigned s
+atomic32_of atomic.And signed s r = atomic32.And s
+atomic32_of atomic.Or signed s r = atomic32.Or s
+atomic32_of atomic.Xor signed s r = atomic32.Xor s
+atomic32_of atomic.Exchange signed s r = atomic32.Exchange s
+atomic32_of atomic.CompareAndSwap signed s r = atomic32.CompareAndSwap (record { expected = s; replacement = r })
+
+-- the operations of 64 bits
+abbrev pub atomic64_of : AtomicOperation → Bool → Source64 → Source64 → AtomicOperation64
+atomic64_of atomic.Add signed s r = atomic64.Add s
+atomic64_of atomic.Subtract signed s r = atomic64.Subtract s
+atomic64_of atomic.Minimum false s r = atomic64.LeastUnsigned s
+atomic64_of atomic.Minimum true s r = atomic64.LeastSigned s
+atomic64_of atomic.Maximum false s r = atomic64.GreatestUnsigned s
+atomic64_of atomic.Maximum true s r = atomic64.GreatestSigned s
+atomic64_of atomic.And signed s r = atomic64.And s
+atomic64_of atomic.Or signed s r = atomic64.Or s
+atomic64_of atomic.Xor signed s r = atomic64.Xor s
+atomic64_of atomic.Exchange signed s r = atomic64.Exchange s
+atomic64_of atomic.CompareAndSwap signed s r = atomic64.CompareAndSwap (record { expected = s; replacement = r })
+
+-- atomic has its target first, its address second and its sources behind them
+abbrev pub as_atomic : AtomicOperation → Operation → Atomic
+as_atomic f op = record {
+  operation = f;
+  kind = op.kind;
+  target = Some (slot_of (target_in op.operands.first));
+  first = read_in op.operands.third;
+  second = read_in op.operands.fourth;
+}
+
+-- atomicnoret has its address first
+abbrev pub as_no_return : AtomicOperation → Operation → Atomic
+as_no_return f op = record {
+  operation = f;
+  kind = op.kind;
+  target = None;
+  first = read_in op.operands.second;
+  second = read_in op.operands.third;
+}
+
+abbrev pub atomic_in : RegisterClass → Atomic → AtomicPointer → Step
+atomic_in class.Double a p = step.Atomic64 (record {
+  target = a.target;
+  pointer = p;
+  operation = atomic64_of a.operation (is_signed a.kind) (source64_of a.first) (source64_of a.second);
+})
+atomic_in _ a p = step.Atomic32 (record {
+  target = a.target;
+  pointer = p;
+  operation = atomic32_of a.operation (is_signed a.kind) (source32_of a.first) (source32_of a.second);
+})
+
+abbrev pub atomic_at : (List ℕ → Option Placed) → Atomic → Operand → Step
+atomic_at variables a (operand.Address x) =
+    atomic_in (type_class a.kind) a (atomic_pointer variables x.segment x.address)
+atomic_at variables a _ = step.Return
+
+-- ---- branches and places in the grid
 
 abbrev pub next_at : (List ℕ → Option ℕ) → Operand → ℕ
 next_at labels (operand.Label x) = next_of labels x
@@ -401,16 +504,19 @@ dimension_in _ = X
 
 -- the step of an operation by what it does
 abbrev pub form_step : (List ℕ → Option Placed) → (List ℕ → Option ℕ) → Form → Operation → Step
-form_step arguments labels (form.Unary f) op = unary_of (as_unary f op)
-form_step arguments labels (form.Binary f) op = binary_of (as_binary f op)
-form_step arguments labels (form.Ternary f) op = ternary_of (as_ternary f op)
-form_step arguments labels form.Load op = load_at arguments (target_in op.operands.first) op.operands.second
-form_step arguments labels form.Store op = store_at (read_in op.operands.first) op.operands.second
-form_step arguments labels form.Branch op = step.Branch (next_at labels op.operands.first)
-form_step arguments labels form.ConditionalBranch op = step.ConditionalBranch
+form_step variables labels (form.Unary f) op = unary_of (as_unary f op)
+form_step variables labels (form.Binary f) op = binary_of (as_binary f op)
+form_step variables labels (form.Ternary f) op = ternary_of (as_ternary f op)
+form_step variables labels form.Load op = load_at variables (target_in op.operands.first) op.operands.second
+form_step variables labels form.Store op = store_at variables (read_in op.operands.first) op.operands.second
+form_step variables labels (form.Atomic f) op = atomic_at variables (as_atomic f op) op.operands.second
+form_step variables labels (form.AtomicNoReturn f) op = atomic_at variables (as_no_return f op) op.operands.first
+form_step variables labels form.Branch op = step.Branch (next_at labels op.operands.first)
+form_step variables labels form.ConditionalBranch op = step.ConditionalBranch
     (record { condition = source1_of (read_in op.operands.first); next = next_at labels op.operands.second })
-form_step arguments labels form.Return op = step.Return
-form_step arguments labels (form.Identify q) op = step.Identify (record {
+form_step variables labels form.Return op = step.Return
+form_step variables labels form.Barrier op = step.Barrier
+form_step variables labels (form.Identify q) op = step.Identify (record {
   query = q;
   target = register_of op.kind (target_in op.operands.first);
   dimension = dimension_in op.operands.second;
@@ -418,7 +524,7 @@ form_step arguments labels (form.Identify q) op = step.Identify (record {
 
 -- the step that an instruction comes to, by what the kernel's names stand for
 abbrev pub step_of : (List ℕ → Option Placed) → (List ℕ → Option ℕ) → Operation → Step
-step_of arguments labels op = form_step arguments labels op.form op
+step_of variables labels op = form_step variables labels op.form op
 
 -- ---- what a step reads and sets
 
@@ -560,5 +666,7 @@ sources_of (form.Binary f) op = read_in op.operands.second ∷ read_in op.operan
 sources_of (form.Ternary f) op =
     read_in op.operands.second ∷ read_in op.operands.third ∷ read_in op.operands.fourth ∷ []
 sources_of form.Store op = read_in op.operands.first ∷ []
+sources_of (form.Atomic f) op = read_in op.operands.third ∷ read_in op.operands.fourth ∷ []
+sources_of (form.AtomicNoReturn f) op = read_in op.operands.second ∷ read_in op.operands.third ∷ []
 sources_of form.ConditionalBranch op = read_in op.operands.first ∷ []
 sources_of _ op = []

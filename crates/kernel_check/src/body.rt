@@ -1,20 +1,28 @@
 //! The items of a kernel, checked in order, and the steps that they come to.
 
 ghost use Rattle.std.specs.Prelude.{◌≡◌, ◌≤◌, ◌++◌, ◌∷◌, [], None, IfOk, OnOk, length};
-ghost use Rattle.kernel_check.specs.Checks.{item_check, item_checks, label_at, step_at, steps_from, labels_from, lined};
-ghost use Rattle.kernel_check.specs.Causes.{instruction_fails, label_fails};
+ghost use Rattle.kernel_check.specs.Checks.{before, behind, body_worked, first_before, item_check, item_checks, lined, step_at, worked};
+ghost use Rattle.kernel_check.specs.Causes.{instruction_fails, label_fails, variable_fails};
 ghost use Rattle.kernel_check.specs.Faults.{first_fault, checkpoint, unless, Gives, Judges};
+ghost use Rattle.kernel_check.specs.Layout.{group_end_behind, group_placed};
 ghost use Rattle.kernel_check.specs.Names.{find};
 
 use crate::block::refused;
-use crate::causes::{instruction_cause, label_cause};
+use crate::causes::{instruction_cause, label_cause, variable_end};
 use crate::fault::CheckError;
-use crate::layout::Placed;
+use crate::layout::{Placed, place_group};
 use crate::names::Names;
 use crate::step::LinedStep;
 use crate::translate::translated;
-use hsail_reader::{Instruction, Item, Label};
+use hsail_reader::{GroupVariable, Instruction, Item, Label};
 use std::alloc::Global;
+
+/// What the items of a kernel come to: steps with their lines, and the bytes of its group variables.
+#[derive(Drop)]
+pub struct Body {
+    pub steps: Vec<LinedStep>,
+    pub group_bytes: u32,
+}
 
 /// Puts a label behind the others unless it fails.
 fn judge_label<'a>(
@@ -31,65 +39,105 @@ fn judge_label<'a>(
     }
 }
 
+/// Puts a group variable behind the others unless it fails, and tells where it ends.
+fn judge_variable<'a>(
+    before: &mut Names<'a, Placed>,
+    end: u32,
+    variable: &'a GroupVariable,
+) -> Result<u32, CheckError>
+    requires { end ≤ 65536 }
+    ensures judged { Judges result (checkpoint variable.now.line (variable_fails before.old end variable.now) ∷ []) }
+    ensures variables { OnOk result (before.new ≡ before.old ++ (variable.now.name, group_placed end variable.now) ∷ []) }
+    ensures end { IfOk result (λ e. e ≡ group_end_behind end variable.now) }
+    ensures bound { IfOk result (λ e. e ≤ 65536) }
+{
+    match variable_end(before, end, variable) {
+        Err(cause) => Err(refused(variable.line, cause)),
+        Ok(behind) => {
+            before.add(variable.name.as_slice(), place_group(end, variable))?;
+            Ok(behind)
+        }
+    }
+}
+
 /// Puts the step of an instruction behind the others unless it fails.
 fn judge_instruction(
-    arguments: &Names<'_, Placed>,
+    variables: &Names<'_, Placed>,
     labels: &Names<'_, usize>,
     steps: &mut Vec<LinedStep>,
     instruction: &Instruction,
 ) -> Result<(), CheckError>
     ensures judged { Judges result (checkpoint instruction.now.line
-        (instruction_fails (find arguments.now) (find labels.now) (length steps.old.items) instruction.now.operation) ∷ []) }
+        (instruction_fails (find variables.now) (find labels.now) (length steps.old.items) instruction.now.operation) ∷ []) }
     ensures steps { OnOk result (steps.new.items ≡ steps.old.items
-        ++ lined instruction.now.line (find arguments.now) (find labels.now) instruction.now.operation ∷ []) }
+        ++ lined instruction.now.line (find variables.now) (find labels.now) instruction.now.operation ∷ []) }
     ensures room { OnOk result (length steps.new.items ≤ 4096) }
 {
     let line = instruction.line;
-    match instruction_cause(arguments, labels, steps.len(), &instruction.operation) {
+    match instruction_cause(variables, labels, steps.len(), &instruction.operation) {
         Some(cause) => Err(refused(line, cause)),
         None => {
-            let step = translated(arguments, labels, &instruction.operation);
+            let step = translated(variables, labels, &instruction.operation);
             Ok(steps.push(LinedStep { line, step })?)
         }
     }
 }
 
-/// Puts an item behind the others unless it fails.
+/// Puts an item behind the others unless it fails, and tells where the group variables end then.
 fn judge_item<'a>(
-    arguments: &Names<'_, Placed>,
     labels: &Names<'_, usize>,
-    before: &mut Names<'a, usize>,
+    variables: &mut Names<'a, Placed>,
+    group_end: u32,
+    known: &mut Names<'a, usize>,
     steps: &mut Vec<LinedStep>,
     item: &'a Item,
-) -> Result<(), CheckError>
-    requires { length steps.old.items ≤ 4096 }
-    ensures judged { Judges result (item_check (find arguments.now) (find labels.now) before.old (length steps.old.items) item.now ∷ []) }
-    ensures labels { OnOk result (before.new ≡ before.old ++ label_at (length steps.old.items) item.now) }
-    ensures steps { OnOk result (steps.new.items ≡ steps.old.items ++ step_at (find arguments.now) (find labels.now) item.now) }
+) -> Result<u32, CheckError>
+    requires room { length steps.old.items ≤ 4096 }
+    requires bound { group_end ≤ 65536 }
+    ensures judged { Judges result (item_check (find labels.now)
+        (before variables.old group_end known.old (length steps.old.items)) item.now ∷ []) }
+    ensures behind { IfOk result (λ end. before variables.new end known.new (length steps.new.items)
+        ≡ behind (before variables.old group_end known.old (length steps.old.items)) item.now) }
+    ensures steps { OnOk result (steps.new.items ≡ steps.old.items
+        ++ step_at (find labels.now) (before variables.old group_end known.old (length steps.old.items)) item.now) }
     ensures room { OnOk result (length steps.new.items ≤ 4096) }
+    ensures bound { IfOk result (λ end. end ≤ 65536) }
 {
     match item {
-        Item::Label(label) => judge_label(before, steps.len(), label),
-        Item::Instruction(instruction) => judge_instruction(arguments, labels, steps, instruction),
+        Item::Label(label) => {
+            judge_label(known, steps.len(), label)?;
+            Ok(group_end)
+        }
+        Item::Variable(variable) => judge_variable(variables, group_end, variable),
+        Item::Instruction(instruction) => {
+            judge_instruction(variables, labels, steps, instruction)?;
+            Ok(group_end)
+        }
     }
 }
 
-/// The steps that the items of a kernel come to, or the fault of the first that fails.
-pub fn checked_steps(
+/// What the items of a kernel come to behind its arguments, or the fault of the first that fails. The
+/// group variables come to stand behind the arguments.
+pub fn checked_items<'a>(
     alloc: Global,
-    arguments: &Names<'_, Placed>,
+    variables: &mut Names<'a, Placed>,
     labels: &Names<'_, usize>,
-    items: &[Item],
-) -> Result<Vec<LinedStep>, CheckError>
-    ensures value { Gives (λ steps. steps.items) result
-        (unless (first_fault (item_checks (find arguments.now) (find labels.now) [] 0 items.now))
-        (steps_from (find arguments.now) (find labels.now) items.now)) }
-    ensures room { IfOk result (λ steps. length steps.items ≤ 4096) }
+    items: &'a [Item],
+) -> Result<Body, CheckError>
+    ensures value { Gives body_worked result
+        (unless (first_fault (item_checks (find labels.now) (first_before variables.old) items.now))
+        (worked (find labels.now) (first_before variables.old) items.now)) }
+    ensures room { IfOk result (λ body. length body.steps.items ≤ 4096) }
+    ensures bound { IfOk result (λ body. body.group_bytes ≤ 65536) }
 {
-    let mut before = Names::new(alloc);
+    let mut known = Names::new(alloc);
     let mut steps = Vec::new(alloc);
+    let mut group_end = 0;
     'items: for item in items {
-        judge_item(arguments, labels, &mut before, &mut steps, item)?;
+        group_end = judge_item(labels, variables, group_end, &mut known, &mut steps, item)?;
     }
-    Ok(steps)
+    Ok(Body {
+        steps,
+        group_bytes: group_end,
+    })
 }

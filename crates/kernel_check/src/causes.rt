@@ -1,25 +1,26 @@
 //! By which causes an item of a module fails.
 
-ghost use Rattle.std.specs.Prelude.{◌≡◌, ◌≤◌, ◌<◌, ◌||◌, nat_le, None, false, length};
+ghost use Rattle.std.specs.Prelude.{◌≡◌, ◌≤◌, ◌<◌, ◌||◌, nat_le, None, Some, false, length, IfErr, IfOk, OnOk};
 ghost use Rattle.kernel_check.specs.Names.{find};
 ghost use Rattle.kernel_check.specs.Faults.{least_cause};
-ghost use Rattle.kernel_check.specs.Layout.{end_behind};
-ghost use Rattle.kernel_check.specs.Causes.{misses_label, differs, is_of_other_width, has_wrong_type, names_unknown, misses_argument, is_bad_place, is_bad, has_bad_address, instruction_fails, label_fails, argument_fails, kernel_fails};
+ghost use Rattle.kernel_check.specs.Layout.{end_behind, group_end_behind};
+ghost use Rattle.kernel_check.specs.Causes.{misses_label, differs, is_of_other_width, has_wrong_type, names_unknown, misses_argument, is_same_segment, lies_elsewhere, is_bad_place, is_bad, has_bad_address, instruction_fails, label_fails, argument_fails, variable_fails, kernel_fails};
 ghost use Rattle.kernel_check.specs.Operands.{any_operand, is_over};
 
 use crate::fault::Cause;
-use crate::layout::{Placed, end};
+use crate::layout::{Placed, end, group_end};
+use crate::memory::forms;
 use crate::names::Names;
 use crate::operands::{any_over, any_wrong, same_class};
-use crate::translate::forms;
 use hsail_reader::{
-    Address, Argument, DataType, Operand, Operands, Operation, Place, RegisterClass, Segment,
+    Address, Argument, DataType, GroupVariable, Operand, Operands, Operation, Place, RegisterClass,
+    Segment,
 };
 
 /// The most instructions of a kernel.
 const MAX_INSTRUCTIONS: usize = 4096;
 
-/// The most bytes of a kernel's arguments.
+/// The most bytes of a kernel's variables.
 const MAX_ARGUMENT_BYTES: u32 = 4096;
 
 /// The most kernels of a module.
@@ -44,82 +45,96 @@ fn any_unknown_label(labels: &Names<'_, usize>, operands: &Operands) -> bool
         || unknown_label(labels, &operands.fourth)
 }
 
-/// Whether a known argument is of another width than a type.
-fn other_width(kind: DataType, argument: Option<Placed>) -> bool
-    ensures { result ≡ differs kind argument }
+/// Whether two segments are one.
+fn same_segment(left: Segment, right: Segment) -> bool
+    ensures { result ≡ is_same_segment left right }
 {
-    match argument {
-        Some(placed) => placed.kind.bits() != kind.bits(),
+    matches!(
+        (left, right),
+        (Segment::Kernarg, Segment::Kernarg)
+            | (Segment::Global, Segment::Global)
+            | (Segment::Group, Segment::Group)
+    )
+}
+
+/// Whether a known variable is an argument of another width than a type.
+fn other_width(kind: DataType, variable: Option<Placed>) -> bool
+    ensures { result ≡ differs kind variable }
+{
+    match variable {
+        Some(placed) => {
+            same_segment(Segment::Kernarg, placed.segment) && placed.kind.bits() != kind.bits()
+        }
         None => false,
     }
 }
 
 /// Whether an access takes an argument by a type that isn't as wide.
 fn argument_of_other_width(
-    arguments: &Names<'_, Placed>,
+    variables: &Names<'_, Placed>,
     kind: DataType,
     segment: Segment,
     address: &Address,
 ) -> bool
-    ensures { result ≡ is_of_other_width (find arguments.now) kind segment address.now }
+    ensures { result ≡ is_of_other_width (find variables.now) kind segment address.now }
 {
     match (segment, address) {
         (Segment::Kernarg, Address::Variable(name)) => {
-            other_width(kind, arguments.get(name.as_slice()))
+            other_width(kind, variables.get(name.as_slice()))
         }
         _ => false,
     }
 }
 
 /// Whether an operand takes an argument by a type that isn't as wide.
-fn wrong_type(arguments: &Names<'_, Placed>, operand: &Operand) -> bool
-    ensures { result ≡ has_wrong_type (find arguments.now) operand.now }
+fn wrong_type(variables: &Names<'_, Placed>, operand: &Operand) -> bool
+    ensures { result ≡ has_wrong_type (find variables.now) operand.now }
 {
     match operand {
         Operand::Address(access) => {
-            argument_of_other_width(arguments, access.kind, access.segment, &access.address)
+            argument_of_other_width(variables, access.kind, access.segment, &access.address)
         }
         _ => false,
     }
 }
 
-fn any_wrong_type(arguments: &Names<'_, Placed>, operands: &Operands) -> bool
-    ensures { result ≡ any_operand (has_wrong_type (find arguments.now)) operands.now }
+fn any_wrong_type(variables: &Names<'_, Placed>, operands: &Operands) -> bool
+    ensures { result ≡ any_operand (has_wrong_type (find variables.now)) operands.now }
 {
-    wrong_type(arguments, &operands.first)
-        || wrong_type(arguments, &operands.second)
-        || wrong_type(arguments, &operands.third)
-        || wrong_type(arguments, &operands.fourth)
+    wrong_type(variables, &operands.first)
+        || wrong_type(variables, &operands.second)
+        || wrong_type(variables, &operands.third)
+        || wrong_type(variables, &operands.fourth)
 }
 
 /// Whether an address names no variable of the kernel.
-fn unknown_variable(arguments: &Names<'_, Placed>, address: &Address) -> bool
-    ensures { result ≡ names_unknown (find arguments.now) address.now }
+fn unknown_variable(variables: &Names<'_, Placed>, address: &Address) -> bool
+    ensures { result ≡ names_unknown (find variables.now) address.now }
 {
     match address {
-        Address::Variable(name) => arguments.get(name.as_slice()).is_none(),
-        Address::Indexed(indexed) => arguments.get(indexed.variable.as_slice()).is_none(),
+        Address::Variable(name) => variables.get(name.as_slice()).is_none(),
+        Address::Indexed(indexed) => variables.get(indexed.variable.as_slice()).is_none(),
         Address::Place(_) => false,
     }
 }
 
 /// Whether an operand's address names no variable of the kernel.
-fn unknown_argument(arguments: &Names<'_, Placed>, operand: &Operand) -> bool
-    ensures { result ≡ misses_argument (find arguments.now) operand.now }
+fn unknown_argument(variables: &Names<'_, Placed>, operand: &Operand) -> bool
+    ensures { result ≡ misses_argument (find variables.now) operand.now }
 {
     match operand {
-        Operand::Address(access) => unknown_variable(arguments, &access.address),
+        Operand::Address(access) => unknown_variable(variables, &access.address),
         _ => false,
     }
 }
 
-fn any_unknown_argument(arguments: &Names<'_, Placed>, operands: &Operands) -> bool
-    ensures { result ≡ any_operand (misses_argument (find arguments.now)) operands.now }
+fn any_unknown_argument(variables: &Names<'_, Placed>, operands: &Operands) -> bool
+    ensures { result ≡ any_operand (misses_argument (find variables.now)) operands.now }
 {
-    unknown_argument(arguments, &operands.first)
-        || unknown_argument(arguments, &operands.second)
-        || unknown_argument(arguments, &operands.third)
-        || unknown_argument(arguments, &operands.fourth)
+    unknown_argument(variables, &operands.first)
+        || unknown_argument(variables, &operands.second)
+        || unknown_argument(variables, &operands.third)
+        || unknown_argument(variables, &operands.fourth)
 }
 
 /// Whether an instruction is too many behind these, or a number in it is too large.
@@ -141,45 +156,61 @@ fn bad_place(base: Option<RegisterClass>, place: Place) -> bool
     }
 }
 
+/// Whether a variable is one of another segment.
+fn elsewhere(variables: &Names<'_, Placed>, segment: Segment, name: &[u8]) -> bool
+    ensures { result ≡ lies_elsewhere segment (find variables.now name.now) }
+{
+    match variables.get(name) {
+        Some(placed) => !same_segment(segment, placed.segment),
+        None => false,
+    }
+}
+
 /// Whether a segment doesn't have this address.
-fn bad_in_brackets(segment: Segment, address: &Address) -> bool
-    ensures { result ≡ is_bad segment address.now }
+fn bad_in_brackets(variables: &Names<'_, Placed>, segment: Segment, address: &Address) -> bool
+    ensures { result ≡ is_bad (find variables.now) segment address.now }
 {
     let forms = forms(segment);
     match address {
-        Address::Variable(_) => !forms.variable,
+        Address::Variable(name) => {
+            !forms.variable || elsewhere(variables, segment, name.as_slice())
+        }
         Address::Place(place) => bad_place(forms.base, *place),
-        Address::Indexed(indexed) => !forms.indexed || bad_place(forms.base, indexed.place),
+        Address::Indexed(indexed) => {
+            !forms.indexed
+                || elsewhere(variables, segment, indexed.variable.as_slice())
+                || bad_place(forms.base, indexed.place)
+        }
     }
 }
 
 /// Whether an operand's address has a form that its segment doesn't have.
-fn bad_address(operand: &Operand) -> bool
-    ensures { result ≡ has_bad_address operand.now }
+fn bad_address(variables: &Names<'_, Placed>, operand: &Operand) -> bool
+    ensures { result ≡ has_bad_address (find variables.now) operand.now }
 {
     match operand {
-        Operand::Address(access) => bad_in_brackets(access.segment, &access.address),
+        Operand::Address(access) => bad_in_brackets(variables, access.segment, &access.address),
         _ => false,
     }
 }
 
-fn any_bad_address(operands: &Operands) -> bool
-    ensures { result ≡ any_operand has_bad_address operands.now }
+fn any_bad_address(variables: &Names<'_, Placed>, operands: &Operands) -> bool
+    ensures { result ≡ any_operand (has_bad_address (find variables.now)) operands.now }
 {
-    bad_address(&operands.first)
-        || bad_address(&operands.second)
-        || bad_address(&operands.third)
-        || bad_address(&operands.fourth)
+    bad_address(variables, &operands.first)
+        || bad_address(variables, &operands.second)
+        || bad_address(variables, &operands.third)
+        || bad_address(variables, &operands.fourth)
 }
 
 /// The least cause by which an instruction fails that stands behind these many.
 pub fn instruction_cause(
-    arguments: &Names<'_, Placed>,
+    variables: &Names<'_, Placed>,
     labels: &Names<'_, usize>,
     number: usize,
     operation: &Operation,
 ) -> Option<Cause>
-    ensures value { result ≡ least_cause (instruction_fails (find arguments.now) (find labels.now) number operation.now) }
+    ensures value { result ≡ least_cause (instruction_fails (find variables.now) (find labels.now) number operation.now) }
     ensures room { result ≡ None → number < 4096 }
 {
     let operands = &operation.operands;
@@ -189,16 +220,16 @@ pub fn instruction_cause(
     if any_wrong(operands) {
         return Some(Cause::WrongRegister);
     }
-    if any_wrong_type(arguments, operands) {
+    if any_wrong_type(variables, operands) {
         return Some(Cause::WrongType);
     }
-    if any_unknown_argument(arguments, operands) {
+    if any_unknown_argument(variables, operands) {
         return Some(Cause::UnknownArgument);
     }
     if too_large(number, operands) {
         return Some(Cause::TooLarge);
     }
-    if any_bad_address(operands) {
+    if any_bad_address(variables, operands) {
         return Some(Cause::BadAddress);
     }
     None
@@ -229,6 +260,26 @@ pub fn argument_cause(before: &Names<'_, Placed>, bytes: u32, argument: &Argumen
         return Some(Cause::TooLarge);
     }
     None
+}
+
+/// Where a group variable ends that stands behind these variables, the last of which in group memory ends
+/// there; or the least cause by which it fails.
+pub fn variable_end(
+    before: &Names<'_, Placed>,
+    bytes: u32,
+    variable: &GroupVariable,
+) -> Result<u32, Cause>
+    requires { bytes ≤ 65536 }
+    ensures fine { OnOk result (least_cause (variable_fails before.now bytes variable.now) ≡ None) }
+    ensures value { IfOk result (λ end. end ≡ group_end_behind bytes variable.now) }
+    ensures bound { IfOk result (λ end. end ≤ 65536) }
+    ensures new_name { OnOk result (find before.now variable.now.name ≡ None) }
+    ensures refused { IfErr result (λ cause. least_cause (variable_fails before.now bytes variable.now) ≡ Some cause) }
+{
+    if before.get(variable.name.as_slice()).is_some() {
+        return Err(Cause::DoubleName);
+    }
+    group_end(bytes, variable).ok_or(Cause::TooLarge)
 }
 
 /// The least cause by which a kernel's head fails that stands behind these kernels.

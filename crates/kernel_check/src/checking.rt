@@ -5,8 +5,8 @@ ghost use Rattle.kernel_check.specs.Checks.{body_checks, kernel_checks, module_c
 ghost use Rattle.kernel_check.specs.Faults.{first_fault, unless, Gives, Judges};
 ghost use Rattle.kernel_check.specs.Names.{find};
 
-use crate::block::{place_arguments, refused};
-use crate::body::checked_steps;
+use crate::block::{Block, place_arguments, refused};
+use crate::body::checked_items;
 use crate::causes::kernel_cause;
 use crate::checked::Checked;
 use crate::fault::CheckError;
@@ -23,11 +23,16 @@ fn checked_body(alloc: Global, kernel: &Kernel) -> Result<Program, CheckError>
     let arguments = kernel.arguments.as_slice();
     let items = kernel.items.as_slice();
     let block = place_arguments(alloc, arguments)?;
+    let Block {
+        mut names,
+        wide,
+        end,
+    } = block;
     let labels = labels(alloc, items)?;
-    let steps = checked_steps(alloc, &block.names, &labels, items)?;
+    let body = checked_items(alloc, &mut names, &labels, items)?;
     let name = kernel.name.copy(alloc)?;
-    let lined = steps.as_slice();
-    let program = Program::new(alloc, name, block.end, 0, block.wide, lined)?;
+    let lined = body.steps.as_slice();
+    let program = Program::new(alloc, name, end, body.group_bytes, wide, lined)?;
     Ok(program)
 }
 
@@ -67,8 +72,8 @@ fn judge_kernel<'a>(
 }
 
 /// What the kernels of a module come to if no item of it fails; else the fault of the earliest item
-/// that fails, with its cause of least number. An item is a kernel's head, an argument, a label or an
-/// instruction.
+/// that fails, with its cause of least number. An item is a kernel's head, an argument, a label, a group
+/// variable or an instruction.
 pub fn check(alloc: Global, source: &Module) -> Result<Checked, CheckError>
     ensures { Gives (λ checked. checked) result (checking source.now) }
 {

@@ -37,6 +37,7 @@ fn note_item<'a>(
             note_label(names, number, label.name.as_slice())?;
             Ok(number)
         }
+        Item::Variable(_) => Ok(number),
         Item::Instruction(_) => Ok(number + 1),
     }
 }

@@ -1,14 +1,18 @@
-//! Where the arguments of a kernel lie in its block.
+//! Where the arguments of a kernel lie in its block, and its group variables in group memory.
 
-ghost use Rattle.std.specs.Prelude.{◌≡◌, ◌<◌, ◌≤◌, max};
-ghost use Rattle.kernel_check.specs.Layout.{kind_bytes, boundary_of, placed_at, end_behind, is_wide};
+ghost use Rattle.std.specs.Prelude.{◌≡◌, ◌<◌, ◌≤◌, ◌+◌, max};
+ghost use Rattle.kernel_check.specs.Layout.{kind_bytes, boundary_of, placed_at, end_behind, is_wide, next_multiple, group_placed, group_end_behind, within};
 ghost use Rattle.hsail_reader.specs.Types.{alignment_bytes};
 
-use hsail_reader::{Alignment, Argument, DataType};
+use hsail_reader::{Alignment, Argument, DataType, GroupVariable, Segment};
 
-/// An argument at its place in the block: its type, and how many bytes stand before it.
+/// The most bytes of a kernel's group variables.
+const MAX_GROUP_BYTES: u32 = 65536;
+
+/// A variable at its place: its segment, its type, and how many bytes stand before it there.
 #[derive(Clone, Copy, Debug)]
 pub struct Placed {
+    pub segment: Segment,
     pub kind: DataType,
     pub offset: u32,
 }
@@ -34,15 +38,15 @@ pub fn wide(kind: DataType) -> bool
     matches!(kind, DataType::B64 | DataType::U64 | DataType::S64)
 }
 
-/// The number of which an argument's offset is a multiple: its natural alignment, or its `align` if
+/// The number of which a variable's offset is a multiple: its natural alignment, or its `align` if
 /// that is larger.
-fn boundary(argument: &Argument) -> u32
-    ensures value { result ≡ boundary_of argument.now.kind argument.now.align }
+fn boundary(kind: DataType, align: Option<Alignment>) -> u32
+    ensures value { result ≡ boundary_of kind align }
     ensures least { 1 ≤ result }
     ensures most { result ≤ 16 }
 {
-    let natural = bytes(argument.kind);
-    match argument.align {
+    let natural = bytes(kind);
+    match align {
         None => natural,
         Some(align) => larger(natural, align),
     }
@@ -66,16 +70,26 @@ fn larger(natural: u32, align: Alignment) -> u32
     natural.max(align)
 }
 
+/// The next multiple of a variable's boundary.
+fn offset_behind(end: u32, kind: DataType, align: Option<Alignment>) -> u32
+    requires { end ≤ 65536 }
+    ensures value { result ≡ next_multiple end (boundary_of kind align) }
+    ensures bound { result < end + 16 }
+{
+    let boundary = boundary(kind, align);
+    (end + (boundary - 1)) / boundary * boundary
+}
+
 /// An argument behind these many bytes.
 pub fn place_behind(end: u32, argument: &Argument) -> Placed
     requires { end ≤ 4096 }
     ensures value { result ≡ placed_at end argument.now }
     ensures bound { result.offset < 8192 }
 {
-    let boundary = boundary(argument);
     Placed {
+        segment: Segment::Kernarg,
         kind: argument.kind,
-        offset: (end + (boundary - 1)) / boundary * boundary,
+        offset: offset_behind(end, argument.kind, argument.align),
     }
 }
 
@@ -85,4 +99,33 @@ pub fn end(before: u32, argument: &Argument) -> u32
     ensures { result ≡ end_behind before argument.now }
 {
     place_behind(before, argument).offset + bytes(argument.kind)
+}
+
+/// A group variable behind these many bytes.
+pub fn place_group(end: u32, variable: &GroupVariable) -> Placed
+    requires { end ≤ 65536 }
+    ensures value { result ≡ group_placed end variable.now }
+    ensures bound { result.offset < end + 16 }
+{
+    Placed {
+        segment: Segment::Group,
+        kind: variable.kind,
+        offset: offset_behind(end, variable.kind, variable.align),
+    }
+}
+
+/// Where a group variable ends that lies behind these many bytes, unless it is past 65,536 bytes.
+pub fn group_end(before: u32, variable: &GroupVariable) -> Option<u32>
+    requires { before ≤ 65536 }
+    ensures { result ≡ within 65536 (group_end_behind before variable.now) }
+{
+    let length = variable.length.unwrap_or(1);
+    if length > MAX_GROUP_BYTES as u64 {
+        return None;
+    }
+    let end = place_group(before, variable).offset + bytes(variable.kind) * length as u32;
+    if end > MAX_GROUP_BYTES {
+        return None;
+    }
+    Some(end)
 }

@@ -13,11 +13,13 @@ mod fault;
 mod labels;
 mod laws;
 mod layout;
+mod memory;
 mod names;
 mod operands;
 mod program;
 mod step;
 mod translate;
+mod values;
 
 pub use checked::Checked;
 pub use checking::check;

@@ -2,23 +2,25 @@
 
 ghost use Rattle.std.specs.Prelude.{◌≡◌};
 ghost use Rattle.kernel_check.specs.Names.{find};
-ghost use Rattle.kernel_check.specs.Steps.{forms_of, number_type, is_signed, slot_of, register_of, source1_of, source32_of, source64_of, source_of, pointer_of, pointer_in, offset_of, dimension_of, next_of, unary_in, unary_of, control_operation, single_operation, double_operation, compare32, compare64, pair32_of, pair64_of, shift64_of, binary1, binary32, binary64, binary_of, ternary_in, ternary_of, load_from, load_at, store_of, store_at, dimension_in, next_at, target_in, read_in, as_unary, as_binary, as_ternary, step_of, sets1, sets32, sets64};
+ghost use Rattle.kernel_check.specs.Steps.{source1_of, dimension_of, next_of, unary_in, unary_of, control_operation, single_operation, double_operation, compare32, compare64, pair32_of, pair64_of, shift64_of, binary1, binary32, binary64, binary_of, ternary_in, ternary_of, dimension_in, next_at, as_unary, as_binary, as_ternary, as_atomic, as_no_return, step_of, sets1, sets32, sets64};
 ghost use Rattle.hsail_reader.specs.Types.{type_class};
 ghost use Rattle.hsail_reader.specs.declared.types.TernaryOperation.TheVariants.{MultiplyAdd, ConditionalMove};
 
-use crate::constants::bits;
 use crate::layout::Placed;
+use crate::memory::{Atomic, atomic_at, load_at, store_at};
 use crate::names::Names;
 use crate::step::{
-    AddressForms, AnyRegister, AnySource, ArgumentStep, BranchStep, Choice1, Choice32, Choice64,
-    Compare1, Compare32, Compare64, ControlOperation, ControlStep, ConvertStep, Dimension,
-    DoubleOperation, DoubleStep, IdentifyStep, LoadStep, NumberType, Pair1, Pair32, Pair64,
-    Pointer, Shift64, SingleOperation, SingleStep, Slot, Source1, Source32, Source64, Step,
-    StoreStep, Triple32, Triple64,
+    BranchStep, Choice1, Choice32, Choice64, Compare1, Compare32, Compare64, ControlOperation,
+    ControlStep, ConvertStep, Dimension, DoubleOperation, DoubleStep, IdentifyStep, Pair1, Pair32,
+    Pair64, Shift64, SingleOperation, SingleStep, Slot, Step, Triple32, Triple64,
+};
+use crate::values::{
+    any_register, any_source, is_signed, number_type, read_in, slot, source1, source32, source64,
+    target_in,
 };
 use hsail_reader::{
-    Access, Address, BinaryOperation, Comparison, Constant, DataType, Form, Operand, Operation,
-    Place, Register, RegisterClass, Segment, Source, TernaryOperation, TypedSource, UnaryOperation,
+    AtomicOperation, BinaryOperation, Comparison, DataType, Form, Operand, Operation, Register,
+    RegisterClass, TernaryOperation, TypedSource, UnaryOperation,
 };
 
 /// An operation `d, a`.
@@ -49,35 +51,6 @@ pub struct Ternary {
     pub first: TypedSource,
     pub second: TypedSource,
     pub third: TypedSource,
-}
-
-/// The register that an operand is.
-fn target_in(operand: &Operand) -> Register
-    ensures { result ≡ target_in operand.now }
-{
-    match operand {
-        Operand::Target(target) => target.register,
-        _ => Register {
-            class: RegisterClass::Control,
-            number: 0,
-        },
-    }
-}
-
-/// The source that an operand is, at its type.
-fn read_in(operand: &Operand) -> TypedSource
-    ensures { result ≡ read_in operand.now }
-{
-    match operand {
-        Operand::Source(typed) => *typed,
-        _ => TypedSource {
-            kind: DataType::B1,
-            source: Source::Constant(Constant {
-                negative: false,
-                magnitude: 0,
-            }),
-        },
-    }
 }
 
 fn as_unary(operation: UnaryOperation, whole: &Operation) -> Unary
@@ -116,155 +89,29 @@ fn as_ternary(operation: TernaryOperation, whole: &Operation) -> Ternary
     }
 }
 
-/// The type of a number in memory.
-fn number_type(kind: DataType) -> NumberType
-    ensures { result ≡ number_type kind }
+/// `atomic`, whose first operand gets the old value.
+fn as_atomic(operation: AtomicOperation, whole: &Operation) -> Atomic
+    ensures { result ≡ as_atomic operation whole.now }
 {
-    match kind {
-        DataType::B1 => NumberType::B1,
-        DataType::B8 | DataType::U8 => NumberType::U8,
-        DataType::B16 | DataType::U16 => NumberType::U16,
-        DataType::B32 | DataType::U32 => NumberType::U32,
-        DataType::B64 | DataType::U64 => NumberType::U64,
-        DataType::S8 => NumberType::S8,
-        DataType::S16 => NumberType::S16,
-        DataType::S32 => NumberType::S32,
-        DataType::S64 => NumberType::S64,
+    Atomic {
+        operation,
+        kind: whole.kind,
+        target: Some(slot(target_in(&whole.operands.first))),
+        first: read_in(&whole.operands.third),
+        second: read_in(&whole.operands.fourth),
     }
 }
 
-/// Whether a type has a sign.
-fn is_signed(kind: DataType) -> bool
-    ensures { result ≡ is_signed kind }
+/// `atomicnoret`, whose first operand is the address.
+fn as_no_return(operation: AtomicOperation, whole: &Operation) -> Atomic
+    ensures { result ≡ as_no_return operation whole.now }
 {
-    match kind {
-        DataType::S8 | DataType::S16 | DataType::S32 | DataType::S64 => true,
-        _ => false,
-    }
-}
-
-/// A register by its number.
-fn slot(register: Register) -> Slot
-    ensures { result ≡ slot_of register }
-{
-    if register.number < 64 {
-        Slot::new(register.number as u8)
-    } else {
-        Slot::new(0)
-    }
-}
-
-/// The register of a value of a type.
-fn any_register(kind: DataType, register: Register) -> AnyRegister
-    ensures { result ≡ register_of kind register }
-{
-    match kind.class() {
-        RegisterClass::Control => AnyRegister::Control(slot(register)),
-        RegisterClass::Single => AnyRegister::Single(slot(register)),
-        RegisterClass::Double => AnyRegister::Double(slot(register)),
-    }
-}
-
-/// A source of one bit.
-fn source1(typed: TypedSource) -> Source1
-    ensures { result ≡ source1_of typed }
-{
-    match typed.source {
-        Source::Register(register) => Source1::Register(slot(register)),
-        Source::Constant(constant) => Source1::Constant(bits(typed.kind, constant) == 1),
-    }
-}
-
-/// A source of 8, 16 or 32 bits.
-fn source32(typed: TypedSource) -> Source32
-    ensures { result ≡ source32_of typed }
-{
-    match typed.source {
-        Source::Register(register) => Source32::Register(slot(register)),
-        Source::Constant(constant) => {
-            Source32::Constant((bits(typed.kind, constant) % (1 << 32)) as u32)
-        }
-    }
-}
-
-/// A source of 64 bits.
-fn source64(typed: TypedSource) -> Source64
-    ensures { result ≡ source64_of typed }
-{
-    match typed.source {
-        Source::Register(register) => Source64::Register(slot(register)),
-        Source::Constant(constant) => Source64::Constant(bits(typed.kind, constant)),
-    }
-}
-
-/// A source by the class of its type.
-fn any_source(typed: TypedSource) -> AnySource
-    ensures { result ≡ source_of typed }
-{
-    match typed.kind.class() {
-        RegisterClass::Control => AnySource::Control(source1(typed)),
-        RegisterClass::Single => AnySource::Single(source32(typed)),
-        RegisterClass::Double => AnySource::Double(source64(typed)),
-    }
-}
-
-/// The addresses that a segment has.
-pub fn forms(segment: Segment) -> AddressForms
-    ensures { result ≡ forms_of segment }
-{
-    match segment {
-        Segment::Kernarg => AddressForms {
-            variable: true,
-            base: None,
-            indexed: false,
-        },
-        Segment::Global => AddressForms {
-            variable: false,
-            base: Some(RegisterClass::Double),
-            indexed: false,
-        },
-    }
-}
-
-/// A place of global memory.
-fn pointer(place: Place) -> Pointer
-    ensures { result ≡ pointer_of place }
-{
-    match place {
-        Place::Absolute(number) => Pointer {
-            base: None,
-            offset: number,
-        },
-        Place::Relative(relative) => Pointer {
-            base: Some(slot(relative.register)),
-            offset: bits(DataType::U64, relative.offset),
-        },
-    }
-}
-
-/// The place in the brackets of an access to global memory.
-fn pointer_in_brackets(address: &Address) -> Pointer
-    ensures { result ≡ pointer_in address.now }
-{
-    match address {
-        Address::Place(place) => pointer(*place),
-        Address::Variable(_) | Address::Indexed(_) => Pointer {
-            base: None,
-            offset: 0,
-        },
-    }
-}
-
-/// Where the argument in the brackets of a load lies.
-fn argument_offset(arguments: &Names<'_, Placed>, address: &Address) -> u32
-    ensures { result ≡ offset_of (find arguments.now) address.now }
-{
-    let Address::Variable(name) = address else {
-        return 0;
-    };
-    match arguments.get(name.as_slice()) {
-        Some(placed) => placed.offset,
-        None => 0,
+    Atomic {
+        operation,
+        kind: whole.kind,
+        target: None,
+        first: read_in(&whole.operands.second),
+        second: read_in(&whole.operands.third),
     }
 }
 
@@ -598,53 +445,6 @@ fn ternary_step(ternary: &Ternary) -> Step
     }
 }
 
-fn load_step(arguments: &Names<'_, Placed>, target: Register, access: &Access) -> Step
-    ensures { result ≡ load_from (find arguments.now) access.now.segment target access.now }
-{
-    let kind = number_type(access.kind);
-    let target = any_register(access.kind, target);
-    match access.segment {
-        Segment::Kernarg => Step::Argument(ArgumentStep {
-            kind,
-            target,
-            offset: argument_offset(arguments, &access.address),
-        }),
-        Segment::Global => Step::Load(LoadStep {
-            kind,
-            target,
-            pointer: pointer_in_brackets(&access.address),
-        }),
-    }
-}
-
-fn load_at(arguments: &Names<'_, Placed>, target: Register, address: &Operand) -> Step
-    ensures { result ≡ load_at (find arguments.now) target address.now }
-{
-    match address {
-        Operand::Address(access) => load_step(arguments, target, access),
-        _ => Step::Return,
-    }
-}
-
-fn store_step(source: TypedSource, access: &Access) -> Step
-    ensures { result ≡ store_of source access.now }
-{
-    Step::Store(StoreStep {
-        kind: number_type(source.kind),
-        source: any_source(source),
-        pointer: pointer_in_brackets(&access.address),
-    })
-}
-
-fn store_at(source: TypedSource, address: &Operand) -> Step
-    ensures { result ≡ store_at source address.now }
-{
-    match address {
-        Operand::Address(access) => store_step(source, access),
-        _ => Step::Return,
-    }
-}
-
 /// The number of the step behind the label that an operand is.
 fn next_at(labels: &Names<'_, usize>, operand: &Operand) -> usize
     ensures { result ≡ next_at (find labels.now) operand.now }
@@ -665,27 +465,34 @@ fn dimension_in(operand: &Operand) -> Dimension
     }
 }
 
-/// The step that an instruction comes to, by the kernel's arguments and labels.
+/// The step that an instruction comes to, by the kernel's variables and labels.
 pub fn translated(
-    arguments: &Names<'_, Placed>,
+    variables: &Names<'_, Placed>,
     labels: &Names<'_, usize>,
     operation: &Operation,
 ) -> Step
-    ensures { result ≡ step_of (find arguments.now) (find labels.now) operation.now }
+    ensures { result ≡ step_of (find variables.now) (find labels.now) operation.now }
 {
     let operands = &operation.operands;
     match operation.form {
         Form::Unary(unary) => unary_step(&as_unary(unary, operation)),
         Form::Binary(binary) => binary_step(&as_binary(binary, operation)),
         Form::Ternary(ternary) => ternary_step(&as_ternary(ternary, operation)),
-        Form::Load => load_at(arguments, target_in(&operands.first), &operands.second),
-        Form::Store => store_at(read_in(&operands.first), &operands.second),
+        Form::Load => load_at(variables, target_in(&operands.first), &operands.second),
+        Form::Store => store_at(variables, read_in(&operands.first), &operands.second),
+        Form::Atomic(atomic) => {
+            atomic_at(variables, &as_atomic(atomic, operation), &operands.second)
+        }
+        Form::AtomicNoReturn(atomic) => {
+            atomic_at(variables, &as_no_return(atomic, operation), &operands.first)
+        }
         Form::Branch => Step::Branch(next_at(labels, &operands.first)),
         Form::ConditionalBranch => Step::ConditionalBranch(BranchStep {
             condition: source1(read_in(&operands.first)),
             next: next_at(labels, &operands.second),
         }),
         Form::Return => Step::Return,
+        Form::Barrier => Step::Barrier,
         Form::Identify(query) => Step::Identify(IdentifyStep {
             query,
             target: any_register(operation.kind, target_in(&operands.first)),
