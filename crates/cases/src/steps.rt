@@ -1,13 +1,14 @@
 //! Steps of checked kernels as lines: the instruction's word with the type that it computes with, registers by
 //! class and number, constants as numbers of their width, a label as the number of the step behind it, an argument
-//! as its place in the block.
+//! as its place in the block, a group variable as its place in group memory.
 
 use hsail_reader::{Comparison, Query};
 use kernel_check::{
-    AnyRegister, AnySource, ArgumentStep, BranchStep, Choice1, Choice32, Choice64,
-    ControlOperation, ConvertStep, Dimension, DoubleOperation, IdentifyStep, LoadStep, NumberType,
-    Pair1, Pair32, Pair64, Pointer, Shift64, SingleOperation, Slot, Source1, Source32, Source64,
-    Step, StoreStep, Triple32, Triple64,
+    AnyRegister, AnySource, ArgumentStep, AtomicOperation32, AtomicOperation64, AtomicPointer,
+    AtomicStep32, AtomicStep64, BranchStep, Choice1, Choice32, Choice64, ControlOperation,
+    ConvertStep, Dimension, DoubleOperation, GroupLoadStep, GroupPointer, GroupStoreStep,
+    IdentifyStep, LoadStep, NumberType, Pair1, Pair32, Pair64, Pointer, Shift64, SingleOperation,
+    Slot, Source1, Source32, Source64, Step, StoreStep, Swap32, Swap64, Triple32, Triple64,
 };
 use std::alloc::AllocError;
 
@@ -415,6 +416,181 @@ fn push_store(line: &mut String, step: &StoreStep) -> Result<(), AllocError> {
     push_pointer(line, step.pointer)
 }
 
+fn push_group_pointer(line: &mut String, pointer: GroupPointer) -> Result<(), AllocError> {
+    let offset = pointer.offset;
+    match pointer.base {
+        None => write!(line, "[{offset}]"),
+        Some(slot) => {
+            let base = slot.index();
+            write!(line, "[$s{base}+{offset}]")
+        }
+    }
+}
+
+fn push_group_load(line: &mut String, step: &GroupLoadStep) -> Result<(), AllocError> {
+    let kind = type_name(step.kind);
+    write!(line, "ld_group_{kind} ")?;
+    push_register(line, step.target)?;
+    push_comma(line)?;
+    push_group_pointer(line, step.pointer)
+}
+
+fn push_group_store(line: &mut String, step: &GroupStoreStep) -> Result<(), AllocError> {
+    let kind = type_name(step.kind);
+    write!(line, "st_group_{kind} ")?;
+    push_source(line, step.source)?;
+    push_comma(line)?;
+    push_group_pointer(line, step.pointer)
+}
+
+// The operation of 32 bits, without its type.
+fn atomic32_name(operation: &AtomicOperation32) -> &'static str {
+    match operation {
+        AtomicOperation32::Add(_) => "add",
+        AtomicOperation32::Subtract(_) => "sub",
+        AtomicOperation32::LeastUnsigned(_) | AtomicOperation32::LeastSigned(_) => "min",
+        AtomicOperation32::GreatestUnsigned(_) | AtomicOperation32::GreatestSigned(_) => "max",
+        AtomicOperation32::And(_) => "and",
+        AtomicOperation32::Or(_) => "or",
+        AtomicOperation32::Xor(_) => "xor",
+        AtomicOperation32::Exchange(_) => "exch",
+        AtomicOperation32::CompareAndSwap(_) => "cas",
+    }
+}
+
+// The type that it computes with.
+fn atomic32_type(operation: &AtomicOperation32) -> &'static str {
+    match operation {
+        AtomicOperation32::Add(_) | AtomicOperation32::Subtract(_) => "u32",
+        AtomicOperation32::LeastUnsigned(_) | AtomicOperation32::GreatestUnsigned(_) => "u32",
+        AtomicOperation32::LeastSigned(_) | AtomicOperation32::GreatestSigned(_) => "s32",
+        _ => "b32",
+    }
+}
+
+fn push_swap32(line: &mut String, swap: &Swap32) -> Result<(), AllocError> {
+    push_source32(line, swap.expected)?;
+    push_comma(line)?;
+    push_source32(line, swap.replacement)
+}
+
+fn push_atomic32_sources(
+    line: &mut String,
+    operation: &AtomicOperation32,
+) -> Result<(), AllocError> {
+    match operation {
+        AtomicOperation32::CompareAndSwap(swap) => push_swap32(line, swap),
+        AtomicOperation32::Add(source)
+        | AtomicOperation32::Subtract(source)
+        | AtomicOperation32::LeastUnsigned(source)
+        | AtomicOperation32::LeastSigned(source)
+        | AtomicOperation32::GreatestUnsigned(source)
+        | AtomicOperation32::GreatestSigned(source)
+        | AtomicOperation32::And(source)
+        | AtomicOperation32::Or(source)
+        | AtomicOperation32::Xor(source)
+        | AtomicOperation32::Exchange(source) => push_source32(line, *source),
+    }
+}
+
+// The operation of 64 bits, without its type.
+fn atomic64_name(operation: &AtomicOperation64) -> &'static str {
+    match operation {
+        AtomicOperation64::Add(_) => "add",
+        AtomicOperation64::Subtract(_) => "sub",
+        AtomicOperation64::LeastUnsigned(_) | AtomicOperation64::LeastSigned(_) => "min",
+        AtomicOperation64::GreatestUnsigned(_) | AtomicOperation64::GreatestSigned(_) => "max",
+        AtomicOperation64::And(_) => "and",
+        AtomicOperation64::Or(_) => "or",
+        AtomicOperation64::Xor(_) => "xor",
+        AtomicOperation64::Exchange(_) => "exch",
+        AtomicOperation64::CompareAndSwap(_) => "cas",
+    }
+}
+
+// The type that it computes with.
+fn atomic64_type(operation: &AtomicOperation64) -> &'static str {
+    match operation {
+        AtomicOperation64::Add(_) | AtomicOperation64::Subtract(_) => "u64",
+        AtomicOperation64::LeastUnsigned(_) | AtomicOperation64::GreatestUnsigned(_) => "u64",
+        AtomicOperation64::LeastSigned(_) | AtomicOperation64::GreatestSigned(_) => "s64",
+        _ => "b64",
+    }
+}
+
+fn push_swap64(line: &mut String, swap: &Swap64) -> Result<(), AllocError> {
+    push_source64(line, swap.expected)?;
+    push_comma(line)?;
+    push_source64(line, swap.replacement)
+}
+
+fn push_atomic64_sources(
+    line: &mut String,
+    operation: &AtomicOperation64,
+) -> Result<(), AllocError> {
+    match operation {
+        AtomicOperation64::CompareAndSwap(swap) => push_swap64(line, swap),
+        AtomicOperation64::Add(source)
+        | AtomicOperation64::Subtract(source)
+        | AtomicOperation64::LeastUnsigned(source)
+        | AtomicOperation64::LeastSigned(source)
+        | AtomicOperation64::GreatestUnsigned(source)
+        | AtomicOperation64::GreatestSigned(source)
+        | AtomicOperation64::And(source)
+        | AtomicOperation64::Or(source)
+        | AtomicOperation64::Xor(source)
+        | AtomicOperation64::Exchange(source) => push_source64(line, *source),
+    }
+}
+
+// The place of an atomic operation, and a comma.
+fn push_atomic_pointer(line: &mut String, pointer: AtomicPointer) -> Result<(), AllocError> {
+    match pointer {
+        AtomicPointer::Global(pointer) => push_pointer(line, pointer)?,
+        AtomicPointer::Group(pointer) => push_group_pointer(line, pointer)?,
+    }
+    push_comma(line)
+}
+
+// The beginning of an atomic operation: its word, with the segment and without order and scope, and its target.
+fn push_atomic_target(
+    line: &mut String,
+    target: Option<Slot>,
+    class: &str,
+    operation: &str,
+    pointer: AtomicPointer,
+    kind: &str,
+) -> Result<(), AllocError> {
+    let segment = match pointer {
+        AtomicPointer::Global(_) => "global",
+        AtomicPointer::Group(_) => "group",
+    };
+    match target {
+        None => write!(line, "atomicnoret_{operation}_{segment}_{kind} "),
+        Some(slot) => {
+            write!(line, "atomic_{operation}_{segment}_{kind} ")?;
+            push_slot(line, class, slot)?;
+            push_comma(line)
+        }
+    }
+}
+
+fn push_atomic32(line: &mut String, step: &AtomicStep32) -> Result<(), AllocError> {
+    let operation = atomic32_name(&step.operation);
+    let kind = atomic32_type(&step.operation);
+    push_atomic_target(line, step.target, "s", operation, step.pointer, kind)?;
+    push_atomic_pointer(line, step.pointer)?;
+    push_atomic32_sources(line, &step.operation)
+}
+
+fn push_atomic64(line: &mut String, step: &AtomicStep64) -> Result<(), AllocError> {
+    let operation = atomic64_name(&step.operation);
+    let kind = atomic64_type(&step.operation);
+    push_atomic_target(line, step.target, "d", operation, step.pointer, kind)?;
+    push_atomic_pointer(line, step.pointer)?;
+    push_atomic64_sources(line, &step.operation)
+}
+
 fn push_conditional_branch(line: &mut String, step: &BranchStep) -> Result<(), AllocError> {
     let next = step.next;
     line.push_str("cbr_b1 ")?;
@@ -456,9 +632,14 @@ pub fn push_step(line: &mut String, step: &Step) -> Result<(), AllocError> {
         Step::Argument(step) => push_argument(line, step),
         Step::Load(step) => push_load(line, step),
         Step::Store(step) => push_store(line, step),
+        Step::LoadGroup(step) => push_group_load(line, step),
+        Step::StoreGroup(step) => push_group_store(line, step),
+        Step::Atomic32(step) => push_atomic32(line, step),
+        Step::Atomic64(step) => push_atomic64(line, step),
         Step::Branch(next) => write!(line, "br {next}"),
         Step::ConditionalBranch(step) => push_conditional_branch(line, step),
         Step::Return => line.push_str("ret"),
+        Step::Barrier => line.push_str("barrier"),
         Step::Identify(step) => push_query(line, step),
     }
 }

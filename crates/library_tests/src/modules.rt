@@ -71,14 +71,14 @@ fn a_module_is_its_line_and_kernels(rt: HostRuntime) -> Result<(), Fail> {
 fn line_of_label(kernel: &Kernel, index: usize) -> Option<u32> {
     match kernel.items.get(index)? {
         Item::Label(label) => Some(label.line),
-        Item::Instruction(_) => None,
+        Item::Variable(_) | Item::Instruction(_) => None,
     }
 }
 
 /// The line of the kernel's instruction at an index, if one stands there.
 fn line_of_instruction(kernel: &Kernel, index: usize) -> Option<u32> {
     match kernel.items.get(index)? {
-        Item::Label(_) => None,
+        Item::Label(_) | Item::Variable(_) => None,
         Item::Instruction(instruction) => Some(instruction.line),
     }
 }
@@ -125,7 +125,7 @@ fn lines_are_those_of_first_tokens(rt: HostRuntime) -> Result<(), Fail> {
 fn first_operation<'a>(module: &'a Module) -> Option<&'a Operation> {
     match module.kernels.get(0)?.items.get(0)? {
         Item::Instruction(instruction) => Some(&instruction.operation),
-        Item::Label(_) => None,
+        Item::Label(_) | Item::Variable(_) => None,
     }
 }
 
