@@ -125,7 +125,7 @@ module _ (a b : Inside) (event : Event) (outcome : Outcome) (effects : List Effe
       record {
         granted = granted-after;
         rules = rw after.same.0.0 (after.grants.rules ∙ was.rules);
-        packet_rights = λ queue id client on right. rw (after.same.0.0, after.same.0.1, after.audit.items) (after.grants.packet_rights queue id client on right);
+        held = λ queue id client on right. rw (after.same.0.0, after.same.0.1, after.audit.items) (after.grants.held queue id client on right);
         arguments = rw (after.same.0.0, after.same.0.1, after.audit.items) (arguments-after (owed-inside a was old seen_as event outcome effects is_due));
         entries = rw after.same.0.1 was.entries;
         segments = rw (after.same.0.1, after.same.0.2) was.segments;

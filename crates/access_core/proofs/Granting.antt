@@ -52,7 +52,7 @@ module _ (a : Inside) (kept : IsCached a) (client : ClientId) (on : Object) (rig
 
   same_test : (queue : QueueId) (id : PacketId) → is_holder a.grants client on rights queue id ≡ passes holding (flight (start_of a) a.audit.items) queue id
   same_test queue id =
-      is_holder-history client on rights (start_of a) a.audit.items a.grants (flight (start_of a) a.audit.items) kept.packet_rights queue id
+      is_holder-history client on rights (start_of a) a.audit.items a.grants (flight (start_of a) a.audit.items) kept.held queue id
 
   first-test : (o : Option (QueueId × PacketId)) → IsFirstTo (is_holder a.grants client on rights) o → IsFirstTo (passes holding (flight (start_of a) a.audit.items)) o
   first-test None none = λ queue id. sym (same_test queue id) ∙ none queue id

@@ -40,7 +40,7 @@ pub held-still : (a : Inside) → IsCached a → (event : Event) (outcome : Outc
     → (queue : QueueId) (id : PacketId) (client : ClientId) (on : Object) (right : Right)
     → ledger.holds a.grants queue id client on right ≡ packet_holds (owner (start_of a) (with_entry a.audit.items event outcome effects)) (packet_rights (start_of a) (with_entry a.audit.items event outcome effects)) (flight (start_of a) (with_entry a.audit.items event outcome effects)) queue id client on right
 held-still a kept event outcome effects none launches same queue id client on right =
-    kept.packet_rights queue id client on right
+    kept.held queue id client on right
     ∙ (λ i. packet_holds (λ (q : QueueId). numbered (sym (owners-still a event outcome effects none) i) q.0)
     (λ q n. sym (held-unlaunched (start_of a) a.audit.items (entry_of event outcome effects) launches q n) i) (sym same i) queue id client on right)
 
@@ -83,7 +83,7 @@ pub grants-still : (a : Inside) → IsCached a → (event : Event) (outcome : Ou
 grants-still a kept event outcome effects none launches same flying = record {
   granted = λ client on right. sym (same client on right _);
   rules = refl;
-  packet_rights = held-still a kept event outcome effects none launches flying;
+  held = held-still a kept event outcome effects none launches flying;
   arguments = blocks-still a event outcome launches _;
 }
 
@@ -167,9 +167,9 @@ pub grants-released : (a : Inside) → IsCached a → (event : Event) (outcome :
 grants-released a kept event outcome effects none launches same new blocks q i flying releases dropped = record {
   granted = λ client on right. releases.same_rights client on right ∙ sym (same client on right _);
   rules = releases.same_rules;
-  packet_rights = λ queue id client on right.
+  held = λ queue id client on right.
       releases.released queue id client on right
-      ∙ ap (λ b. b && not (same_packet queue id q i)) (kept.packet_rights queue id client on right)
+      ∙ ap (λ b. b && not (same_packet queue id q i)) (kept.held queue id client on right)
       ∙ sym (held-without (owner (start_of a) a.audit.items) (packet_rights (start_of a) a.audit.items) q i queue id client on right (flight (start_of a) a.audit.items))
       ∙ (λ j. packet_holds (λ (n : QueueId). numbered (sym (owners-still a event outcome effects none) j) n.0)
       (λ n m. sym (held-unlaunched (start_of a) a.audit.items (entry_of event outcome effects) launches n m) j) (sym flying j) queue id client on right);
@@ -196,12 +196,12 @@ pub grants-launched : (a : Inside) → IsCached a → (event : Event) (outcome :
 grants-launched a kept event outcome effects none still old new blocks opening q i p rights hs bytes launches flying same are gives is holds block_is pushed = record {
   granted = λ client on right. holds.same_rights client on right ∙ ap (λ (g : Ledger). ledger.in_force g client on right) same ∙ sym (still client on right _);
   rules = holds.same_rules ∙ ap ledger.rules_in same;
-  packet_rights = λ queue id client on right.
+  held = λ queue id client on right.
       holds.held queue id client on right
       ∙ ap (λ (g : Ledger). ledger.holds g queue id client on right || (same_packet queue id q i && names rights opening.client client on right)) same
       ∙ ap (λ (rs : List (Object × Rights)). ledger.holds a.grants queue id client on right || (same_packet queue id q i && names rs opening.client client on right)) are
       ∙ ap (λ b. b || (same_packet queue id q i && names (map as_rights hs) opening.client client on right))
-      (kept.packet_rights queue id client on right
+      (kept.held queue id client on right
       ∙ held-left (start_of a) a.audit.items (entry_of event outcome effects) (owner (start_of a) a.audit.items) queue id client on right (flight (start_of a) a.audit.items) (holding-legal (start_of a) a.audit.items kept.legal))
       ∙ held-with (owner (start_of a) a.audit.items) (packet_rights (start_of a) (with_entry a.audit.items event outcome effects)) (flight (start_of a) a.audit.items) opening q i p hs is gives queue id client on right
       ∙ (λ j. packet_holds (λ (n : QueueId). numbered (sym (owners-still a event outcome effects none) j) n.0) (packet_rights (start_of a) (with_entry a.audit.items event outcome effects)) (sym flying j) queue id client on right);
@@ -235,8 +235,8 @@ grants-opened a kept opener agent size told flying =
     record {
       granted = λ client on right. refl;
       rules = refl;
-      packet_rights = λ queue id client on right.
-          kept.packet_rights queue id client on right
+      held = λ queue id client on right.
+          kept.held queue id client on right
           ∙ held-opened (start_of a) a.audit.items e queue id client on right (flight (start_of a) a.audit.items) (holding-legal (start_of a) a.audit.items kept.legal)
           ∙ (λ j. packet_holds (owner (start_of a) (with_entry a.audit.items (OpenQueue opener agent size) told []))
           (λ n m. sym (held-unlaunched (start_of a) a.audit.items e refl n m) j) (sym flying j) queue id client on right);

@@ -42,7 +42,7 @@ pub holds-is : (a : Inside) → IsCached a → (queue : QueueId) (id : PacketId)
 holds-is a kept queue id opening f owned found on one =
     let there = found-one (is_packet queue id) (flight (start_of a) a.audit.items) f found in
     let itself : (opening.client.0 == opening.client.0) ≡ true = grind arith in
-    kept.packet_rights queue id opening.client on one
+    kept.held queue id opening.client on one
     ∙ any-packet queue id (λ q i. holds_by (owner (start_of a) a.audit.items q) opening.client on one (packet_rights (start_of a) a.audit.items q i)) (flight (start_of a) a.audit.items)
     ∙ ap (λ b. b && holds_by (owner (start_of a) a.audit.items queue) opening.client on one (packet_rights (start_of a) a.audit.items queue id)) there
     ∙ ap (λ (o : Option Opening). holds_by o opening.client on one (packet_rights (start_of a) a.audit.items queue id)) owned

@@ -32,7 +32,7 @@ unfolding in_force memory_at effects_of signals openings next_id errors is_stopp
 IsCached-opened a fresh ruled memory values queues flying entries places few kernels segments = record {
   granted = λ client on right. fresh.none_in_force client on right ∙ (rw entries refl);
   rules = ruled;
-  packet_rights = λ queue id client on right. fresh.none_held queue id client on right ∙ (rw entries refl);
+  held = λ queue id client on right. fresh.none_held queue id client on right ∙ (rw entries refl);
   arguments = rw entries (All-nil _);
   entries = kernels;
   segments = segments;
