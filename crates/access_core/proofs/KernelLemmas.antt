@@ -6,17 +6,22 @@ use Rattle.aql_packet.specs.declared.packet.KernelDispatch.{KernelDispatch}
 use Rattle.aql_packet.specs.declared.packet.Packet.TheVariants as packet
 use Rattle.policy.specs.declared.rights.Right.TheVariants.{Read}
 use Rattle.executor.specs.Laws.{AreLentAlike, IsLentAlike}
-use Rattle.executor.specs.Results.{group_result}
+use Rattle.executor.specs.Results.{GroupResult, broke_rule, group_result, wrote}
 use Rattle.executor.specs.declared.run.Run.{Run}
-use Rattle.core_model.specs.declared.outcome.Worked.TheVariants.{Done, Ran}
+use Rattle.core_model.specs.declared.outcome.Worked.TheVariants.{Done, Faulted, Ran}
 use Rattle.core_model.specs.Owed.{group_owed, owed}
 use Rattle.core_model.specs.View.{HeldRegion, first_address, given, group_input, held_regions, lent, view}
 use Rattle.core_model.specs.Work.{groups_of, write_of_run}
 use Rattle.access_core.specs.inner.Running.{lent_whole, view_whole}
 use Rattle.access_core.proofs.QueueAt.{IsAdvance}
 use Rattle.access_core.proofs.RunLemmas.{OnlyWrites, one_group}
-use Rattle.access_core.proofs.WorkLemmas.{owed-in_place}
+use Rattle.core_model.specs.Legal.{may_lack}
+use Rattle.access_core.proofs.Calls.{due-as}
+use Rattle.access_core.proofs.WorkLemmas.{fault-releases, owed-in_place, release-due}
 use Rattle.access_core.proofs.Terms.{Entry, ObjectRight, History, IsInPlace, PacketId, Place, QueueId, RunNext, Start, answers, has, memory_at, memory_from, owed_group}
+use Rattle.access_core.proofs.Terms.{Effect, Inside, IsCached, Outcome, QueueError, due, enters, history_of, refuses, within_room}
+use Rattle.core_model.specs.declared.entry.Effect.TheVariants as effect
+use Rattle.core_model.specs.declared.refusal.Refusal.TheVariants as refusal
 use Rattle.core_model.specs.declared.outcome.Outcome.TheVariants as outcome
 
 -- ---- what a group is lent
@@ -52,6 +57,25 @@ kernel-owed h queue id place found d packet_is ran is =
     owed-in_place h queue id place found (owed_group h.start h.entries queue id (given h.start h.entries queue id))
     ∙ ap (λ p. owed_group h.start h.entries queue id (given h.start h.entries queue id) p place.progress) packet_is
     ∙ ap (λ b. if b then answers (outcome.Worked Done) else group_owed queue id d place.progress.groups_run (group_result (group_input h.start h.entries (given h.start h.entries queue id) d place.progress.groups_run))) is
+
+-- a group that breaks a rule always finds room for its entry
+pub fault-due : (a : Inside) → IsCached a → (old : History) → history_of a ≡ old → (queue : QueueId) (id : PacketId) (place : Place) → IsInPlace old queue id place → (error : QueueError)
+    → owed old.start old.entries (RunNext queue id) ≡ enters (outcome.Worked (Faulted error)) (effect.Release queue id ∷ []) → due old (RunNext queue id) ≡ enters (outcome.Worked (Faulted error)) (effect.Release queue id ∷ [])
+fault-due a kept old seen_as queue id place found error owing =
+    release-due a kept old seen_as queue id place found (RunNext queue id) (outcome.Worked (Faulted error)) (effect.Release queue id ∷ []) (fault-releases queue id error) owing
+
+-- whatever it comes to, its run may want memory
+pub group-lacks : (h : History) (queue : QueueId) (id : PacketId) (d : KernelDispatch) (group : ℕ) (came : GroupResult) → owed h.start h.entries (RunNext queue id) ≡ group_owed queue id d group came
+    → may_lack (RunNext queue id) (due h (RunNext queue id)) ≡ true
+group-lacks h queue id d group came owing = ap (may_lack (RunNext queue id)) (due-as h (RunNext queue id) _ owing) ∙ by_result came
+  where
+    by_room : (full : Bool) (told : Outcome) (effects : List Effect) → may_lack (RunNext queue id) (if full then refuses refusal.AuditFull else enters told effects) ≡ true
+    by_room true told effects = refl
+    by_room false told effects = refl
+
+    by_result : (r : GroupResult) → may_lack (RunNext queue id) (within_room h (RunNext queue id) (group_owed queue id d group r)) ≡ true
+    by_result (wrote runs) = by_room _ _ _
+    by_result (broke_rule item line rule) = by_room _ _ _
 
 -- ---- what its writes leave
 

@@ -15,6 +15,8 @@ pub mod WorkLemmas
 pub mod WorkReadLemmas
 pub mod RunLemmas
 pub mod KernelLemmas
+pub mod LendingLemmas
+pub mod GroupRuns
 pub mod LayingLemmas
 pub mod HostMemory
 pub mod HeldMore

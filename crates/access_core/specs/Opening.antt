@@ -2,7 +2,7 @@
 use Rattle.std.specs.Prelude.{ℕ, ◌+◌, ◌==◌, ◌≡◌, ◌&&◌, Bool, true, false, not, nat_le, nat_lt, List, [], length, map, position, slice_get, Option, Some, None, Result, Ok, Err, if◌then◌else◌}
 use Rattle.std.specs.Option.{unwrap_or}
 use Rattle.kernel_check.specs.Programs.{Program}
-use Rattle.policy.specs.Policy.{Declared, initial_values, region_lengths}
+use Rattle.policy.specs.Policy.{Declared, initial_values, numbered, region_lengths}
 use Rattle.core_model.specs.declared.limits.TheConstants.{MOST_ENTRIES}
 use Rattle.core_model.specs.History.{History}
 use Rattle.core_model.specs.Kernels.{no_kernel, segments_of}
@@ -22,6 +22,10 @@ has_entry kernel = nat_lt kernel.entry (length kernel.checked)
 -- the checked kernel at a kernel's index
 abbrev pub program_of : Kernel → Program
 program_of kernel = unwrap_or (slice_get kernel.checked kernel.entry) no_kernel
+
+-- a number, which counts from 1, is that of one of these kernels
+abbrev pub IsNumber : List Kernel → ℕ → Type 0
+IsNumber kernels number = (kernel : Kernel) × (numbered kernels number ≡ Some kernel)
 
 -- the index of the first kernel whose own index is that of no checked kernel, if there is one
 abbrev pub first_missing : List Kernel → Option ℕ

@@ -18,6 +18,7 @@ mod running;
 mod serving;
 mod stopping;
 mod taking;
+mod viewing;
 mod working;
 
 use crate::argument_blocks::ArgumentBlocks;

@@ -1,10 +1,10 @@
 //! Kernels that packets may launch.
 
-ghost use Rattle.std.specs.Prelude.{◌≡◌, true};
+ghost use Rattle.std.specs.Prelude.{◌≡◌, Some, true};
 ghost use Rattle.std.specs.Option.{option_copied};
 ghost use Rattle.policy.specs.Policy.{numbered};
 ghost use Rattle.core_model.specs.Kernels.{segments_of};
-ghost use Rattle.access_core.specs.Opening.{has_entry, program_of};
+ghost use Rattle.access_core.specs.Opening.{IsNumber, has_entry, program_of};
 
 use aql_packet::KernelObject;
 use core_model::KernelSegments;
@@ -56,4 +56,12 @@ pub fn kernel_named(kernels: &[Kernel], number: KernelObject) -> Option<&Kernel>
         return None;
     }
     kernels.get((number.0 - 1) as usize)
+}
+
+/// The kernel of a number, which counts from 1 and is that of a kernel.
+pub fn kernel_at(kernels: &[Kernel], number: KernelObject) -> &Kernel
+    requires { IsNumber kernels.now number.0 }
+    ensures { numbered kernels.now number.0 ≡ Some result.now }
+{
+    &kernels[(number.0 - 1) as usize]
 }

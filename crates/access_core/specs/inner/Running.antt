@@ -1,5 +1,5 @@
 -- What a group of a kernel dispatch is owed, by what it came to.
-use Rattle.std.specs.Prelude.{◌≡◌, List, Some, map}
+use Rattle.std.specs.Prelude.{◌≡◌, ◌==◌, ℕ, List, Option, None, Some, map, if◌then◌else◌}
 use Rattle.aql_packet.specs.declared.ids.ClientId.{ClientId}
 use Rattle.aql_packet.specs.declared.ids.PacketId.{PacketId}
 use Rattle.aql_packet.specs.declared.ids.QueueId.{QueueId}
@@ -7,10 +7,16 @@ use Rattle.core_model.specs.declared.flight.InFlight.{InFlight}
 use Rattle.core_model.specs.Flight.{in_flight}
 use Rattle.core_model.specs.History.{History, Start}
 use Rattle.core_model.specs.Holds.{ObjectRight}
-use Rattle.core_model.specs.Memory.{memory_from}
-use Rattle.core_model.specs.View.{HeldRegion, first_address, held_regions}
+use Rattle.core_model.specs.Memory.{memory_from, region_lengths}
+use Rattle.core_model.specs.View.{HeldRegion, first_address, given, group_input, held_region, held_regions}
 use Rattle.core_model.specs.declared.entry.Entry.{Entry}
+use Rattle.aql_packet.specs.declared.packet.KernelDispatch.{KernelDispatch}
 use Rattle.executor.specs.Items.{LentRegion}
+use Rattle.executor.specs.Results.{GroupResult, broke_rule, group_result}
+use Rattle.executor.specs.declared.fault.RunFault.{RunFault}
+use Rattle.executor.specs.declared.fault.RunFault.TheVariants.{Fault, OutOfMemory}
+use Rattle.packet_processor.specs.declared.places.Place.{Place}
+use Rattle.regions.specs.Memory.{region_length}
 pub use Rattle.core_model.specs.Owed.{fault_owed}
 use Rattle.core_model.specs.Queues.{Opening, owner}
 
@@ -33,3 +39,21 @@ lent_whole start entries region = record {
 -- the regions that a packet's groups are lent, where it holds all these
 abbrev pub view_whole : Start → List Entry → List ObjectRight → List LentRegion
 view_whole start entries all = map (lent_whole start entries) (held_regions start all)
+
+-- the region of a number, which counts from 1, with the rights that are held on it
+abbrev pub region_numbered : Start → List ObjectRight → ℕ → HeldRegion
+region_numbered start all number = held_region all (number, region_length (region_lengths start) number)
+
+-- a region as it is lent, if a right is held on it
+abbrev pub lent_if_held : Start → List Entry → HeldRegion → Option LentRegion
+lent_if_held start entries region = if region.rights.0 == 0 then None else Some (lent_whole start entries region)
+
+-- what the next group of a kernel dispatch in flight comes to
+abbrev pub next_result : History → QueueId → PacketId → Place → KernelDispatch → GroupResult
+next_result history queue id place d =
+    group_result (group_input history.start history.entries (given history.start history.entries queue id) d place.progress.groups_run)
+
+-- a group leaves nothing for this: an item broke the rule; where memory was wanted nothing is said
+abbrev pub FaultsAs : GroupResult → RunFault → Type 0
+FaultsAs came OutOfMemory = Unit {0}
+FaultsAs came (Fault f) = came ≡ broke_rule f.item f.line f.rule

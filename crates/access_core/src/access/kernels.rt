@@ -1,31 +1,32 @@
 //! The groups of kernel dispatches in flight are run.
 
-ghost use Rattle.std.specs.Prelude.{◌≡◌, ◌*◌, ◌<◌, ◌≤◌, ◌^◌, Ok, true};
+ghost use Rattle.std.specs.Prelude.{◌≡◌, ◌*◌, ◌<◌, ◌≤◌, ◌^◌, All, IfErr, IfOk, Ok, length, true};
 ghost use Rattle.aql_packet.specs.declared.packet.Packet.TheVariants as kind;
 ghost use Rattle.executor.specs.Locations as locations;
+ghost use Rattle.executor.specs.Results.{wrote};
+ghost use Rattle.regions.specs.Memory.{is_within};
+ghost use Rattle.core_model.specs.Kernels.{grid_size, group_size};
 ghost use Rattle.core_model.specs.LaunchRules.{has_sizes};
+ghost use Rattle.core_model.specs.Legal.{Meets, MeetsOrLacks, as_variant};
+ghost use Rattle.core_model.specs.Memory.{region_lengths};
+ghost use Rattle.core_model.specs.Owed.{group_error, owed};
 ghost use Rattle.core_model.specs.Work.{groups_of};
-ghost use Rattle.core_model.specs.Legal.{Meets, MeetsOrLacks, due, as_variant};
-ghost use Rattle.core_model.specs.Owed.{group_error};
-ghost use Rattle.policy.specs.declared.object.Object.TheVariants as object;
-ghost use Rattle.core_model.specs.Holds.{packet_rights};
-ghost use Rattle.core_model.specs.View.{rights_held};
-ghost use Rattle.access_core.specs.inner.Running.{fault_owed, IsHolder};
 ghost use Rattle.access_core.specs.inner.InPlace.{IsInPlace};
+ghost use Rattle.access_core.specs.inner.Running.{FaultsAs, fault_owed, next_result};
 
 use crate::access::polling::fail_packet;
 use crate::access::{AccessCore, enter};
-use aql_packet::{ClientId, KernelDispatch, PacketId, QueueId, RegionHandle};
+use crate::kernel::kernel_at;
+use aql_packet::{KernelDispatch, PacketId, QueueId};
 use core_model::{Effect, Effects, Event, Outcome, Refusal, Worked};
-use executor::ItemFault;
+use executor::{Dispatch, Extent, ItemFault, Run, RunFault, groups_read_where_they_may, run_group};
 use packet_processor::Place;
-use policy::{Object, Rights};
 use queue_error::QueueError;
+use sequences::Sequence;
 use std::alloc::Global;
 
 impl AccessCore {
-    // Runs the next work-group of a kernel dispatch in flight. OPEN: the body isn't written behind the
-    // first return, and so not proved.
+    // Runs the next work-group of a kernel dispatch in flight, if one is left.
     pub(crate) fn run_kernel(
         &mut self,
         alloc: Global,
@@ -40,25 +41,47 @@ impl AccessCore {
         ensures { MeetsOrLacks (Event.RunNext queue packet) self.old self.new (as_variant Outcome.Worked result) }
     {
         let count = group_count(&dispatch);
-        if place.progress.groups_run >= count {
+        let group = place.progress.groups_run;
+        if group >= count {
             return Ok(Worked::Done);
         }
-        Err(Refusal::OutOfMemory)
+        match self.group_runs(alloc, queue, packet, place, dispatch) {
+            Ok(runs) => self.ran(alloc, queue, packet, place, count - (group + 1), runs),
+            Err(RunFault::Fault(fault)) => Ok(self.fault(queue, packet, place, group, fault)),
+            Err(RunFault::OutOfMemory) => Err(Refusal::OutOfMemory),
+        }
     }
 
-    // The rights that a packet in flight holds on a region.
-    fn rights_on(
+    // What the next group of a kernel dispatch in flight writes, or why it leaves nothing.
+    fn group_runs(
         &self,
+        alloc: Global,
         queue: QueueId,
         packet: PacketId,
-        client: ClientId,
-        region: RegionHandle,
-    ) -> Rights
-        requires { IsHolder self.now queue packet client }
-        ensures { result ≡ rights_held (packet_rights self.now.start self.now.entries queue packet) (object.Region region) }
+        place: Place,
+        dispatch: KernelDispatch,
+    ) -> Result<Sequence<Run>, RunFault>
+        requires found { IsInPlace self.now queue packet place }
+        requires packet_is { place.packet ≡ kind.Kernel dispatch }
+        requires left { place.progress.groups_run < groups_of (kind.Kernel dispatch) }
+        ensures ok { IfOk result (λ runs. next_result self.now queue packet place dispatch ≡ wrote runs) }
+        ensures fault { IfErr result (FaultsAs (next_result self.now queue packet place dispatch)) }
+        ensures written { IfOk result (λ runs. All (λ run. is_within (region_lengths self.now.start) run.address (length run.bytes) ≡ true) runs) }
     {
-        self.grants
-            .rights_held(queue, packet, client, Object::Region(region))
+        groups_read_where_they_may();
+        self.regions_fit();
+        let client = self.holder_of(queue, packet, place);
+        let view = self.view(alloc, queue, packet, client)?;
+        let kernel = kernel_at(self.kernels.as_slice(), dispatch.kernel_object);
+        let asked = Dispatch {
+            kernel: kernel.entry,
+            group_size: group_size(&dispatch),
+            grid_size: grid_size(&dispatch),
+            group_segment_size: dispatch.group_segment_size,
+            arguments: self.blocks.get(queue, packet),
+        };
+        let group = place.progress.groups_run;
+        run_group(alloc, &kernel.checked, &asked, group, view.as_slice())
     }
 
     // Takes a packet in flight out of it whose group broke a rule: its queue has an error more, which
@@ -71,9 +94,9 @@ impl AccessCore {
         group: u32,
         fault: ItemFault,
     ) -> Worked
-        requires may { due self.old (Event.RunNext queue packet)
-            ≡ fault_owed (group_error queue packet group fault.item fault.line fault.rule) }
         requires found { IsInPlace self.old queue packet place }
+        requires owed { owed self.old.start self.old.entries (Event.RunNext queue packet)
+            ≡ fault_owed (group_error queue packet group fault.item fault.line fault.rule) }
         ensures { Meets (Event.RunNext queue packet) self.old self.new (Ok (Outcome.Worked result)) }
     {
         let error = QueueError {
@@ -94,6 +117,28 @@ impl AccessCore {
         let effects = Effects::one(Effect::Release { queue, packet });
         enter(&mut self.audit, event, Outcome::Worked(worked), effects);
         worked
+    }
+}
+
+// The size of a kernel dispatch's work-groups, in each dimension.
+fn group_size(dispatch: &KernelDispatch) -> Extent
+    ensures { result ≡ group_size dispatch.now }
+{
+    Extent {
+        x: dispatch.workgroup_size_x as u32,
+        y: dispatch.workgroup_size_y as u32,
+        z: dispatch.workgroup_size_z as u32,
+    }
+}
+
+// The size of its grid, in each dimension.
+fn grid_size(dispatch: &KernelDispatch) -> Extent
+    ensures { result ≡ grid_size dispatch.now }
+{
+    Extent {
+        x: dispatch.grid_size_x,
+        y: dispatch.grid_size_y,
+        z: dispatch.grid_size_z,
     }
 }
 

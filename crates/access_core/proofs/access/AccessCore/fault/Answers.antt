@@ -2,8 +2,10 @@
 use Rattle.std.proofs.Common.{arith, ◌++◌, refl, [], ◌∷◌}
 use Rattle.core_model.specs.declared.outcome.Worked.TheVariants.{Faulted}
 use Rattle.core_model.specs.Owed.{group_error}
+use Rattle.access_core.proofs.Calls.{met-entry}
 use Rattle.access_core.proofs.HeldAfter.{grants-released}
 use Rattle.access_core.proofs.CachedMore.{IsCached-more, has_place, memory-still}
+use Rattle.access_core.proofs.KernelLemmas.{fault-due}
 use Rattle.access_core.proofs.QueueAt.{flight-released}
 use Rattle.access_core.proofs.TakeLemmas.{is-open, open-of}
 use Rattle.access_core.proofs.WorkLemmas.{fault-releases, can-fail, freed-below, place-inside, queues-released, sound-failed}
@@ -29,7 +31,9 @@ overflow_sub-self c =
     rw c.fail_packet.ensures.freed below
 
 pub enter-requires : goal.enter-requires
-enter-requires c = has_place c.self.inside c.self.invariant _ c.self.view_is _ _ _ c.requires.may
+enter-requires c =
+    let is = fault-due c.self.inside c.self.invariant _ c.self.view_is c.args.queue c.args.packet c.args.place c.requires.found _ c.requires.owed in
+    has_place c.self.inside c.self.invariant _ c.self.view_is _ _ _ is
 
 pub invariant_of-self : goal.invariant_of-self
 invariant_of-self c =
@@ -49,4 +53,11 @@ invariant_of-self c =
       queues = rw (c.fail_packet.ensures.queues, c.fail_packet.ensures.freed) (queues-released a c.self.invariant c.args.queue c.args.packet _ _ _ is refl at (with_failure c.args.packet error) (failed error c.args.packet)
           refl (sound-failed a c.self.invariant c.args.queue c.args.packet at error found.flying found.found) refl (λ m v. grind arith));
     })
-    _ c.self.view_is c.requires.may
+    _ c.self.view_is (fault-due a c.self.invariant _ c.self.view_is c.args.queue c.args.packet c.args.place c.requires.found error c.requires.owed)
+
+pub returns : goal.returns
+returns c =
+    let error = group_error c.args.queue c.args.packet c.args.group c.args.fault.item c.args.fault.line c.args.fault.rule in
+    met-entry c.self.inside _ c.self.view_is (RunNext c.args.queue c.args.packet) (outcome.Worked (Faulted error)) (effect.Release c.args.queue c.args.packet ∷ []) _
+    (fault-due c.self.inside c.self.invariant _ c.self.view_is c.args.queue c.args.packet c.args.place c.requires.found error c.requires.owed)
+    (rw c.one-effects.ensures at c.enter.ensures.items)

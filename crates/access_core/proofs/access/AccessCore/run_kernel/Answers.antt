@@ -1,17 +1,20 @@
--- Where all groups ran, nothing is left to do.
-use Rattle.std.proofs.Common.{◌≡◌, ◌∙◌, ap, refl, rules, true, inl, nat_le}
+-- Where all groups ran nothing is left to do; else the next is owed what it comes to.
+use Rattle.std.proofs.Common.{◌≡◌, ◌∙◌, ◌+◌, ◌-◌, ℕ, ap, map, refl, subst, sym, rules, true, false, inl, inr, nat_le}
 use Rattle.aql_packet.specs.declared.packet.Packet.TheVariants as packet
-use Rattle.core_model.specs.declared.outcome.Worked.TheVariants.{Done}
-use Rattle.core_model.specs.Owed.{owed}
-use Rattle.core_model.specs.Work.{groups_of}
+use Rattle.executor.specs.Results.{broke_rule}
+use Rattle.executor.specs.declared.fault.ItemFault.{ItemFault}
+use Rattle.core_model.specs.declared.outcome.Worked.TheVariants.{Done, Ran}
+use Rattle.core_model.specs.Owed.{group_error, group_owed}
+use Rattle.core_model.specs.Work.{groups_of, write_of_run}
+use Rattle.access_core.specs.inner.Running.{FaultsAs, fault_owed, next_result}
 use Rattle.access_core.proofs.Calls.{due-as}
-use Rattle.access_core.proofs.KernelLemmas.{kernel-owed}
-use Rattle.access_core.proofs.Terms.{RunNext, answers, due}
+use Rattle.access_core.proofs.KernelLemmas.{group-lacks, kernel-owed}
+use Rattle.access_core.proofs.Terms.{RunNext, answers, due, enters}
 use Rattle.core_model.specs.declared.outcome.Outcome.TheVariants as outcome
 use Rattle.access_core.proofs.access.AccessCore.run_kernel.Goals as goal
 
-pub returns-then-place-count : goal.returns-then-place-count
-returns-then-place-count c =
+pub returns-then-group-count : goal.returns-then-group-count
+returns-then-group-count c =
     let h = c.args.self.now in
     let reached : nat_le c.group_count-count.result c.args.place.progress.groups_run ≡ true = search rules in
     let ran : nat_le (groups_of (packet.Kernel c.args.dispatch)) c.args.place.progress.groups_run ≡ true = rw (← c.group_count-count.ensures) reached in
@@ -19,5 +22,40 @@ returns-then-place-count c =
     due-as h (RunNext c.args.queue c.args.packet) (answers (outcome.Worked Done)) (kernel-owed h c.args.queue c.args.packet c.args.place c.requires.found c.args.dispatch c.requires.packet_is true ran) in
     inl (record { reply_is = rw is refl; history_is = rw is refl })
 
-pub returns : goal.returns
-returns c = ?
+pub ran-requires-clause-owed : goal.ran-requires-clause-owed
+ran-requires-clause-owed c =
+    let h = c.args.self.now in
+    let d = c.args.dispatch in
+    let group = c.args.place.progress.groups_run in
+    let left : nat_le c.group_count-count.result group ≡ false = search rules in
+    let ran : nat_le (groups_of (packet.Kernel d)) group ≡ false = rw (← c.group_count-count.ensures) left in
+    kernel-owed h c.args.queue c.args.packet c.args.place c.requires.found d c.requires.packet_is false ran
+    ∙ ap (group_owed c.args.queue c.args.packet d group) c.in-Ok.ensures.ok
+    ∙ ap (λ (count : ℕ). enters (outcome.Worked (Ran group (count - (group + 1)))) (map write_of_run c.in-Ok.runs)) (sym c.group_count-count.ensures)
+
+pub fault-requires-clause-owed : goal.fault-requires-clause-owed
+fault-requires-clause-owed c =
+    let h = c.args.self.now in
+    let d = c.args.dispatch in
+    let group = c.args.place.progress.groups_run in
+    let left : nat_le c.group_count-count.result group ≡ false = search rules in
+    let ran : nat_le (groups_of (packet.Kernel d)) group ≡ false = rw (← c.group_count-count.ensures) left in
+    let came : next_result h c.args.queue c.args.packet c.args.place d ≡ broke_rule c.in-Err-Fault.fault.item c.in-Err-Fault.fault.line c.in-Err-Fault.fault.rule =
+    subst (FaultsAs (next_result h c.args.queue c.args.packet c.args.place d)) c.in-Err-Fault.field-0-is c.in-Err-Fault.ensures.fault in
+    kernel-owed h c.args.queue c.args.packet c.args.place c.requires.found d c.requires.packet_is false ran
+    ∙ ap (group_owed c.args.queue c.args.packet d group) came
+    ∙ ap (λ (f : ItemFault). fault_owed (group_error c.args.queue c.args.packet group f.item f.line f.rule)) (sym c.in-Err-Fault.fault-is)
+
+pub returns-in-Err-OutOfMemory : goal.returns-in-Err-OutOfMemory
+returns-in-Err-OutOfMemory c =
+    let h = c.args.self.now in
+    let d = c.args.dispatch in
+    let group = c.args.place.progress.groups_run in
+    let left : nat_le c.group_count-count.result group ≡ false = search rules in
+    let ran : nat_le (groups_of (packet.Kernel d)) group ≡ false = rw (← c.group_count-count.ensures) left in
+    inr (record {
+      may = group-lacks h c.args.queue c.args.packet d group (next_result h c.args.queue c.args.packet c.args.place d)
+          (kernel-owed h c.args.queue c.args.packet c.args.place c.requires.found d c.requires.packet_is false ran);
+      reply_is = refl;
+      history_is = refl;
+    })

@@ -1,0 +1,157 @@
+-- Groups of kernel dispatches in flight: that they can be run, and that what they come to is what the history says.
+use Rattle.std.proofs.Common.{◌≡◌, ℕ, ◌-◌, ◌<◌, ◌≤◌, List, length, get_or, refl, sym, ◌∙◌, ap, subst, Bool, true, Option, Some, None, arith, All, map, option_map, slice_get, ◌==◌}
+use Rattle.std.specs.Option.{unwrap_or}
+use Rattle.std.proofs.lemmas.Bool.{and_parts, eqb-true, ltb-true}
+use Rattle.std.proofs.lemmas.List.Elements.{All-weaker}
+use Rattle.std.proofs.lemmas.Option.{get_or_from_slice_get, slice_get-get_or, slice_get_within}
+use Rattle.aql_packet.specs.declared.packet.KernelDispatch.{KernelDispatch}
+use Rattle.aql_packet.specs.declared.packet.Packet.TheVariants as packet
+use Rattle.executor.specs.Items.{LentRegion, lent_region}
+use Rattle.executor.specs.Laws.{AreLentAlike}
+use Rattle.executor.specs.Results.{FailsAs, GroupResult, group_result, wrote}
+use Rattle.executor.specs.Runs.{GroupInput, IsRunnable, input_of}
+use Rattle.executor.specs.declared.dispatch.Dispatch.{Dispatch}
+use Rattle.executor.specs.declared.fault.RunFault.{RunFault}
+use Rattle.executor.specs.declared.fault.RunFault.TheVariants.{Fault, OutOfMemory}
+use Rattle.executor.specs.declared.run.Run.{Run}
+use Rattle.executor.specs.declared.view.HeldRegion.{HeldRegion}
+use Rattle.kernel_check.specs.Programs.{Program, group_bytes_of}
+use Rattle.core_model.proofs.Lists.{found-all, found-passes}
+use Rattle.core_model.proofs.Viewing.{IsWithinGrant, runs-granted}
+use Rattle.core_model.specs.Grants.{in_force}
+use Rattle.core_model.specs.Headline.{HoldsInForce}
+use Rattle.core_model.specs.Holds.{arguments, packet_rights}
+use Rattle.core_model.specs.Kernels.{grid_size, group_size, kernel_of, no_kernel}
+use Rattle.core_model.specs.View.{given, group_input}
+use Rattle.core_model.specs.Work.{groups_of}
+use Rattle.access_core.specs.ArgumentBlocks.{block_of}
+use Rattle.access_core.specs.Opening.{IsNumber, has_entry, program_of}
+use Rattle.access_core.specs.declared.kernel.Kernel.{Kernel}
+use Rattle.access_core.specs.inner.Running.{FaultsAs, view_whole}
+use Rattle.access_core.proofs.GroupLemmas.{CanRun, can-run, launch-of}
+use Rattle.access_core.proofs.KernelLemmas.{views-alike}
+use Rattle.access_core.proofs.Terms.{History, InFlight, Inside, IsCached, IsInPlace, IsLegal, PacketId, Place, QueueId, are_region_lengths, flight, history_of, is_packet, is_within}
+use Rattle.access_core.proofs.Terms.{numbered, numbered-map, region_lengths, start_of}
+
+-- what is known of all of a list is known of the one of a number
+numbered-all : {X : Type 0} (P : X → Type 0) (xs : List X) (n : ℕ) (x : X) → All P xs → numbered xs n ≡ Some x → P x
+numbered-all P xs n x all found =
+    let at : slice_get xs (n - 1) ≡ Some x = grind arith in
+    subst P (get_or_from_slice_get xs (n - 1) x x at) (all (n - 1) x (slice_get_within xs (n - 1) x at))
+
+-- the program at a kernel's index
+abbrev pub program_at : Kernel → Program
+program_at k = get_or k.checked k.entry no_kernel
+
+-- what a group comes to depends on the bytes of regions with READ alone
+abbrev pub ReadsWhereItMay : Type 0
+ReadsWhereItMay = (input : GroupInput) (others : List LentRegion) → AreLentAlike input.view others → group_result input ≡ group_result (record input { view = others })
+
+-- what is said of a fault is said of what the history says
+pub faults-as : (i : GroupInput) (came : GroupResult) → came ≡ group_result i → (why : RunFault) → FailsAs i why → FaultsAs came why
+faults-as i came is OutOfMemory fails = tt
+faults-as i came is (Fault f) fails = is ∙ fails.1
+
+-- What the executor is asked to run is what a dispatch asks for, with this argument block.
+pub record IsAsked (asked : Dispatch) (d : KernelDispatch) (block : List ℕ) : Type 0 where
+  pub group_size_is : asked.group_size ≡ group_size d
+  pub grid_size_is : asked.grid_size ≡ grid_size d
+  pub segment_is : asked.group_segment_size ≡ d.group_segment_size
+  pub arguments_are : asked.arguments.now ≡ block
+
+module _ (a : Inside) (kept : IsCached a) (old : History) (seen_as : history_of a ≡ old) (queue : QueueId) (id : PacketId) (place : Place) (found : IsInPlace old queue id place) (d : KernelDispatch) (is : place.packet ≡ packet.Kernel d) where
+  legal : IsLegal old.start old.entries
+  legal = subst (λ (h : History). IsLegal h.start h.entries) seen_as kept.legal
+
+  pub can : CanRun old.start old.entries queue id d
+  can = can-run old.start old.entries legal queue id found.flying found.found d (found.packet_is ∙ is)
+
+  -- the packet that was found has the queue and the id
+  named : (found.flying.queue ≡ queue) × (found.flying.id ≡ id)
+  named =
+      let both = and_parts (found.flying.queue.0 == queue.0) (found.flying.id.0 == id.0) (found-passes (is_packet queue id) (flight old.start old.entries) found.flying found.found) in
+      (ap (λ n. record { 0 = n }) (eqb-true _ _ both.0), ap (λ n. record { 0 = n }) (eqb-true _ _ both.1))
+
+  kernels-are : (n : ℕ) → numbered old.start.kernels n ≡ option_map program_of (numbered a.kernels.items n)
+  kernels-are n = ap (λ (h : History). numbered h.start.kernels n) (sym seen_as) ∙ numbered-map program_of a.kernels.items n
+
+  -- the kernel that it names is there
+  pub kernel-there : IsNumber a.kernels.items d.kernel_object.0
+  kernel-there = by_found (numbered a.kernels.items d.kernel_object.0) refl
+    where
+      by_found : (o : Option Kernel) → numbered a.kernels.items d.kernel_object.0 ≡ o → IsNumber a.kernels.items d.kernel_object.0
+      by_found None none =
+          let missing : numbered old.start.kernels d.kernel_object.0 ≡ None = kernels-are d.kernel_object.0 ∙ ap (option_map program_of) none in
+          let known = can.kernel_is in
+          absurd cc
+      by_found (Some k) some = (k, some)
+
+  module _ (k : Kernel) (at : numbered a.kernels.items d.kernel_object.0 ≡ Some k) where
+    pub entry-there : has_entry k ≡ true
+    entry-there = numbered-all (λ kernel. has_entry kernel ≡ true) a.kernels.items d.kernel_object.0 k kept.entries at
+
+    pub entry-below : k.entry < length k.checked
+    entry-below = ltb-true _ _ entry-there
+
+    -- and so is its program
+    pub program-there : slice_get k.checked k.entry ≡ Some (program_at k)
+    program-there = slice_get-get_or k.checked k.entry no_kernel entry-below
+
+    pub program-is : (p : Program) → slice_get k.checked k.entry ≡ Some p → p ≡ kernel_of old.start d
+    program-is p here = sym (ap (λ o. unwrap_or o no_kernel) (kernels-are d.kernel_object.0 ∙ ap (option_map program_of) at) ∙ ap (λ o. unwrap_or o no_kernel) here)
+
+  -- its argument block is as it was at its launch
+  pub block-is : block_of a.blocks queue id ≡ arguments old.start old.entries queue id
+  block-is =
+      let blocks = subst (λ (h : History). All (λ f. block_of a.blocks f.queue f.id ≡ arguments h.start h.entries f.queue f.id) (flight h.start h.entries)) seen_as kept.arguments in
+      let of_flying = found-all (λ (f : InFlight). block_of a.blocks f.queue f.id ≡ arguments old.start old.entries f.queue f.id) (is_packet queue id) (flight old.start old.entries) found.flying blocks found.found in
+      (λ i. block_of a.blocks (sym named.0 i) (sym named.1 i)) ∙ of_flying ∙ (λ i. arguments old.start old.entries (named.0 i) (named.1 i))
+
+  module _ (asked : Dispatch) (asks : IsAsked asked d (arguments old.start old.entries queue id)) (p : Program) (p_is : p ≡ kernel_of old.start d) (group : ℕ) where
+    -- the executor can run it
+    pub runnable : group < groups_of (packet.Kernel d) → IsRunnable p asked group
+    runnable below =
+        let kernel : p ≡ can.kernel = p_is ∙ ap (λ o. unwrap_or o no_kernel) can.kernel_is in
+        record {
+          arguments = ap length asks.arguments_are ∙ can.block_long ∙ ap (λ (k : Program). k.argument_bytes) (sym kernel);
+          sizes = record {
+            some_x = rw asks.group_size_is can.sizes.some_x;
+            some_y = rw asks.group_size_is can.sizes.some_y;
+            some_z = rw asks.group_size_is can.sizes.some_z;
+            fits_x = rw (asks.group_size_is, asks.grid_size_is) can.sizes.fits_x;
+            fits_y = rw (asks.group_size_is, asks.grid_size_is) can.sizes.fits_y;
+            fits_z = rw (asks.group_size_is, asks.grid_size_is) can.sizes.fits_z;
+            few_items = rw asks.group_size_is can.sizes.few_items;
+            few_groups = rw (asks.group_size_is, asks.grid_size_is) can.sizes.few_groups;
+          };
+          one_of_them = rw (asks.group_size_is, asks.grid_size_is) below;
+          segment = subst (λ (n : ℕ). n ≤ asked.group_segment_size) (ap group_bytes_of (sym kernel)) (rw asks.segment_is can.segment);
+          segment_limit = rw asks.segment_is can.segment_limit;
+        }
+
+    -- what it comes to is what the history says
+    pub result-is : ReadsWhereItMay → (view : List HeldRegion) → map lent_region view ≡ view_whole old.start old.entries (packet_rights old.start old.entries queue id)
+        → group_result (group_input old.start old.entries (given old.start old.entries queue id) d group) ≡ group_result (input_of p asked group view)
+    result-is law view view_is =
+        law (group_input old.start old.entries (given old.start old.entries queue id) d group) (view_whole old.start old.entries (packet_rights old.start old.entries queue id))
+        (views-alike old.start old.entries (packet_rights old.start old.entries queue id))
+        ∙ (λ i. group_result (record {
+          program = sym p_is i;
+          group_size = sym asks.group_size_is i;
+          grid_size = sym asks.grid_size_is i;
+          group_segment_size = sym asks.segment_is i;
+          arguments = sym asks.arguments_are i;
+          view = sym view_is i;
+          group = group;
+        }))
+
+  -- each run that it writes lies whole in a region
+  pub runs-within : are_region_lengths (region_lengths old.start) ≡ true → (group : ℕ) (runs : List Run) → group_result (group_input old.start old.entries (given old.start old.entries queue id) d group) ≡ wrote runs
+      → All (λ (run : Run). is_within (region_lengths old.start) run.address (length run.bytes) ≡ true) runs
+  runs-within fit group runs came =
+      let launch : HoldsInForce old.start old.entries found.flying = launch-of old.start old.entries legal queue id found.flying found.found in
+      let client = launch.launch.opening.client in
+      let granted : All (λ h. in_force old.start old.entries client h.0 h.1 ≡ true) (packet_rights old.start old.entries queue id) =
+      subst (λ hs. All (λ h. in_force old.start old.entries client h.0 h.1 ≡ true) hs) (λ i. packet_rights old.start old.entries (named.0 i) (named.1 i)) launch.holds in
+      All-weaker (IsWithinGrant old.start old.entries client) (λ (run : Run). is_within (region_lengths old.start) run.address (length run.bytes) ≡ true) (λ run within. within.1.lies_whole) runs
+      (runs-granted old.start old.entries old.entries client (given old.start old.entries queue id) d group fit granted runs came)

@@ -1,0 +1,102 @@
+-- The regions that a packet in flight holds, as they are lent one after another.
+use Rattle.std.proofs.Common.{◌≡◌, ℕ, zero, suc, ◌+◌, ◌*◌, ◌/◌, ◌%◌, ◌^◌, ◌<◌, ◌≤◌, List, [], ◌∷◌, ◌++◌, length, get_or, refl, sym, ◌∙◌, ap, subst, Bool, true, false, Option, Some, None, arith, append_assoc, if◌then◌else◌}
+use Rattle.std.proofs.Common.{map, filter, not, ◌==◌, ◌&&◌, nat_le, nat_lt, cond, option_map, option_to_list}
+use Rattle.std.specs.List.{list_all, range_with_len, zip}
+use Rattle.std.proofs.lemmas.Bool.{and_parts, leb-true}
+use Rattle.std.proofs.lemmas.Bool.Decides.{nat_tests}
+use Rattle.std.proofs.lemmas.List.{length-append, map-append}
+use Rattle.std.proofs.lemmas.List.FromFn.{filter_of_map_range_with_len_more}
+use Rattle.executor.specs.Items.{LentRegion, lent_region}
+use Rattle.executor.specs.declared.view.HeldRegion.{HeldRegion as Borrowed}
+use Rattle.aql_packet.specs.Memory.{is_region_length}
+use Rattle.regions.specs.Memory.{region_length}
+use Rattle.core_model.specs.View.{HeldRegion, held_region, rights_held}
+use Rattle.access_core.specs.inner.Running.{lent_if_held, lent_whole, region_numbered, view_whole}
+use Rattle.access_core.proofs.Terms.{Entry, ObjectRight, Rights, Start, are_region_lengths, is_within, memory_from, region_lengths, region_of}
+use Rattle.policy.specs.declared.object.Object.TheVariants as object
+
+-- ---- lengths of regions
+
+some-at : (lengths : List ℕ) → list_all is_region_length lengths ≡ true → (k : ℕ) → k < length lengths → 0 < get_or lengths k 0
+some-at [] all k below = absurd (omega arith)
+some-at (x ∷ xs) all zero below =
+    let both = and_parts (is_region_length x) (list_all is_region_length xs) all in
+    let least : 1 ≤ x = leb-true 1 x (and_parts (nat_le 1 x) _ both.0).0 in
+    omega (arith, least)
+some-at (x ∷ xs) all (suc k) below = some-at xs (and_parts (is_region_length x) (list_all is_region_length xs) all).1 k (omega (arith, below))
+
+-- each region that there is has bytes
+pub has-bytes : (lengths : List ℕ) → are_region_lengths lengths ≡ true → (k : ℕ) → k < length lengths → 0 < region_length lengths (k + 1)
+has-bytes lengths fit k below =
+    let place : k + 1 ≡ suc k = omega arith in
+    subst (λ n. 0 < region_length lengths n) (sym place) (some-at lengths (and_parts (nat_le (length lengths) 64) _ fit).1 k below)
+
+-- the bytes of a whole region lie within it
+pub whole-within : (lengths : List ℕ) (number size : ℕ) → size ≡ region_length lengths number → 0 < region_length lengths number → is_within lengths (number * 2 ^ 32) size ≡ true
+whole-within lengths number size is some =
+    let which : region_of (number * 2 ^ 32) ≡ number = omega arith in
+    let first : (number * 2 ^ 32) % 2 ^ 32 ≡ 0 = omega arith in
+    let at : region_length lengths (region_of (number * 2 ^ 32)) ≡ size = ap (region_length lengths) which ∙ sym is in
+    let above : 0 < size = omega (arith, is, some) in
+    let holds : (nat_lt 0 size && nat_le (0 + size) size) ≡ true = grind (arith, nat_tests, above) in
+    rw (at, first) holds
+
+-- ---- regions by number
+
+at-length : (pre xs : List ℕ) (x : ℕ) → get_or (pre ++ x ∷ xs) (length pre) 0 ≡ x
+at-length [] xs x = refl
+at-length (y ∷ pre) xs x = at-length pre xs x
+
+rows-are : (f : ℕ × ℕ → HeldRegion) (pre xs : List ℕ) (k : ℕ) → length pre ≡ k → map f (zip (range_with_len k (length xs)) xs) ≡ map (λ n. f (n, get_or (pre ++ xs) n 0)) (range_with_len k (length xs))
+rows-are f pre [] k is = refl
+rows-are f pre (x ∷ xs) k is =
+    let long : length (pre ++ x ∷ []) ≡ k + 1 = omega (arith, length-append pre (x ∷ []), is) in
+    let here : get_or (pre ++ x ∷ xs) k 0 ≡ x = subst (λ n. get_or (pre ++ x ∷ xs) n 0 ≡ x) is (at-length pre xs x) in
+    let rest = rows-are f (pre ++ x ∷ []) xs (k + 1) long in
+    let same : (pre ++ x ∷ []) ++ xs ≡ pre ++ x ∷ xs = append_assoc pre (x ∷ []) xs in
+    let more = rest ∙ ap (λ (all : List ℕ). map (λ n. f (n, get_or all n 0)) (range_with_len (k + 1) (length xs))) same in
+    λ i. f (k, sym here i) ∷ more i
+
+module _ (start : Start) (es : List Entry) (all : List ObjectRight) where
+  -- so many regions, those of them that are held, as they are lent
+  abbrev pub lent_so_far : ℕ → List LentRegion
+  lent_so_far count = map (lent_whole start es) (filter (λ region. not (region.rights.0 == 0)) (map (region_numbered start all) (range_with_len 1 count)))
+
+  -- the next region is lent behind the others, if it is held
+  pub lent-next : (count : ℕ) → lent_so_far (count + 1) ≡ lent_so_far count ++ option_to_list (lent_if_held start es (region_numbered start all (count + 1)))
+  lent-next count =
+      let next : HeldRegion = region_numbered start all (count + 1) in
+      let held : HeldRegion → Bool = λ region. not (region.rights.0 == 0) in
+      let before = filter (λ (region : HeldRegion). not (region.rights.0 == 0)) (map (region_numbered start all) (range_with_len 1 count)) in
+      ap (map (lent_whole start es)) (filter_of_map_range_with_len_more (λ (region : HeldRegion). not (region.rights.0 == 0)) (region_numbered start all) 1 count (count + 1) (omega arith))
+      ∙ map-append (lent_whole start es) before (cond (not (next.rights.0 == 0)) (next ∷ []) [])
+      ∙ ap (λ xs. map (lent_whole start es) before ++ xs) (by_test next (next.rights.0 == 0) refl)
+    where
+      by_test : (region : HeldRegion) (b : Bool) → (region.rights.0 == 0) ≡ b → map (lent_whole start es) (cond (not (region.rights.0 == 0)) (region ∷ []) []) ≡ option_to_list (lent_if_held start es region)
+      by_test region true is = rw is refl
+      by_test region false is = rw is refl
+
+  -- so it is behind those that were lent before
+  pub lent-behind : (count : ℕ) (before after : List Borrowed) (next : Option Borrowed) → map lent_region before ≡ lent_so_far count → option_map lent_region next ≡ lent_if_held start es (region_numbered start all (count + 1))
+      → after ≡ before ++ option_to_list next → map lent_region after ≡ lent_so_far (count + 1)
+  lent-behind count before after next are is behind =
+      ap (map lent_region) behind ∙ map-append lent_region before (option_to_list next) ∙ ap (λ xs. map lent_region before ++ xs) (one next)
+      ∙ (λ i. are i ++ option_to_list (is i)) ∙ sym (lent-next count)
+    where
+      one : (o : Option Borrowed) → map lent_region (option_to_list o) ≡ option_to_list (option_map lent_region o)
+      one None = refl
+      one (Some r) = refl
+
+  -- all regions are those that the history tells
+  pub lent-all : lent_so_far (length (region_lengths start)) ≡ view_whole start es all
+  lent-all =
+      ap (λ (regions : List HeldRegion). map (lent_whole start es) (filter (λ region. not (region.rights.0 == 0)) regions))
+      (sym (rows-are (held_region all) (0 ∷ []) (region_lengths start) 1 refl))
+
+  -- a region that is held, with its bytes, is lent so
+  pub lent-held : (number : ℕ) (rights : Rights) (bytes : List ℕ) → rights ≡ rights_held all (object.Region (record { 0 = number })) → (rights.0 == 0) ≡ false
+      → bytes ≡ memory_from start es (number * 2 ^ 32) (region_length (region_lengths start) number) → Some (record { number = number; rights = rights; bytes = bytes }) ≡ lent_if_held start es (region_numbered start all number)
+  lent-held number rights bytes are some is =
+      let known : ((rights_held all (object.Region (record { 0 = number }))).0 == 0) ≡ false = ap (λ (r : Rights). r.0 == 0) (sym are) ∙ some in
+      let there : Some (record { number = number; rights = rights; bytes = bytes }) ≡ Some (lent_whole start es (region_numbered start all number)) = λ i. Some (record { number = number; rights = are i; bytes = is i }) in
+      there ∙ sym (ap (λ (b : Bool). if b then None else Some (lent_whole start es (region_numbered start all number))) known)

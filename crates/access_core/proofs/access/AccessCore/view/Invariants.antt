@@ -1,0 +1,10 @@
+-- so many regions were lent, where they are held
+use Rattle.std.proofs.Common.{◌≡◌, map}
+use Rattle.executor.specs.Items.{lent_region}
+use Rattle.core_model.specs.Holds.{packet_rights}
+use Rattle.access_core.proofs.LendingLemmas.{lent_so_far}
+use Rattle.access_core.proofs.access.AccessCore.view.Given as goal
+
+abbrev pub invariant-loop-before : goal.invariant-loop-before
+invariant-loop-before l =
+    map lent_region l.view.items ≡ lent_so_far l.self.start l.self.entries (packet_rights l.self.start l.self.entries l.queue l.packet) l.before
