@@ -8,7 +8,8 @@ use Rattle.std.proofs.lemmas.List.{length-append, map-append}
 use Rattle.std.proofs.lemmas.List.FromFn.{filter_of_map_range_with_len_more}
 use Rattle.executor.specs.Items.{LentRegion, lent_region}
 use Rattle.executor.specs.declared.view.HeldRegion.{HeldRegion as Borrowed}
-use Rattle.regions.specs.Memory.{is_region_length, region_length}
+use Rattle.aql_packet.specs.Memory.{is_region_length}
+use Rattle.regions.specs.Memory.{region_length}
 use Rattle.core_model.specs.View.{HeldRegion, held_region, rights_held}
 use Rattle.access_core.specs.inner.Running.{lent_if_held, lent_whole, region_numbered, view_whole}
 use Rattle.access_core.proofs.Terms.{Entry, ObjectRight, Rights, Start, are_region_lengths, is_within, memory_from, region_lengths, region_of}

@@ -6,7 +6,8 @@ use Rattle.std.proofs.lemmas.List.Elements.{All-head, All-tail, filter-append}
 use Rattle.queue_error.specs.declared.rule.Rule.{Rule}
 use Rattle.core_model.specs.Flight.{same_packet, with_launched}
 use Rattle.access_core.proofs.Terms.{Denied, Effect, Entry, Event, InFlight, Launched, Outcome, Packet, PacketId, Place, Progress, QueueError, QueueId}
-use Rattle.access_core.proofs.Terms.{QueueView, Start, Take, as_launched, launch_progress, decoded, entry_of, error_without_place, error_of, errors-more, flight}
+use Rattle.core_model.specs.declared.flight.TheConstants.{LAUNCH_PROGRESS}
+use Rattle.access_core.proofs.Terms.{QueueView, Start, Take, as_launched, decoded, entry_of, error_without_place, error_of, errors, errors-more, flight}
 use Rattle.access_core.proofs.Terms.{flight-more, flight_after_effect, flight_of, hands_over_packet_of, is_packet, is_stopped-more, launched_by, next_id, next_id-more}
 use Rattle.access_core.proofs.Terms.{place_of, progress, progress-more, progress_after, queue_at, stops_queue, with_entry, with_error, with_progress, without}
 use Rattle.core_model.specs.declared.outcome.Outcome.TheVariants as outcome
@@ -187,14 +188,14 @@ module _ (start : Start) (es : List Entry) (q : QueueId) (id : PacketId) (bytes 
 
     -- its id is above those of the queue's other packets in flight, which stay as they are
     older : (m : QueueId) (fs : List InFlight) → All (λ (place : Place). place.id.0 < id.0) (map (place_of start es m) fs)
-        → map (λ f. record { id = f.id; packet = f.packet; progress = (if id.0 == f.id.0 then launch_progress else progress start es m f.id) }) fs
+        → map (λ f. record { id = f.id; packet = f.packet; progress = (if id.0 == f.id.0 then LAUNCH_PROGRESS else progress start es m f.id) }) fs
         ≡ map (place_of start es m) fs
     older m [] below = refl
     older m (f ∷ fs) below =
         let less : f.id.0 < id.0 = All-head (λ (place : Place). place.id.0 < id.0) (place_of start es m f) (map (place_of start es m) fs) below in
         let other : (id.0 == f.id.0) ≡ false = grind arith in
         let rest = older m fs (All-tail (λ (place : Place). place.id.0 < id.0) (place_of start es m f) (map (place_of start es m) fs) below) in
-        λ i. record { id = f.id; packet = f.packet; progress = (if other i then launch_progress else progress start es m f.id) } ∷ rest i
+        λ i. record { id = f.id; packet = f.packet; progress = (if other i then LAUNCH_PROGRESS else progress start es m f.id) } ∷ rest i
 
     pub queue_at-launched : All (λ (place : Place). place.id.0 < id.0) (queue_at start es q).places → (m : QueueId)
         → queue_at start (with_entry es (Take q id bytes) (outcome.Taken Launched) []) m
@@ -206,7 +207,7 @@ module _ (start : Start) (es : List Entry) (q : QueueId) (id : PacketId) (bytes 
         ∙ map-append (comes (q.0 == m.0)) (flight_of start es m) (filter (of_queue m.0) (new ∷ []))) ∙ either (q.0 == m.0) refl
       where
         comes : Bool → InFlight → Place
-        comes b f = record { id = f.id; packet = f.packet; progress = (if b && id.0 == f.id.0 then launch_progress else progress start es m f.id) }
+        comes b f = record { id = f.id; packet = f.packet; progress = (if b && id.0 == f.id.0 then LAUNCH_PROGRESS else progress start es m f.id) }
 
         either : (b : Bool) → (q.0 == m.0) ≡ b → record (queue_at start es m) {
           next = (if b then next_id start es m + 1 else next_id start es m);
@@ -219,6 +220,6 @@ module _ (start : Start) (es : List Entry) (q : QueueId) (id : PacketId) (bytes 
             λ i. record (queue_at start es m) {
               next = next_id start es m + 1;
               places = older m (flight_of start es m) all i
-                  ++ record { id = id; packet = p; progress = (if itself i then launch_progress else progress start es m id) } ∷ [];
+                  ++ record { id = id; packet = p; progress = (if itself i then LAUNCH_PROGRESS else progress start es m id) } ∷ [];
             }
         either false same = λ i. record (queue_at start es m) { places = append-nil (map (place_of start es m) (flight_of start es m)) i }

@@ -17,7 +17,8 @@ pub use Rattle.aql_packet.specs.declared.ids.QueueId.{QueueId}
 pub use Rattle.aql_packet.specs.declared.packet.Packet.{Packet}
 pub use Rattle.core_model.proofs.More.{errors-more, flight-more, in_force-more, is_stopped-more, memory_at-more, next_id-more, openings-more, progress-more}
 pub use Rattle.core_model.proofs.More.{signals-more, with_error, with_some}
-pub use Rattle.core_model.specs.Flight.{launch_progress, flight, flight_after, flight_after_effect, flight_of, in_flight, is_packet, launched_by, progress}
+pub use Rattle.core_model.specs.declared.flight.TheConstants.{LAUNCH_PROGRESS}
+pub use Rattle.core_model.specs.Flight.{flight, flight_after, flight_after_effect, flight_of, in_flight, is_packet, launched_by, progress}
 pub use Rattle.core_model.specs.Flight.{progress_after, seen_by_either}
 pub use Rattle.core_model.specs.Grants.{in_force, in_force_after}
 pub use Rattle.core_model.specs.History.{History, Start}

@@ -45,7 +45,8 @@ use Rattle.core_model.specs.History.{Start}
 use Rattle.core_model.specs.Grants.{in_force}
 use Rattle.core_model.specs.Memory.{region_lengths, signals}
 use Rattle.core_model.specs.Queues.{error_of, Opening, owner, openings, next_id, is_down, is_stopped}
-use Rattle.core_model.specs.Flight.{flight, flight_of, in_flight, is_packet, none_seen, progress, seen_by_either}
+use Rattle.core_model.specs.declared.outcome.TheConstants.{NONE_SEEN}
+use Rattle.core_model.specs.Flight.{flight, flight_of, in_flight, is_packet, progress, seen_by_either}
 use Rattle.core_model.specs.Holds.{holder}
 use Rattle.core_model.specs.declared.limits.TheConstants.{QUEUES}
 use Rattle.core_model.specs.Needs.{completion_signal}
@@ -288,7 +289,7 @@ module _ (start : Start) (es : List Entry) (told : Outcome) (effects : List Effe
       new : Seen
       new = newly_seen_positions (signals start es) f.packet satisfied
 
-      some_seen : (b : Bool) → error_of (sighting f.packet satisfied new) ≡ None → (if b then enters (sighting f.packet satisfied new) [] else answers (outcome.Polled (polled_as.Pending none_seen))) ≡ enters told effects → HasSeen queue id
+      some_seen : (b : Bool) → error_of (sighting f.packet satisfied new) ≡ None → (if b then enters (sighting f.packet satisfied new) [] else answers (outcome.Polled (polled_as.Pending NONE_SEEN))) ≡ enters told effects → HasSeen queue id
       some_seen true plain same = record { is_quiet = quiet (sighting f.packet satisfied new) plain same; flying = f; found = found; outcome_is = cc }
       some_seen false plain same = absurd cc
 
@@ -297,7 +298,7 @@ module _ (start : Start) (es : List Entry) (told : Outcome) (effects : List Effe
       either false = refl
 
       ready : (is negative : Bool) → list_any (is_negative (signals start es)) (seen_dependencies f.packet satisfied) ≡ negative →
-          (if is then answers (outcome.Polled (polled_as.Ready none_seen)) else if negative then enters (outcome.Polled (polled_as.Failed (error_without_place queue id.0 B1))) (effect.Release queue id ∷ []) else owed_sight f.packet satisfied new) ≡ enters told effects → HasSeen queue id ⊎ HasFailed queue id
+          (if is then answers (outcome.Polled (polled_as.Ready NONE_SEEN)) else if negative then enters (outcome.Polled (polled_as.Failed (error_without_place queue id.0 B1))) (effect.Release queue id ∷ []) else owed_sight f.packet satisfied new) ≡ enters told effects → HasSeen queue id ⊎ HasFailed queue id
       ready true negative looked same = absurd cc
       ready false true looked same = inr (record { flying = f; found = found; effects_are = cc; outcome_is = cc; negative = looked })
       ready false false looked same = inl (some_seen (list_any (λ at. at) new.0) (either (is_ready f.packet (seen_by_either satisfied new))) same)

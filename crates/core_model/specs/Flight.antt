@@ -15,6 +15,7 @@ use Rattle.core_model.specs.declared.outcome.Polled.TheVariants.{Pending, Ready}
 use Rattle.core_model.specs.declared.entry.Effect.{Effect}
 use Rattle.core_model.specs.declared.entry.Effect.TheVariants.{Release}
 use Rattle.core_model.specs.declared.entry.Entry.{Entry}
+use Rattle.core_model.specs.declared.flight.TheConstants.{LAUNCH_PROGRESS}
 use Rattle.core_model.specs.declared.flight.InFlight.{InFlight}
 use Rattle.core_model.specs.declared.flight.Progress.{Progress}
 use Rattle.core_model.specs.History.{Start, effects_of}
@@ -77,21 +78,13 @@ abbrev pub LawOfFlight : Type 0
 LawOfFlight = (start : Start) (entries : List Entry) (f : InFlight)
     → (Contains (flight start entries) f → WasLaunchedAndStays entries f) × (WasLaunchedAndStays entries f → Contains (flight start entries) f)
 
--- no position seen (own)
-abbrev pub none_seen : Seen
-none_seen = record { 0 = false ∷ false ∷ false ∷ false ∷ false ∷ [] }
-
 -- the positions seen by either (own)
 abbrev pub seen_by_either : Seen → Seen → Seen
 seen_by_either a b = record { 0 = map (λ pair. pair.0 || pair.1) (zip a.0 b.0) }
 
--- a packet as it is launched: no group has run, and no dependency was seen (own)
-abbrev pub launch_progress : Progress
-launch_progress = record { groups_run = 0; satisfied = none_seen }
-
 -- how far a packet has come after an event: one of its groups ran, or dependencies were seen (own)
 abbrev pub progress_after : QueueId → PacketId → Progress → Event → Outcome → Progress
-progress_after queue id p (Take q i _) (outcome.Taken Launched) = if same_packet queue id q i then launch_progress else p
+progress_after queue id p (Take q i _) (outcome.Taken Launched) = if same_packet queue id q i then LAUNCH_PROGRESS else p
 progress_after queue id p (RunNext q i) (outcome.Worked (Ran _ _)) = if same_packet queue id q i then record p { groups_run = p.groups_run + 1 } else p
 progress_after queue id p (Poll q i) (outcome.Polled (Pending seen)) = if same_packet queue id q i then record p { satisfied = seen_by_either p.satisfied seen } else p
 progress_after queue id p (Poll q i) (outcome.Polled (Ready seen)) = if same_packet queue id q i then record p { satisfied = seen_by_either p.satisfied seen } else p
@@ -99,4 +92,4 @@ progress_after queue id p _ _ = p
 
 -- how far a packet has come since its launch (own)
 unfoldable pub progress : Start → List Entry → QueueId → PacketId → Progress
-progress start entries queue id = fold (λ before entry. progress_after queue id before entry.event entry.outcome) launch_progress entries
+progress start entries queue id = fold (λ before entry. progress_after queue id before entry.event entry.outcome) LAUNCH_PROGRESS entries

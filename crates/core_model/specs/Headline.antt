@@ -8,7 +8,7 @@ use Rattle.aql_packet.specs.declared.ids.PacketId.{PacketId}
 use Rattle.aql_packet.specs.declared.ids.KernelObject.{KernelObject}
 use Rattle.aql_packet.specs.declared.ids.SignalHandle.{SignalHandle}
 use Rattle.aql_packet.specs.declared.packet.Packet.{Packet}
-use Rattle.aql_packet.specs.declared.packet.Packet.TheVariants.{Kernel, Agent, BarrierAnd, BarrierOr}
+use Rattle.aql_packet.specs.declared.packet.Packet.TheVariants.{Agent, Kernel}
 use Rattle.aql_packet.specs.Layout.{Are64Bytes, PacketOf}
 use Rattle.aql_packet.specs.Reading.{barrier_bit, decoded, packet_at, packet_type}
 use Rattle.regions.specs.Memory.{is_within, region_of}
@@ -51,7 +51,7 @@ use Rattle.core_model.specs.LaunchRules.{holds_rule, launch_rules, cause_to_wait
 use Rattle.core_model.specs.Work.{seen_dependencies, groups_of, is_negative, is_ready, newly_seen_positions}
 use Rattle.core_model.specs.Holds.{ObjectRight, arguments, arguments_of, packet_rights, rights_at_launch}
 use Rattle.core_model.specs.View.{HeldRegion, first_address, held_regions}
-use Rattle.core_model.specs.Owed.{signal_decrement, error_without_place, facts_of, is_finished}
+use Rattle.core_model.specs.Owed.{completion_of, error_without_place, facts_of, is_finished}
 use Rattle.core_model.specs.Legal.{IsLegal, entry_of}
 use Rattle.core_model.specs.Queries.{has_some_right}
 
@@ -77,10 +77,9 @@ MayUseSignal start entries client right signal = (signal.0 ≡ 0) ⊎ (in_force 
 
 -- the ranges that a function reads: COPY's source, and ADD64's number (own)
 abbrev pub ranges_read : Option AgentFunction → List Range
-ranges_read None = []
-ranges_read (Some (Fill target byte)) = []
 ranges_read (Some (Copy source target)) = source ∷ []
 ranges_read (Some (Add64 number addend)) = number ∷ []
+ranges_read _ = []
 
 -- the ranges that a function writes (own)
 abbrev pub ranges_written : Option AgentFunction → List Range
@@ -102,9 +101,7 @@ argument_ranges start _ = []
 -- the ranges that the function of a packet's dispatch reads (own)
 abbrev pub reads_of : Packet → List Range
 reads_of (Agent dispatch) = ranges_read (function_of dispatch)
-reads_of (Kernel _) = []
-reads_of (BarrierAnd _) = []
-reads_of (BarrierOr _) = []
+reads_of _ = []
 
 -- a held region as a range
 abbrev pub range_of : HeldRegion → Range
@@ -119,9 +116,7 @@ ranges_seen start packet_rights p = reads_of p
 -- the ranges that the function of a packet's dispatch writes, and its result (own)
 abbrev pub writes_of : Packet → List Range
 writes_of (Agent dispatch) = ranges_written (function_of dispatch) ++ result_range dispatch ∷ []
-writes_of (Kernel _) = []
-writes_of (BarrierAnd _) = []
-writes_of (BarrierOr _) = []
+writes_of _ = []
 
 -- each right that a packet works with is in force for the owner of its queue (own)
 pub record HasItsRights (start : Start) (entries : List Entry) (opening : Opening) (p : Packet) : Type 0 where
@@ -258,7 +253,7 @@ ReleaseIsDue start before event told _ = Unit {0}
 pub record IsCompleted (start : Start) (before : List Entry) (queue : QueueId) (id : PacketId) (effects : List Effect) : Type 0 where
   pub packet : InFlightSince start before queue id
   pub is_done : is_finished packet.flying.packet (progress start before queue id) ≡ true
-  pub effects_are : effects ≡ signal_decrement (signals start before) (completion_signal packet.flying.packet) ++ effect.Release queue id ∷ []
+  pub effects_are : effects ≡ completion_of (signals start before) queue id packet.flying.packet
 
 -- what a poll of a barrier packet tells, by the signals just before and by what polls since its launch have seen: it failed where a
 -- dependency still looked at is negative; else it saw those that are 0, and is ready where they suffice with those seen before (own)

@@ -1,7 +1,7 @@
 -- What each event is owed: its refusal, or its outcome with the changes that it makes. It is a function of the history alone.
-use Rattle.std.specs.Prelude.{ℕ, ℤ, pos, ◌+◌, ◌-◌, ◌==◌, ◌&&◌, Bool, false, nat_le, List, [], ◌∷◌, ◌++◌, length, Option, Some, None, if◌then◌else◌, map, find, option_map}
+use Rattle.std.specs.Prelude.{ℕ, ℤ, pos, ◌+◌, ◌-◌, ◌==◌, ◌&&◌, Bool, nat_le, List, [], ◌∷◌, ◌++◌, length, Option, Some, None, if◌then◌else◌, map, find, option_map}
 use Rattle.std.specs.List.{list_any}
-use Rattle.std.specs.Option.{option_map_or}
+use Rattle.std.specs.Option.{unwrap_or}
 use Rattle.aql_packet.specs.declared.ids.QueueId.{QueueId}
 use Rattle.aql_packet.specs.declared.ids.PacketId.{PacketId}
 use Rattle.aql_packet.specs.declared.ids.SignalHandle.{SignalHandle}
@@ -17,7 +17,7 @@ use Rattle.signals.specs.declared.operation.SignalOp.{SignalOp}
 use Rattle.signals.specs.declared.operation.SignalOp.TheVariants as op
 use Rattle.policy.specs.declared.object.Object.TheVariants as object
 use Rattle.policy.specs.declared.rights.Right.TheVariants as right
-use Rattle.policy.specs.declared.row.Takes.{Takes}
+use Rattle.policy.specs.declared.row.TheConstants.{TAKES_NOTHING}
 use Rattle.policy.specs.Policy.{declares_client, declares, allows, takes_of}
 use Rattle.queue_error.specs.declared.rule.Rule.{Rule}
 use Rattle.queue_error.specs.declared.rule.Rule.TheVariants.{B1}
@@ -42,7 +42,8 @@ use Rattle.core_model.specs.History.{Start}
 use Rattle.core_model.specs.Grants.{in_force}
 use Rattle.core_model.specs.Memory.{region_lengths, signals}
 use Rattle.core_model.specs.Queues.{Opening, openings, owner, next_id, is_stopped, is_down}
-use Rattle.core_model.specs.Flight.{flight_of, in_flight, none_seen, progress, seen_by_either}
+use Rattle.core_model.specs.declared.outcome.TheConstants.{NONE_SEEN}
+use Rattle.core_model.specs.Flight.{flight_of, in_flight, progress, seen_by_either}
 use Rattle.core_model.specs.declared.limits.TheConstants.{MOST_HOST_BYTES, QUEUES}
 use Rattle.core_model.specs.Needs.{completion_signal}
 use Rattle.core_model.specs.LaunchRules.{Facts, first_failing_rule, cause_to_wait, is_barrier}
@@ -77,15 +78,11 @@ for_some (Some x) why rest = rest x
 abbrev pub is_host_size : ℕ → Bool
 is_host_size size = nat_le 1 size && nat_le size MOST_HOST_BYTES
 
--- an agent that takes no dispatch (own)
-abbrev pub takes_nothing : Takes
-takes_nothing = record { kernel = false; agent = false }
-
 -- the facts by which a queue's packets are judged (own)
 abbrev pub facts_of : Start → List Entry → Opening → Facts
 facts_of start entries opening = record {
   agent = opening.agent;
-  takes = option_map_or (λ takes. takes) (takes_of start.policy opening.agent.0) takes_nothing;
+  takes = unwrap_or (takes_of start.policy opening.agent.0) TAKES_NOTHING;
   in_force = in_force start entries opening.client;
   lengths = region_lengths start;
   kernels = map segments_of start.kernels;
@@ -147,14 +144,14 @@ abbrev pub owed_sight : Packet → Seen → Seen → Owed
 owed_sight p seen new =
     if list_any (λ at. at) new.0
     then enters (outcome.Polled (if is_ready p (seen_by_either seen new) then Ready new else Pending new)) []
-    else answers (outcome.Polled (Pending none_seen))
+    else answers (outcome.Polled (Pending NONE_SEEN))
 
 -- a poll of a barrier packet in flight: ready packets stay ready; then a negative dependency fails it, before what is newly seen
 -- (PSA, Architected Queuing Language: barrier packets; that a negative dependency fails the packet is own)
 abbrev pub owed_poll : List ℤ → QueueId → PacketId → Packet → Progress → Owed
 owed_poll values queue id p so_far =
     refuse_unless (is_barrier p) refusal.NotInFlight
-    (if is_ready p so_far.satisfied then answers (outcome.Polled (Ready none_seen))
+    (if is_ready p so_far.satisfied then answers (outcome.Polled (Ready NONE_SEEN))
     else if list_any (is_negative values) (seen_dependencies p so_far.satisfied)
     then enters (outcome.Polled (Failed (error_without_place queue id.0 B1))) (effect.Release queue id ∷ [])
     else owed_sight p so_far.satisfied (newly_seen_positions values p so_far.satisfied))

@@ -41,10 +41,8 @@ function_writes start entries (Some (Add64 number addend)) =
 
 -- an agent's function's result: ADD64's is the old number, the others' is 0 (own)
 abbrev pub function_result : Start → List Entry → Option AgentFunction → ℕ
-function_result start entries None = 0
-function_result start entries (Some (Fill target byte)) = 0
-function_result start entries (Some (Copy source target)) = 0
 function_result start entries (Some (Add64 number addend)) = number_in_memory start entries number.address.0
+function_result start entries _ = 0
 
 -- the result's 8 bytes go to the return address, unless that is 0 (own)
 abbrev pub result_writes : Start → List Entry → AgentDispatch → List Effect

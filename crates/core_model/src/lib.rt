@@ -18,7 +18,7 @@ pub use answer::{Answer, Reply};
 pub use effects::Effects;
 pub use entry::{Effect, Entry};
 pub use event::{Event, Query, Request};
-pub use flight::{InFlight, Progress};
+pub use flight::{InFlight, LAUNCH_PROGRESS, Progress};
 pub use kernel::KernelSegments;
 pub use laws::{
     calls_without_their_right_are_denied, denials_name_the_first_rule,
@@ -34,5 +34,5 @@ pub use limits::{
     MOST_ENTRIES, MOST_GROUP_ITEMS, MOST_HOST_BYTES, MOST_SEGMENT_BYTES, QUEUES, SLOTS,
 };
 pub use need::{ADD64, AgentFunction, COPY, FILL, Need, Range, Subject};
-pub use outcome::{Cause, Outcome, Polled, Seen, Taken, Worked};
+pub use outcome::{Cause, NONE_SEEN, Outcome, Polled, Seen, Taken, Worked};
 pub use refusal::Refusal;

@@ -41,6 +41,9 @@ pub enum Worked {
 #[derive(Clone, Copy, Debug, PartialEq, Eq)]
 pub struct Seen(pub [bool; 5]);
 
+/// No position.
+pub const NONE_SEEN: Seen = Seen([false; 5]);
+
 /// What a poll of a barrier packet found, with the positions that it is the first to have seen as 0.
 #[derive(Clone, Copy, Debug, PartialEq, Eq)]
 pub enum Polled {

@@ -39,16 +39,14 @@ last_ledger old (step ∷ steps) = last_ledger step.1 steps
 abbrev pub in_force_after : ClientId → Object → Right → Bool → Call → Bool
 in_force_after client object right before (Grant client' object' rights) = before || is_one_of client object right client' object' rights
 in_force_after client object right before (Revoke client' object' rights) = before && not (is_one_of client object right client' object' rights)
-in_force_after client object right before (Hold _ _ _ _) = before
-in_force_after client object right before (Release _ _) = before
+in_force_after client object right before _ = before
 
 -- the packet came to hold the right and wasn't released since
 abbrev pub holds_after : QueueId → PacketId → ClientId → Object → Right → Bool → Call → Bool
-holds_after queue packet client object right before (Grant _ _ _) = before
-holds_after queue packet client object right before (Revoke _ _ _) = before
 holds_after queue packet client object right before (Hold client' queue' packet' rights) =
     before || (same_packet queue packet queue' packet' && names rights client' client object right)
 holds_after queue packet client object right before (Release queue' packet') = before && not (same_packet queue packet queue' packet')
+holds_after queue packet client object right before _ = before
 
 -- After any list of calls from the beginning:
 pub record IsAfterCalls (first last : Ledger) (calls : List Call) : Type 0 where

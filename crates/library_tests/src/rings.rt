@@ -2,8 +2,8 @@
 
 use aql_packet::{INVALID, PacketId, is_ring_size};
 use ring_core::{
-    ALLOWANCE, Access, Part, ReplayFault, RingState, Seen, Step, StepFault, is_invalid,
-    replay, word_place,
+    ALLOWANCE, Access, Part, ReplayFault, RingState, Seen, Step, StepFault, is_invalid, replay,
+    word_place,
 };
 use std::alloc::Global;
 use std::process::Abort;

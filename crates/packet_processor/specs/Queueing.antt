@@ -4,7 +4,7 @@ use Rattle.aql_packet.specs.declared.ids.PacketId.{PacketId}
 use Rattle.aql_packet.specs.declared.packet.Packet.{Packet}
 use Rattle.core_model.specs.declared.flight.Progress.{Progress}
 use Rattle.core_model.specs.declared.outcome.Cause.{Cause}
-use Rattle.core_model.specs.Flight.{launch_progress}
+use Rattle.core_model.specs.declared.flight.TheConstants.{LAUNCH_PROGRESS}
 use Rattle.packet_processor.specs.declared.places.Place.{Place}
 use Rattle.packet_processor.specs.declared.queue_state.QueueState.{QueueState}
 use Rattle.packet_processor.specs.declared.queue_state.State.{State}
@@ -14,7 +14,7 @@ use Rattle.packet_processor.specs.declared.queue_state.MayLaunch.TheVariants.{Go
 
 -- the place of a packet as it is launched
 abbrev pub as_launched : PacketId → Packet → Place
-as_launched id p = record { id = id; packet = p; progress = launch_progress }
+as_launched id p = record { id = id; packet = p; progress = LAUNCH_PROGRESS }
 
 -- whether a place is that of the packet with an id
 abbrev pub is_at : PacketId → Place → Bool

@@ -7,12 +7,6 @@ use policy::Takes;
 use queue_error::Rule;
 use regions::Regions;
 
-/// An agent that takes no dispatch.
-pub const TAKES_NOTHING: Takes = Takes {
-    kernel: false,
-    agent: false,
-};
-
 /// What a packet is judged by: its queue's client and agent, and what is in force at that moment.
 #[derive(Drop)]
 pub struct Facts<'a> {

@@ -13,7 +13,7 @@ mod packets;
 mod places;
 mod queue_state;
 
-pub use facts::{Facts, TAKES_NOTHING, Verdict};
+pub use facts::{Facts, Verdict};
 pub use holding::{held_by_arguments, held_by_needs};
 pub use judging::verdict;
 pub use need_table::{Needs, function_of, needs, result_range};

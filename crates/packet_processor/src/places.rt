@@ -9,14 +9,8 @@ ghost use Rattle.packet_processor.specs.Queueing.{as_launched, is_at, with_progr
 use crate::packets::is_barrier;
 use aql_packet::{Barrier, Header, Packet, PacketId, Scope, SignalHandle};
 use arrayvec::ArrayVec;
-use core_model::{Progress, SLOTS, Seen};
+use core_model::{LAUNCH_PROGRESS, Progress, SLOTS};
 use std::marker::Model;
-
-/// Nothing done yet: no group has run, and no dependency was seen.
-const AT_LAUNCH: Progress = Progress {
-    groups_run: 0,
-    satisfied: Seen([false; 5]),
-};
 
 /// What lies in a place that isn't taken.
 const NOTHING: Barrier = Barrier {
@@ -62,7 +56,7 @@ impl Default for Place {
         Place {
             id: PacketId(0),
             packet: Packet::BarrierOr(NOTHING),
-            progress: AT_LAUNCH,
+            progress: LAUNCH_PROGRESS,
         }
     }
 }
@@ -110,7 +104,7 @@ impl Places {
         self.taken.push(Place {
             id,
             packet,
-            progress: AT_LAUNCH,
+            progress: LAUNCH_PROGRESS,
         });
     }
 

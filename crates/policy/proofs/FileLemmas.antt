@@ -1,5 +1,5 @@
 -- A file that is read, and a text that is refused for its file.
-use Rattle.std.proofs.Common.{◌≡◌, ℕ, ◌≤◌, ◌^◌, List, [], length, ℤ, Result, Ok, Err, IfErr}
+use Rattle.std.proofs.Common.{◌≡◌, ℕ, ◌≤◌, List, [], length, ℤ, Result, Ok, Err, IfErr}
 use Rattle.toml.specs.Data.{Members}
 use Rattle.policy.specs.declared.limits.TheConstants.{MOST_AGENTS, MOST_ALLOW_ROWS, MOST_CLIENTS, MOST_KERNELS, MOST_POLICY_BYTES, MOST_SIGNALS}
 use Rattle.policy.specs.declared.fault.ReadPolicyError.{ReadPolicyError}

@@ -1,5 +1,5 @@
 -- The fault of a file is that of the first of its checks that fails.
-use Rattle.std.proofs.Common.{◌≡◌, ℕ, ◌+◌, ◌^◌, nat_le, ◌==◌, length, Bool, true, false, codes, List, [], ◌∷◌, ◌++◌, map, sum, sum_by, ℤ, Option, Some, None, option_and_then, Result, Ok, Err, refl, sym, ap, subst, ◌∙◌, length-append}
+use Rattle.std.proofs.Common.{◌≡◌, ℕ, ◌+◌, nat_le, ◌==◌, length, Bool, true, false, codes, List, [], ◌∷◌, ◌++◌, map, sum, sum_by, ℤ, Option, Some, None, option_and_then, Result, Ok, Err, refl, sym, ap, subst, ◌∙◌, length-append}
 use Rattle.std.specs.List.{list_any, list_all}
 use Rattle.std.specs.Str.{bytes_eq}
 use Rattle.std.proofs.lemmas.List.{map-append, append_assoc}

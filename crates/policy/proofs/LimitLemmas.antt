@@ -1,5 +1,5 @@
 -- A file that is read keeps to the limits.
-use Rattle.std.proofs.Common.{◌≡◌, ℕ, if◌then◌else◌, ◌+◌, ◌≤◌, ◌^◌, nat_le, length, Bool, true, false, ◌&&◌, ◌==◌, codes, List, [], ◌∷◌, ◌++◌, map, sum_by, ℤ, pos, negsuc, Option, Some, None, Result, Ok, Err, refl, sym, ap, subst, ◌∙◌, arith, length-append}
+use Rattle.std.proofs.Common.{◌≡◌, ℕ, if◌then◌else◌, ◌+◌, ◌≤◌, nat_le, length, Bool, true, false, ◌&&◌, ◌==◌, codes, List, [], ◌∷◌, ◌++◌, map, sum_by, ℤ, pos, negsuc, Option, Some, None, Result, Ok, Err, refl, sym, ap, subst, ◌∙◌, arith, length-append}
 use Rattle.std.specs.List.{list_all}
 use Rattle.std.proofs.lemmas.Bool.{and_from}
 use Rattle.std.proofs.lemmas.Bool.Decides.{nat_tests}

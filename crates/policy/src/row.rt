@@ -62,3 +62,9 @@ pub struct Takes {
     /// It takes agent dispatches.
     pub agent: bool,
 }
+
+/// What an agent takes that takes no dispatch.
+pub const TAKES_NOTHING: Takes = Takes {
+    kernel: false,
+    agent: false,
+};

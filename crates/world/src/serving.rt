@@ -115,7 +115,11 @@ fn is_ring(size: u64, producers: u64) -> bool
 fn asked_size(size: u64, producers: u64) -> u64
     ensures { result ≡ asked_size size producers }
 {
-    if is_producer_count(producers) { size } else { 0 }
+    if is_producer_count(producers) {
+        size
+    } else {
+        0
+    }
 }
 
 // Opens a queue, with its ring. Memory for the ring is got where the core will open the queue.

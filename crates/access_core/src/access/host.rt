@@ -137,7 +137,12 @@ impl AccessCore {
 
 // Changes a signal whose old value is known, and answers the new one.
 #[tactic(auto, unfolding(signals::specs::Values::after))]
-pub(crate) fn change(signals: &mut Signals, signal: SignalHandle, operation: SignalOp, old: i64) -> i64
+pub(crate) fn change(
+    signals: &mut Signals,
+    signal: SignalHandle,
+    operation: SignalOp,
+    old: i64,
+) -> i64
     requires { value_of signals.old signal.0 ≡ Some old }
     ensures new { result ≡ applied operation old }
     ensures values { signals.new ≡ slice_set signals.old (signal.0 - 1) (applied operation old) }

@@ -18,13 +18,10 @@ use crate::access::working::free_place;
 use crate::access::{AccessCore, enter};
 use crate::queue::Queue;
 use aql_packet::{Packet, PacketId, QueueId, SignalHandle};
-use core_model::{Effect, Effects, Event, Outcome, Polled, Progress, Refusal, Seen};
+use core_model::{Effect, Effects, Event, NONE_SEEN, Outcome, Polled, Progress, Refusal, Seen};
 use packet_processor::{Place, is_ready};
 use queue_error::{QueueError, Rule};
 use signals::Signals;
-
-/// No position.
-const NONE: Seen = Seen([false; 5]);
 
 /// What a poll of a barrier packet finds.
 #[derive(Clone, Copy)]
@@ -147,14 +144,14 @@ fn look_at(
     };
     let seen = &place.progress.satisfied;
     if is_ready(&place.packet, seen) {
-        return Ok(Look::Still(Polled::Ready(NONE)));
+        return Ok(Look::Still(Polled::Ready(NONE_SEEN)));
     }
     if is_any_negative(signals, &dependencies, seen) {
         return Ok(Look::Fails);
     }
     let new = newly_seen_positions(signals, &dependencies, seen);
     if !is_any(&new) {
-        return Ok(Look::Still(Polled::Pending(NONE)));
+        return Ok(Look::Still(Polled::Pending(NONE_SEEN)));
     }
     let ready = is_ready(&place.packet, &seen_by_either(seen, &new));
     Ok(Look::Sees { new, ready })

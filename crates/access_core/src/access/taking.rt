@@ -16,9 +16,9 @@ use crate::queue::Queue;
 use aql_packet::{AgentHandle, ClientId, Packet, PacketId, QueueId, RawHeader, header_of};
 use core_model::{Cause, Effects, Event, Outcome, Range, Refusal, Taken};
 use packet_processor::{
-    Facts, MayLaunch, QueueState, TAKES_NOTHING, Verdict, held_by_arguments, held_by_needs, verdict,
+    Facts, MayLaunch, QueueState, Verdict, held_by_arguments, held_by_needs, verdict,
 };
-use policy::{Object, Rights};
+use policy::{Object, Rights, TAKES_NOTHING};
 use queue_error::{QueueError, Rule};
 use sequences::Sequence;
 use std::alloc::{AllocError, Global};

@@ -1,8 +1,7 @@
 -- A policy within the limits has regions that memory takes.
 use Rattle.std.proofs.Common.{◌∙◌, ap, sym}
-use Rattle.policy.specs.Policy.{Declared}
+use Rattle.policy.specs.Policy.{Declared, region_lengths}
 use Rattle.access_core.proofs.Terms.{are_region_lengths}
-use Rattle.policy.specs.Limits.{region_lengths}
 use Rattle.access_core.proofs.access.AccessCore.regions_fit.Goals as goal
 
 pub returns : goal.returns
