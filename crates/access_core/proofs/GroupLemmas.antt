@@ -132,11 +132,14 @@ module _ (start : Start) (es : List Entry) (legal : IsLegal start es) (queue : Q
       by_kernel (Some kernel) some =
           let limit : d.group_segment_size ≤ MOST_SEGMENT_BYTES = leb-true _ _ passes.1 in
           let sizes : has_sizes d ≡ true = subst IsSized is (sized start es legal queue id f found) in
+          let known : fits ≡ nat_le (group_bytes_of kernel) d.group_segment_size =
+          ap (λ (o : Option KernelSegments). elim o [ None ↦ false | Some segments ↦ nat_le segments.group d.group_segment_size ])
+          (numbered-map segments_of start.kernels d.kernel_object.0 ∙ ap (option_map segments_of) some) in
           record {
             kernel = kernel;
             kernel_is = some;
             block_long = block-long start before f.packet d is kernel some (arguments start es queue id) arguments-launched;
             sizes = groups_fit d sizes;
-            segment = omega arith;
+            segment = leb-true _ _ (sym known ∙ passes.0);
             segment_limit = omega (arith, limit);
           }
