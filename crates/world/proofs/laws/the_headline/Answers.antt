@@ -1,6 +1,6 @@
 -- The laws of legal histories, for the history that the requests left.
 use Rattle.std.proofs.Common.{◌≡◌, true, ap, inl, inr, subst, ◌∙◌}
-use Rattle.policy.specs.Limits.{are_region_lengths}
+use Rattle.aql_packet.specs.Memory.{are_region_lengths}
 use Rattle.core_model.specs.Memory.{region_lengths}
 use Rattle.core_model.specs.Queues.{error_of}
 use Rattle.world.specs.InStep.{IsJoined, Stands}
