@@ -57,6 +57,7 @@ fn read_names(rt: &HostRuntime, path: &str, head: &Head<'_>) -> Result<Names, Er
 fn try_cases(rt: &HostRuntime, path: &str, cases: &CaseFile<'_>) -> Result<Tally, Error> {
     let names = read_names(rt, path, &cases.head)?;
     let over = read_named(rt, path, cases.head.over)?;
+    let over = names.spelled(rt.alloc(), over.as_str())?;
     let frame = read_named(rt, path, cases.head.frame)?;
     let before = read_named(rt, path, cases.head.before)?;
     let setting = Setting {
