@@ -101,6 +101,6 @@ LeadsIn a p (suc n) from to = LeadsIn a p n (follow a p from) to
 abbrev pub Leads : Surroundings → Program → Status → Status → Type 0
 Leads a p from to = (n : ℕ) × LeadsIn a p n from to
 
--- a group of so many items as it begins: memory is zero and nothing is written (own)
+-- a group of so many items as it begins, over what memory holds then: no item has taken a turn (own)
 abbrev pub beginning : ℕ → Contents → Status
 beginning count m = running (replicate count (ready fresh 0)) m

@@ -31,7 +31,7 @@ result_at (running items m) = wrote []
 result_at (done m) = wrote (runs_of m.written)
 result_at (faulted item line rule) = broke_rule item line rule
 
--- what a group comes to: always the least of its items that has not ended takes a turn, until none can or one breaks a rule
+-- what a group comes to: always the least of its items that neither ended nor waits takes a turn, until none can or one breaks a rule
 unfoldable pub group_result : GroupInput → GroupResult
 group_result i = result_at (after_turns (surroundings_of i) i.program most_turns (begun i))
 

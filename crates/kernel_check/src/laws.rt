@@ -24,7 +24,7 @@ pub fn faults_are_earliest()
 {}
 
 /// The step of an instruction that fails by no cause has the instruction's own registers, an argument
-/// that the kernel declares, and the place of a label that it has; and a step sets the first operand of its
+/// or a group variable that the kernel declares, and the place of a label that it has; and a step sets the first operand of its
 /// instruction and reads the others, in their order. It does nothing.
 pub fn steps_are_faithful()
     ensures faithful { (arguments : List ℕ → Option Placed) (labels : List ℕ → Option ℕ) (number : ℕ) (op : Operation)

@@ -13,7 +13,7 @@ returns c = λ kernels capacity requests replies world are.
     let begin = begun c.args.policy.now kernels capacity in
     let h : IsJoined world = replies_kept begin world requests replies (begins c.args.policy.now kernels capacity) are in
     let lengths : are_region_lengths (region_lengths world.core.start) ≡ true =
-        ap (λ start. are_region_lengths (region_lengths start)) (replies_start begin world requests replies are) ∙ c.object_count.ensures.limits.regions in
+    ap (λ start. are_region_lengths (region_lengths start)) (replies_start begin world requests replies are) ∙ c.object_count.ensures.limits.regions in
     record {
       legal = h.legal;
       launches = λ before queue id bytes effects place. c.each_launch_was_granted.ensures world.core.start world.core.entries before queue id bytes effects h.legal place;
