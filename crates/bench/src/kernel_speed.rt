@@ -1,4 +1,5 @@
-//! The measurements of kernels: items that count, and items that load, add and store.
+//! The measurements of kernels: items that count, items that load, add and store, and items that meet at
+//! barriers.
 
 use crate::fault::Fault;
 use aql_packet::RegionHandle;
@@ -61,7 +62,33 @@ const STORING_STEPS: u64 = 65_534;
 /// How many words an item of the storing kernel adds 1 to.
 const STORING_TURNS: u64 = 6_553;
 
-/// The region of the storing kernel, and its argument: the region's first address.
+/// Adds 1 to a number in group memory, again and again, and waits each time until all items have: 2
+/// steps, 13,106 turns of 5 steps, and 3 steps that store the sum.
+const MEETING: &str = "module &meeting:1:0:$full:$large:$default;
+prog kernel &meeting(kernarg_u64 %words)
+{
+  group_u32 %sum;
+  ld_kernarg_u64 $d0, [%words];
+  mov_u32 $s1, 13106;
+@round:
+  atomicnoret_add_group_rlx_wg_u32 [%sum], 1;
+  barrier;
+  sub_u32 $s1, $s1, 1;
+  cmp_ne_b1_u32 $c0, $s1, 0;
+  cbr_b1 $c0, @round;
+  ld_group_u32 $s2, [%sum];
+  st_global_u32 $s2, [$d0];
+  ret;
+};
+";
+
+/// How many steps an item of the meeting kernel executes.
+const MEETING_STEPS: u64 = 65_535;
+
+/// How often an item of the meeting kernel adds 1.
+const MEETING_TURNS: u64 = 13_106;
+
+/// The region of the kernels that store, and their argument: the region's first address.
 const REGION: u32 = 1;
 
 const ARGUMENT: [u8; 8] = [0, 0, 0, 0, 1, 0, 0, 0];
@@ -93,7 +120,7 @@ fn run_items(
     if items < 1 || items > MOST_ITEMS || checked.count() < 1 {
         return Err(Fault::Kernel);
     }
-    if checked.kernarg_bytes(0) as usize != arguments.len() || checked.group_bytes(0) > 0 {
+    if checked.kernarg_bytes(0) as usize != arguments.len() {
         return Err(Fault::Kernel);
     }
     let size = Extent {
@@ -105,7 +132,7 @@ fn run_items(
         kernel: 0,
         group_size: size,
         grid_size: size,
-        group_segment_size: 0,
+        group_segment_size: checked.group_bytes(0),
         arguments,
     };
     Ok(run_group(alloc, checked, &dispatch, 0, view)?)
@@ -135,9 +162,16 @@ fn sum(runs: &Sequence<Run>) -> u64 {
     sum
 }
 
-/// Measures so many items that load, add and store; what they stored has to add up to their turns.
-pub fn store(rt: &impl Clock, alloc: Global, items: u32) -> Result<Taken, Fault> {
-    let checked = kernel(alloc, STORING)?;
+/// Runs so many items of a kernel that stores; what they stored has to add up to their turns. How long
+/// they took.
+fn run_storing(
+    rt: &impl Clock,
+    alloc: Global,
+    text: &str,
+    items: u32,
+    turns: u64,
+) -> Result<Duration, Fault> {
+    let checked = kernel(alloc, text)?;
     let bytes = vec![in alloc; 0; REGION_BYTES]?;
     let view = [HeldRegion {
         handle: RegionHandle(REGION),
@@ -147,11 +181,24 @@ pub fn store(rt: &impl Clock, alloc: Global, items: u32) -> Result<Taken, Fault>
     let start = Instant::now(rt)?;
     let runs = run_items(alloc, &checked, items, &ARGUMENT, &view)?;
     let time = start.elapsed(rt)?;
-    if sum(&runs) != u64::from(items).wrapping_mul(STORING_TURNS) {
+    if sum(&runs) != u64::from(items).wrapping_mul(turns) {
         return Err(Fault::OtherSum);
     }
+    Ok(time)
+}
+
+/// Measures so many items that load, add and store.
+pub fn store(rt: &impl Clock, alloc: Global, items: u32) -> Result<Taken, Fault> {
     Ok(Taken {
         steps: u64::from(items).wrapping_mul(STORING_STEPS),
-        time,
+        time: run_storing(rt, alloc, STORING, items, STORING_TURNS)?,
+    })
+}
+
+/// Measures so many items that add to group memory and meet at barriers.
+pub fn meet(rt: &impl Clock, alloc: Global, items: u32) -> Result<Taken, Fault> {
+    Ok(Taken {
+        steps: u64::from(items).wrapping_mul(MEETING_STEPS),
+        time: run_storing(rt, alloc, MEETING, items, MEETING_TURNS)?,
     })
 }

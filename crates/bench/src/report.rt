@@ -1,7 +1,7 @@
 //! What is measured, and what is told of it.
 
 use crate::fault::Fault;
-use crate::kernel_speed::{Taken, count, store};
+use crate::kernel_speed::{Taken, count, meet, store};
 use crate::ring_speed::{many_threads, one_thread};
 use crate::script_speed::{LINES, serve};
 use std::thread::Threads;
@@ -92,7 +92,7 @@ fn faster(one: Taken, other: Taken) -> Taken {
     if other.time < one.time { other } else { one }
 }
 
-/// Measures kernels: items that count in registers, and items that load, add and store.
+/// Measures kernels: items that count in registers, that load, add and store, and that meet at barriers.
 pub fn measure_kernels<R: Print + Eprint + Clock + AllocGlobal>(
     rt: &R,
     items: u32,
@@ -100,16 +100,21 @@ pub fn measure_kernels<R: Print + Eprint + Clock + AllocGlobal>(
 ) -> Result<(), Fault> {
     let mut counted = count(rt, rt.alloc(), items)?;
     let mut stored = store(rt, rt.alloc(), items)?;
+    let mut met = meet(rt, rt.alloc(), items)?;
     for _ in 1..runs {
         counted = faster(counted, count(rt, rt.alloc(), items)?);
         stored = faster(stored, store(rt, rt.alloc(), items)?);
+        met = faster(met, meet(rt, rt.alloc(), items)?);
     }
     let counting = millions(counted);
     let storing = millions(stored);
+    let meeting = millions(met);
     println!(rt; "counting: {items} items, each to its end")?;
     eprintln!(rt; "counting: {counting} million steps a second")?;
     println!(rt; "storing: {items} items, and what they stored adds up")?;
     eprintln!(rt; "storing: {storing} million steps a second")?;
+    println!(rt; "meeting: {items} items, and what they added is there")?;
+    eprintln!(rt; "meeting: {meeting} million steps a second")?;
     Ok(())
 }
 
