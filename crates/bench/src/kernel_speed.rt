@@ -93,6 +93,9 @@ const REGION: u32 = 1;
 
 const ARGUMENT: [u8; 8] = [0, 0, 0, 0, 1, 0, 0, 0];
 
+/// How many bytes of group memory each kernel is given.
+const GROUP_MEMORY: u32 = 4;
+
 /// How many bytes the region has.
 const REGION_BYTES: usize = 8_192;
 
@@ -120,7 +123,9 @@ fn run_items(
     if items < 1 || items > MOST_ITEMS || checked.count() < 1 {
         return Err(Fault::Kernel);
     }
-    if checked.kernarg_bytes(0) as usize != arguments.len() {
+    if checked.kernarg_bytes(0) as usize != arguments.len()
+        || checked.group_bytes(0) > GROUP_MEMORY
+    {
         return Err(Fault::Kernel);
     }
     let size = Extent {
@@ -132,7 +137,7 @@ fn run_items(
         kernel: 0,
         group_size: size,
         grid_size: size,
-        group_segment_size: checked.group_bytes(0),
+        group_segment_size: GROUP_MEMORY,
         arguments,
     };
     Ok(run_group(alloc, checked, &dispatch, 0, view)?)
