@@ -7,6 +7,7 @@ pub mod RowWords
 pub mod Pieces
 pub mod Grammars
 pub mod Terminals
+pub mod RowOperations
 pub mod Decided
 pub mod Loop
 pub mod Located

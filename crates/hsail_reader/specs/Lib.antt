@@ -1,6 +1,8 @@
 pub mod Nouns
 pub mod Types
+pub mod Operations
 pub mod Rows
+pub mod RowOperations
 pub mod Faults
 pub mod Bytes
 pub mod Spelling

@@ -1,6 +1,8 @@
 //! The operands of instructions, as their rows have them.
 
+ghost use Rattle.std.specs.Prelude.{IfOk};
 ghost use Rattle.hsail_reader.specs.Faults.{Gives};
+ghost use Rattle.hsail_reader.specs.RowOperations.{HasShape, IsRowWord};
 ghost use Rattle.hsail_reader.specs.Tokens.{token_views};
 ghost use Rattle.hsail_reader.specs.Grammar as grammar;
 ghost use Rattle.hsail_reader.specs.Grammars.{read};
@@ -19,7 +21,8 @@ fn operand<'a, 't>(
     word: DataType,
     tokens: Tokens<'a, 't>,
 ) -> Read<'a, 't, Operand>
-    ensures { Gives (λ x. (x.0, token_views x.1.now)) result (read (grammar.operand shape word) (token_views tokens.now)) }
+    ensures read { Gives (λ x. (x.0, token_views x.1.now)) result (read (grammar.operand shape word) (token_views tokens.now)) }
+    ensures shape { IfOk result (λ x. HasShape shape word x.0) }
 {
     match shape {
         Shape::Absent => Ok((Operand::Absent, tokens)),
@@ -60,7 +63,8 @@ fn next_operand<'a, 't>(
     kind: DataType,
     tokens: Tokens<'a, 't>,
 ) -> Read<'a, 't, Operand>
-    ensures { Gives (λ x. (x.0, token_views x.1.now)) result (read (grammar.next_operand shape kind) (token_views tokens.now)) }
+    ensures read { Gives (λ x. (x.0, token_views x.1.now)) result (read (grammar.next_operand shape kind) (token_views tokens.now)) }
+    ensures shape { IfOk result (λ x. HasShape shape kind x.0) }
 {
     if let Shape::Absent = shape {
         return Ok((Operand::Absent, tokens));
@@ -76,6 +80,7 @@ pub fn operands<'a, 't>(
     opcode: Opcode,
     tokens: Tokens<'a, 't>,
 ) -> Read<'a, 't, Operation>
+    requires { IsRowWord opcode }
     ensures { Gives (λ x. (x.0, token_views x.1.now)) result (read (grammar.operands opcode) (token_views tokens.now)) }
 {
     let kind = opcode.kind;
@@ -90,11 +95,6 @@ pub fn operands<'a, 't>(
         third,
         fourth,
     };
-    let operation = Operation {
-        form: opcode.form,
-        modifiers: opcode.modifiers,
-        kind,
-        operands,
-    };
+    let operation = Operation::new(opcode.form, opcode.modifiers, kind, operands);
     Ok((operation, rest))
 }

@@ -25,6 +25,7 @@ pub use grammar::{
 pub use module::{
     Access, Address, Argument, GroupVariable, Indexed, Instruction, Item, Kernel, Label, Module,
     Operand, Operands, Operation, Place, Profile, Relative, Rounding, Target, TypedSource,
+    operations_are_of_rows,
 };
 pub use reading::read_module;
 pub use rows::Form;

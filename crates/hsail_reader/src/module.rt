@@ -1,6 +1,10 @@
+ghost use Rattle.std.specs.Prelude.{◌≡◌};
+ghost use Rattle.hsail_reader.specs.RowOperations.{IsOfRow};
+
 use crate::rows::Form;
 use crate::types::{Alignment, Constant, DataType, Modifiers, Register, Segment, Source};
 use sequences::Sequence;
+use std::marker::Model;
 
 /// A module as its text spells it (PRM, Modules). Each name has its first byte, `&`, `%` or `@`,
 /// and each line counts from 1.
@@ -96,14 +100,89 @@ pub struct Instruction {
 }
 
 /// What an instruction does (PRM, HSAIL Instructions): what its row does, the modifiers and the type
-/// of its word, and its operands in order.
+/// of its word, and its operands in order. A contract sees these four. Every operation is of a row of the
+/// table of instructions: `operations_are_of_rows` says so.
 #[derive(Drop)]
 pub struct Operation {
-    pub form: Form,
-    pub modifiers: Modifiers,
+    form: Form,
+    modifiers: Modifiers,
+    kind: DataType,
+    operands: Operands,
+}
+
+impl Model for Operation {
+    ghost use Rattle.hsail_reader.specs.Operations as operations;
+
+    ghost Value = { operations.Operation };
+
+    ghost use Rattle.hsail_reader.specs.RowOperations as rows;
+
+    ghost view = { λ o. operations.operation o.form o.modifiers o.kind o.operands };
+
+    ghost invariant = { λ o. rows.IsOfRow (operations.operation o.form o.modifiers o.kind o.operands) };
+}
+
+impl Operation {
+    ghost use Rattle.hsail_reader.specs.Operations.{operation};
+
+    /// The operation of these parts, which are those of a row.
+    pub(crate) fn new(
+        form: Form,
+        modifiers: Modifiers,
+        kind: DataType,
+        operands: Operands,
+    ) -> Operation
+        requires { IsOfRow (operation form modifiers kind operands) }
+        ensures { result ≡ operation form modifiers kind operands }
+    {
+        Operation {
+            form,
+            modifiers,
+            kind,
+            operands,
+        }
+    }
+
+    /// What the row does.
+    #[inline(always)]
+    pub fn form(&self) -> Form
+        ensures { result ≡ self.now.form }
+    {
+        self.form
+    }
+
+    /// The modifiers of the word.
+    #[inline(always)]
+    pub fn modifiers(&self) -> Modifiers
+        ensures { result ≡ self.now.modifiers }
+    {
+        self.modifiers
+    }
+
     /// The type of the word; b1 where it has none.
-    pub kind: DataType,
-    pub operands: Operands,
+    #[inline(always)]
+    pub fn kind(&self) -> DataType
+        ensures { result ≡ self.now.kind }
+    {
+        self.kind
+    }
+
+    /// The operands, in order.
+    #[inline(always)]
+    pub fn operands(&self) -> &Operands
+        ensures { result.now ≡ self.now.operands }
+    {
+        &self.operands
+    }
+}
+
+/// An operation, of whatever module, is of a row of the table of instructions: it does what the row does, with
+/// modifiers that the row allows, a type that it has, and its operands at their places, each at the type that
+/// the row gives it. It does nothing.
+pub fn operations_are_of_rows(operation: &Operation)
+    ensures { IsOfRow operation.now }
+{
+    let _ = &operation.form;
 }
 
 /// The operands of an instruction, each as the row has it at its place.

@@ -213,7 +213,7 @@ pub fn instruction_cause(
     ensures value { result ≡ least_cause (instruction_fails (find variables.now) (find labels.now) number operation.now) }
     ensures room { result ≡ None → number < 4096 }
 {
-    let operands = &operation.operands;
+    let operands = operation.operands();
     if any_unknown_label(labels, operands) {
         return Some(Cause::UnknownLabel);
     }

@@ -56,36 +56,39 @@ pub struct Ternary {
 fn as_unary(operation: UnaryOperation, whole: &Operation) -> Unary
     ensures { result ≡ as_unary operation whole.now }
 {
+    let operands = whole.operands();
     Unary {
         operation,
-        kind: whole.kind,
-        target: target_in(&whole.operands.first),
-        source: read_in(&whole.operands.second),
+        kind: whole.kind(),
+        target: target_in(&operands.first),
+        source: read_in(&operands.second),
     }
 }
 
 fn as_binary(operation: BinaryOperation, whole: &Operation) -> Binary
     ensures { result ≡ as_binary operation whole.now }
 {
+    let operands = whole.operands();
     Binary {
         operation,
-        kind: whole.kind,
-        target: target_in(&whole.operands.first),
-        left: read_in(&whole.operands.second),
-        right: read_in(&whole.operands.third),
+        kind: whole.kind(),
+        target: target_in(&operands.first),
+        left: read_in(&operands.second),
+        right: read_in(&operands.third),
     }
 }
 
 fn as_ternary(operation: TernaryOperation, whole: &Operation) -> Ternary
     ensures { result ≡ as_ternary operation whole.now }
 {
+    let operands = whole.operands();
     Ternary {
         operation,
-        kind: whole.kind,
-        target: target_in(&whole.operands.first),
-        first: read_in(&whole.operands.second),
-        second: read_in(&whole.operands.third),
-        third: read_in(&whole.operands.fourth),
+        kind: whole.kind(),
+        target: target_in(&operands.first),
+        first: read_in(&operands.second),
+        second: read_in(&operands.third),
+        third: read_in(&operands.fourth),
     }
 }
 
@@ -93,12 +96,13 @@ fn as_ternary(operation: TernaryOperation, whole: &Operation) -> Ternary
 fn as_atomic(operation: AtomicOperation, whole: &Operation) -> Atomic
     ensures { result ≡ as_atomic operation whole.now }
 {
+    let operands = whole.operands();
     Atomic {
         operation,
-        kind: whole.kind,
-        target: Some(slot(target_in(&whole.operands.first))),
-        first: read_in(&whole.operands.third),
-        second: read_in(&whole.operands.fourth),
+        kind: whole.kind(),
+        target: Some(slot(target_in(&operands.first))),
+        first: read_in(&operands.third),
+        second: read_in(&operands.fourth),
     }
 }
 
@@ -106,12 +110,13 @@ fn as_atomic(operation: AtomicOperation, whole: &Operation) -> Atomic
 fn as_no_return(operation: AtomicOperation, whole: &Operation) -> Atomic
     ensures { result ≡ as_no_return operation whole.now }
 {
+    let operands = whole.operands();
     Atomic {
         operation,
-        kind: whole.kind,
+        kind: whole.kind(),
         target: None,
-        first: read_in(&whole.operands.second),
-        second: read_in(&whole.operands.third),
+        first: read_in(&operands.second),
+        second: read_in(&operands.third),
     }
 }
 
@@ -473,8 +478,8 @@ pub fn translated(
 ) -> Step
     ensures { result ≡ step_of (find variables.now) (find labels.now) operation.now }
 {
-    let operands = &operation.operands;
-    match operation.form {
+    let operands = operation.operands();
+    match operation.form() {
         Form::Unary(unary) => unary_step(&as_unary(unary, operation)),
         Form::Binary(binary) => binary_step(&as_binary(binary, operation)),
         Form::Ternary(ternary) => ternary_step(&as_ternary(ternary, operation)),
@@ -495,7 +500,7 @@ pub fn translated(
         Form::Barrier => Step::Barrier,
         Form::Identify(query) => Step::Identify(IdentifyStep {
             query,
-            target: any_register(operation.kind, target_in(&operands.first)),
+            target: any_register(operation.kind(), target_in(&operands.first)),
             dimension: dimension_in(&operands.second),
         }),
     }

@@ -157,20 +157,20 @@ fn is_constant(operand: &Operand, negative: bool, magnitude: u64) -> bool {
 }
 
 fn check_subtraction(rt: &impl Abort, operation: &Operation) {
-    assert_eq!(rt; operation.form, Form::Binary(BinaryOperation::Subtract));
-    assert_eq!(rt; operation.kind, DataType::S64);
-    assert!(rt; is_target(&operation.operands.first, DataType::S64, 7));
-    assert!(rt; is_register(&operation.operands.second, DataType::S64, 8));
-    assert!(rt; is_constant(&operation.operands.third, true, 9));
+    assert_eq!(rt; operation.form(), Form::Binary(BinaryOperation::Subtract));
+    assert_eq!(rt; operation.kind(), DataType::S64);
+    assert!(rt; is_target(&operation.operands().first, DataType::S64, 7));
+    assert!(rt; is_register(&operation.operands().second, DataType::S64, 8));
+    assert!(rt; is_constant(&operation.operands().third, true, 9));
 }
 
 fn check_conversion(rt: &impl Abort, operation: &Operation) {
     assert_eq!(rt;
-        operation.form,
+        operation.form(),
         Form::Unary(UnaryOperation::Convert(DataType::U64))
     );
-    assert!(rt; is_target(&operation.operands.first, DataType::U64, 7));
-    assert!(rt; is_register(&operation.operands.second, DataType::S8, 8));
+    assert!(rt; is_target(&operation.operands().first, DataType::U64, 7));
+    assert!(rt; is_register(&operation.operands().second, DataType::S8, 8));
 }
 
 fn is_relative(place: &Relative, register: u64, negative: bool, magnitude: u64) -> bool {
@@ -199,11 +199,11 @@ fn check_access(rt: &impl Abort, access: &Access) -> Result<(), Fail> {
 fn check_load(rt: &impl Abort, operation: &Operation) -> Result<(), Fail> {
     assert!(rt;
         matches!(
-            operation.modifiers,
+            operation.modifiers(),
             Modifiers::Two(Modifier::Width(Width::All), Modifier::Align(16))
         )
     );
-    match &operation.operands.second {
+    match &operation.operands().second {
         Operand::Address(access) => check_access(rt, access),
         _ => Err(Fail::from("an address")),
     }
