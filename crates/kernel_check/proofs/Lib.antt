@@ -10,3 +10,4 @@ pub mod ModuleLemmas
 pub mod LawLemmas
 mod WideLemmas
 mod OrderLemmas
+mod NeedLemmas

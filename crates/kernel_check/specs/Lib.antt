@@ -9,3 +9,4 @@ pub mod Checks
 pub mod Programs
 pub mod Laws
 pub mod Reads
+pub mod Needs

@@ -1,16 +1,18 @@
 //! Laws of the check.
 
-ghost use Rattle.std.specs.Prelude.{◌≡◌, ℕ, List, Bool, false, Option, Some, None};
+ghost use Rattle.std.specs.Prelude.{◌≡◌, ℕ, List, Bool, true, false, Option, Some, None};
 ghost use Rattle.std.specs.List.{All};
 ghost use Rattle.kernel_check.specs.Causes.{instruction_fails};
 ghost use Rattle.kernel_check.specs.Checks.{program_of};
 ghost use Rattle.kernel_check.specs.Faults.{Checkpoint, causes, first_fault, least_cause};
 ghost use Rattle.kernel_check.specs.Laws.{Ascends, IsFirst, IsEarliest, IsFaithful};
+ghost use Rattle.kernel_check.specs.Needs.{leaves_nothing_out};
 ghost use Rattle.kernel_check.specs.Reads.{KeepsOrder};
 ghost use Rattle.kernel_check.specs.Steps.{step_of};
 ghost use Rattle.kernel_check.specs.declared.fault.Cause.{Cause};
 ghost use Rattle.kernel_check.specs.declared.fault.CheckFault.{CheckFault};
 ghost use Rattle.kernel_check.specs.declared.layout.Placed.{Placed};
+ghost use Rattle.hsail_reader.specs.RowOperations.{IsOfRow};
 ghost use Rattle.hsail_reader.specs.declared.module.Kernel.{Kernel};
 ghost use Rattle.hsail_reader.specs.declared.module.Operation.{Operation};
 
@@ -31,6 +33,13 @@ pub fn steps_are_faithful()
         → least_cause (instruction_fails arguments labels number op) ≡ None → IsFaithful arguments labels op }
     ensures order { (arguments : List ℕ → Option Placed) (labels : List ℕ → Option ℕ) (op : Operation)
         → KeepsOrder op (step_of arguments labels op) }
+{}
+
+/// An operation of a row of the table, as each of a module is (`operations_are_of_rows` of `hsail_reader`), has all
+/// that its step needs: registers and sources of the step's classes, an address, a label or a dimension where
+/// the step has one, and a type for which there are such steps. It does nothing.
+pub fn steps_have_what_they_need()
+    ensures { (op : Operation) → IsOfRow op → leaves_nothing_out op ≡ true }
 {}
 
 /// The offsets of a kernel's arguments of 64 bits ascend. It does nothing.

@@ -24,7 +24,9 @@ mod values;
 pub use checked::Checked;
 pub use checking::check;
 pub use fault::{Cause, CheckError, CheckFault};
-pub use laws::{faults_are_earliest, steps_are_faithful, wide_arguments_ascend};
+pub use laws::{
+    faults_are_earliest, steps_are_faithful, steps_have_what_they_need, wide_arguments_ascend,
+};
 pub use program::Program;
 pub use step::{
     AnyRegister, AnySource, ArgumentStep, AtomicOperation32, AtomicOperation64, AtomicPointer,
