@@ -11,3 +11,4 @@ pub mod LawLemmas
 mod WideLemmas
 mod OrderLemmas
 mod NeedLemmas
+mod ExactLemmas

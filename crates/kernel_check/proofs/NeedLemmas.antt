@@ -1,5 +1,5 @@
--- An operation of a row leaves out nothing that its step needs.
-use Rattle.std.proofs.Common.{◌≡◌, List, [], ◌∷◌, Bool, true, not, refl, sym, ap, ◌∙◌, arith}
+-- An operation of a row leaves out nothing that its step needs, and has no further operands.
+use Rattle.std.proofs.Common.{◌≡◌, List, [], ◌∷◌, Bool, true, false, not, ◌&&◌, refl, sym, ap, ◌∙◌, arith}
 use Rattle.std.specs.List.{Contains}
 use Rattle.kernel_check.specs.Causes.{is_same_segment}
 use Rattle.kernel_check.specs.Needs.{is_set, is_read, is_loaded, is_written, is_label, is_dimension, has_needed, leaves_nothing_out}
@@ -51,6 +51,10 @@ samples s kind = record {
   fourth = sample s.3 kind;
 }
 
+abbrev pub is_absent : Operand → Bool
+is_absent operand.Absent = true
+is_absent _ = false
+
 -- two operands of which each test tells the same
 record Alike (a b : Operand) : Type 0 where
   set : (c : RegisterClass) → is_set c a ≡ is_set c b
@@ -59,6 +63,7 @@ record Alike (a b : Operand) : Type 0 where
   written : is_written a ≡ is_written b
   label : is_label a ≡ is_label b
   dimension : is_dimension a ≡ is_dimension b
+  absent : is_absent a ≡ is_absent b
 
 alike : (s : Shape) (kind : DataType) (o : Operand) → HasShape s kind o → Alike o (sample s kind)
 alike (shape.Target at) kind (operand.Target t) has = record {
@@ -68,6 +73,7 @@ alike (shape.Target at) kind (operand.Target t) has = record {
   written = refl;
   label = refl;
   dimension = refl;
+  absent = refl;
 }
 alike (shape.Source at) kind (operand.Source s) has = record {
   set = λ c. refl;
@@ -76,6 +82,7 @@ alike (shape.Source at) kind (operand.Source s) has = record {
   written = refl;
   label = refl;
   dimension = refl;
+  absent = refl;
 }
 alike (shape.Address s) kind (operand.Address a) has = record {
   set = λ c. refl;
@@ -84,14 +91,29 @@ alike (shape.Address s) kind (operand.Address a) has = record {
   written = ap (λ g. not (is_same_segment g segment.Kernarg)) has.0;
   label = refl;
   dimension = refl;
+  absent = refl;
 }
 alike shape.Absent kind operand.Absent has =
-    record { set = λ c. refl; read = λ c. refl; loaded = refl; written = refl; label = refl; dimension = refl }
+    record { set = λ c. refl; read = λ c. refl; loaded = refl; written = refl; label = refl; dimension = refl; absent = refl }
 alike shape.Label kind (operand.Label x) has =
-    record { set = λ c. refl; read = λ c. refl; loaded = refl; written = refl; label = refl; dimension = refl }
+    record { set = λ c. refl; read = λ c. refl; loaded = refl; written = refl; label = refl; dimension = refl; absent = refl }
 alike shape.Dimension kind (operand.Dimension n) has =
-    record { set = λ c. refl; read = λ c. refl; loaded = refl; written = refl; label = refl; dimension = refl }
+    record { set = λ c. refl; read = λ c. refl; loaded = refl; written = refl; label = refl; dimension = refl; absent = refl }
 alike _ kind _ has = absurd has
+
+-- nothing stands behind the operands of a form
+abbrev pub has_no_more : Form → Operands → Bool
+has_no_more (form.Unary f) o = is_absent o.third && is_absent o.fourth
+has_no_more (form.Binary f) o = is_absent o.fourth
+has_no_more (form.Ternary f) o = true
+has_no_more (form.Atomic atomic.CompareAndSwap) o = true
+has_no_more (form.Atomic _) o = is_absent o.fourth
+has_no_more (form.AtomicNoReturn atomic.CompareAndSwap) o = is_absent o.fourth
+has_no_more (form.AtomicNoReturn _) o = is_absent o.third && is_absent o.fourth
+has_no_more form.Branch o = is_absent o.second && is_absent o.third && is_absent o.fourth
+has_no_more form.Return o = is_absent o.first && is_absent o.second && is_absent o.third && is_absent o.fourth
+has_no_more form.Barrier o = is_absent o.first && is_absent o.second && is_absent o.third && is_absent o.fourth
+has_no_more _ o = is_absent o.third && is_absent o.fourth
 
 module _ (t : DataType) (o p : Operands) (a : Alike o.first p.first) (b : Alike o.second p.second) (c : Alike o.third p.third)
     (d : Alike o.fourth p.fourth) where
@@ -117,6 +139,20 @@ module _ (t : DataType) (o p : Operands) (a : Alike o.first p.first) (b : Alike 
   needed_alike (form.Identify q) = rw (a.set (type_class t), b.dimension) refl
   needed_alike _ = refl
 
+  -- what stands behind the operands of a form
+  no_more_alike : (f : Form) → has_no_more f o ≡ has_no_more f p
+  no_more_alike (form.Unary f) = rw (c.absent, d.absent) refl
+  no_more_alike (form.Binary f) = d.absent
+  no_more_alike (form.Ternary f) = refl
+  no_more_alike (form.Atomic atomic.CompareAndSwap) = refl
+  no_more_alike (form.Atomic _) = d.absent
+  no_more_alike (form.AtomicNoReturn atomic.CompareAndSwap) = d.absent
+  no_more_alike (form.AtomicNoReturn _) = rw (c.absent, d.absent) refl
+  no_more_alike form.Branch = rw (b.absent, c.absent, d.absent) refl
+  no_more_alike form.Return = rw (a.absent, b.absent, c.absent, d.absent) refl
+  no_more_alike form.Barrier = rw (a.absent, b.absent, c.absent, d.absent) refl
+  no_more_alike _ = rw (c.absent, d.absent) refl
+
 -- the types of a row's words
 abbrev word_types : TypeSet → List DataType
 word_types types.Untyped = type.B1 ∷ []
@@ -126,22 +162,33 @@ is_word_type : (set : TypeSet) (t : DataType) → HasType set t → Contains (wo
 is_word_type types.Untyped t has = (0, omega arith, sym has)
 is_word_type set t has = has
 
--- what a row has, at each of its types
-abbrev row_has_needed : InstructionRow → Bool
-row_has_needed row = every (λ t. has_needed row.form t (samples row.operands t)) (word_types row.types)
+-- a test of operations tells the same of operands that are alike
+abbrev TellsAlike : (Form → DataType → Operands → Bool) → Type 0
+TellsAlike test =
+    (t : DataType) (o p : Operands) → Alike o.first p.first → Alike o.second p.second → Alike o.third p.third
+    → Alike o.fourth p.fourth → (f : Form) → test f t o ≡ test f t p
 
-all_have_needed : every row_has_needed rows ≡ true
-all_have_needed = refl
+-- a row passes a test, at each of its types
+abbrev row_passes : (Form → DataType → Operands → Bool) → InstructionRow → Bool
+row_passes test row = every (λ t. test row.form t (samples row.operands t)) (word_types row.types)
 
-pub nothing_is_left_out : (op : Operation) → IsOfRow op → leaves_nothing_out op ≡ true
-nothing_is_left_out op is =
+-- what all rows pass is passed by an operation of a row
+passes : (test : Form → DataType → Operands → Bool) → TellsAlike test → every (row_passes test) rows ≡ true
+    → (op : Operation) → IsOfRow op → test op.form op.kind op.operands ≡ true
+passes test same all op is =
     let row = is.row in
     let o = op.operands in
     let shapes = row.operands in
-    let there : row_has_needed row ≡ true = every_passes row_has_needed rows row all_have_needed is.listed in
-    needed_alike op.kind o (samples shapes op.kind) (alike shapes.0 op.kind o.first is.first)
+    let there : row_passes test row ≡ true = every_passes (row_passes test) rows row all is.listed in
+    same op.kind o (samples shapes op.kind) (alike shapes.0 op.kind o.first is.first)
     (alike shapes.1 op.kind o.second is.second) (alike shapes.2 op.kind o.third is.third)
     (alike shapes.3 op.kind o.fourth is.fourth) op.form
-    ∙ ap (λ f. has_needed f op.kind (samples shapes op.kind)) (sym is.form)
-    ∙ every_passes (λ t. has_needed row.form t (samples shapes t)) (word_types row.types) op.kind there
+    ∙ ap (λ f. test f op.kind (samples shapes op.kind)) (sym is.form)
+    ∙ every_passes (λ t. test row.form t (samples shapes t)) (word_types row.types) op.kind there
     (is_word_type row.types op.kind is.type)
+
+pub nothing_is_left_out : (op : Operation) → IsOfRow op → leaves_nothing_out op ≡ true
+nothing_is_left_out op is = passes has_needed needed_alike refl op is
+
+pub nothing_is_more : (op : Operation) → IsOfRow op → has_no_more op.form op.operands ≡ true
+nothing_is_more op is = passes (λ f t o. has_no_more f o) no_more_alike refl op is

@@ -38,7 +38,7 @@ is1_at : (kind : DataType) (s : Source) → Is1 (source1_at kind s) kind s
 is1_at kind (source.Register r) = refl
 is1_at kind (source.Constant c) = refl
 
-is1 : (t : TypedSource) → Is1 (source1_of t) t.kind t.source
+pub is1 : (t : TypedSource) → Is1 (source1_of t) t.kind t.source
 is1 t = is1_at t.kind t.source
 
 is32_at : (kind : DataType) (s : Source) → Is32 (source32_at kind s) kind s
@@ -55,18 +55,18 @@ is64_at kind (source.Constant c) = refl
 is64 : (t : TypedSource) → Is64 (source64_of t) t.kind t.source
 is64 t = is64_at t.kind t.source
 
-is_source : (k : RegisterClass) (t : TypedSource) → IsSource (source_in k t) t
+pub is_source : (k : RegisterClass) (t : TypedSource) → IsSource (source_in k t) t
 is_source class.Control t = is1 t
 is_source class.Single t = is32 t
 is_source class.Double t = is64 t
 
-same_number : (k : RegisterClass) (r : Register) → number_in (register_in k r) ≡ slot_of r
+pub same_number : (k : RegisterClass) (r : Register) → number_in (register_in k r) ≡ slot_of r
 same_number class.Control r = refl
 same_number class.Single r = refl
 same_number class.Double r = refl
 
 -- a step sets this register and reads these sources
-abbrev Keeps : Step → Register → List TypedSource → Type 0
+abbrev pub Keeps : Step → Register → List TypedSource → Type 0
 Keeps s r sources = IsTarget (sets s) r × AreSources (reads s) sources
 
 unary_keeps_in : (k : RegisterClass) (f : UnaryOperation) (r : Register) (s : TypedSource)
@@ -81,7 +81,7 @@ unary_keeps_in class.Double Not r s = (refl, (is64 s, tt))
 unary_keeps_in class.Double Move r s = (refl, (is64 s, tt))
 unary_keeps_in class.Double (Convert to) r s = (refl, (is64 s, tt))
 
-unary_keeps : (f : UnaryOperation) (u : Unary) → Keeps (unary_by f u) u.target (u.source ∷ [])
+pub unary_keeps : (f : UnaryOperation) (u : Unary) → Keeps (unary_by f u) u.target (u.source ∷ [])
 unary_keeps (Convert to) u = (same_number (type_class to) u.target, (is_source (type_class u.source.kind) u.source, tt))
 unary_keeps Move u = unary_keeps_in (type_class u.kind) Move u.target u.source
 unary_keeps Not u = unary_keeps_in (type_class u.kind) Not u.target u.source
@@ -111,12 +111,12 @@ doubles_keep ShiftRight false r left right = (refl, (is64 left, (is32 right, tt)
 doubles_keep _ true r left right = (refl, (is64 left, (is64 right, tt)))
 doubles_keep _ false r left right = (refl, (is64 left, (is64 right, tt)))
 
-binary_keeps : (k : RegisterClass) (b : Binary) → Keeps (binary_in k b) b.target (b.left ∷ b.right ∷ [])
+pub binary_keeps : (k : RegisterClass) (b : Binary) → Keeps (binary_in k b) b.target (b.left ∷ b.right ∷ [])
 binary_keeps class.Control b = bits_keep b.operation b.kind b.target b.left b.right
 binary_keeps class.Single b = singles_keep b.operation (is_signed b.kind) b.target b.left b.right
 binary_keeps class.Double b = doubles_keep b.operation (is_signed b.kind) b.target b.left b.right
 
-ternary_keeps : (k : RegisterClass) (f : TernaryOperation) (t : Ternary) → Keeps (ternary_in k f t) t.target (t.first ∷ t.second ∷ t.third ∷ [])
+pub ternary_keeps : (k : RegisterClass) (f : TernaryOperation) (t : Ternary) → Keeps (ternary_in k f t) t.target (t.first ∷ t.second ∷ t.third ∷ [])
 ternary_keeps class.Control MultiplyAdd t = (refl, (is1 t.first, tt))
 ternary_keeps class.Control ConditionalMove t = (refl, (is1 t.first, (is1 t.second, (is1 t.third, tt))))
 ternary_keeps class.Single MultiplyAdd t = (refl, (is32 t.first, (is32 t.second, (is32 t.third, tt))))
@@ -124,7 +124,7 @@ ternary_keeps class.Single ConditionalMove t = (refl, (is1 t.first, (is32 t.seco
 ternary_keeps class.Double MultiplyAdd t = (refl, (is64 t.first, (is64 t.second, (is64 t.third, tt))))
 ternary_keeps class.Double ConditionalMove t = (refl, (is1 t.first, (is64 t.second, (is64 t.third, tt))))
 
-load_keeps : (variables : List ℕ → Option Placed) (s : Segment) (r : Register) (a : Access) → Keeps (load_from variables s r a) r []
+pub load_keeps : (variables : List ℕ → Option Placed) (s : Segment) (r : Register) (a : Access) → Keeps (load_from variables s r a) r []
 load_keeps variables segment.Kernarg r a = (same_number (type_class a.kind) r, tt)
 load_keeps variables _ r a = (same_number (type_class a.kind) r, tt)
 
@@ -152,7 +152,7 @@ atomic64_keeps atomic.CompareAndSwap signed s t = (is64 s, (is64 t, tt))
 atomic64_keeps _ true s t = (is64 s, tt)
 atomic64_keeps _ false s t = (is64 s, tt)
 
-atomic_keeps : (k : RegisterClass) (a : Atomic) (p : AtomicPointer) (r : Register) → IsTarget a.target r
+pub atomic_keeps : (k : RegisterClass) (a : Atomic) (p : AtomicPointer) (r : Register) → IsTarget a.target r
     → Keeps (atomic_in k a p) r (a.first ∷ a.second ∷ [])
 atomic_keeps class.Double a p r target = (target, atomic64_keeps a.operation (is_signed a.kind) a.first a.second)
 atomic_keeps _ a p r target = (target, atomic32_keeps a.operation (is_signed a.kind) a.first a.second)

@@ -1,6 +1,6 @@
 -- A step reads and sets what its instruction has, in the order of the text: the first register is set, and the
 -- sources stand behind it (PRM, Operands).
-use Rattle.std.specs.Prelude.{◌≡◌, ℕ, ◌%◌, ◌^◌, List, [], ◌∷◌, ◌==◌, Option, Some, None}
+use Rattle.std.specs.Prelude.{◌≡◌, ℕ, ◌%◌, ◌^◌, List, [], ◌∷◌, ◌++◌, ◌==◌, Option, Some, None}
 use Rattle.kernel_check.specs.Constants.{constant_bits}
 use Rattle.kernel_check.specs.Steps.{reads, sets, slot_of, sources_of, target_in}
 use Rattle.kernel_check.specs.declared.step.AnySource.{AnySource}
@@ -12,6 +12,9 @@ use Rattle.kernel_check.specs.declared.step.Source32.TheVariants as source32
 use Rattle.kernel_check.specs.declared.step.Source64.{Source64}
 use Rattle.kernel_check.specs.declared.step.Source64.TheVariants as source64
 use Rattle.kernel_check.specs.declared.step.Step.{Step}
+use Rattle.hsail_reader.specs.declared.module.Operand.{Operand}
+use Rattle.hsail_reader.specs.declared.module.Operand.TheVariants as operand
+use Rattle.hsail_reader.specs.declared.module.Operands.{Operands}
 use Rattle.hsail_reader.specs.declared.module.Operation.{Operation}
 use Rattle.hsail_reader.specs.declared.module.TypedSource.{TypedSource}
 use Rattle.hsail_reader.specs.declared.types.DataType.{DataType}
@@ -54,3 +57,28 @@ IsTarget (Some n) r = n ≡ slot_of r
 -- a step sets the first operand of its instruction, and reads the others in their order
 abbrev pub KeepsOrder : Operation → Step → Type 0
 KeepsOrder op s = IsTarget (sets s) (target_in op.operands.first) × AreSources (reads s) (sources_of op.form op)
+
+-- the register that an operand sets
+abbrev pub set_by : Operand → Option ℕ
+set_by (operand.Target t) = Some (slot_of t.register)
+set_by _ = None
+
+-- the source that an operand is
+abbrev pub source_by : Operand → List TypedSource
+source_by (operand.Source s) = s ∷ []
+source_by _ = []
+
+-- the sources among the operands of the text, in order
+abbrev pub sources_by : Operands → List TypedSource
+sources_by o = source_by o.first ++ source_by o.second ++ source_by o.third ++ source_by o.fourth
+
+-- what is read are these sources, all of them and no others
+abbrev pub AreAllSources : List AnySource → List TypedSource → Type 0
+AreAllSources [] [] = Unit {0}
+AreAllSources (a ∷ later) (t ∷ sources) = IsSource a t × AreAllSources later sources
+AreAllSources _ _ = ⊥
+
+-- a step sets the register that the text sets, if there is one, and reads all the sources of the text, in their
+-- order
+abbrev pub KeepsAll : Operation → Step → Type 0
+KeepsAll op s = (sets s ≡ set_by op.operands.first) × AreAllSources (reads s) (sources_by op.operands)

@@ -7,7 +7,7 @@ ghost use Rattle.kernel_check.specs.Checks.{program_of};
 ghost use Rattle.kernel_check.specs.Faults.{Checkpoint, causes, first_fault, least_cause};
 ghost use Rattle.kernel_check.specs.Laws.{Ascends, IsFirst, IsEarliest, IsFaithful};
 ghost use Rattle.kernel_check.specs.Needs.{leaves_nothing_out};
-ghost use Rattle.kernel_check.specs.Reads.{KeepsOrder};
+ghost use Rattle.kernel_check.specs.Reads.{KeepsAll, KeepsOrder};
 ghost use Rattle.kernel_check.specs.Steps.{step_of};
 ghost use Rattle.kernel_check.specs.declared.fault.Cause.{Cause};
 ghost use Rattle.kernel_check.specs.declared.fault.CheckFault.{CheckFault};
@@ -37,9 +37,12 @@ pub fn steps_are_faithful()
 
 /// An operation of a row of the table, as each of a module is (`operations_are_of_rows` of `hsail_reader`), has all
 /// that its step needs: registers and sources of the step's classes, an address, a label or a dimension where
-/// the step has one, and a type for which there are such steps. It does nothing.
+/// the step has one, and a type for which there are such steps. Its step sets the register that the text sets,
+/// if there is one, and reads all the sources of the text, in their order. It does nothing.
 pub fn steps_have_what_they_need()
-    ensures { (op : Operation) → IsOfRow op → leaves_nothing_out op ≡ true }
+    ensures needed { (op : Operation) → IsOfRow op → leaves_nothing_out op ≡ true }
+    ensures all { (arguments : List ℕ → Option Placed) (labels : List ℕ → Option ℕ) (op : Operation)
+        → IsOfRow op → KeepsAll op (step_of arguments labels op) }
 {}
 
 /// The offsets of a kernel's arguments of 64 bits ascend. It does nothing.
