@@ -1,11 +1,12 @@
 -- The regions that a packet in flight holds, as they are lent one after another.
 use Rattle.std.proofs.Common.{◌≡◌, ℕ, zero, suc, ◌+◌, ◌*◌, ◌%◌, ◌^◌, ◌<◌, ◌≤◌, List, [], ◌∷◌, ◌++◌, length, get_or, refl, sym, ◌∙◌, ap, subst, Bool, true, false, Option, Some, None, arith, append_assoc, if◌then◌else◌}
-use Rattle.std.proofs.Common.{map, filter, not, ◌==◌, ◌&&◌, nat_le, nat_lt, cond, option_map, option_to_list}
+use Rattle.std.proofs.Common.{All, map, filter, not, ◌==◌, ◌&&◌, nat_le, nat_lt, cond, option_map, option_to_list}
 use Rattle.std.specs.List.{list_all, range_with_len, zip}
 use Rattle.std.proofs.lemmas.Bool.{and_parts, leb-true}
 use Rattle.std.proofs.lemmas.Bool.Decides.{nat_tests}
 use Rattle.std.proofs.lemmas.List.{length-append, map-append}
-use Rattle.std.proofs.lemmas.List.FromFn.{filter_of_map_range_with_len_more}
+use Rattle.std.proofs.lemmas.List.Elements.{All-filter, All-map}
+use Rattle.std.proofs.lemmas.List.FromFn.{filter_of_map_range_with_len_more, get_or-range_with_len, length-range_with_len}
 use Rattle.executor.specs.Items.{LentRegion, lent_region}
 use Rattle.executor.specs.declared.view.HeldRegion.{HeldRegion as Borrowed}
 use Rattle.aql_packet.specs.Memory.{is_region_length}
@@ -30,6 +31,10 @@ pub has-bytes : (lengths : List ℕ) → are_region_lengths lengths ≡ true →
 has-bytes lengths fit k below =
     let place : k + 1 ≡ suc k = omega arith in
     subst (λ n. 0 < region_length lengths n) (sym place) (some-at lengths (and_parts (nat_le (length lengths) 64) _ fit).1 k below)
+
+-- there are at most 64 regions
+pub few-regions : (lengths : List ℕ) → are_region_lengths lengths ≡ true → length lengths ≤ 64
+few-regions lengths fit = leb-true _ _ (and_parts (nat_le (length lengths) 64) _ fit).0
 
 -- the bytes of a whole region lie within it
 pub whole-within : (lengths : List ℕ) (number size : ℕ) → size ≡ region_length lengths number → 0 < region_length lengths number → is_within lengths (number * 2 ^ 32) size ≡ true
@@ -100,3 +105,31 @@ module _ (start : Start) (es : List Entry) (all : List ObjectRight) where
       let known : ((rights_held all (object.Region (record { 0 = number }))).0 == 0) ≡ false = ap (λ (r : Rights). r.0 == 0) (sym are) ∙ some in
       let there : Some (record { number = number; rights = rights; bytes = bytes }) ≡ Some (lent_whole start es (region_numbered start all number)) = λ i. Some (record { number = number; rights = are i; bytes = is i }) in
       there ∙ sym (ap (λ (b : Bool). if b then None else Some (lent_whole start es (region_numbered start all number))) known)
+
+  -- those that were lent so far have the numbers up to theirs
+  pub lent-below : (count : ℕ) (before : List Borrowed) → map lent_region before ≡ lent_so_far count → All (λ region. region.handle.0 < count + 1) before
+  lent-below count before are =
+      numbers before (subst (λ (regions : List LentRegion). All (λ region. region.number < count + 1) regions) (sym are)
+      (All-map (λ (region : LentRegion). region.number < count + 1) (lent_whole start es) _
+      (All-filter (λ (region : HeldRegion). not (region.rights.0 == 0)) (λ (region : HeldRegion). region.number < count + 1) _
+      (All-map (λ (region : HeldRegion). region.number < count + 1) (region_numbered start all) (range_with_len 1 count) up_to))))
+    where
+      up_to : All (λ number. number < count + 1) (range_with_len 1 count)
+      up_to i d known =
+          let inside : i < count = omega (arith, known, length-range_with_len 1 count) in
+          omega (arith, inside, get_or-range_with_len 1 count i d inside)
+      numbers : (regions : List Borrowed) → All (λ region. region.number < count + 1) (map lent_region regions) → All (λ region. region.handle.0 < count + 1) regions
+      numbers [] below i d known = absurd (omega (arith, known))
+      numbers (r ∷ rs) below zero d known = below 0 (lent_region d) (omega arith)
+      numbers (r ∷ rs) below (suc i) d known = numbers rs (λ j e inside. below (suc j) e (omega (arith, inside))) i d (omega (arith, known))
+
+  -- a region that is lent has its number
+  pub lent-number : (number : ℕ) (held : Borrowed) → Some (lent_region held) ≡ lent_if_held start es (region_numbered start all number) → held.handle.0 ≡ number
+  lent-number number held is = ap number_or is ∙ by_test (region_numbered start all number) ((region_numbered start all number).rights.0 == 0) refl refl
+    where
+      number_or : Option LentRegion → ℕ
+      number_or None = number
+      number_or (Some region) = region.number
+      by_test : (region : HeldRegion) (b : Bool) → (region.rights.0 == 0) ≡ b → region.number ≡ number → number_or (lent_if_held start es region) ≡ number
+      by_test region true none is = rw none refl
+      by_test region false some is = rw some is

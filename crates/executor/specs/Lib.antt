@@ -1,6 +1,7 @@
 pub mod Numbers
 pub mod Conversions
 pub mod Written
+pub mod Views
 pub mod Told
 pub mod Registers
 pub mod Values

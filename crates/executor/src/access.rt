@@ -1,11 +1,12 @@
 //! Accesses to the memory that is lent, and to what is written over it.
-ghost use Rattle.std.specs.Prelude.{◌≡◌, ◌+◌, ◌/◌, ◌==◌, ◌≤◌, ◌^◌, None, Some, Ok, Err, find, IfOk, IfErr, OnOk, MatchResult, length, map, option_map};
+ghost use Rattle.std.specs.Prelude.{◌≡◌, ◌+◌, ◌/◌, ◌==◌, ◌≤◌, ◌^◌, None, Some, Ok, Err, IfOk, IfErr, OnOk, MatchResult, length, map, option_map};
 ghost use Rattle.std.specs.Option.{option_copied};
-ghost use Rattle.executor.specs.Accesses.{covers_address, region_of, broken, lent, loaded, stored};
+ghost use Rattle.executor.specs.Accesses.{region_of, broken, lent, loaded, stored};
 ghost use Rattle.executor.specs.Items.{lent_region};
 ghost use Rattle.executor.specs.Outcomes.{StoreFails};
 ghost use Rattle.executor.specs.Written.{byte_at};
 
+use crate::held::View;
 use crate::view::HeldRegion;
 use crate::written::WrittenBytes;
 use byteorder::{ByteOrder, LittleEndian};
@@ -22,30 +23,15 @@ pub enum StoreError {
 
 /// The held region that an address lies in.
 #[inline(always)]
-pub fn region_of<'v>(view: &'v [HeldRegion<'v>], address: u64) -> Option<&'v HeldRegion<'v>>
+pub fn region_of<'v>(view: &'v View<'v>, address: u64) -> Option<&'v HeldRegion<'v>>
     ensures { option_map lent_region (option_copied result) ≡ region_of (map lent_region view.now) address }
 {
-    find_region(view, address)
-}
-
-/// The held region that an address lies in, among those that are lent.
-#[inline(always)]
-fn find_region<'v>(view: &'v [HeldRegion<'v>], address: u64) -> Option<&'v HeldRegion<'v>>
-    ensures { option_copied result ≡ find (λ region. covers_address (lent_region region) address) view.now }
-{
-    view.iter().find(|region| {
-        region.handle.0 as u64 == address >> 32 && address % (1 << 32) < region.bytes.len() as u64
-    })
+    view.find(address)
 }
 
 /// The bytes that are lent for an access of a size, or the rule that it breaks first.
 #[inline(always)]
-fn access<'v>(
-    view: &'v [HeldRegion<'v>],
-    right: Right,
-    address: u64,
-    size: usize,
-) -> Result<&'v [u8], Rule>
+fn access<'v>(view: &'v View<'v>, right: Right, address: u64, size: usize) -> Result<&'v [u8], Rule>
     requires { size ≤ 8 }
     ensures allowed { IfOk result (λ bytes. broken (map lent_region view.now) right address size ≡ None) }
     ensures bytes { IfOk result (λ bytes. bytes.now ≡ lent (map lent_region view.now) address size) }
@@ -68,12 +54,7 @@ fn access<'v>(
 
 /// A load: what the addresses have, the lowest byte first, or the rule that it breaks first.
 #[inline]
-pub fn load(
-    view: &[HeldRegion<'_>],
-    written: &WrittenBytes,
-    address: u64,
-    size: usize,
-) -> Result<u64, Rule>
+pub fn load(view: &View<'_>, written: &WrittenBytes, address: u64, size: usize) -> Result<u64, Rule>
     requires some { 1 ≤ size }
     requires few { size ≤ 8 }
     ensures { result ≡ loaded (map lent_region view.now) (byte_at written.now) address size }
@@ -94,7 +75,7 @@ pub fn load(
 #[inline]
 pub fn store(
     alloc: Global,
-    view: &[HeldRegion<'_>],
+    view: &View<'_>,
     written: &mut WrittenBytes,
     address: u64,
     size: usize,

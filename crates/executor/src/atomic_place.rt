@@ -7,9 +7,9 @@ ghost use Rattle.executor.specs.Items.{contents, lent_region};
 use crate::access::region_of;
 use crate::address::{address_of, group_address_of};
 use crate::group_access;
+use crate::held::View;
 use crate::memory::Memory;
 use crate::registers::Registers;
-use crate::view::HeldRegion;
 use kernel_check::AtomicPointer;
 use policy::Right;
 use queue_error::Rule;
@@ -35,11 +35,7 @@ pub fn place_of(registers: &Registers, pointer: AtomicPointer) -> AtomicPlace
 
 /// The bytes that are lent for an atomic access of a size, or the rule that it breaks first.
 #[inline(always)]
-fn atomic_access<'v>(
-    view: &'v [HeldRegion<'v>],
-    address: u64,
-    size: usize,
-) -> Result<&'v [u8], Rule>
+fn atomic_access<'v>(view: &'v View<'v>, address: u64, size: usize) -> Result<&'v [u8], Rule>
     requires some { 1 ≤ size }
     requires few { size ≤ 8 }
     ensures allowed { IfOk result (λ bytes. atomic_broken (map lent_region view.now) address size ≡ None) }
@@ -68,7 +64,7 @@ fn atomic_access<'v>(
 /// rule that it breaks first.
 #[inline]
 pub fn find(
-    view: &[HeldRegion<'_>],
+    view: &View<'_>,
     memory: &Memory,
     place: AtomicPlace,
     buffer: &mut [u8],

@@ -8,13 +8,13 @@ ghost use Rattle.kernel_check.specs.Programs.{Program as ProgramValue};
 
 use crate::dispatch::Dispatch;
 use crate::fault::RunFault;
+use crate::held::View;
 use crate::item::Around;
 use crate::item_run::id_of;
 use crate::location::{Extent, Location};
 use crate::memory::Memory;
 use crate::rounds::run_items;
 use crate::run::Run;
-use crate::view::HeldRegion;
 use crate::written::WrittenBytes;
 use kernel_check::{Checked, Program};
 use sequences::Sequence;
@@ -120,7 +120,7 @@ fn run_program(
     program: &Program,
     dispatch: &Dispatch<'_>,
     group: u32,
-    view: &[HeldRegion<'_>],
+    view: &View<'_>,
 ) -> Result<Sequence<Run>, RunFault>
     requires { IsRunnable program.now dispatch.now group }
     ensures ok { IfOk result (FinishesAs (input_of program.now dispatch.now group view.now)) }
@@ -149,7 +149,7 @@ pub fn run_group(
     checked: &Checked,
     dispatch: &Dispatch<'_>,
     group: u32,
-    view: &[HeldRegion<'_>],
+    view: &View<'_>,
 ) -> Result<Sequence<Run>, RunFault>
     requires kernel { dispatch.now.kernel < length checked.now }
     requires runnable { (p : ProgramValue) → slice_get checked.now dispatch.now.kernel ≡ Some p → IsRunnable p dispatch.now group }

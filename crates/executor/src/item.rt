@@ -4,9 +4,9 @@ ghost use Rattle.executor.specs.Items.{fresh};
 ghost use Rattle.executor.specs.Stops.{waits};
 ghost use Rattle.executor.specs.declared.item.Stop.TheVariants as stop_arm;
 
+use crate::held::View;
 use crate::location::Location;
 use crate::registers::Registers;
-use crate::view::HeldRegion;
 
 /// A work-item between two instructions.
 #[derive(Clone, Copy)]
@@ -76,6 +76,6 @@ pub struct Around<'a> {
     /// The bytes of the argument block.
     pub arguments: &'a [u8],
     /// The regions that the packet holds.
-    pub view: &'a [HeldRegion<'a>],
+    pub view: &'a View<'a>,
     pub location: Location,
 }

@@ -81,7 +81,7 @@ impl AccessCore {
             arguments: self.blocks.get(queue, packet),
         };
         let group = place.progress.groups_run;
-        run_group(alloc, &kernel.checked, &asked, group, view.as_slice())
+        run_group(alloc, &kernel.checked, &asked, group, &view)
     }
 
     // Takes a packet in flight out of it whose group broke a rule: its queue has an error more, which

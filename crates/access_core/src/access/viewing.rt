@@ -13,7 +13,7 @@ ghost use Rattle.access_core.specs.inner.Running.{IsHolder, lent_if_held, region
 
 use crate::access::AccessCore;
 use aql_packet::{Address, ClientId, PacketId, QueueId, REGION_SPAN, RegionHandle};
-use executor::HeldRegion;
+use executor::{HeldRegion, View};
 use packet_processor::Place;
 use policy::{Kind, Object, Rights};
 use std::alloc::{AllocError, Global};
@@ -42,16 +42,16 @@ impl AccessCore {
         queue: QueueId,
         packet: PacketId,
         client: ClientId,
-    ) -> Result<Vec<HeldRegion<'_>>, AllocError>
+    ) -> Result<View<'_>, AllocError>
         requires { IsHolder self.now queue packet client }
-        ensures { IfOk result (λ view. map lent_region view.items
+        ensures { IfOk result (λ view. map lent_region view
             ≡ view_whole self.now.start self.now.entries (packet_rights self.now.start self.now.entries queue packet)) }
     {
-        let mut view = Vec::new(alloc);
+        let mut view = View::new(alloc);
         for before in 0..self.policy().object_count(Kind::Region) {
             let region = RegionHandle(before as u32 + 1);
             if let Some(held) = self.region_if_held(queue, packet, client, region) {
-                view.push(held)?;
+                view.put(held)?;
             }
         }
         Ok(view)

@@ -5,4 +5,4 @@ use Rattle.executor.proofs.ViewLemmas.{found_lent}
 use Rattle.executor.proofs.access.region_of.Goals as goal
 
 pub returns : goal.returns
-returns c = ap (option_map lent_region) c.find_region.ensures ∙ found_lent c.args.view.now c.args.address
+returns c = ap (option_map lent_region) c.find.ensures ∙ found_lent c.args.view.now c.args.address
