@@ -8,7 +8,7 @@ use Rattle.core_model.proofs.Meeting.{entered-owed}
 use Rattle.core_model.proofs.Flying.{all-after}
 use Rattle.core_model.proofs.Legality.{IsLegal-more}
 use Rattle.core_model.specs.Holds.{arguments, arguments_if, packet_rights, is_launch}
-use Rattle.access_core.specs.ArgumentBlocks.{block_of}
+use Rattle.access_core.specs.ArgumentBlocks.{AreBlocksOf, block_of}
 use Rattle.access_core.specs.declared.argument_blocks.ArgumentBlock.{ArgumentBlock}
 use Rattle.access_core.proofs.HeldMore.{arguments-more}
 use Rattle.access_core.proofs.QueueAt.{IsQuiet, flight-quiet, queue_at-quiet}
@@ -30,6 +30,7 @@ pub record GrantsAfter (a : Inside) (new : Ledger) (blocks : List ArgumentBlock)
   pub rules : ledger.rules_in new ≡ ledger.rules_in a.grants
   pub held : (queue : QueueId) (id : PacketId) (client : ClientId) (on : Object) (right : Right)
       → ledger.holds new queue id client on right ≡ packet_holds (owner (start_of a) (with_entry a.audit.items event outcome effects)) (packet_rights (start_of a) (with_entry a.audit.items event outcome effects)) (flight (start_of a) (with_entry a.audit.items event outcome effects)) queue id client on right
+  pub blocks_are : AreBlocksOf (flight (start_of a) (with_entry a.audit.items event outcome effects)) blocks
   pub arguments : All (λ f. block_of blocks f.queue f.id ≡ arguments_behind a event outcome f.queue f.id) (flight (start_of a) (with_entry a.audit.items event outcome effects))
 
 -- How the memory does.
@@ -126,6 +127,7 @@ module _ (a b : Inside) (event : Event) (outcome : Outcome) (effects : List Effe
         granted = granted-after;
         rules = rw after.same.0.0 (after.grants.rules ∙ was.rules);
         held = λ queue id client on right. rw (after.same.0.0, after.same.0.1, after.audit.items) (after.grants.held queue id client on right);
+        blocks_are = rw (after.same.0.0, after.same.0.1, after.audit.items) after.grants.blocks_are;
         arguments = rw (after.same.0.0, after.same.0.1, after.audit.items) (arguments-after (owed-inside a was old seen_as event outcome effects is_due));
         entries = rw after.same.0.1 was.entries;
         segments = rw (after.same.0.1, after.same.0.2) was.segments;

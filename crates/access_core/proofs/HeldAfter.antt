@@ -2,6 +2,7 @@
 use Rattle.std.proofs.Common.{◌≡◌, List, [], ◌∷◌, ◌++◌, refl, sym, ◌∙◌, ap, Bool, true, false, Option, Some, None, arith, All, ℕ, ◌&&◌, ◌||◌, ◌==◌, not, map}
 use Rattle.std.proofs.Common.{filter, fold, get_or, if◌then◌else◌}
 use Rattle.std.specs.List.{list_all, list_any}
+use Rattle.std.proofs.lemmas.List.{map-append}
 use Rattle.std.proofs.lemmas.List.Elements.{All-head, All-tail}
 use Rattle.std.proofs.lemmas.List.Folds.{list_any-append}
 use Rattle.policy.specs.Object.{same_object}
@@ -18,7 +19,7 @@ use Rattle.core_model.proofs.Holding.{holding-legal}
 use Rattle.core_model.proofs.Lists.{filter-passes}
 use Rattle.core_model.specs.Headline.{HoldsInForce}
 use Rattle.core_model.specs.Holds.{arguments_of, packet_rights}
-use Rattle.access_core.specs.ArgumentBlocks.{block_behind, block_of, is_block}
+use Rattle.access_core.specs.ArgumentBlocks.{AreBlocksOf, block_behind, block_of, is_block, name_of, packet_of}
 use Rattle.access_core.specs.declared.argument_blocks.ArgumentBlock.{ArgumentBlock}
 use Rattle.access_core.proofs.CachedMore.{arguments_behind}
 use Rattle.access_core.proofs.HeldMore.{held-kept, held-unlaunched}
@@ -76,6 +77,26 @@ blocks-launched a event outcome q i p bytes launches is fs = λ k d below.
     fold-append (block_behind f.queue f.id) [] a.blocks (record { queue = q; packet = i; bytes = bytes } ∷ [])
     ∙ (rw (launches, is) refl)
 
+-- what is told of each item is told of those that are left
+map-left : {X N : Type 0} (name : X → N) (stays : N → Bool) (xs : List X) → map name (filter (λ x. stays (name x)) xs) ≡ filter stays (map name xs)
+map-left name stays [] = refl
+map-left name stays (x ∷ xs) = grind (arith, map-left name stays xs)
+
+-- where a packet leaves flight, its block goes with it
+blocks-left : (q : QueueId) (i : PacketId) (fs : List InFlight) (bs : List ArgumentBlock) → AreBlocksOf fs bs → AreBlocksOf (filter (λ f. not (is_packet q i f)) fs) (filter (λ b. not (is_block q i b)) bs)
+blocks-left q i fs bs are = map-left packet_of stays bs ∙ ap (filter stays) are ∙ sym (map-left name_of stays fs)
+  where
+    stays : QueueId × PacketId → Bool
+    stays named = not (named.0.0 == q.0 && named.1.0 == i.0)
+
+-- and where one is launched, its block comes behind the others
+blocks-with : (q : QueueId) (i : PacketId) (p : Packet) (bytes : List ℕ) (fs : List InFlight) (bs : List ArgumentBlock) → AreBlocksOf fs bs
+    → AreBlocksOf (fs ++ record { queue = q; id = i; packet = p } ∷ []) (bs ++ record { queue = q; packet = i; bytes = bytes } ∷ [])
+blocks-with q i p bytes fs bs are =
+    map-append packet_of bs (record { queue = q; packet = i; bytes = bytes } ∷ [])
+    ∙ ap (λ (named : List (QueueId × PacketId)). named ++ (q, i) ∷ []) are
+    ∙ sym (map-append name_of fs (record { queue = q; id = i; packet = p } ∷ []))
+
 -- so a call that doesn't touch the grants leaves them as the history says
 pub grants-still : (a : Inside) → IsCached a → (event : Event) (outcome : Outcome) (effects : List Effect) → opening_of event ≡ None → launched_by event outcome ≡ None → ((client : ClientId) (on : Object) (right : Right) (b : Bool) → in_force_after client on right b event ≡ b)
     → flight (start_of a) (with_entry a.audit.items event outcome effects) ≡ flight (start_of a) a.audit.items → GrantsAfter a a.grants a.blocks event outcome effects
@@ -83,6 +104,7 @@ grants-still a kept event outcome effects none launches same flying = record {
   granted = λ client on right. sym (same client on right _);
   rules = refl;
   held = held-still a kept event outcome effects none launches flying;
+  blocks_are = rw flying kept.blocks_are;
   arguments = blocks-still a event outcome launches _;
 }
 
@@ -172,6 +194,7 @@ grants-released a kept event outcome effects none launches same new blocks q i f
       ∙ sym (held-without (owner (start_of a) a.audit.items) (packet_rights (start_of a) a.audit.items) q i queue id client on right (flight (start_of a) a.audit.items))
       ∙ (λ j. packet_holds (λ (n : QueueId). numbered (sym (owners-still a event outcome effects none) j) n.0)
       (λ n m. sym (held-unlaunched (start_of a) a.audit.items (entry_of event outcome effects) launches n m) j) (sym flying j) queue id client on right);
+  blocks_are = rw (flying, dropped) (blocks-left q i (flight (start_of a) a.audit.items) a.blocks kept.blocks_are);
   arguments = rw (flying, dropped) (blocks-dropped a event outcome launches q i (flight (start_of a) a.audit.items));
 }
 
@@ -204,6 +227,7 @@ grants-launched a kept event outcome effects none still old new blocks opening q
       ∙ held-left (start_of a) a.audit.items (entry_of event outcome effects) (owner (start_of a) a.audit.items) queue id client on right (flight (start_of a) a.audit.items) (holding-legal (start_of a) a.audit.items kept.legal))
       ∙ held-with (owner (start_of a) a.audit.items) (packet_rights (start_of a) (with_entry a.audit.items event outcome effects)) (flight (start_of a) a.audit.items) opening q i p hs is gives queue id client on right
       ∙ (λ j. packet_holds (λ (n : QueueId). numbered (sym (owners-still a event outcome effects none) j) n.0) (packet_rights (start_of a) (with_entry a.audit.items event outcome effects)) (sym flying j) queue id client on right);
+  blocks_are = rw (flying, pushed) (blocks-with q i p bytes (flight (start_of a) a.audit.items) a.blocks kept.blocks_are);
   arguments = rw pushed (blocks-launched a event outcome q i p bytes launches block_is _);
 }
 
@@ -239,5 +263,6 @@ grants-opened a kept opener agent size told flying =
           ∙ held-opened (start_of a) a.audit.items e queue id client on right (flight (start_of a) a.audit.items) (holding-legal (start_of a) a.audit.items kept.legal)
           ∙ (λ j. packet_holds (owner (start_of a) (with_entry a.audit.items (OpenQueue opener agent size) told []))
           (λ n m. sym (held-unlaunched (start_of a) a.audit.items e refl n m) j) (sym flying j) queue id client on right);
+      blocks_are = rw flying kept.blocks_are;
       arguments = blocks-still a (OpenQueue opener agent size) told refl _;
     }

@@ -3,7 +3,7 @@ use Rattle.core_model.specs.Kernels.{segments_of}
 use Rattle.policy.specs.Policy.{Declared, initial_values, region_lengths}
 use Rattle.access_core.specs.declared.access.OpenFault.TheVariants as fault
 use Rattle.access_core.specs.declared.kernel.Kernel.{Kernel}
-use Rattle.std.proofs.Common.{List, Option, Some, ◌∷◌, length, ◌==◌}
+use Rattle.std.proofs.Common.{List, Option, Some, ◌∷◌, ap, length, ◌==◌}
 use Rattle.std.proofs.lemmas.List.Elements.{All-cons}
 use Rattle.std.proofs.Common.{All, map, ◌≡◌, ℕ, ◌≤◌, [], ◌∙◌, Bool, true, false, None, arith, refl, ◌-◌, slice_get, nat_lt, if◌then◌else◌}
 use Rattle.std.proofs.lemmas.List.Elements.{All-nil}
@@ -27,12 +27,13 @@ numbered-none n = either (nat_lt 0 n)
 
 -- what is kept where nothing has happened is what the empty audit says
 pub IsCached-opened : (a : Inside) → IsNew a.grants → rules_in a.grants ≡ rules_of a.policy → a.memory ≡ zeros (region_lengths a.policy) → a.signals ≡ initial_values a.policy
-    → a.queues.items ≡ [] → a.flying ≡ 0 → a.audit.items ≡ [] → a.capacity ≤ a.audit.room → a.capacity ≤ MOST_ENTRIES → All (λ kernel. has_entry kernel ≡ true) a.kernels.items → a.segments ≡ map segments_of (map program_of a.kernels.items) → IsCached a
+    → a.blocks ≡ [] → a.queues.items ≡ [] → a.flying ≡ 0 → a.audit.items ≡ [] → a.audit.room ≡ a.capacity → a.capacity ≤ MOST_ENTRIES → All (λ kernel. has_entry kernel ≡ true) a.kernels.items → a.segments ≡ map segments_of (map program_of a.kernels.items) → IsCached a
 unfolding in_force memory_at effects_of signals openings next_id errors is_stopped flight
-IsCached-opened a fresh ruled memory values queues flying entries places few kernels segments = record {
+IsCached-opened a fresh ruled memory values blocks queues flying entries places few kernels segments = record {
   granted = λ client on right. fresh.none_in_force client on right ∙ (rw entries refl);
   rules = ruled;
   held = λ queue id client on right. fresh.none_held queue id client on right ∙ (rw entries refl);
+  blocks_are = rw (blocks, entries) refl;
   arguments = rw entries (All-nil _);
   entries = kernels;
   segments = segments;
@@ -46,14 +47,10 @@ IsCached-opened a fresh ruled memory values queues flying entries places few ker
   flying = rw entries flying;
   within = rw entries (All-nil _);
   room = rw entries (omega (arith, flying));
-  places = omega (arith, places);
+  places = let none : length a.audit.items ≡ 0 = ap length entries in omega (arith, none, places);
   few = few;
   legal = rw entries tt;
 }
-
--- room for just as many entries as there may be
-pub by_room : (capacity room : ℕ) → room ≡ capacity → capacity ≤ room
-by_room capacity room is = omega (arith, is)
 
 -- a capacity is at most 2^20
 pub few_places : (capacity : ℕ) → is_capacity capacity ≡ true → capacity ≤ MOST_ENTRIES

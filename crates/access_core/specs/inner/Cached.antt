@@ -21,7 +21,7 @@ use Rattle.core_model.specs.Legal.{IsLegal}
 use Rattle.access_core.specs.declared.access.AccessCore.TheInside.{Inside}
 use Rattle.grants.specs.Ledger as ledger
 use Rattle.grants.specs.Rules.{rules_of}
-use Rattle.access_core.specs.ArgumentBlocks.{block_of}
+use Rattle.access_core.specs.ArgumentBlocks.{AreBlocksOf, block_of}
 use Rattle.access_core.specs.Opening.{has_entry, program_of}
 use Rattle.access_core.specs.inner.Held.{packet_holds}
 pub use Rattle.access_core.specs.inner.CachedQueue.{IsSound, cached, cached_opening, queue_at}
@@ -53,7 +53,8 @@ pub record IsCached (a : Inside) : Type 0 where
   -- the rights that packets in flight hold
   pub held : (queue : QueueId) (id : PacketId) (client : ClientId) (on : Object) (right : Right)
       → ledger.holds a.grants queue id client on right ≡ packet_holds (owner (start_of a) a.audit.items) (packet_rights (start_of a) a.audit.items) (flight (start_of a) a.audit.items) queue id client on right
-  -- the argument blocks of packets in flight
+  -- the argument blocks: one of each packet in flight, as it was at its launch
+  pub blocks_are : AreBlocksOf (flight (start_of a) a.audit.items) a.blocks
   pub arguments : All (λ f. block_of a.blocks f.queue f.id ≡ arguments (start_of a) a.audit.items f.queue f.id) (flight (start_of a) a.audit.items)
   -- each kernel is one of its checked kernels, and has these segments
   pub entries : All (λ kernel. has_entry kernel ≡ true) a.kernels.items
@@ -71,9 +72,9 @@ pub record IsCached (a : Inside) : Type 0 where
   -- how many packets are in flight, each with all its ranges within regions
   pub flying : a.flying ≡ length (flight (start_of a) a.audit.items)
   pub within : All (λ f. lies_in_regions (region_lengths (start_of a)) f.packet ≡ true) (flight (start_of a) a.audit.items)
-  -- room for an entry of each packet in flight, and memory for all entries
+  -- room for an entry of each packet in flight, and memory for as many entries as there may be
   pub room : length a.audit.items + a.flying ≤ a.capacity
-  pub places : a.capacity ≤ length a.audit.items + a.audit.room
+  pub places : a.capacity ≡ length a.audit.items + a.audit.room
   pub few : a.capacity ≤ MOST_ENTRIES
   -- the audit is a legal history
   pub legal : IsLegal (start_of a) a.audit.items

@@ -37,6 +37,7 @@ invariant_of-self c =
         granted = takes.taken;
         rules = takes.same_rules;
         held = λ queue id client on right. takes.same_holds queue id client on right ∙ held-still a c.self.invariant _ _ _ refl refl (flight-quiet (start_of a) a.audit.items _ _ _ calm) queue id client on right;
+        blocks_are = rw (flight-quiet (start_of a) a.audit.items _ _ _ calm) c.self.invariant.blocks_are;
         arguments = blocks-still a (Revoke c.args.client c.args.object c.args.rights) outcome.Accepted refl _;
       };
       memory = memory-still a.memory [] (λ x byte. refl);
