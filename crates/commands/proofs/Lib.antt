@@ -1,3 +1,4 @@
 pub mod Judging
+pub mod Writing
 pub mod Rows
 pub mod Entries

@@ -1,16 +1,20 @@
 -- What the commands come to (own).
-use Rattle.std.specs.Prelude.{ℕ, ◌≡◌, ◌⊎◌, List, [], ◌∷◌, ◌++◌, codes, length, Option, Result, Ok, Err, ⊤}
+use Rattle.std.specs.Prelude.{ℕ, ◌≡◌, true, false, List, [], ◌∷◌, ◌++◌, codes, length, Option, Result, Ok, Err, IfErr, OnOk, ⊤}
 use Rattle.std.specs.Fmt.{decimal}
 use Rattle.std.specs.Io.KnownBytes.{Appends}
 use Rattle.policy.specs.Format.{Declares, HasFault}
 use Rattle.policy.specs.Policy.{Declared}
 use Rattle.access_core.specs.declared.access.OpenFault.{OpenFault}
 use Rattle.access_core.specs.declared.kernel.Kernel as cores
+use Rattle.script.specs.declared.answers.Answers.{Answers}
 use Rattle.script.specs.declared.fault.ScriptFault.{ScriptFault}
+use Rattle.script.specs.declared.fault.ScriptFault.TheVariants as why
+use Rattle.script.specs.Answers.{AppendsBeginning, IsCaused, NoneFailed, none_yet}
 use Rattle.script.specs.Runs.{worlds}
 use Rattle.script.specs.Scripts.{RunsScript}
 use Rattle.world.specs.Starting.{Begins}
 use Rattle.world.specs.States.{Joined}
+use Rattle.commands.specs.declared.noted.Noted.{Noted}
 use Rattle.commands.specs.declared.failure.Failure.{Failure}
 use Rattle.commands.specs.declared.check.Setup.{Setup}
 use Rattle.commands.specs.declared.failure.Failure.TheVariants.{OutOfMemory, Policy, Kernel, KernelCount, NoEntry, Capacity, Line, Read, Write}
@@ -46,6 +50,15 @@ PassesPolicy policy (Err (Line number)) = ⊥
 PassesPolicy policy (Err Read) = ⊥
 PassesPolicy policy (Err Write) = ⊥
 
+-- neither the reader of the script nor a writer was asked yet
+abbrev pub none_noted : Noted
+none_noted = record { asked = none_yet; faults = none_yet }
+
+-- how what was asked ended: all is done, or a failure is named
+abbrev pub TellsEnd : Result ⊤ ScriptFault → Answers → (before after : Option (List ℕ)) → Status → Type 0
+TellsEnd (Ok done) faults before after status = (after ≡ before) × (status ≡ Done)
+TellsEnd (Err fault) faults before after status = NamesFailure (failure_of_script fault) faults before after status
+
 -- ---- `check`
 
 -- a line with the name of an array and how many rows it has
@@ -60,20 +73,29 @@ text_of_counts policy =
     ++ text_of_count (codes "kernels") (length policy.kernels) ++ text_of_count (codes "allows") (length policy.allows)
     ++ codes "ok\n"
 
--- the counts are written and nothing else, or the writer failed
-abbrev pub TellsCounts : Declared → (out counted err named : Option (List ℕ)) → Status → Type 0
-TellsCounts policy out counted err named status =
-    (Appends out counted (text_of_counts policy) × (named ≡ err) × (status ≡ Done)) ⊎ NamesFailure Write err named status
+-- how the writing of a text ended: it is written and nothing else; or memory was wanted for it, and nothing is written; or the writer
+-- failed behind a beginning of it
+abbrev pub WritesText : List ℕ → Result ⊤ ScriptFault → Answers → (before after : Option (List ℕ)) → Type 0
+WritesText text (Ok done) answers before after = Appends before after text × (answers.write_failed ≡ false)
+WritesText text (Err why.OutOfMemory) answers before after = after ≡ before
+WritesText text (Err why.Write) answers before after = AppendsBeginning before after text × (answers.write_failed ≡ true)
+WritesText text (Err why.Read) answers before after = ⊥
+WritesText text (Err (why.BadLine number)) answers before after = ⊥
+
+-- the counts are written, or it is named why they aren't
+abbrev pub TellsCounts : Declared → Noted → (out counted err named : Option (List ℕ)) → Status → Type 0
+TellsCounts policy noted out counted err named status =
+    (ended : Result ⊤ ScriptFault) × WritesText (text_of_counts policy) ended noted.asked out counted × TellsEnd ended noted.faults err named status
 
 -- the counts of a good policy are told, or the failure of another
-abbrev pub TellsVerdict : Result Setup Failure → (out counted err named : Option (List ℕ)) → Status → Type 0
-TellsVerdict (Ok setup) out counted err named status = TellsCounts setup.policy out counted err named status
-TellsVerdict (Err failure) out counted err named status = (counted ≡ out) × NamesFailure failure err named status
+abbrev pub TellsVerdict : Result Setup Failure → Noted → (out counted err named : Option (List ℕ)) → Status → Type 0
+TellsVerdict (Ok setup) noted out counted err named status = TellsCounts setup.policy noted out counted err named status
+TellsVerdict (Err failure) noted out counted err named status = (counted ≡ out) × NamesFailure failure noted.faults err named status
 
--- a policy is judged, and its counts or its failure told: the bytes of both writers before and after
-abbrev pub ChecksPolicy : List ℕ → (out counted err named : Option (List ℕ)) → Status → Type 0
-ChecksPolicy text out counted err named status =
-    (verdict : Result Setup Failure) × JudgesPolicy text verdict × TellsVerdict verdict out counted err named status
+-- a policy is judged, and its counts or its failure told: what the writers answered, and their bytes before and after
+abbrev pub ChecksPolicy : List ℕ → Noted → (out counted err named : Option (List ℕ)) → Status → Type 0
+ChecksPolicy text noted out counted err named status =
+    (verdict : Result Setup Failure) × JudgesPolicy text verdict × TellsVerdict verdict noted out counted err named status
 
 -- ---- `run`
 
@@ -95,39 +117,39 @@ RunsOver old new script left replies replied ended =
 abbrev pub RunsFrom : Joined → (script left replies replied : Option (List ℕ)) → Result ⊤ ScriptFault → Type 0
 RunsFrom old script left replies replied ended = (new : Joined) × RunsOver old new script left replies replied ended
 
--- how a run ended: all lines were served, or a fault is named
-abbrev pub TellsEnd : Result ⊤ ScriptFault → (before after : Option (List ℕ)) → Status → Type 0
-TellsEnd (Ok done) before after status = (after ≡ before) × (status ≡ Done)
-TellsEnd (Err fault) before after status = NamesFailure (failure_of_script fault) before after status
-
 -- nothing was read and no reply written, and a failure is named
-abbrev pub StopsBefore : Failure → (before after : Streams) → Status → Type 0
-StopsBefore failure before after status =
-    (after.script ≡ before.script) × (after.replies ≡ before.replies) × NamesFailure failure before.faults after.faults status
+abbrev pub StopsBefore : Failure → Noted → (before after : Streams) → Status → Type 0
+StopsBefore failure noted before after status =
+    (after.script ≡ before.script) × (after.replies ≡ before.replies) × NamesFailure failure noted.faults before.faults after.faults status
+
+-- what is told of the reader and the writer of a script is so: a fault has its cause, and where all was done neither failed
+abbrev pub IsTold : Result ⊤ ScriptFault → Answers → Type 0
+IsTold ended asked = IfErr ended (IsCaused asked) × OnOk ended (NoneFailed asked)
 
 -- a script runs over a world that is newly open
-abbrev pub RunsIn : Joined → (before after : Streams) → Status → Type 0
-RunsIn world before after status =
+abbrev pub RunsIn : Joined → Noted → (before after : Streams) → Status → Type 0
+RunsIn world noted before after status =
     (ended : Result ⊤ ScriptFault) × RunsFrom world before.script after.script before.replies after.replies ended
-    × TellsEnd ended before.faults after.faults status
+    × IsTold ended noted.asked × TellsEnd ended noted.faults before.faults after.faults status
 
 -- the script runs over the world, where one was opened; else the failure is named: that of the first kernel without its entry, where
 -- there is one
-abbrev pub RunsWorld : Result Joined OpenFault → (before after : Streams) → Status → Type 0
-RunsWorld (Ok world) before after status = RunsIn world before after status
-RunsWorld (Err fault) before after status = StopsBefore (failure_of_opening fault) before after status
+abbrev pub RunsWorld : Result Joined OpenFault → Noted → (before after : Streams) → Status → Type 0
+RunsWorld (Ok world) noted before after status = RunsIn world noted before after status
+RunsWorld (Err fault) noted before after status = StopsBefore (failure_of_opening fault) noted before after status
 
 -- a world is opened under a policy, with what packets may launch and so many places in its audit, and the script runs over it
-abbrev pub RunsUnder : Declared → List cores.Kernel → ℕ → (before after : Streams) → Status → Type 0
-RunsUnder policy kernels places before after status =
-    (opened : Result Joined OpenFault) × Begins policy kernels places opened × RunsWorld opened before after status
+abbrev pub RunsUnder : Declared → List cores.Kernel → ℕ → Noted → (before after : Streams) → Status → Type 0
+RunsUnder policy kernels places noted before after status =
+    (opened : Result Joined OpenFault) × Begins policy kernels places opened × RunsWorld opened noted before after status
 
 -- the same, where the policy is good
-abbrev pub RunsVerdict : Result Setup Failure → ℕ → (before after : Streams) → Status → Type 0
-RunsVerdict (Ok setup) places before after status = RunsUnder setup.policy setup.kernels.items places before after status
-RunsVerdict (Err failure) places before after status = StopsBefore failure before after status
+abbrev pub RunsVerdict : Result Setup Failure → ℕ → Noted → (before after : Streams) → Status → Type 0
+RunsVerdict (Ok setup) places noted before after status = RunsUnder setup.policy setup.kernels.items places noted before after status
+RunsVerdict (Err failure) places noted before after status = StopsBefore failure noted before after status
 
--- a policy is judged, and the script runs over it, or its failure is named
-abbrev pub RunsPolicy : List ℕ → ℕ → (before after : Streams) → Status → Type 0
-RunsPolicy text places before after status =
-    (verdict : Result Setup Failure) × JudgesPolicy text verdict × RunsVerdict verdict places before after status
+-- a policy is judged, and the script runs over it, or its failure is named: what the reader and the writers answered, and their
+-- bytes before and after
+abbrev pub RunsPolicy : List ℕ → ℕ → Noted → (before after : Streams) → Status → Type 0
+RunsPolicy text places noted before after status =
+    (verdict : Result Setup Failure) × JudgesPolicy text verdict × RunsVerdict verdict places noted before after status

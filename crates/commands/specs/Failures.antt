@@ -1,5 +1,5 @@
 -- Why a command fails: its text on standard error, and the status that it ends with (own).
-use Rattle.std.specs.Prelude.{ℕ, ◌≡◌, ◌⊎◌, List, [], ◌∷◌, ◌++◌, codes, Option}
+use Rattle.std.specs.Prelude.{ℕ, ◌≡◌, ◌⊎◌, true, false, List, [], ◌∷◌, ◌++◌, codes, Option}
 use Rattle.std.specs.Fmt.{decimal}
 use Rattle.std.specs.Io.KnownBytes.{Appends}
 use Rattle.policy.specs.declared.fault.ReadPolicyError.{ReadPolicyError}
@@ -7,6 +7,8 @@ use Rattle.policy.specs.declared.fault.ReadPolicyError.TheVariants as reading
 use Rattle.policy.specs.FaultTexts.{text_of_fault}
 use Rattle.access_core.specs.declared.access.OpenFault.{OpenFault}
 use Rattle.access_core.specs.declared.access.OpenFault.TheVariants as opening
+use Rattle.script.specs.Answers.{AppendsBeginning}
+use Rattle.script.specs.declared.answers.Answers.{Answers}
 use Rattle.script.specs.declared.fault.ScriptFault.{ScriptFault}
 use Rattle.script.specs.declared.fault.ScriptFault.TheVariants as script
 use Rattle.commands.specs.declared.failure.Failure.{Failure}
@@ -41,11 +43,22 @@ status_of (Line number) = Refused
 status_of Read = Failed
 status_of Write = Failed
 
--- a failure is named in a line, and its status answered; or the writer took no line, and the command failed. `told`
--- and `tells` are the writer's bytes before and after
-abbrev pub NamesFailure : Failure → Option (List ℕ) → Option (List ℕ) → Status → Type 0
-NamesFailure failure told tells status =
-    (Appends told tells (text_of_failure failure ++ 10 ∷ []) × (status ≡ status_of failure)) ⊎ (status ≡ Failed)
+-- its line
+abbrev pub line_of_failure : Failure → List ℕ
+line_of_failure failure = text_of_failure failure ++ 10 ∷ []
+
+-- a line is written, and the command ends with a status; or the writer failed behind a beginning of the line, and so did the
+-- command. `told` and `tells` are the writer's bytes before and after
+abbrev pub TellsLine : List ℕ → Status → Answers → Option (List ℕ) → Option (List ℕ) → Status → Type 0
+TellsLine line ending answers told tells status =
+    (Appends told tells line × (answers.write_failed ≡ false) × (status ≡ ending))
+    ⊎ (AppendsBeginning told tells line × (answers.write_failed ≡ true) × (status ≡ Failed))
+
+-- a failure is named in a line, and its status answered; or memory was wanted for the line, and that is named
+abbrev pub NamesFailure : Failure → Answers → Option (List ℕ) → Option (List ℕ) → Status → Type 0
+NamesFailure failure answers told tells status =
+    TellsLine (line_of_failure failure) (status_of failure) answers told tells status
+    ⊎ TellsLine (line_of_failure OutOfMemory) (status_of OutOfMemory) answers told tells status
 
 -- the failure of the reading of a policy
 abbrev pub failure_of_reading : ReadPolicyError → Failure

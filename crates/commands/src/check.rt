@@ -1,27 +1,29 @@
 //! The command that checks a policy.
 
-ghost use Rattle.std.specs.Prelude.{OnOk};
-ghost use Rattle.std.specs.Io.KnownBytes.{Appends};
-ghost use Rattle.commands.specs.Commands.{JudgesPolicy, PassesPolicy, text_of_count, text_of_counts, TellsCounts, ChecksPolicy};
+ghost use Rattle.std.specs.Prelude.{◌≡◌, ◌++◌, IfOk, OnOk, string_bytes, false};
+ghost use Rattle.commands.specs.Commands.{JudgesPolicy, PassesPolicy, none_noted, text_of_count, text_of_counts, WritesText, TellsCounts, ChecksPolicy};
+ghost use Rattle.commands.specs.declared.noted.Noted.{Noted};
 
-use crate::failure::{Failure, name_failure};
+use crate::failure::{Failure, name_failure, tell_end};
 use crate::kernels::check_kernels;
+use crate::noted::Noted;
 use crate::status::Status;
 use access_core::Kernel;
 use policy::{Kind, Policy, read_policy};
-use std::alloc::Global;
+use script::{Answers, ScriptFault, flush_once, write_through};
+use std::alloc::{AllocError, Global};
 use std::io;
 
 // Writes a line with the name of an array and how many rows it has.
-fn write_count<W: io::Write>(out: &mut W, name: &str, count: usize) -> io::Result<()>
-    ensures { OnOk result (Appends (W.contents out.old) (W.contents out.new) (text_of_count name.now count)) }
+fn write_count(out: &mut String, name: &str, count: usize) -> Result<(), AllocError>
+    ensures { OnOk result (string_bytes out.new ≡ string_bytes out.old ++ text_of_count name.now count) }
 {
     writeln!(out, "{name} {count}")
 }
 
 // Writes how many rows each array of a policy has, a line an array, and then `ok`.
-fn write_rows<W: io::Write>(policy: &Policy, out: &mut W) -> io::Result<()>
-    ensures { OnOk result (Appends (W.contents out.old) (W.contents out.new) (text_of_counts policy.now)) }
+fn write_rows(policy: &Policy, out: &mut String) -> Result<(), AllocError>
+    ensures { OnOk result (string_bytes out.new ≡ string_bytes out.old ++ text_of_counts policy.now) }
 {
     write_count(out, "clients", policy.client_count())?;
     write_count(out, "agents", policy.object_count(Kind::Agent))?;
@@ -32,12 +34,44 @@ fn write_rows<W: io::Write>(policy: &Policy, out: &mut W) -> io::Result<()>
     writeln!(out, "ok")
 }
 
-// Writes them, and has the writer pass them on.
-fn write_counts<W: io::Write>(policy: &Policy, out: &mut W) -> io::Result<()>
-    ensures { OnOk result (Appends (W.contents out.old) (W.contents out.new) (text_of_counts policy.now)) }
+// The counts of a policy as a text.
+fn text_of_counts(alloc: Global, policy: &Policy) -> Result<String, AllocError>
+    ensures { IfOk result (λ text. string_bytes text ≡ text_of_counts policy.now) }
 {
-    write_rows(policy, out)?;
-    out.flush()
+    let mut text = String::new(alloc);
+    write_rows(policy, &mut text)?;
+    Ok(text)
+}
+
+// Writes a text of counts, and has the writer pass it on.
+fn pass_on<W: io::Write>(
+    text: &str,
+    out: &mut W,
+    answers: &mut Answers,
+) -> Result<(), ScriptFault>
+    requires { answers.old.write_failed ≡ false }
+    ensures { WritesText text.now result answers.new (W.contents out.old) (W.contents out.new) }
+{
+    match write_through(out, text.as_bytes(), answers) {
+        Ok(()) => flush_once(out, answers),
+        Err(_) => Err(ScriptFault::Write),
+    }
+}
+
+// Writes the counts of a policy.
+fn write_counts<W: io::Write>(
+    alloc: Global,
+    policy: &Policy,
+    out: &mut W,
+    answers: &mut Answers,
+) -> Result<(), ScriptFault>
+    requires { answers.old.write_failed ≡ false }
+    ensures { WritesText (text_of_counts policy.now) result answers.new (W.contents out.old) (W.contents out.new) }
+{
+    match text_of_counts(alloc, policy) {
+        Ok(text) => pass_on(text.as_str(), out, answers),
+        Err(_) => Err(ScriptFault::OutOfMemory),
+    }
 }
 
 /// A policy that was let pass, with what packets may launch by its kernels, in order.
@@ -48,13 +82,18 @@ pub(crate) struct Setup {
 }
 
 // Counts the rows of a policy on `out`.
-fn count_rows<O: io::Write, E: io::Write>(policy: &Policy, out: &mut O, err: &mut E) -> Status
-    ensures { TellsCounts policy.now (O.contents out.old) (O.contents out.new) (E.contents err.old) (E.contents err.new) result }
+fn count_rows<O: io::Write, E: io::Write>(
+    alloc: Global,
+    policy: &Policy,
+    out: &mut O,
+    err: &mut E,
+    noted: &mut Noted,
+) -> Status
+    requires { noted.old ≡ none_noted }
+    ensures { TellsCounts policy.now noted.new (O.contents out.old) (O.contents out.new) (E.contents err.old) (E.contents err.new) result }
 {
-    match write_counts(policy, out) {
-        Ok(()) => Status::Done,
-        Err(_) => name_failure(Failure::Write, err),
-    }
+    let ended = write_counts(alloc, policy, out, &mut noted.asked);
+    tell_end(alloc, ended, err, &mut noted.faults)
 }
 
 // The policy with its kernels, where these are let pass.
@@ -77,6 +116,24 @@ pub(crate) fn judge(alloc: Global, text: &[u8]) -> Result<Setup, Failure>
     }
 }
 
+/// Checks a policy as `check_policy` does, and notes what the writers answered. It fails only where `no memory`
+/// stands on `err`, or `write fault`, which the writer of the counts failed for, or where the writer of faults failed.
+pub fn check_policy_noting<O: io::Write, E: io::Write>(
+    alloc: Global,
+    text: &[u8],
+    out: &mut O,
+    err: &mut E,
+    noted: &mut Noted,
+) -> Status
+    requires { noted.old ≡ none_noted }
+    ensures { ChecksPolicy text.now noted.new (O.contents out.old) (O.contents out.new) (E.contents err.old) (E.contents err.new) result }
+{
+    match judge(alloc, text) {
+        Ok(setup) => count_rows(alloc, &setup.policy, out, err, noted),
+        Err(why) => name_failure(alloc, why, err, &mut noted.faults),
+    }
+}
+
 /// Checks the text of a policy, and then its kernels in order. A good one is counted on `out`; the
 /// first fault of another is named on `err`: as `policy: 4 UnknownName allow 7`, with the array and
 /// the row that it lies in, or as `kernel 1: check 3 line 4`; nothing stands on `out` then.
@@ -86,10 +143,8 @@ pub fn check_policy<O: io::Write, E: io::Write>(
     out: &mut O,
     err: &mut E,
 ) -> Status
-    ensures { ChecksPolicy text.now (O.contents out.old) (O.contents out.new) (E.contents err.old) (E.contents err.new) result }
+    ensures { (noted : Noted) × ChecksPolicy text.now noted (O.contents out.old) (O.contents out.new) (E.contents err.old) (E.contents err.new) result }
 {
-    match judge(alloc, text) {
-        Ok(setup) => count_rows(&setup.policy, out, err),
-        Err(why) => name_failure(why, err),
-    }
+    let mut noted = Noted::none();
+    check_policy_noting(alloc, text, out, err, &mut noted)
 }

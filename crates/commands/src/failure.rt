@@ -1,14 +1,16 @@
 //! Why a command doesn't do what was asked, and how that is told.
 
-ghost use Rattle.std.specs.Prelude.{◌≡◌};
-ghost use Rattle.commands.specs.Failures.{status_of, NamesFailure, failure_of_reading, failure_of_kernels, failure_of_opening, failure_of_script};
+ghost use Rattle.std.specs.Prelude.{◌≡◌, IfOk, string_bytes, false};
+ghost use Rattle.commands.specs.Commands.{TellsEnd};
+ghost use Rattle.commands.specs.Failures.{status_of, line_of_failure, NamesFailure, TellsLine, failure_of_reading, failure_of_kernels, failure_of_opening, failure_of_script};
 
 use crate::kernels::{KernelError, KernelFault};
 use crate::status::Status;
 use access_core::OpenFault;
 use aql_packet::KernelObject;
 use policy::{PolicyFault, ReadPolicyError};
-use script::ScriptFault;
+use script::{Answers, ScriptFault, write_through};
+use std::alloc::{AllocError, Global};
 use std::{fmt, io};
 
 /// Why a command doesn't do what was asked (own).
@@ -121,12 +123,59 @@ impl fmt::Display for Failure {
     }
 }
 
-/// Names a failure in a line, and tells how the command ends: failed, where no line could be written.
-pub(crate) fn name_failure<E: io::Write>(failure: Failure, err: &mut E) -> Status
-    ensures { NamesFailure failure (E.contents err.old) (E.contents err.new) result }
+// The line that names a failure.
+fn line_of(alloc: Global, failure: Failure) -> Result<String, AllocError>
+    ensures { IfOk result (λ line. string_bytes line ≡ line_of_failure failure) }
 {
-    match writeln!(err, "{failure}") {
-        Ok(()) => failure.status(),
+    let mut line = String::new(alloc);
+    writeln!(line, "{failure}")?;
+    Ok(line)
+}
+
+// Writes a line, and tells how the command ends: failed, where the writer failed.
+fn tell_line<E: io::Write>(
+    line: &str,
+    ending: Status,
+    err: &mut E,
+    answers: &mut Answers,
+) -> Status
+    requires { answers.old.write_failed ≡ false }
+    ensures { TellsLine line.now ending answers.new (E.contents err.old) (E.contents err.new) result }
+{
+    match write_through(err, line.as_bytes(), answers) {
+        Ok(()) => ending,
         Err(_) => Status::Failed,
+    }
+}
+
+/// Names a failure in a line, and tells how the command ends. Where there is no memory for the line, that is named.
+pub(crate) fn name_failure<E: io::Write>(
+    alloc: Global,
+    failure: Failure,
+    err: &mut E,
+    answers: &mut Answers,
+) -> Status
+    requires { answers.old.write_failed ≡ false }
+    ensures { NamesFailure failure answers.new (E.contents err.old) (E.contents err.new) result }
+{
+    match line_of(alloc, failure) {
+        Ok(line) => tell_line(line.as_str(), failure.status(), err, answers),
+        Err(_) => tell_line("no memory\n", Status::Failed, err, answers),
+    }
+}
+
+/// Names why what was asked wasn't done, if it wasn't.
+pub(crate) fn tell_end<E: io::Write>(
+    alloc: Global,
+    ended: Result<(), ScriptFault>,
+    err: &mut E,
+    answers: &mut Answers,
+) -> Status
+    requires { answers.old.write_failed ≡ false }
+    ensures { TellsEnd ended answers.new (E.contents err.old) (E.contents err.new) result }
+{
+    match ended {
+        Ok(()) => Status::Done,
+        Err(why) => name_failure(alloc, Failure::of_script(why), err, answers),
     }
 }

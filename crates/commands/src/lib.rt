@@ -7,12 +7,14 @@ mod check;
 mod failure;
 mod kernels;
 mod laws;
+mod noted;
 mod run;
 mod status;
 
-pub use check::check_policy;
+pub use check::{check_policy, check_policy_noting};
 pub use failure::Failure;
 pub use kernels::{KernelCause, KernelError, KernelFault, check_kernels};
 pub use laws::missing_entries_are_told;
-pub use run::run_policy;
+pub use noted::Noted;
+pub use run::{run_policy, run_policy_noting};
 pub use status::Status;

@@ -56,6 +56,14 @@ fn a_writer_that_fails_is_told(rt: HostRuntime) {
 }
 
 #[test]
+fn a_writer_of_faults_that_fails_is_told_by_the_status(rt: HostRuntime) {
+    let mut out = Vec::new(rt.alloc());
+    let status = check_policy(rt.alloc(), "clients".as_bytes(), &mut out, &mut Full);
+    assert_eq!(rt; status, Status::Failed);
+    assert!(rt; out.as_slice().is_empty());
+}
+
+#[test]
 fn a_reader_that_fails_is_told_behind_the_replies(rt: HostRuntime) {
     let mut out = Vec::new(rt.alloc());
     let mut err = Vec::new(rt.alloc());

@@ -7,7 +7,7 @@ use Rattle.script.specs.declared.fault.ScriptFault.{ScriptFault}
 use Rattle.script.specs.declared.fault.ScriptFault.TheVariants.{OutOfMemory, BadLine, Read, Write}
 use Rattle.script.specs.declared.session.Session.{Session}
 use Rattle.script.specs.Words.{kept}
-use Rattle.script.specs.Answers.{AppendsBeginning, IsCaused, ReadsBlock}
+use Rattle.script.specs.Answers.{AppendsBeginning, IsCaused, NoneFailed, ReadsBlock, read_more}
 use Rattle.script.specs.Runs.{Law, Runs, ServedAtMostOne, lines_from, lines_of}
 use Rattle.script.specs.Sessions.{Took, Failed, Ended, Why, begun, pending, with_further, at_end}
 use Rattle.script.specs.Scripts.{Outcome, Replies, RunsScript, Tells}
@@ -283,6 +283,10 @@ pub outcome_of : {S : Type 0} (law : Law S) (old new : S) (held holds had left :
     RunsScript law old new held holds had left result
 outcome_of law old new held holds had left (Ok done) case = case
 outcome_of law old new held holds had left (Err fault) case = case
+
+-- a read more is no failure
+pub fine_still : (before after : Answers) → after ≡ read_more before → NoneFailed before → NoneFailed after
+fine_still before after read fine = (ap (λ answers. answers.read_failed) read ∙ fine.0, ap (λ answers. answers.write_failed) read ∙ fine.1)
 
 -- what a session fails with is no fault of the reader or the writer
 pub caused_fault : {S : Type 0} (law : Law S) (old new : S) (before after : Session) (lines : List ℕ → List (List ℕ)) (answers : Answers) (fault : ScriptFault) →

@@ -21,6 +21,10 @@ read_failing answers = record { reads = answers.reads; read_failed = true; write
 abbrev pub write_failing : Answers → Answers
 write_failing answers = record { reads = answers.reads; read_failed = answers.read_failed; write_failed = true }
 
+-- neither failed
+abbrev pub NoneFailed : Answers → Type 0
+NoneFailed answers = (answers.read_failed ≡ false) × (answers.write_failed ≡ false)
+
 -- a fault has its cause: Read that the reader failed or that 2^40 reads were made, Write that the writer failed
 abbrev pub IsCaused : Answers → ScriptFault → Type 0
 IsCaused answers Read = (answers.read_failed ≡ true) ⊎ (answers.reads ≡ 2 ^ 40)

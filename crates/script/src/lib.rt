@@ -19,7 +19,7 @@ mod texts;
 mod verbs;
 mod words;
 
-pub use answers::Answers;
+pub use answers::{Answers, flush_once, write_through};
 pub use command::{Command, Form, LineAnswer, LineReply, Shown};
 pub use expansions::perform;
 pub use fault::ScriptFault;

@@ -2,7 +2,7 @@
 
 ghost use Rattle.std.specs.Prelude.{◌≡◌, [], IfErr, OnErr, OnOk, string_bytes};
 ghost use Rattle.std.specs.Io.KnownBytes.{Appends};
-ghost use Rattle.script.specs.Answers.{none_yet, AppendsBeginning, IsCaused, write_failing};
+ghost use Rattle.script.specs.Answers.{none_yet, AppendsBeginning, IsCaused, NoneFailed, write_failing};
 ghost use Rattle.script.specs.Runs.{worlds};
 ghost use Rattle.script.specs.Scripts.{RunsScript};
 ghost use Rattle.script.specs.declared.fault.ScriptFault.TheVariants.{Write};
@@ -42,7 +42,8 @@ fn hand_over<W: io::Write>(
 }
 
 /// Runs a script as `run_script` does, and notes what the reader and the writer answered. It tells `Read` only
-/// where the reader failed or 2^40 reads were made, and `Write` only where the writer failed.
+/// where the reader failed or 2^40 reads were made, and `Write` only where the writer failed; where it ends well,
+/// neither failed.
 pub fn run_noting<R: io::Read, W: io::Write>(
     alloc: Global,
     reader: &mut R,
@@ -54,6 +55,7 @@ pub fn run_noting<R: io::Read, W: io::Write>(
     ensures outcome { RunsScript worlds world.old world.new (W.contents writer.old) (W.contents writer.new)
         (R.remaining reader.old) (R.remaining reader.new) result }
     ensures caused { IfErr result (IsCaused answers.new) }
+    ensures fine { OnOk result (NoneFailed answers.new) }
 {
     let mut session = Session {
         line: Vec::new(alloc),

@@ -2,7 +2,8 @@ use Rattle.std.proofs.Common.{refl, arith, ap, ◌∙◌, inl, inr}
 use Rattle.std.proofs.lemmas.Result.{err_from_is_err_and, MatchResult-weaker}
 use Rattle.script.specs.Runs.{worlds}
 use Rattle.std.proofs.lemmas.List.{length-take}
-use Rattle.script.proofs.Blocks.{outcome_of, going_none, going_kept, going_block, outcome_end, outcome_last, outcome_block, outcome_read, written_block, written_end, block_of, at_end_of, caused_fault, caused_result}
+use Rattle.script.proofs.Blocks.{outcome_of, going_none, going_kept, going_block, outcome_end, outcome_last, outcome_block, outcome_read, written_block, written_end, block_of, at_end_of, caused_fault, caused_result, fine_still}
+use Rattle.script.proofs.Writing.{on_ok}
 use Rattle.script.proofs.run.run_noting.Goals as goal
 
 pub loop-init : goal.loop-init
@@ -12,6 +13,7 @@ loop-init g c = (
   omega arith,
   ap (λ answers. answers.reads) c.requires,
   omega arith,
+  (ap (λ answers. answers.read_failed) c.requires, ap (λ answers. answers.write_failed) c.requires),
 )
 
 pub returns-in_err-count-clause-outcome : goal.returns-in_err-count-clause-outcome
@@ -33,6 +35,7 @@ loop-preserved-in_default g c = (
   omega (arith, c.loop.invariant.2),
   ap (λ answers. answers.reads) c.in_ok-count.ensures.read ∙ omega (arith, c.loop.invariant.3),
   omega (arith, c.loop-test.true),
+  fine_still _ _ c.in_ok-count.ensures.read c.loop.invariant.5,
 )
 
 pub returns-then-count-eq0-clause-outcome : goal.returns-then-count-eq0-clause-outcome
@@ -45,6 +48,10 @@ returns-then-count-eq0-clause-outcome g c =
     ended c.in_ok-hand_over.ensures.handed)
     (λ fault failed. outcome_last worlds _ _ _ _ _ _ _ _ _ _ _ fault c.loop.invariant.0 read.0 read.1 c.loop.invariant.1
     failed c.in_ok-hand_over.ensures.handed))
+
+pub returns-then-count-eq0-clause-fine : goal.returns-then-count-eq0-clause-fine
+returns-then-count-eq0-clause-fine g c =
+    on_ok c.take_end-ended.result (fine_still _ _ (c.in_ok-hand_over.ensures.written ∙ c.in_ok-count.ensures.read) c.loop.invariant.5)
 
 pub returns-then-count-eq0-clause-caused : goal.returns-then-count-eq0-clause-caused
 returns-then-count-eq0-clause-caused g c = caused_result worlds _ _ _ _ _ _ _ c.take_end-ended.result c.take_end-ended.ensures
@@ -69,6 +76,7 @@ loop-preserved g c = (
   omega (arith, c.in_ok-taken.ensures.number, c.in_ok-taken.ensures.few, length-take c.in-Some.count c.read_once.new.block, c.loop.invariant.2, c.read_once.auto.block),
   ap (λ answers. answers.reads) (c.in_ok-hand_over-2.ensures.written ∙ c.in_ok-count.ensures.read) ∙ omega (arith, c.loop.invariant.3),
   omega (arith, c.loop-test.true),
+  fine_still _ _ (c.in_ok-hand_over-2.ensures.written ∙ c.in_ok-count.ensures.read) c.loop.invariant.5,
 )
 
 pub returns-clause-outcome : goal.returns-clause-outcome

@@ -1,5 +1,6 @@
 -- The lines that ended in what was read are done, and no reply waits.
 use Rattle.std.proofs.Common.{◌≡◌, ◌+◌, ◌*◌, ◌≤◌, ◌^◌, []}
+use Rattle.script.specs.Answers.{NoneFailed}
 use Rattle.script.specs.Runs.{worlds}
 use Rattle.script.specs.Sessions.{pending}
 use Rattle.script.proofs.Blocks.{Going}
@@ -13,3 +14,4 @@ invariant-loop g l =
     × (l.session.number ≤ 4096 * l.counter + 1)
     × (l.answers.reads ≡ l.counter)
     × (l.counter ≤ 2 ^ 40)
+    × NoneFailed l.answers

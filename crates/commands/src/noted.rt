@@ -1,0 +1,27 @@
+//! What the reader and the writers of a command answered.
+
+ghost use Rattle.std.specs.Prelude.{◌≡◌};
+ghost use Rattle.commands.specs.Commands.{none_noted};
+
+use script::Answers;
+
+/// What the reader and the writers of a command answered so far. Only the calls that read and write change it.
+#[derive(Drop)]
+pub struct Noted {
+    /// What the script's reader answered, and the writer of its replies, or of a policy's counts.
+    pub asked: Answers,
+    /// What the writer of faults answered.
+    pub faults: Answers,
+}
+
+impl Noted {
+    /// None of them was asked yet.
+    pub fn none() -> Noted
+        ensures { result ≡ none_noted }
+    {
+        Noted {
+            asked: Answers::none(),
+            faults: Answers::none(),
+        }
+    }
+}
