@@ -5,7 +5,7 @@ use Rattle.std.specs.List.{list_all, list_any}
 use Rattle.std.proofs.lemmas.List.Elements.{All-head, All-tail}
 use Rattle.std.proofs.lemmas.List.Folds.{list_any-append}
 use Rattle.policy.specs.Object.{same_object}
-use Rattle.grants.specs.Holders.{same_packet}
+use Rattle.aql_packet.specs.Ids.{same_packet}
 use Rattle.grants.specs.Pairs.{names}
 use Rattle.core_model.specs.Queues.{opening_of}
 use Rattle.aql_packet.specs.declared.ids.AgentHandle.{AgentHandle}

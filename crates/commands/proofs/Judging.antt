@@ -1,8 +1,8 @@
 -- A policy that is judged, and bytes that are kept.
-use Rattle.std.proofs.Common.{◌≡◌, ℕ, List, ◌++◌, Option, Some, None, Result, Ok, Err, OnOk, sym, ap, subst, ◌∙◌}
-use Rattle.std.proofs.lemmas.List.{append_assoc}
+use Rattle.std.proofs.Common.{◌≡◌, ℕ, List, ◌++◌, Option, Some, None, Result, Ok, Err, OnOk, sym, subst, ◌∙◌}
 use Rattle.std.specs.Io.KnownBytes.{Appends, Keeps}
 use Rattle.policy.specs.Policy.{Declared}
+use Rattle.script.proofs.Appending.{appends_more}
 use Rattle.policy.specs.Format.{Declares}
 use Rattle.commands.specs.declared.failure.Failure.{Failure}
 use Rattle.commands.specs.declared.check.Setup.{Setup}
@@ -16,13 +16,6 @@ appends_kept None mid new bytes a k = tt
 appends_kept (Some xs) None new bytes a k = absurd a
 appends_kept (Some xs) (Some ys) None bytes a k = absurd k
 appends_kept (Some xs) (Some ys) (Some zs) bytes a k = k ∙ a
-
--- bytes that were appended behind others
-pub appends_more : (old mid new : Option (List ℕ)) (xs ys : List ℕ) → Appends old mid xs → Appends mid new ys → Appends old new (xs ++ ys)
-appends_more None mid new xs ys a b = tt
-appends_more (Some os) None new xs ys a b = absurd a
-appends_more (Some os) (Some ms) None xs ys a b = absurd b
-appends_more (Some os) (Some ms) (Some ns) xs ys a b = b ∙ ap (λ zs. zs ++ ys) a ∙ append_assoc os xs ys
 
 -- six texts, each behind the one before
 pub six_lines : (o p q r s t u : Option (List ℕ)) (ks ls ms ns vs ws : List ℕ) → Appends o p ks → Appends p q ls → Appends q r ms → Appends r s ns → Appends s t vs → Appends t u ws

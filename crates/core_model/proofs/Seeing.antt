@@ -57,7 +57,9 @@ use Rattle.core_model.specs.LaunchRules.{Facts, first_failing_rule, holds_rule, 
 use Rattle.core_model.specs.Work.{groups_of, number_in_memory, write_of, function_writes, function_result, agent_writes}
 use Rattle.core_model.specs.Owed.{owed, answers, enters, error_without_place, facts_of, is_host_size, group_owed, owed_group}
 use Rattle.core_model.specs.Legal.{IsLegal}
-use Rattle.core_model.specs.Queries.{AnswerOrRefusal, refused_unless, answer_some, query_answer, has_some_right, listing, all_objects}
+use Rattle.core_model.specs.Queries.{AnswerOrRefusal, refused_unless, answer_some, query_answer, has_some_right, listing}
+use Rattle.policy.specs.Object.{all_objects}
+use Rattle.policy.specs.Policy.{count_of}
 use Rattle.core_model.specs.Headline.{InFlightSince, IsDenied, IsListed, MayReach, MayReachRange, range_of, ranges_read, ranges_seen, reads_of}
 use Rattle.core_model.proofs.Entered.{GroupRan, KernelRan, take-decided, run-entered}
 use Rattle.core_model.proofs.Holding.{flying-since}
@@ -256,4 +258,4 @@ module _ (start : Start) (es : List Entry) (client : ClientId) (told : Answer) w
       let one = if-told (declares_client start.policy client) _ _ told same in
       let last = one.1 in
       let is : told ≡ answer.Listing (listing start es client) = cc in
-      (listing start es client, is, listed (all_objects start.policy))
+      (listing start es client, is, listed (all_objects (count_of start.policy)))

@@ -7,11 +7,12 @@ use Rattle.aql_packet.specs.declared.ids.PacketId.{PacketId}
 use Rattle.policy.specs.declared.object.Object.{Object}
 use Rattle.policy.specs.declared.rights.Right.{Right}
 use Rattle.policy.specs.declared.rights.Rights.{Rights}
+use Rattle.policy.specs.Object.{all_objects}
 use Rattle.policy.specs.Rights.{has, all_rights, each_right, rights_that}
 use Rattle.grants.specs.declared.refusal.Refusal.{Refusal}
 use Rattle.grants.specs.declared.refusal.Refusal.TheVariants.{NotAllowed, Busy, UnknownObject, UnknownClient}
 use Rattle.grants.specs.declared.hold.Hold.{Hold}
-use Rattle.grants.specs.Rules.{Rules, knows_client, knows, allows, all_objects}
+use Rattle.grants.specs.Rules.{Rules, count, knows_client, knows, allows}
 use Rattle.grants.specs.Pairs.{is_one_of, names}
 use Rattle.grants.specs.Holders.{same_packet, IsFirstTo}
 use Rattle.grants.specs.Holds.{held}
@@ -134,4 +135,4 @@ listing_by has_right objects = map (λ on. (on, rights_that (has_right on))) (fi
 
 -- the objects on which the client has a right in force, with its rights: agents, regions, signals, kernels, each by number
 abbrev pub listing : Ledger → ClientId → List (Object × Rights)
-listing grants client = listing_by (in_force grants client) (all_objects (rules_in grants))
+listing grants client = listing_by (in_force grants client) (all_objects (count (rules_in grants)))

@@ -3,7 +3,8 @@
 ghost use Rattle.std.specs.Prelude.{◌≡◌, ◌+◌, ◌<◌, ◌≤◌, ◌++◌, ◌∷◌, [], true, IfOk, OnOk, OnErr, Ok, length};
 ghost use Rattle.policy.specs.declared.rights.Right.{Right};
 ghost use Rattle.policy.specs.Rights.{has, each_right, rights_that};
-ghost use Rattle.grants.specs.Rules.{rules_of, objects_of};
+ghost use Rattle.policy.specs.Object.{objects_of_kind};
+ghost use Rattle.grants.specs.Rules.{count, rules_of};
 
 use crate::cells::Cells;
 use crate::counting::{put_holds, uncount_packet};
@@ -306,7 +307,7 @@ impl Grants {
         client: ClientId,
         kind: Kind,
     ) -> Result<(), AllocError>
-        ensures { OnOk result (rows.new ≡ rows.old ++ listing_by (in_force self.now client) (objects_of (rules_in self.now) kind)) }
+        ensures { OnOk result (rows.new ≡ rows.old ++ listing_by (in_force self.now client) (objects_of_kind (count (rules_in self.now)) kind)) }
     {
         for before in 0..self.table.rules().count(kind) {
             self.list_object(rows, client, Object::of(kind, before as u64 + 1))?;

@@ -13,4 +13,5 @@ pub mod Limits
 pub mod Inside
 pub mod Format
 pub mod Choice
+pub mod Pairs
 pub mod Checks
