@@ -50,7 +50,7 @@ pub use Rattle.packet_processor.specs.Queueing.{as_launched, is_at, with_progres
 pub use Rattle.packet_processor.specs.declared.places.Place.{Place}
 pub use Rattle.policy.proofs.NameLemmas.{numbered-map, numbered-next}
 pub use Rattle.policy.specs.Policy.{Name, allows, count_of, declares, declares_client, numbered, row_of}
-pub use Rattle.policy.specs.Object.{all_objects}
+pub use Rattle.policy.specs.Listing.{all_objects, listing_by}
 pub use Rattle.policy.specs.Rights.{all_rights, bit_of, each_right, has, rights_that}
 pub use Rattle.policy.specs.declared.object.Object.{Object}
 pub use Rattle.policy.specs.declared.rights.Right.{Right}

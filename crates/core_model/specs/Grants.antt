@@ -3,9 +3,7 @@ use Rattle.std.specs.Prelude.{List, fold, Bool, false, ◌&&◌, ◌||◌, not}
 use Rattle.aql_packet.specs.declared.ids.ClientId.{ClientId}
 use Rattle.policy.specs.declared.object.Object.{Object}
 use Rattle.policy.specs.declared.rights.Right.{Right}
-use Rattle.policy.specs.declared.rights.Rights.{Rights}
 use Rattle.policy.specs.Pairs.{is_one_of}
-use Rattle.policy.specs.Rights.{rights_that}
 use Rattle.core_model.specs.declared.event.Event.{Event}
 use Rattle.core_model.specs.declared.event.Event.TheVariants.{Grant, Revoke}
 use Rattle.core_model.specs.declared.entry.Entry.{Entry}
@@ -20,7 +18,3 @@ in_force_after client object right before _ = before
 -- whether a client's right on an object is in force: a grant gave it, and no later revocation took it (own)
 unfoldable pub in_force : Start → List Entry → ClientId → Object → Right → Bool
 in_force start entries client object right = fold (λ before entry. in_force_after client object right before entry.event) false entries
-
--- the rights that a client has in force on an object (own)
-abbrev pub rights_in_force : Start → List Entry → ClientId → Object → Rights
-rights_in_force start entries client object = rights_that (in_force start entries client object)

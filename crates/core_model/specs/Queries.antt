@@ -1,5 +1,5 @@
 -- What each query is answered: a function of the history alone.
-use Rattle.std.specs.Prelude.{◌&&◌, Bool, List, map, filter, Option, Some, None, Result, Ok, Err, if◌then◌else◌}
+use Rattle.std.specs.Prelude.{◌&&◌, Bool, List, Option, Some, None, Result, Ok, Err, if◌then◌else◌}
 use Rattle.std.specs.List.{list_any}
 use Rattle.aql_packet.specs.declared.ids.ClientId.{ClientId}
 use Rattle.regions.specs.Memory.{is_within, region_of}
@@ -8,7 +8,7 @@ use Rattle.policy.specs.declared.object.Object.{Object}
 use Rattle.policy.specs.declared.object.Object.TheVariants as object
 use Rattle.policy.specs.declared.rights.Right.TheVariants as right
 use Rattle.policy.specs.declared.rights.Rights.{Rights}
-use Rattle.policy.specs.Object.{all_objects}
+use Rattle.policy.specs.Listing.{all_objects, listing_by}
 use Rattle.policy.specs.Rights.{all_rights}
 use Rattle.policy.specs.Policy.{count_of, declares_client}
 use Rattle.core_model.specs.declared.event.Query.{Query}
@@ -19,7 +19,7 @@ use Rattle.core_model.specs.declared.entry.Entry.{Entry}
 use Rattle.core_model.specs.declared.refusal.Refusal.{Refusal}
 use Rattle.core_model.specs.declared.refusal.Refusal.TheVariants as refusal
 use Rattle.core_model.specs.History.{Start}
-use Rattle.core_model.specs.Grants.{in_force, rights_in_force}
+use Rattle.core_model.specs.Grants.{in_force}
 use Rattle.core_model.specs.Memory.{memory_from, region_lengths, signals}
 use Rattle.core_model.specs.Queues.{owner, errors}
 use Rattle.core_model.specs.Owed.{is_host_size}
@@ -43,8 +43,7 @@ has_some_right start entries client on = list_any (in_force start entries client
 
 -- the listing of a client: each object on which it has a right in force, with those rights, by kind and number (own)
 abbrev pub listing : Start → List Entry → ClientId → List (Object × Rights)
-listing start entries client =
-    map (λ on. (on, rights_in_force start entries client on)) (filter (has_some_right start entries client) (all_objects (count_of start.policy)))
+listing start entries client = listing_by (in_force start entries client) (all_objects (count_of start.policy))
 
 -- what a query is answered after these entries: its refusals in order, then its answer (own)
 unfoldable pub query_answer : Start → List Entry → Query → AnswerOrRefusal

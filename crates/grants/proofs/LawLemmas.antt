@@ -9,11 +9,11 @@ use Rattle.policy.specs.declared.object.Object.{Object}
 use Rattle.policy.specs.declared.rights.Right.{Right}
 use Rattle.policy.specs.declared.rights.Rights.{Rights}
 use Rattle.policy.specs.Rights.{has, all_rights, each_right}
-use Rattle.policy.specs.Object.{all_objects}
+use Rattle.policy.specs.Listing.{all_objects, listing_by}
 use Rattle.grants.specs.Rules.{count}
 use Rattle.grants.specs.Pairs.{same_pair, is_one_of, names}
 use Rattle.grants.specs.Holders.{same_packet}
-use Rattle.grants.specs.Ledger.{Ledger, rules_in, in_force, holds, listing_by}
+use Rattle.grants.specs.Ledger.{Ledger, rules_in, in_force, holds}
 use Rattle.grants.specs.Laws.{Call, LeadsTo, AreMade, last_ledger, in_force_after, holds_after, LawOfCalls}
 use Rattle.grants.specs.Laws.Call.{Grant, Revoke, Hold, Release}
 use Rattle.policy.proofs.PairLemmas.{both, same_pair_is, for_each_right, each_right-has}

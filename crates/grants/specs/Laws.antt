@@ -6,11 +6,11 @@ use Rattle.aql_packet.specs.declared.ids.PacketId.{PacketId}
 use Rattle.policy.specs.declared.object.Object.{Object}
 use Rattle.policy.specs.declared.rights.Right.{Right}
 use Rattle.policy.specs.declared.rights.Rights.{Rights}
-use Rattle.policy.specs.Object.{all_objects}
+use Rattle.policy.specs.Listing.{all_objects, listing_by}
 use Rattle.grants.specs.Rules.{count}
 use Rattle.grants.specs.Pairs.{is_one_of, names}
 use Rattle.grants.specs.Holders.{same_packet}
-use Rattle.grants.specs.Ledger.{Ledger, rules_in, in_force, holds, IsNew, Gives, Takes, Holds, Releases, grant_due, RevokeAnswers, are_in_force, listing, listing_by}
+use Rattle.grants.specs.Ledger.{Ledger, rules_in, in_force, holds, IsNew, Gives, Takes, Holds, Releases, grant_due, RevokeAnswers, are_in_force, listing}
 
 -- a call that was made; one that is refused leaves all as it was, and stands in no list
 pub data Call : Type 0 where

@@ -14,4 +14,5 @@ pub mod Inside
 pub mod Format
 pub mod Choice
 pub mod Pairs
+pub mod Listing
 pub mod Checks

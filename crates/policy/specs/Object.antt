@@ -1,6 +1,5 @@
--- Objects: their kinds and numbers, and the list of all.
-use Rattle.std.specs.Prelude.{ℕ, Bool, true, false, ◌&&◌, ◌==◌, List, map, ◌++◌}
-use Rattle.std.specs.List.{range_with_len}
+-- Objects: their kinds and numbers.
+use Rattle.std.specs.Prelude.{ℕ, Bool, true, false, ◌&&◌, ◌==◌}
 use Rattle.policy.specs.declared.object.Kind.{Kind}
 use Rattle.policy.specs.declared.object.Kind.TheVariants as kind
 use Rattle.policy.specs.declared.object.Object.{Object}
@@ -38,12 +37,3 @@ object_of kind.Agent n = Agent (record { 0 = n })
 object_of kind.Region n = Region (record { 0 = n })
 object_of kind.Signal n = Signal (record { 0 = n })
 object_of kind.Kernel n = Kernel (record { 0 = n })
-
--- the objects of a kind, by number, where so many of each kind are declared
-abbrev pub objects_of_kind : (Kind → ℕ) → Kind → List Object
-objects_of_kind count kind = map (object_of kind) (range_with_len 1 (count kind))
-
--- all objects: agents, regions, signals and kernels, each kind by number
-abbrev pub all_objects : (Kind → ℕ) → List Object
-all_objects count =
-    objects_of_kind count kind.Agent ++ objects_of_kind count kind.Region ++ objects_of_kind count kind.Signal ++ objects_of_kind count kind.Kernel

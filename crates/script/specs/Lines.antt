@@ -9,9 +9,9 @@ use Rattle.aql_packet.specs.declared.ids.SignalHandle.{SignalHandle}
 use Rattle.policy.specs.declared.object.Kind.{Kind}
 use Rattle.policy.specs.declared.object.Kind.TheVariants as kind
 use Rattle.policy.specs.declared.object.Object.{Object}
-use Rattle.policy.specs.declared.object.Object.TheVariants as object
 use Rattle.policy.specs.declared.rights.Rights.{Rights}
 use Rattle.policy.specs.Format.{kind_named}
+use Rattle.policy.specs.Object.{object_of}
 use Rattle.policy.specs.Policy.{Declared, number_in, names_of}
 use Rattle.signals.specs.declared.operation.SignalOp.{SignalOp}
 use Rattle.signals.specs.declared.operation.SignalOp.TheVariants as op
@@ -37,10 +37,7 @@ client_in policy name = record { 0 = number_in policy.clients name }
 
 -- the object of a kind and a name; a name that isn't there is number 0
 abbrev pub object_in : Declared → Kind → Word → Object
-object_in policy kind.Agent name = object.Agent (record { 0 = number_in (names_of policy kind.Agent) name })
-object_in policy kind.Region name = object.Region (record { 0 = number_in (names_of policy kind.Region) name })
-object_in policy kind.Signal name = object.Signal (record { 0 = number_in (names_of policy kind.Signal) name })
-object_in policy kind.Kernel name = object.Kernel (record { 0 = number_in (names_of policy kind.Kernel) name })
+object_in policy kind name = object_of kind (number_in (names_of policy kind) name)
 
 -- the agent of a name, and the signal of a name
 abbrev pub agent_in : Declared → Word → AgentHandle
