@@ -6,7 +6,7 @@ use Rattle.std.proofs.lemmas.List.{map-append}
 use Rattle.std.proofs.lemmas.List.Elements.{All-head, All-tail}
 use Rattle.std.proofs.lemmas.List.Folds.{list_any-append}
 use Rattle.policy.specs.Object.{same_object}
-use Rattle.grants.specs.Holders.{same_packet}
+use Rattle.aql_packet.specs.Ids.{same_packet}
 use Rattle.grants.specs.Pairs.{names}
 use Rattle.core_model.specs.Queues.{opening_of}
 use Rattle.aql_packet.specs.declared.ids.AgentHandle.{AgentHandle}

@@ -1,16 +1,12 @@
 -- What their launches gave packets stays as it was, whatever entry comes behind.
 use Rattle.std.proofs.Common.{◌≡◌, ◌<◌, ◌==◌, List, [], ◌∷◌, ◌++◌, refl, ◌∙◌, ap, subst, Bool, true, false, Option, Some, None, arith, if◌then◌else◌}
 use Rattle.std.proofs.lemmas.Bool.{and_from, and_parts, eq-eqb, eqb-true}
-use Rattle.core_model.proofs.Holding.{from_launch-kept, from_launch-launch, from_launch-other, was-launched}
+use Rattle.core_model.proofs.Holding.{from_launch-kept, from_launch-launch, from_launch-other, holds-from, was-launched}
 use Rattle.core_model.proofs.Launches.{launched_by-is, was_launched, IsNext-from_owed, AreBelowNext-legal}
 use Rattle.core_model.specs.Headline.{HoldsInForce}
 use Rattle.core_model.specs.Holds.{arguments, arguments_if, packet_rights, rights_of_launch}
-use Rattle.access_core.proofs.Terms.{Entry, ObjectRight, InFlight, IsLegal, Opening, PacketId, QueueId, Start, enters, rights_at_launch, is_launch, is_packet, launched_by}
+use Rattle.access_core.proofs.Terms.{Entry, InFlight, IsLegal, Opening, PacketId, QueueId, Start, enters, rights_at_launch, is_launch, is_packet, launched_by}
 use Rattle.access_core.proofs.Terms.{next_id, owed, owner}
-
--- what a launch behind these entries gives a packet of a queue to hold
-abbrev pub holds_given : Start → QueueId → List Entry → Option InFlight → List ObjectRight
-holds_given start queue before f = rights_of_launch start before (owner start before queue) f
 
 module _ (start : Start) (es : List Entry) (e : Entry) where
   abbrev later : List Entry
@@ -20,12 +16,12 @@ module _ (start : Start) (es : List Entry) (e : Entry) where
 
   -- by an entry that launches nothing no packet holds more
   pub held-unlaunched : launched_by e.event e.outcome ≡ None → (queue : QueueId) (id : PacketId) → packet_rights start later queue id ≡ packet_rights start es queue id
-  held-unlaunched none queue id = from_launch-other (holds_given start queue) [] es e queue id (ap (is_launch queue id) none)
+  held-unlaunched none queue id = from_launch-other (holds-from start queue) [] es e queue id (ap (is_launch queue id) none)
 
   -- a packet in flight holds what it held
   pub held-kept : (f : InFlight) → HoldsInForce start es f → packet_rights start later f.queue f.id ≡ packet_rights start es f.queue f.id
   held-kept f h =
-      from_launch-kept (holds_given start f.queue) [] es (e ∷ []) f.queue f.id
+      from_launch-kept (holds-from start f.queue) [] es (e ∷ []) f.queue f.id
       (was-launched start es e f.queue f.id h.launch.before h.launch.opening f.packet h.held_is)
 
   -- ---- an entry of a legal history
@@ -56,7 +52,7 @@ module _ (start : Start) (es : List Entry) (e : Entry) where
         let itself : is_packet f.queue f.id f ≡ true = and_from _ _ (eq-eqb f.queue.0 f.queue.0 refl) (eq-eqb f.id.0 f.id.0 refl) in
         let now : is_launch f.queue f.id (launched_by e.event e.outcome) ≡ true = rw is itself in
         ◌∙◌ {b = rights_of_launch start es (owner start es f.queue) (launched_by e.event e.outcome)}
-        (from_launch-launch (holds_given start f.queue) [] es e f.queue f.id (none-before f is) now) (λ i. rights_of_launch start es (owned i) (is i))
+        (from_launch-launch (holds-from start f.queue) [] es e f.queue f.id (none-before f is) now) (λ i. rights_of_launch start es (owned i) (is i))
 
     -- the arguments of a packet are those of its launch
     pub arguments-more : (queue : QueueId) (id : PacketId) → arguments start later queue id

@@ -6,9 +6,8 @@ use Rattle.policy.specs.Object.{same_object}
 use Rattle.core_model.specs.Holds.{packet_rights}
 use Rattle.core_model.specs.View.{rights_held}
 use Rattle.policy.specs.Rights.{set_of}
-use Rattle.access_core.proofs.Terms.{ClientId, Entry, ObjectRight, InFlight, Inside, IsCached, Object, Opening, PacketId, QueueId, Right, Start}
-use Rattle.access_core.proofs.Terms.{bit_of, flight, has, holds_by, in_flight, is_packet, owner, packet_holds, rights_that, start_of}
-use Rattle.core_model.proofs.Lists.{found-passes}
+use Rattle.access_core.proofs.Terms.{ObjectRight, InFlight, Inside, IsCached, Object, Opening, PacketId, QueueId, Right}
+use Rattle.access_core.proofs.Terms.{bit_of, flight, has, holds_by, in_flight, is_packet, owner, rights_that, start_of}
 use Rattle.grants.specs.Ledger as ledger
 
 -- the set of a right has another just where they are the same

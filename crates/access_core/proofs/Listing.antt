@@ -1,9 +1,8 @@
 -- A client's listing, by the grants that are kept.
-use Rattle.std.proofs.Common.{◌≡◌, List, ◌∙◌, ap, true, Ok, map, filter}
-use Rattle.std.specs.List.{list_any}
+use Rattle.std.proofs.Common.{◌≡◌, List, ◌∙◌, ap, true, Ok}
 use Rattle.core_model.specs.Queries.{query_answer}
-use Rattle.access_core.proofs.Terms.{ClientId, History, Inside, IsCached, Object, Rights, Rules, all_objects, all_rights, declares_client, history_of, listing}
-use Rattle.access_core.proofs.Terms.{rights_that, start_of}
+use Rattle.access_core.proofs.Terms.{ClientId, History, Inside, IsCached, Object, Rights, Rules, all_objects, count_of, declares_client, history_of, listing, listing_by}
+use Rattle.access_core.proofs.Terms.{start_of}
 use Rattle.grants.specs.Rules as rules_kept
 use Rattle.grants.specs.Ledger as ledger
 use Rattle.core_model.specs.declared.answer.Answer.TheVariants as answer
@@ -11,10 +10,9 @@ use Rattle.core_model.specs.declared.event.Query.TheVariants as query
 
 module _ (a : Inside) (kept : IsCached a) (client : ClientId) where
   listing-kept : ledger.listing a.grants client ≡ listing (start_of a) a.audit.items client
-  unfolding ledger.listing_by
   listing-kept =
-      ap (λ (rules : Rules). map (λ on. (on, ledger.rights_on a.grants client on)) (filter (λ on. list_any (ledger.in_force a.grants client on) all_rights) (rules_kept.all_objects rules))) kept.rules
-      ∙ (λ i. map (λ (on : Object). (on, rights_that (λ right. kept.granted client on right i))) (filter (λ (on : Object). list_any (λ right. kept.granted client on right i) all_rights) (all_objects a.policy)))
+      ap (λ (rules : Rules). listing_by (ledger.in_force a.grants client) (all_objects (rules_kept.count rules))) kept.rules
+      ∙ (λ i. listing_by (λ on right. kept.granted client on right i) (all_objects (count_of a.policy)))
 
   -- a client that is declared is told the listing
   pub listing-replied : (old : History) → history_of a ≡ old → (rows : List (Object × Rights)) → rows ≡ ledger.listing a.grants client → declares_client old.start.policy client ≡ true

@@ -4,7 +4,8 @@ use Rattle.std.proofs.Common.{None, arith, ◌==◌, ◌&&◌, filter, fold, not
 use Rattle.std.proofs.lemmas.List.{append-nil, map-append}
 use Rattle.std.proofs.lemmas.List.Elements.{All-head, All-tail, filter-append}
 use Rattle.queue_error.specs.declared.rule.Rule.{Rule}
-use Rattle.core_model.specs.Flight.{same_packet, with_launched}
+use Rattle.aql_packet.specs.Ids.{same_packet}
+use Rattle.core_model.specs.Flight.{with_launched}
 use Rattle.access_core.proofs.Terms.{Denied, Effect, Entry, Event, InFlight, Launched, Outcome, Packet, PacketId, Place, Progress, QueueError, QueueId}
 use Rattle.core_model.specs.declared.flight.TheConstants.{LAUNCH_PROGRESS}
 use Rattle.access_core.proofs.Terms.{QueueView, Start, Take, as_launched, decoded, entry_of, error_without_place, error_of, errors, errors-more, flight}
@@ -87,7 +88,7 @@ pub record IsQuiet (event : Event) (told : Outcome) (effects : List Effect) : Ty
 -- An entry by which one packet comes further.
 pub record IsAdvance (q : QueueId) (id : PacketId) (g : Progress → Progress) (event : Event) (told : Outcome) (effects : List Effect) : Type 0 where
   pub launches : launched_by event told ≡ None
-  pub progress : (queue : QueueId) (i : PacketId) (p : Progress) → progress_after queue i p event told ≡ (if same_packet queue i q id then g p else p)
+  pub progress : (queue : QueueId) (i : PacketId) (p : Progress) → progress_after queue i p event told ≡ (if same_packet q id queue i then g p else p)
   pub releases : (fs : List InFlight) → fold flight_after_effect fs effects ≡ fs
   pub views : (m : QueueId) (v : QueueView) (places : List Place) → after m event told v places ≡ record v { places = places }
 

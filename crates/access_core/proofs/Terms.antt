@@ -30,7 +30,7 @@ pub use Rattle.core_model.specs.Memory.{byte_after, memory_at, memory_from, regi
 pub use Rattle.core_model.specs.Needs.{completion_signal, function_of, memory_needs, needs}
 pub use Rattle.core_model.specs.Owed.{Owed, answers, completion_of, signal_decrement, owed_verdict, enters, error_without_place, facts_of, for_packet, old_if_asked, owed, owed_finish, owed_group}
 pub use Rattle.core_model.specs.Owed.{owed_poll, refuse_if, refuse_unless, refuses, release_of}
-pub use Rattle.core_model.specs.Queries.{AnswerOrRefusal, all_objects, listing}
+pub use Rattle.core_model.specs.Queries.{AnswerOrRefusal, listing}
 pub use Rattle.core_model.specs.Queues.{Opening, error_of, errors, hands_over_packet_of, is_stopped, next_id, openings, owner, stops_queue}
 pub use Rattle.core_model.specs.Work.{agent_writes, function_result, function_writes, number_in_memory, result_writes, write_of}
 pub use Rattle.core_model.specs.declared.entry.Effect.{Effect}
@@ -49,13 +49,15 @@ pub use Rattle.grants.specs.Rules.{Rules, knows, knows_client, rules_of}
 pub use Rattle.packet_processor.specs.Queueing.{as_launched, is_at, with_progress, without}
 pub use Rattle.packet_processor.specs.declared.places.Place.{Place}
 pub use Rattle.policy.proofs.NameLemmas.{numbered-map, numbered-next}
-pub use Rattle.policy.specs.Policy.{Name, allows, declares, declares_client, numbered, row_of}
+pub use Rattle.policy.specs.Policy.{Name, allows, count_of, declares, declares_client, numbered, row_of}
+pub use Rattle.policy.specs.Listing.{all_objects, listing_by}
 pub use Rattle.policy.specs.Rights.{all_rights, bit_of, each_right, has, rights_that}
 pub use Rattle.policy.specs.declared.object.Object.{Object}
 pub use Rattle.policy.specs.declared.rights.Right.{Right}
 pub use Rattle.policy.specs.declared.rights.Rights.{Rights}
 pub use Rattle.queue_error.specs.declared.error.QueueError.{QueueError}
 pub use Rattle.aql_packet.specs.Memory.{are_region_lengths}
-pub use Rattle.regions.specs.Memory.{IsMemory, IsWithin, IsWritten, byte_at, bytes_from, covers, is_within, lengths_of, lies_in_region}
+pub use Rattle.regions.specs.Memory.{IsMemory, IsWithin, IsWritten, byte_at, bytes_from, is_within, lengths_of, lies_in_region}
+pub use Rattle.aql_packet.specs.Memory.{covers}
 pub use Rattle.regions.specs.Memory.{offset_of, region_bytes, region_of, zeros}
 pub use Rattle.signals.specs.Values.{applied, value_of}

@@ -1,5 +1,5 @@
 -- When a core is opened, and what it begins with.
-use Rattle.std.specs.Prelude.{ℕ, ◌+◌, ◌==◌, ◌≡◌, ◌&&◌, Bool, true, false, not, nat_le, nat_lt, List, [], length, map, position, slice_get, Option, Some, None, Result, Ok, Err, if◌then◌else◌}
+use Rattle.std.specs.Prelude.{ℕ, ◌+◌, ◌==◌, ◌≡◌, ◌&&◌, Bool, not, nat_le, nat_lt, List, [], length, map, position, slice_get, Option, Some, None, Result, Ok, Err, if◌then◌else◌}
 use Rattle.std.specs.Option.{unwrap_or}
 use Rattle.kernel_check.specs.Programs.{Program}
 use Rattle.policy.specs.Policy.{Declared, initial_values, numbered, region_lengths}

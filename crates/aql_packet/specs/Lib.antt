@@ -3,3 +3,4 @@ pub mod Layout
 pub mod Reading
 pub mod Ring
 pub mod Memory
+pub mod Ids

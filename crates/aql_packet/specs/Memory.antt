@@ -1,5 +1,5 @@
--- How many regions there are, and how long each is.
-use Rattle.std.specs.Prelude.{ℕ, Bool, ◌&&◌, nat_le, List, length}
+-- How many regions there are, how long each is, and which addresses a range covers.
+use Rattle.std.specs.Prelude.{ℕ, ◌+◌, Bool, ◌&&◌, nat_lt, nat_le, List, length}
 use Rattle.std.specs.List.{list_all}
 use Rattle.aql_packet.specs.declared.memory.TheConstants.{MOST_REGIONS, MOST_REGION_BYTES}
 
@@ -10,3 +10,7 @@ is_region_length size = nat_le 1 size && nat_le size MOST_REGION_BYTES
 -- The lengths of all regions (own).
 abbrev pub are_region_lengths : List ℕ → Bool
 are_region_lengths lengths = nat_le (length lengths) MOST_REGIONS && list_all is_region_length lengths
+
+-- Whether an address is one of a range, of so many bytes from its first address on (own).
+abbrev pub covers : ℕ → ℕ → ℕ → Bool
+covers first size address = nat_le first address && nat_lt address (first + size)

@@ -1,5 +1,5 @@
 -- The entry of a source is that of a kernel just where its module has one of the name.
-use Rattle.std.proofs.Common.{◌≡◌, ℕ, ◌==◌, List, map, length, refl, sym, ap, ◌∙◌, Bool, true, not, Option, Some, None, nat_lt, arith, eq-eqb}
+use Rattle.std.proofs.Common.{◌≡◌, ℕ, ◌==◌, List, map, length, refl, ap, ◌∙◌, true, not, Option, Some, None, nat_lt, arith, eq-eqb}
 use Rattle.std.proofs.lemmas.Bool.Decides.{nat_tests}
 use Rattle.std.specs.Prelude.{position, is_some}
 use Rattle.std.specs.Option.{unwrap_or}

@@ -1,6 +1,7 @@
 -- Which kernels of a policy are let pass, what packets may then launch, and which is the first that isn't let pass (own).
 use Rattle.std.specs.Prelude.{ℕ, ◌≡◌, ◌<◌, ◌≤◌, Bool, not, List, [], length, map, position, Option, Some, None, is_some, option_map, Result, Ok, Err, ⊤}
 use Rattle.std.specs.Option.{unwrap_or}
+use Rattle.std.specs.Result.{result_err}
 use Rattle.std.specs.Str.{bytes_eq}
 use Rattle.access_core.specs.declared.kernel.Kernel.{Kernel}
 use Rattle.hsail_reader.specs.declared.module.Module.{Module}
@@ -30,17 +31,13 @@ checked_reading (Err fault) = Err (Read fault)
 unfoldable pub checked_text : List ℕ → Result (List Program) KernelCause
 checked_text text = checked_reading (reading text)
 
--- what is wrong, if anything is
-abbrev pub cause_in : Result (List Program) KernelCause → Option KernelCause
-cause_in (Ok programs) = None
-cause_in (Err cause) = Some cause
-
 abbrev pub programs_in : Result (List Program) KernelCause → List Program
 programs_in (Ok programs) = programs
 programs_in (Err cause) = []
 
+-- what is wrong with a kernel's text, if anything is
 abbrev pub cause_of : List ℕ → Option KernelCause
-cause_of text = cause_in (checked_text text)
+cause_of text = result_err (checked_text text)
 
 -- the index among checked kernels of the one that an entry names; where none has the name, that behind them all, which is no kernel's
 abbrev pub entry_in : List Program → List ℕ → ℕ

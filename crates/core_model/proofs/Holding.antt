@@ -29,7 +29,8 @@ use Rattle.core_model.specs.declared.entry.Entry.{Entry}
 use Rattle.core_model.specs.declared.flight.InFlight.{InFlight}
 use Rattle.core_model.specs.declared.need.Need.{Need}
 use Rattle.core_model.specs.History.{Start}
-use Rattle.core_model.specs.Grants.{in_force, in_force_after, is_named}
+use Rattle.policy.specs.Pairs.{is_one_of}
+use Rattle.core_model.specs.Grants.{in_force, in_force_after}
 use Rattle.core_model.specs.Queues.{Opening, owner, openings, opening_of, next_id}
 use Rattle.core_model.specs.Flight.{flight, in_flight, is_packet, launched_by}
 use Rattle.core_model.specs.Needs.{needs, object_of}
@@ -194,11 +195,11 @@ same-turned (object.Kernel a) (object.Signal b) = refl
 -- rights that are in force stay so where none of them is named
 unnamed-stay : (client named : ClientId) (on : Object) (rights : Rights) (before : Object → Right → Bool) (hs : List ObjectRight) →
     (client.0 == named.0 && list_any (λ h. same_object on h.0 && has rights h.1) hs) ≡ false → All (λ h. before h.0 h.1 ≡ true) hs →
-    All (λ h. (before h.0 h.1 && not (is_named client h.0 h.1 named on rights)) ≡ true) hs
+    All (λ h. (before h.0 h.1 && not (is_one_of client h.0 h.1 named on rights)) ≡ true) hs
 unnamed-stay client named on rights before [] none all = All-nil _
 unnamed-stay client named on rights before (h ∷ hs) none all =
     let parts = spread (client.0 == named.0) (same_object on h.0 && has rights h.1) (list_any (λ g. same_object on g.0 && has rights g.1) hs) none in
-    All-cons (λ g. (before g.0 g.1 && not (is_named client g.0 g.1 named on rights)) ≡ true) h hs
+    All-cons (λ g. (before g.0 g.1 && not (is_one_of client g.0 g.1 named on rights)) ≡ true) h hs
     (stays (before h.0 h.1) (All-head (λ g. before g.0 g.1 ≡ true) h hs all) (gathered (client.0 == named.0) (same_object h.0 on) (has rights h.1) ∙ ap (λ b. client.0 == named.0 && (b && has rights h.1)) (same-turned h.0 on) ∙ parts.0))
     (unnamed-stay client named on rights before hs parts.1 (All-tail (λ g. before g.0 g.1 ≡ true) h hs all))
   where
@@ -211,7 +212,7 @@ unnamed-stay client named on rights before (h ∷ hs) none all =
     gathered true b c = refl
     gathered false b c = refl
 
-    stays : (b : Bool) → b ≡ true → is_named client h.0 h.1 named on rights ≡ false → (b && not (is_named client h.0 h.1 named on rights)) ≡ true
+    stays : (b : Bool) → b ≡ true → is_one_of client h.0 h.1 named on rights ≡ false → (b && not (is_one_of client h.0 h.1 named on rights)) ≡ true
     stays b is unnamed = rw (is, unnamed) refl
 
 -- ---- what a packet in flight holds is in force
@@ -270,7 +271,7 @@ module _ (start : Start) (es : List Entry) (e : Entry) where
       ((client : ClientId) (on : Object) (rights : Rights) → event ≡ Revoke client on rights → (is_queue_of start es client f.queue && list_any (λ g. same_object on g.0 && has rights g.1) (packet_rights start es f.queue f.id)) ≡ false) →
       All (λ g. in_force_after h.launch.opening.client g.0 g.1 (in_force start es h.launch.opening.client g.0 g.1) event ≡ true) (rights_at_launch start h.launch.before h.launch.opening f.packet)
   kept-by (Grant c o rights) f h none =
-      All-weaker (λ g. in_force start es h.launch.opening.client g.0 g.1 ≡ true) (λ g. (in_force start es h.launch.opening.client g.0 g.1 || is_named h.launch.opening.client g.0 g.1 c o rights) ≡ true)
+      All-weaker (λ g. in_force start es h.launch.opening.client g.0 g.1 ≡ true) (λ g. (in_force start es h.launch.opening.client g.0 g.1 || is_one_of h.launch.opening.client g.0 g.1 c o rights) ≡ true)
       (λ g is. rw is refl) (rights_at_launch start h.launch.before h.launch.opening f.packet) h.granted
   kept-by (Revoke c o rights) f h none =
       let own : is_queue_of start es c f.queue ≡ (h.launch.opening.client.0 == c.0) = ap (λ (found : Option Opening). elim found [ None ↦ false | Some opening ↦ opening.client.0 == c.0 ]) h.owner_is in

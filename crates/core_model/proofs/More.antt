@@ -43,7 +43,7 @@ abbrev pub with_some : {X : Type 0} → List X → Option X → List X
 with_some xs None = xs
 with_some xs (Some x) = xs ++ x ∷ []
 
-with_some-to_list : {X : Type 0} (xs : List X) (o : Option X) → xs ++ option_to_list o ≡ with_some xs o
+pub with_some-to_list : {X : Type 0} (xs : List X) (o : Option X) → xs ++ option_to_list o ≡ with_some xs o
 with_some-to_list xs None = append-nil xs
 with_some-to_list xs (Some x) = refl
 

@@ -38,7 +38,7 @@ use Rattle.executor.specs.Items.{LentRegion}
 use Rattle.executor.specs.Results.{group_result}
 use Rattle.core_model.specs.Holds.{ObjectRight, packet_rights}
 use Rattle.core_model.specs.View.{Given, given, group_input, held_regions}
-use Rattle.policy.specs.Rights.{has}
+use Rattle.policy.specs.Rights.{has, rights_that}
 use Rattle.core_model.proofs.Lists.{filter-passes}
 use Rattle.core_model.proofs.Viewing as alike
 use Rattle.core_model.proofs.Viewing.{IsKnown, all-known, may-read}
@@ -49,7 +49,7 @@ use Rattle.core_model.specs.declared.need.AgentFunction.{AgentFunction}
 use Rattle.core_model.specs.declared.need.AgentFunction.TheVariants.{Fill, Copy, Add64}
 use Rattle.core_model.specs.declared.need.Range.{Range}
 use Rattle.core_model.specs.History.{Start}
-use Rattle.core_model.specs.Grants.{in_force, rights_in_force}
+use Rattle.core_model.specs.Grants.{in_force}
 use Rattle.core_model.specs.Memory.{memory_from, region_lengths, signals}
 use Rattle.core_model.specs.Queues.{Opening, owner, is_down, next_id}
 use Rattle.core_model.specs.Needs.{function_of}
@@ -57,7 +57,9 @@ use Rattle.core_model.specs.LaunchRules.{Facts, first_failing_rule, holds_rule, 
 use Rattle.core_model.specs.Work.{groups_of, number_in_memory, write_of, function_writes, function_result, agent_writes}
 use Rattle.core_model.specs.Owed.{owed, answers, enters, error_without_place, facts_of, is_host_size, group_owed, owed_group}
 use Rattle.core_model.specs.Legal.{IsLegal}
-use Rattle.core_model.specs.Queries.{AnswerOrRefusal, refused_unless, answer_some, query_answer, has_some_right, listing, all_objects}
+use Rattle.core_model.specs.Queries.{AnswerOrRefusal, refused_unless, answer_some, query_answer, has_some_right, listing}
+use Rattle.policy.specs.Listing.{all_objects, listing_by}
+use Rattle.policy.specs.Policy.{count_of}
 use Rattle.core_model.specs.Headline.{InFlightSince, IsDenied, IsListed, MayReach, MayReachRange, range_of, ranges_read, ranges_seen, reads_of}
 use Rattle.core_model.proofs.Entered.{GroupRan, KernelRan, take-decided, run-entered}
 use Rattle.core_model.proofs.Holding.{flying-since}
@@ -241,19 +243,19 @@ module _ (start : Start) (es : List Entry) (client : ClientId) (told : Answer) w
       (two.0, three.0, three.1, cc)
 
   -- a listing has the objects that pass, each with its rights
-  listed : (objects : List Object) → All (IsListed start es client) (map (λ on. (on, rights_in_force start es client on)) (filter (has_some_right start es client) objects))
+  listed : (objects : List Object) → All (IsListed start es client) (map (λ on. (on, rights_that (in_force start es client on))) (filter (has_some_right start es client) objects))
   listed [] = All-nil _
   listed (on ∷ objects) = by_test (has_some_right start es client on) refl (listed objects)
     where
-      by_test : (b : Bool) → has_some_right start es client on ≡ b → All (IsListed start es client) (map (λ on. (on, rights_in_force start es client on)) (filter (has_some_right start es client) objects)) →
-          All (IsListed start es client) (map (λ on. (on, rights_in_force start es client on)) (if b then on ∷ filter (has_some_right start es client) objects else filter (has_some_right start es client) objects))
-      by_test true is rest = All-cons (IsListed start es client) (on, rights_in_force start es client on) _ (record { some = is; rights = has-rights_that (in_force start es client on) }) rest
+      by_test : (b : Bool) → has_some_right start es client on ≡ b → All (IsListed start es client) (map (λ on. (on, rights_that (in_force start es client on))) (filter (has_some_right start es client) objects)) →
+          All (IsListed start es client) (map (λ on. (on, rights_that (in_force start es client on))) (if b then on ∷ filter (has_some_right start es client) objects else filter (has_some_right start es client) objects))
+      by_test true is rest = All-cons (IsListed start es client) (on, rights_that (in_force start es client on)) _ (record { some = is; rights = has-rights_that (in_force start es client on) }) rest
       by_test false is rest = rest
 
   pub listing-told : query_answer start es (query.List client) ≡ Ok told → (rows : List (Object × Rights)) × (told ≡ answer.Listing rows) × All (IsListed start es client) rows
-  unfolding query_answer
+  unfolding query_answer listing_by
   listing-told same =
       let one = if-told (declares_client start.policy client) _ _ told same in
       let last = one.1 in
       let is : told ≡ answer.Listing (listing start es client) = cc in
-      (listing start es client, is, listed (all_objects start.policy))
+      (listing start es client, is, listed (all_objects (count_of start.policy)))

@@ -112,17 +112,18 @@ slice_get-end : {X : Type 0} (xs : List X) → slice_get xs (length xs) ≡ None
 slice_get-end [] = refl
 slice_get-end (x ∷ xs) = slice_get-end xs
 
-slice_get-last : {X : Type 0} (xs : List X) (x : X) → slice_get (xs ++ x ∷ []) (length xs) ≡ Some x
+-- one item more has the next number
+pub slice_get-last : {X : Type 0} (xs : List X) (x : X) → slice_get (xs ++ x ∷ []) (length xs) ≡ Some x
 slice_get-last [] x = refl
 slice_get-last (y ∷ xs) x = slice_get-last xs x
 
-numbered-next : {X : Type 0} (xs : List X) → numbered xs (length xs + 1) ≡ None
-numbered-next xs =
+pub numbered-end : {X : Type 0} (xs : List X) → numbered xs (length xs + 1) ≡ None
+numbered-end xs =
     let positive : nat_lt 0 (length xs + 1) ≡ true = search rules in
     let place : length xs + 1 - 1 ≡ length xs = omega arith in
     rw (positive, place) (slice_get-end xs)
 
-numbered-new : {X : Type 0} (xs : List X) (x : X) → numbered (xs ++ x ∷ []) (length xs + 1) ≡ Some x
+pub numbered-new : {X : Type 0} (xs : List X) (x : X) → numbered (xs ++ x ∷ []) (length xs + 1) ≡ Some x
 numbered-new xs x =
     let positive : nat_lt 0 (length xs + 1) ≡ true = search rules in
     let place : length xs + 1 - 1 ≡ length xs = omega arith in
@@ -143,7 +144,7 @@ queue-opened start es told effects client agent size owing =
       queue = record { 0 = length (openings start es) + 1 };
       outcome_is = made.outcome_is;
       granted = made.granted;
-      is_new = numbered-next (openings start es);
+      is_new = numbered-end (openings start es);
       owner_is = λ more. owner-stays start (es ++ entry_of (OpenQueue client agent size) told effects ∷ []) more (record { 0 = length (openings start es) + 1 }) (record { client = client; agent = agent })
           (ap (λ os. numbered os (length (openings start es) + 1)) (openings-more start es (entry_of (OpenQueue client agent size) told effects)) ∙ numbered-new (openings start es) (record { client = client; agent = agent }));
     }

@@ -32,7 +32,7 @@ use Rattle.core_model.specs.Memory.{memory_at, memory_from, region_lengths}
 use Rattle.core_model.specs.Holds.{ObjectRight}
 use Rattle.core_model.specs.View.{Given, HeldRegion, first_address, group_input, held_region, held_regions, lent, rights_held, view}
 use Rattle.core_model.specs.Headline.{MayReach, MayReachRange, range_of}
-use Rattle.core_model.proofs.Allowed.{same-is}
+use Rattle.policy.proofs.PairLemmas.{same_object_is}
 use Rattle.core_model.proofs.Lists.{found-all, found-passes}
 
 -- ---- rights that are held
@@ -59,7 +59,7 @@ module _ (start : Start) (before : List Entry) (client : ClientId) where
           → (list_any (λ h. same_object on h.0 && (bit_of h.1 == bit_of one)) hs ≡ true → in_force start before client on one ≡ true) → in_force start before client on one ≡ true
       by_test true is some rest =
           let both = and_parts (same_object on h.0) _ is in
-          let on_is : on ≡ h.0 = same-is on h.0 both.0 in
+          let on_is : on ≡ h.0 = same_object_is on h.0 both.0 in
           let one_is : h.1 ≡ one = same-right h.1 one both.1 in
           ap (λ o. in_force start before client o one) on_is ∙ (ap (in_force start before client h.0) (sym one_is) ∙ All-head Granted h hs all)
       by_test false is some rest = rest some

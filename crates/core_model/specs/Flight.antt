@@ -1,8 +1,9 @@
 -- Packets in flight: those that were launched and not released since, and how far each has come.
-use Rattle.std.specs.Prelude.{◌≡◌, ◌+◌, ◌==◌, ◌&&◌, ◌||◌, Bool, false, not, List, [], ◌∷◌, ◌++◌, map, filter, fold, find, Option, Some, None, option_map, if◌then◌else◌}
+use Rattle.std.specs.Prelude.{◌≡◌, ◌+◌, ◌==◌, ◌||◌, Bool, false, not, List, [], ◌∷◌, ◌++◌, map, filter, fold, find, Option, Some, None, option_map, if◌then◌else◌}
 use Rattle.std.specs.List.{zip, list_any, Contains}
 use Rattle.aql_packet.specs.declared.ids.QueueId.{QueueId}
 use Rattle.aql_packet.specs.declared.ids.PacketId.{PacketId}
+use Rattle.aql_packet.specs.Ids.{same_packet}
 use Rattle.aql_packet.specs.Reading.{decoded}
 use Rattle.core_model.specs.declared.event.Event.{Event}
 use Rattle.core_model.specs.declared.event.Event.TheVariants.{Take, RunNext, Poll}
@@ -20,13 +21,9 @@ use Rattle.core_model.specs.declared.flight.InFlight.{InFlight}
 use Rattle.core_model.specs.declared.flight.Progress.{Progress}
 use Rattle.core_model.specs.History.{Start, effects_of}
 
--- whether two names are of one packet (own)
-abbrev pub same_packet : QueueId → PacketId → QueueId → PacketId → Bool
-same_packet queue id q i = q.0 == queue.0 && i.0 == id.0
-
 -- whether a packet in flight is the one with this queue and id (own)
 abbrev pub is_packet : QueueId → PacketId → InFlight → Bool
-is_packet queue id f = same_packet queue id f.queue f.id
+is_packet queue id f = same_packet f.queue f.id queue id
 
 -- the packet that an event launches, if it launches one (own)
 abbrev pub launched_by : Event → Outcome → Option InFlight
@@ -84,10 +81,10 @@ seen_by_either a b = record { 0 = map (λ pair. pair.0 || pair.1) (zip a.0 b.0) 
 
 -- how far a packet has come after an event: one of its groups ran, or dependencies were seen (own)
 abbrev pub progress_after : QueueId → PacketId → Progress → Event → Outcome → Progress
-progress_after queue id p (Take q i _) (outcome.Taken Launched) = if same_packet queue id q i then LAUNCH_PROGRESS else p
-progress_after queue id p (RunNext q i) (outcome.Worked (Ran _ _)) = if same_packet queue id q i then record p { groups_run = p.groups_run + 1 } else p
-progress_after queue id p (Poll q i) (outcome.Polled (Pending seen)) = if same_packet queue id q i then record p { satisfied = seen_by_either p.satisfied seen } else p
-progress_after queue id p (Poll q i) (outcome.Polled (Ready seen)) = if same_packet queue id q i then record p { satisfied = seen_by_either p.satisfied seen } else p
+progress_after queue id p (Take q i _) (outcome.Taken Launched) = if same_packet q i queue id then LAUNCH_PROGRESS else p
+progress_after queue id p (RunNext q i) (outcome.Worked (Ran _ _)) = if same_packet q i queue id then record p { groups_run = p.groups_run + 1 } else p
+progress_after queue id p (Poll q i) (outcome.Polled (Pending seen)) = if same_packet q i queue id then record p { satisfied = seen_by_either p.satisfied seen } else p
+progress_after queue id p (Poll q i) (outcome.Polled (Ready seen)) = if same_packet q i queue id then record p { satisfied = seen_by_either p.satisfied seen } else p
 progress_after queue id p _ _ = p
 
 -- how far a packet has come since its launch (own)

@@ -1,31 +1,20 @@
 -- Which rights are in force: what was granted, and not revoked since.
-use Rattle.std.specs.Prelude.{List, fold, Bool, false, ◌&&◌, ◌||◌, not, ◌==◌}
+use Rattle.std.specs.Prelude.{List, fold, Bool, false, ◌&&◌, ◌||◌, not}
 use Rattle.aql_packet.specs.declared.ids.ClientId.{ClientId}
 use Rattle.policy.specs.declared.object.Object.{Object}
 use Rattle.policy.specs.declared.rights.Right.{Right}
-use Rattle.policy.specs.declared.rights.Rights.{Rights}
-use Rattle.policy.specs.Object.{same_object}
-use Rattle.policy.specs.Rights.{has, rights_that}
+use Rattle.policy.specs.Pairs.{is_one_of}
 use Rattle.core_model.specs.declared.event.Event.{Event}
 use Rattle.core_model.specs.declared.event.Event.TheVariants.{Grant, Revoke}
 use Rattle.core_model.specs.declared.entry.Entry.{Entry}
 use Rattle.core_model.specs.History.{Start}
 
--- whether a client's right on an object is one of those that a call names (own)
-abbrev pub is_named : ClientId → Object → Right → ClientId → Object → Rights → Bool
-is_named client object right named_client named_object rights =
-    client.0 == named_client.0 && same_object object named_object && has rights right
-
 -- whether a client's right on an object is in force after an event, by whether it was before (own)
 abbrev pub in_force_after : ClientId → Object → Right → Bool → Event → Bool
-in_force_after client object right before (Grant c o rights) = before || is_named client object right c o rights
-in_force_after client object right before (Revoke c o rights) = before && not (is_named client object right c o rights)
+in_force_after client object right before (Grant c o rights) = before || is_one_of client object right c o rights
+in_force_after client object right before (Revoke c o rights) = before && not (is_one_of client object right c o rights)
 in_force_after client object right before _ = before
 
 -- whether a client's right on an object is in force: a grant gave it, and no later revocation took it (own)
 unfoldable pub in_force : Start → List Entry → ClientId → Object → Right → Bool
 in_force start entries client object right = fold (λ before entry. in_force_after client object right before entry.event) false entries
-
--- the rights that a client has in force on an object (own)
-abbrev pub rights_in_force : Start → List Entry → ClientId → Object → Rights
-rights_in_force start entries client object = rights_that (in_force start entries client object)

@@ -1,6 +1,6 @@
 -- What each query is answered: a function of the history alone.
-use Rattle.std.specs.Prelude.{◌&&◌, Bool, List, ◌++◌, map, filter, length, Option, Some, None, Result, Ok, Err, if◌then◌else◌}
-use Rattle.std.specs.List.{range_with_len, list_any}
+use Rattle.std.specs.Prelude.{◌&&◌, Bool, List, Option, Some, None, Result, Ok, Err, if◌then◌else◌}
+use Rattle.std.specs.List.{list_any}
 use Rattle.aql_packet.specs.declared.ids.ClientId.{ClientId}
 use Rattle.regions.specs.Memory.{is_within, region_of}
 use Rattle.signals.specs.Values.{meets, value_of}
@@ -8,8 +8,9 @@ use Rattle.policy.specs.declared.object.Object.{Object}
 use Rattle.policy.specs.declared.object.Object.TheVariants as object
 use Rattle.policy.specs.declared.rights.Right.TheVariants as right
 use Rattle.policy.specs.declared.rights.Rights.{Rights}
+use Rattle.policy.specs.Listing.{all_objects, listing_by}
 use Rattle.policy.specs.Rights.{all_rights}
-use Rattle.policy.specs.Policy.{Declared, declares_client}
+use Rattle.policy.specs.Policy.{count_of, declares_client}
 use Rattle.core_model.specs.declared.event.Query.{Query}
 use Rattle.core_model.specs.declared.event.Query.TheVariants as query
 use Rattle.core_model.specs.declared.answer.Answer.{Answer}
@@ -18,7 +19,7 @@ use Rattle.core_model.specs.declared.entry.Entry.{Entry}
 use Rattle.core_model.specs.declared.refusal.Refusal.{Refusal}
 use Rattle.core_model.specs.declared.refusal.Refusal.TheVariants as refusal
 use Rattle.core_model.specs.History.{Start}
-use Rattle.core_model.specs.Grants.{in_force, rights_in_force}
+use Rattle.core_model.specs.Grants.{in_force}
 use Rattle.core_model.specs.Memory.{memory_from, region_lengths, signals}
 use Rattle.core_model.specs.Queues.{owner, errors}
 use Rattle.core_model.specs.Owed.{is_host_size}
@@ -36,22 +37,13 @@ abbrev pub answer_some : {X : Type 0} → Option X → Refusal → (X → Answer
 answer_some None why rest = Err why
 answer_some (Some x) why rest = rest x
 
--- all objects that a policy declares: agents, regions, signals and kernels, each kind by number (own)
-abbrev pub all_objects : Declared → List Object
-all_objects policy =
-    map (λ n. object.Agent (record { 0 = n })) (range_with_len 1 (length policy.agents))
-    ++ map (λ n. object.Region (record { 0 = n })) (range_with_len 1 (length policy.regions))
-    ++ map (λ n. object.Signal (record { 0 = n })) (range_with_len 1 (length policy.signals))
-    ++ map (λ n. object.Kernel (record { 0 = n })) (range_with_len 1 (length policy.kernels))
-
 -- whether a client has some right in force on an object (own)
 abbrev pub has_some_right : Start → List Entry → ClientId → Object → Bool
 has_some_right start entries client on = list_any (in_force start entries client on) all_rights
 
 -- the listing of a client: each object on which it has a right in force, with those rights, by kind and number (own)
 abbrev pub listing : Start → List Entry → ClientId → List (Object × Rights)
-listing start entries client =
-    map (λ on. (on, rights_in_force start entries client on)) (filter (has_some_right start entries client) (all_objects start.policy))
+listing start entries client = listing_by (in_force start entries client) (all_objects (count_of start.policy))
 
 -- what a query is answered after these entries: its refusals in order, then its answer (own)
 unfoldable pub query_answer : Start → List Entry → Query → AnswerOrRefusal

@@ -1,7 +1,7 @@
 //! What a legal history shows: for each thing that it tells, who asked for it, and which grant in
 //! force allowed it; and what clients are told.
 
-ghost use Rattle.std.specs.Prelude.{ℕ, ℤ, List, [], ◌∷◌, ◌++◌, ◌≡◌, ◌⊎◌, All, Option, Some, Result, Ok, Err, true, false, length};
+ghost use Rattle.std.specs.Prelude.{ℕ, ℤ, List, [], ◌∷◌, ◌++◌, ◌≡◌, ◌⊎◌, All, Some, Result, Ok, Err, true, false, length};
 ghost use Rattle.aql_packet.specs.declared.ids.Address.{Address};
 ghost use Rattle.aql_packet.specs.declared.ids.AgentHandle.{AgentHandle};
 ghost use Rattle.aql_packet.specs.declared.ids.ClientId.{ClientId};

@@ -1,8 +1,8 @@
--- What a work-group's writes come to, in plain words.
+-- What a work-group may write and depend on, in plain words: addresses in held regions, and bytes that are lent alike.
 use Rattle.std.specs.Prelude.{◌≡◌, ℕ, ◌<◌, ◌≤◌, ◌^◌, true, length, List, [], ◌∷◌, Some, All}
 use Rattle.executor.specs.Accesses.{region_of}
 use Rattle.executor.specs.Items.{LentRegion}
-use Rattle.executor.specs.Written.{covers}
+use Rattle.aql_packet.specs.Memory.{covers}
 use Rattle.executor.specs.declared.run.Run.{Run}
 use Rattle.policy.specs.Rights.{has}
 use Rattle.policy.specs.declared.rights.Right.{Right}

@@ -1,17 +1,14 @@
 -- The bytes that a work-group has written: a finite map from address to byte, over memory that stays
 -- as it is. All of it is this project's own.
-use Rattle.std.specs.Prelude.{◌≡◌, ℕ, ◌+◌, ◌-◌, ◌/◌, ◌%◌, ◌^◌, ◌<◌, Bool, ◌&&◌, ◌==◌, nat_le, nat_lt, if◌then◌else◌, List, [], ◌∷◌, length, slice_get, Option, None, All}
+use Rattle.std.specs.Prelude.{◌≡◌, ℕ, ◌+◌, ◌-◌, ◌/◌, ◌%◌, ◌^◌, ◌<◌, ◌==◌, if◌then◌else◌, List, [], ◌∷◌, length, slice_get, Option, None, All}
 use Rattle.std.specs.List.{AllPairs}
 use Rattle.std.specs.Option.{unwrap_or, option_and_then}
 use Rattle.std.specs.Int.{bit_at}
+use Rattle.aql_packet.specs.Memory.{covers}
 use Rattle.executor.specs.declared.page.Page.{Page}
 use Rattle.executor.specs.declared.run.Run.{Run}
 
 -- ---- maps from address to byte
-
--- whether an address is one of as many from a first on
-abbrev pub covers : ℕ → ℕ → ℕ → Bool
-covers address size x = nat_le address x && nat_lt x (address + size)
 
 -- a map with bytes laid over it from an address on
 abbrev pub laid : (ℕ → Option ℕ) → ℕ → List ℕ → ℕ → Option ℕ

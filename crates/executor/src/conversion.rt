@@ -1,5 +1,5 @@
 //! `cvt`, and the extension of what is loaded.
-ghost use Rattle.std.specs.Prelude.{◌≡◌, ◌+◌, ◌%◌, ◌<◌, ◌≤◌, ◌-◌, ◌^◌, ℤ, nat_lt, if◌then◌else◌};
+ghost use Rattle.std.specs.Prelude.{◌≡◌, ◌+◌, ◌%◌, ◌<◌, ◌≤◌, ◌-◌, ◌^◌, ℤ};
 ghost use Rattle.std.specs.Int.{w64};
 ghost use Rattle.executor.specs.Numbers.{wrapped};
 ghost use Rattle.kernel_check.specs.Steps.{number_bytes};

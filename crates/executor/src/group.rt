@@ -1,5 +1,5 @@
-//! A work-group, item after item.
-ghost use Rattle.std.specs.Prelude.{◌≡◌, ◌<◌, ◌≤◌, IfOk, IfErr, OnErr, length, slice_get, Some};
+//! A work-group: where it stands in the grid, and its run from memory that is lent to its writes.
+ghost use Rattle.std.specs.Prelude.{◌≡◌, ◌<◌, ◌≤◌, IfOk, IfErr, length, slice_get, Some};
 ghost use Rattle.executor.specs.Items.{blank, contents};
 ghost use Rattle.executor.specs.Locations.{count_of, current_along, current_of, groups_along, groups_of};
 ghost use Rattle.executor.specs.Runs.{HasSizes, IsRunnable, input_of, location_of};

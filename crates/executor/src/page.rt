@@ -1,6 +1,6 @@
-//! Pages of 64 bytes, and chunks of pages.
-ghost use Rattle.std.specs.Prelude.{◌≡◌, ◌+◌, ◌%◌, ◌^◌, ◌<◌, ◌≤◌, ◌∷◌, [], ℕ, Option, None, OnOk, OnErr, length};
-ghost use Rattle.executor.specs.Written.{page_byte, chunk_byte, laid, seen};
+//! Pages of 64 bytes.
+ghost use Rattle.std.specs.Prelude.{◌≡◌, ◌+◌, ◌^◌, ◌<◌, ◌≤◌, ℕ, Option, None, OnOk, length};
+ghost use Rattle.executor.specs.Written.{page_byte, laid, seen};
 ghost use Rattle.executor.specs.Told.{Gathers};
 
 use crate::run::{Run, note};

@@ -1,5 +1,5 @@
 //! The registers of a work-item, and what operations read and set in them.
-ghost use Rattle.std.specs.Prelude.{◌≡◌, replicate, false, if◌then◌else◌};
+ghost use Rattle.std.specs.Prelude.{◌≡◌, false};
 ghost use Rattle.executor.specs.Registers.{cleared, read1, read32, read64, read_any, with1, with32, with64, with_any};
 
 use kernel_check::{AnyRegister, AnySource, Slot, Source1, Source32, Source64};

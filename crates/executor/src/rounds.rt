@@ -1,5 +1,5 @@
 //! The items of a work-group, from barrier to barrier.
-ghost use Rattle.std.specs.Prelude.{◌≡◌, ◌+◌, ◌-◌, ◌≤◌, ◌++◌, ◌∷◌, [], IfOk, IfErr, OnOk, length, map};
+ghost use Rattle.std.specs.Prelude.{◌≡◌, ◌+◌, ◌-◌, ◌≤◌, IfOk, IfErr, OnOk, length, map};
 ghost use Rattle.std.specs.List.{list_all};
 ghost use Rattle.executor.specs.Group.{beginning, done, running, least_waiting, waits_before, Leads};
 ghost use Rattle.executor.specs.Items.{contents, surroundings};

@@ -1,7 +1,8 @@
 //! What a work-group has written.
-ghost use Rattle.std.specs.Prelude.{◌≡◌, ◌+◌, ◌%◌, ◌^◌, ◌<◌, ◌≤◌, ℕ, List, false, None, [], OnOk, OnErr, IfOk, length, max};
-ghost use Rattle.executor.specs.Written.{byte_at, covers, laid, seen, AreRuns};
-ghost use Rattle.executor.specs.Told.{Gathers, runs_of};
+ghost use Rattle.std.specs.Prelude.{◌≡◌, ◌+◌, ◌%◌, ◌^◌, ◌<◌, ◌≤◌, ℕ, List, false, None, OnOk, OnErr, IfOk, length, max};
+ghost use Rattle.aql_packet.specs.Memory.{covers};
+ghost use Rattle.executor.specs.Written.{byte_at, laid, seen, AreRuns};
+ghost use Rattle.executor.specs.Told.{runs_of};
 
 use crate::region::WrittenRegion;
 use crate::run::Run;

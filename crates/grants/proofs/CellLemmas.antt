@@ -1,27 +1,17 @@
 -- Counts right by right, and what one changed cell leaves in the table.
-use Rattle.std.proofs.Common.{◌≡◌, ℕ, ◌<◌, ◌≤◌, List, length, get_or, Bool, true, false, not, ◌||◌, Option, Some, refl, sym, ap, subst, ◌∙◌, arith, true≢false}
+use Rattle.std.proofs.Common.{◌≡◌, ℕ, ◌<◌, ◌≤◌, List, length, get_or, Bool, true, false, Option, Some, refl, sym, ap, subst, ◌∙◌, arith, true≢false}
 use Rattle.std.specs.Prelude.{if◌then◌else◌}
 use Rattle.std.specs.List.{list_all}
 use Rattle.std.proofs.lemmas.List.Folds.{list_all_at}
 use Rattle.aql_packet.specs.declared.ids.ClientId.{ClientId}
 use Rattle.policy.specs.declared.object.Object.{Object}
 use Rattle.policy.specs.declared.rights.Right.{Right}
-use Rattle.policy.specs.declared.rights.Right.TheVariants.{Use, Read, Write, Wait, Change, Launch}
 use Rattle.policy.specs.declared.rights.Rights.{Rights}
 use Rattle.policy.specs.Rights.{has, each_right}
 use Rattle.grants.specs.declared.cell.Cell.{Cell}
 use Rattle.grants.specs.Pairs.{same_pair}
 use Rattle.grants.specs.Cells.{Table, SameRights, SameCounts, cell_of, has_right, count_in, count_of, replacement, one_for_right}
-use Rattle.grants.proofs.PairLemmas.{both, same_pair_is}
-
--- what is so of each of the six is so of every right
-pub by_right : (P : Right → Type 0) → P Use → P Read → P Write → P Wait → P Change → P Launch → (right : Right) → P right
-by_right P a b c d e f Use = a
-by_right P a b c d e f Read = b
-by_right P a b c d e f Write = c
-by_right P a b c d e f Wait = d
-by_right P a b c d e f Change = e
-by_right P a b c d e f Launch = f
+use Rattle.policy.proofs.PairLemmas.{same_pair_is}
 
 pub once-le : (rights : Rights) (right : Right) → one_for_right rights right ≤ 1
 once-le rights right = by_test (has rights right)
@@ -29,18 +19,6 @@ once-le rights right = by_test (has rights right)
     by_test : (b : Bool) → (if b then 1 else 0) ≤ 1
     by_test true = omega arith
     by_test false = omega arith
-
-implied : (a b : Bool) → (not a || b) ≡ true → a ≡ true → b ≡ true
-implied true b h e = h
-implied false b h e = absurd (true≢false (sym e))
-
--- each right of the set passes the test
-pub each_right-has : (rights : Rights) (test : Right → Bool) → each_right rights test ≡ true → (right : Right) → has rights right ≡ true → test right ≡ true
-each_right-has rights test h right =
-    let a = both _ _ h in let b = both _ _ a.1 in let c = both _ _ b.1 in let d = both _ _ c.1 in let e = both _ _ d.1 in let f = both _ _ e.1 in
-    by_right (λ r. has rights r ≡ true → test r ≡ true)
-    (implied (has rights Use) (test Use) a.0) (implied (has rights Read) (test Read) b.0) (implied (has rights Write) (test Write) c.0)
-    (implied (has rights Wait) (test Wait) d.0) (implied (has rights Change) (test Change) e.0) (implied (has rights Launch) (test Launch) f.0) right
 
 module _ (old : Table) (c : ClientId) (o : Object) (before : Option Cell) (is : cell_of old c o ≡ before) (P : Bool → Option Cell → Option Cell → Type 0) (others : (s : Option Cell) → P false s s) where
   -- what is so of the changed cell, and of all that didn't change, is so everywhere

@@ -19,7 +19,7 @@ use Rattle.grants.specs.Holds.{is_hold_of, held, holds_of}
 use Rattle.grants.specs.declared.cell.Cell.{Cell}
 use Rattle.grants.specs.Cells.{Table, IsCounted, cell_of, hold_count, count_in, count_of, one_for_right}
 use Rattle.std.proofs.lemmas.Bool.{lt-ltb}
-use Rattle.grants.proofs.PairLemmas.{same_pair_itself}
+use Rattle.policy.proofs.PairLemmas.{same_pair_itself}
 
 abbrev one_if : Bool → ℕ
 one_if b = if b then 1 else 0

@@ -14,8 +14,9 @@ use Rattle.policy.specs.Rights.{has, all_rights}
 use Rattle.grants.specs.declared.hold.Hold.{Hold}
 use Rattle.grants.specs.Pairs.{same_pair}
 use Rattle.grants.specs.Holders.{same_packet, IsUpTo, IsFirstTo}
-use Rattle.grants.specs.Holds.{is_of, is_on, is_hold, held, hold_of, meet, holds_one}
-use Rattle.grants.proofs.PairLemmas.{both, same_number, itself}
+use Rattle.grants.specs.Holds.{is_of, is_on, is_hold, held, hold_of, have_common_right, holds_one}
+use Rattle.policy.proofs.ValueLemmas.{list_any-map}
+use Rattle.policy.proofs.PairLemmas.{both, same_number, itself}
 
 -- ---- tests
 
@@ -46,10 +47,6 @@ same_packet_is q p q' p' h =
 
 same_packet_itself : (q : QueueId) (p : PacketId) → same_packet q p q p ≡ true
 same_packet_itself q p = rw (itself q.0, itself p.0)
-
-list_any-map : {X Y : Type 0} (p : X → Bool) (h : Y → X) (ys : List Y) → list_any p (map h ys) ≡ list_any (λ y. p (h y)) ys
-list_any-map p h [] = refl
-list_any-map p h (y ∷ ys) = ap (λ b. p (h y) || b) (list_any-map p h ys)
 
 -- ---- holds
 
@@ -136,7 +133,7 @@ pub holder : (holds : List Hold) (c : ClientId) (o : Object) (rights : Rights) (
 holder [] c o rights q p = none_of (has rights) all_rights
 holder (h ∷ hs) c o rights q p =
     spread_any (is_on q p c o h) (has rights) (has h.rights) (held hs q p c o) all_rights
-    ∙ ap (λ b. (is_on q p c o h && meet rights h.rights) || b) (holder hs c o rights q p)
+    ∙ ap (λ b. (is_on q p c o h && have_common_right rights h.rights) || b) (holder hs c o rights q p)
 
 -- ---- the first
 
@@ -186,20 +183,20 @@ module _ (holds : List Hold) (c : ClientId) (o : Object) (rights : Rights) (i : 
   abbrev next : Hold
   next = get_or holds i d
 
-  pub holds_one-blocking : (same_pair c o next.client next.object && meet rights next.rights) ≡ true → (q : QueueId) (p : PacketId)
+  pub holds_one-blocking : (same_pair c o next.client next.object && have_common_right rights next.rights) ≡ true → (q : QueueId) (p : PacketId)
       → holds_one (take (i + 1) holds) c o rights q p ≡ (holds_one (take i holds) c o rights q p || same_packet q p next.queue next.packet)
   holds_one-blocking blocks q p =
-      list_any_more (λ hold. is_on q p c o hold && meet rights hold.rights) holds i d within
+      list_any_more (λ hold. is_on q p c o hold && have_common_right rights hold.rights) holds i d within
       ∙ ap (λ b. holds_one (take i holds) c o rights q p || b)
-      (and_assoc (same_packet q p next.queue next.packet) (same_pair c o next.client next.object) (meet rights next.rights)
+      (and_assoc (same_packet q p next.queue next.packet) (same_pair c o next.client next.object) (have_common_right rights next.rights)
       ∙ ap (λ b. same_packet q p next.queue next.packet && b) blocks ∙ and-true (same_packet q p next.queue next.packet))
 
-  pub holds_one-passing : (same_pair c o next.client next.object && meet rights next.rights) ≡ false → (q : QueueId) (p : PacketId)
+  pub holds_one-passing : (same_pair c o next.client next.object && have_common_right rights next.rights) ≡ false → (q : QueueId) (p : PacketId)
       → holds_one (take (i + 1) holds) c o rights q p ≡ holds_one (take i holds) c o rights q p
   holds_one-passing passes q p =
-      list_any_more (λ hold. is_on q p c o hold && meet rights hold.rights) holds i d within
+      list_any_more (λ hold. is_on q p c o hold && have_common_right rights hold.rights) holds i d within
       ∙ ap (λ b. holds_one (take i holds) c o rights q p || b)
-      (and_assoc (same_packet q p next.queue next.packet) (same_pair c o next.client next.object) (meet rights next.rights)
+      (and_assoc (same_packet q p next.queue next.packet) (same_pair c o next.client next.object) (have_common_right rights next.rights)
       ∙ ap (λ b. same_packet q p next.queue next.packet && b) passes ∙ and-false (same_packet q p next.queue next.packet))
       ∙ or-false (holds_one (take i holds) c o rights q p)
 

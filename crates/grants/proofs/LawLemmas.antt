@@ -9,14 +9,14 @@ use Rattle.policy.specs.declared.object.Object.{Object}
 use Rattle.policy.specs.declared.rights.Right.{Right}
 use Rattle.policy.specs.declared.rights.Rights.{Rights}
 use Rattle.policy.specs.Rights.{has, all_rights, each_right}
-use Rattle.grants.specs.Rules.{all_objects}
+use Rattle.policy.specs.Listing.{all_objects, listing_by}
+use Rattle.grants.specs.Rules.{count}
 use Rattle.grants.specs.Pairs.{same_pair, is_one_of, names}
 use Rattle.grants.specs.Holders.{same_packet}
-use Rattle.grants.specs.Ledger.{Ledger, rules_in, in_force, holds, listing_by}
+use Rattle.grants.specs.Ledger.{Ledger, rules_in, in_force, holds}
 use Rattle.grants.specs.Laws.{Call, LeadsTo, AreMade, last_ledger, in_force_after, holds_after, LawOfCalls}
 use Rattle.grants.specs.Laws.Call.{Grant, Revoke, Hold, Release}
-use Rattle.grants.proofs.PairLemmas.{both, same_pair_is}
-use Rattle.grants.proofs.CellLemmas.{by_right, each_right-has}
+use Rattle.policy.proofs.PairLemmas.{both, same_pair_is, for_each_right, each_right-has}
 
 -- ---- one call
 
@@ -59,7 +59,7 @@ or_false false b h = (refl, h)
 none_passes : (f : Right → Bool) → list_any f all_rights ≡ false → (right : Right) → f right ≡ false
 none_passes f h right =
     let a = or_false _ _ h in let b = or_false _ _ a.1 in let d = or_false _ _ b.1 in let e = or_false _ _ d.1 in let g = or_false _ _ e.1 in let i = or_false _ _ g.1 in
-    by_right (λ r. f r ≡ false) a.0 b.0 d.0 e.0 g.0 i.0 right
+    for_each_right (λ r. f r ≡ false) a.0 b.0 d.0 e.0 g.0 i.0 right
 
 -- a right that a list of rights in force names is in force
 named-in_force : (f : Object → Right → Bool) (rights : List (Object × Rights)) (client c : ClientId) (o : Object) (right : Right)
@@ -136,7 +136,7 @@ law_of_calls first steps new made =
     given-by steps first made c o right ∙ ap (λ b. fold (in_force_after c o right) b (calls_of steps)) (new.none_in_force c o right) in
     record {
       given = given;
-      listed = λ c. λ i. listing_by (λ o right. given c o right i) (all_objects (rules-by steps first made i));
+      listed = λ c. λ i. listing_by (λ o right. given c o right i) (all_objects (count (rules-by steps first made i)));
       held = λ q p c o right. held-by steps first made q p c o right ∙ ap (λ b. fold (holds_after q p c o right) b (calls_of steps)) (new.none_held q p c o right);
       held_is_in_force = sound-by steps first made (λ q p c o right h. absurd (true≢false (sym h ∙ new.none_held q p c o right)));
       same_rules = rules-by steps first made;

@@ -16,7 +16,7 @@ use Rattle.grants.specs.Holders.{same_packet, IsFirstTo}
 use Rattle.grants.specs.Holds.{is_of, held, hold_of, holds_one}
 use Rattle.grants.specs.Cells.{Table, SameRights, IsCounted, cell_of, count_of}
 use Rattle.grants.specs.Ledger.{Ledger, Holds, Releases, rules_in, is_holder}
-use Rattle.grants.proofs.PairLemmas.{both}
+use Rattle.policy.proofs.PairLemmas.{both}
 use Rattle.grants.proofs.HoldLemmas.{held-pushed, held-dropped, holder, first_same}
 use Rattle.grants.proofs.CountLemmas.{unheld}
 

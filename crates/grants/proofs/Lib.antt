@@ -1,4 +1,3 @@
-pub mod PairLemmas
 pub mod HoldLemmas
 pub mod SetLemmas
 pub mod PlaceLemmas

@@ -10,7 +10,7 @@ use Rattle.policy.specs.declared.rights.Right.{Right}
 use Rattle.policy.specs.declared.rights.Rights.{Rights}
 use Rattle.policy.specs.Object.{object_of}
 use Rattle.policy.specs.Rights.{all_rights, rights_that}
-use Rattle.grants.specs.Ledger.{listing_by}
+use Rattle.policy.specs.Listing.{listing_by}
 
 module _ (has_right : Object → Right → Bool) where
   listed-append : (xs ys : List Object) → listing_by has_right (xs ++ ys) ≡ listing_by has_right xs ++ listing_by has_right ys

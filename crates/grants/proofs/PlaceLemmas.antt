@@ -12,7 +12,7 @@ use Rattle.grants.specs.declared.cell.Cell.{Cell}
 use Rattle.grants.specs.Pairs.{same_pair}
 use Rattle.grants.specs.Rules.{Rules, knows_client, knows}
 use Rattle.grants.specs.Cells.{object_count, object_place, place_of, item_at, replacement}
-use Rattle.grants.proofs.PairLemmas.{both, same_pair_is, same_pair_itself}
+use Rattle.policy.proofs.PairLemmas.{both, same_pair_is, same_pair_itself}
 
 from_one : (n m : ℕ) → (nat_lt 0 n && nat_le n m) ≡ true → (0 < n) × (n ≤ m)
 from_one n m h = let parts = both (nat_lt 0 n) (nat_le n m) h in (ltb-true 0 n parts.0, leb-true n m parts.1)

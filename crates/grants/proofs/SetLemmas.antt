@@ -1,7 +1,7 @@
 -- Which rights are in the sets that two sets make.
-use Rattle.std.proofs.Common.{◌≡◌, ℕ, zero, suc, ◌-◌, ◌<◌, ◌^◌, min, max, not, ◌&&◌, ◌||◌, ◌==◌, refl, sym, ap, ◌∙◌, arith, bit_or, w8}
+use Rattle.std.proofs.Common.{◌≡◌, ℕ, zero, suc, ◌-◌, ◌<◌, ◌^◌, min, not, ◌&&◌, ◌==◌, refl, sym, ap, ◌∙◌, arith, w8}
 use Rattle.std.specs.Int.{bit_at, bit_not}
-use Rattle.std.proofs.lemmas.Nat.Bits.{bit_at_and, bit_at_or, bit_at_not, bit_at-lt}
+use Rattle.std.proofs.lemmas.Nat.Bits.{bit_at_and, bit_at_not, bit_at-lt}
 use Rattle.bitflags.specs.Sets.{without}
 use Rattle.policy.specs.declared.rights.Right.{Right}
 use Rattle.policy.specs.declared.rights.Right.TheVariants.{Use, Read, Write, Wait, Change, Launch}
@@ -17,15 +17,6 @@ one_and_not (suc zero) zero h k = refl
 one_and_not (suc zero) (suc zero) h k = refl
 one_and_not (suc zero) (suc (suc b)) h k = absurd (omega arith)
 one_and_not (suc (suc a)) b h k = absurd (omega arith)
-
-one_or : (a b : ℕ) → a < 2 → b < 2 → (max a b == 1) ≡ ((a == 1) || (b == 1))
-one_or zero zero h k = refl
-one_or zero (suc zero) h k = refl
-one_or zero (suc (suc b)) h k = absurd (omega arith)
-one_or (suc zero) zero h k = refl
-one_or (suc zero) (suc zero) h k = refl
-one_or (suc zero) (suc (suc b)) h k = absurd (omega arith)
-one_or (suc (suc a)) b h k = absurd (omega arith)
 
 in_eight : (right : Right) → place_of right < 8
 in_eight Use = omega arith
@@ -43,12 +34,3 @@ has-without a b right fits =
     ∙ ap (λ n. n == 1) (bit_at_and a.0 (bit_not w8 b.0) p ∙ ap (min (bit_at a.0 p)) (bit_at_not w8 b.0 p fits (in_eight right)))
     ∙ one_and_not (bit_at a.0 p) (bit_at b.0 p) (bit_at-lt a.0 p) (bit_at-lt b.0 p)
     ∙ sym (ap (λ x. x && not (has b right)) (has-bit a.0 right) ∙ ap (λ x. (bit_at a.0 p == 1) && not x) (has-bit b.0 right))
-
--- a right is in both together where it is in one of them
-pub has-union : (a b : Rights) (right : Right) → has (record { 0 = bit_or a.0 b.0 }) right ≡ (has a right || has b right)
-has-union a b right =
-    let p = place_of right in
-    has-bit (bit_or a.0 b.0) right
-    ∙ ap (λ n. n == 1) (bit_at_or a.0 b.0 p)
-    ∙ one_or (bit_at a.0 p) (bit_at b.0 p) (bit_at-lt a.0 p) (bit_at-lt b.0 p)
-    ∙ sym (ap (λ x. x || has b right) (has-bit a.0 right) ∙ ap (λ x. (bit_at a.0 p == 1) || x) (has-bit b.0 right))

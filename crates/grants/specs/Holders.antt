@@ -1,11 +1,8 @@
 -- Packets by queue and id, and the least of those that pass a test.
-use Rattle.std.specs.Prelude.{Bool, true, false, ◌≡◌, ◌<◌, ◌≤◌, ◌⊎◌, ◌&&◌, ◌==◌, Option, Some, None}
+use Rattle.std.specs.Prelude.{Bool, true, false, ◌≡◌, ◌<◌, ◌≤◌, ◌⊎◌, Option, Some, None}
 use Rattle.aql_packet.specs.declared.ids.QueueId.{QueueId}
 use Rattle.aql_packet.specs.declared.ids.PacketId.{PacketId}
-
--- the packet is this one
-abbrev pub same_packet : QueueId → PacketId → QueueId → PacketId → Bool
-same_packet queue packet queue' packet' = queue.0 == queue'.0 && packet.0 == packet'.0
+pub use Rattle.aql_packet.specs.Ids.{same_packet}
 
 -- the packet comes first, or is the other one: by queue, and then by id
 abbrev pub IsUpTo : QueueId → PacketId → QueueId → PacketId → Type 0

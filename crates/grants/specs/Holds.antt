@@ -42,9 +42,9 @@ hold_of queue packet client rights =
     record { queue = queue; packet = packet; client = client; object = rights.0; rights = rights.1 }
 
 -- two sets have a right in common
-abbrev pub meet : Rights → Rights → Bool
-meet a b = list_any (λ right. has a right && has b right) all_rights
+abbrev pub have_common_right : Rights → Rights → Bool
+have_common_right a b = list_any (λ right. has a right && has b right) all_rights
 
 -- the packet holds one of the client's rights on the object
 abbrev pub holds_one : List Hold → ClientId → Object → Rights → QueueId → PacketId → Bool
-holds_one holds client object rights queue packet = list_any (λ hold. is_on queue packet client object hold && meet rights hold.rights) holds
+holds_one holds client object rights queue packet = list_any (λ hold. is_on queue packet client object hold && have_common_right rights hold.rights) holds

@@ -6,10 +6,11 @@ use Rattle.aql_packet.specs.declared.ids.PacketId.{PacketId}
 use Rattle.policy.specs.declared.object.Object.{Object}
 use Rattle.policy.specs.declared.rights.Right.{Right}
 use Rattle.policy.specs.declared.rights.Rights.{Rights}
-use Rattle.grants.specs.Rules.{all_objects}
+use Rattle.policy.specs.Listing.{all_objects, listing_by}
+use Rattle.grants.specs.Rules.{count}
 use Rattle.grants.specs.Pairs.{is_one_of, names}
 use Rattle.grants.specs.Holders.{same_packet}
-use Rattle.grants.specs.Ledger.{Ledger, rules_in, in_force, holds, IsNew, Gives, Takes, Holds, Releases, grant_due, RevokeAnswers, are_in_force, listing, listing_by}
+use Rattle.grants.specs.Ledger.{Ledger, rules_in, in_force, holds, IsNew, Gives, Takes, Holds, Releases, grant_due, RevokeAnswers, are_in_force, listing}
 
 -- a call that was made; one that is refused leaves all as it was, and stands in no list
 pub data Call : Type 0 where
@@ -54,7 +55,7 @@ pub record IsAfterCalls (first last : Ledger) (calls : List Call) : Type 0 where
   pub given : (client : ClientId) (object : Object) (right : Right) → in_force last client object right ≡ fold (in_force_after client object right) false calls
   -- listed are the objects on which there are such rights, with these rights
   pub listed : (client : ClientId) → listing last client
-      ≡ listing_by (λ object right. fold (in_force_after client object right) false calls) (all_objects (rules_in first))
+      ≡ listing_by (λ object right. fold (in_force_after client object right) false calls) (all_objects (count (rules_in first)))
   -- a packet holds what it came to hold, until it is released
   pub held : (queue : QueueId) (packet : PacketId) (client : ClientId) (object : Object) (right : Right)
       → holds last queue packet client object right ≡ fold (holds_after queue packet client object right) false calls

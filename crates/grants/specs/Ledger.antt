@@ -1,5 +1,5 @@
 -- Grants as contracts see them: what is in force, and which packet holds what, by look-ups that hide how they are kept.
-use Rattle.std.specs.Prelude.{◌≡◌, ◌+◌, ◌≤◌, Bool, true, false, not, ◌&&◌, ◌||◌, ℕ, List, length, map, filter, None, Some, Result, Ok, Err, if◌then◌else◌}
+use Rattle.std.specs.Prelude.{◌≡◌, ◌+◌, ◌≤◌, Bool, true, false, not, ◌&&◌, ◌||◌, ℕ, List, length, None, Some, Result, Ok, Err, if◌then◌else◌}
 use Rattle.std.specs.List.{list_any, list_all}
 use Rattle.aql_packet.specs.declared.ids.ClientId.{ClientId}
 use Rattle.aql_packet.specs.declared.ids.QueueId.{QueueId}
@@ -7,11 +7,12 @@ use Rattle.aql_packet.specs.declared.ids.PacketId.{PacketId}
 use Rattle.policy.specs.declared.object.Object.{Object}
 use Rattle.policy.specs.declared.rights.Right.{Right}
 use Rattle.policy.specs.declared.rights.Rights.{Rights}
+use Rattle.policy.specs.Listing.{all_objects, listing_by}
 use Rattle.policy.specs.Rights.{has, all_rights, each_right, rights_that}
 use Rattle.grants.specs.declared.refusal.Refusal.{Refusal}
 use Rattle.grants.specs.declared.refusal.Refusal.TheVariants.{NotAllowed, Busy, UnknownObject, UnknownClient}
 use Rattle.grants.specs.declared.hold.Hold.{Hold}
-use Rattle.grants.specs.Rules.{Rules, knows_client, knows, allows, all_objects}
+use Rattle.grants.specs.Rules.{Rules, count, knows_client, knows, allows}
 use Rattle.grants.specs.Pairs.{is_one_of, names}
 use Rattle.grants.specs.Holders.{same_packet, IsFirstTo}
 use Rattle.grants.specs.Holds.{held}
@@ -128,10 +129,6 @@ RevokeAnswers grants client object rights (Ok x) =
 
 -- ---- listing
 
--- of these objects, those on which there is a right, with these rights
-unfoldable pub listing_by : (Object → Right → Bool) → List Object → List (Object × Rights)
-listing_by has_right objects = map (λ on. (on, rights_that (has_right on))) (filter (λ on. list_any (has_right on) all_rights) objects)
-
 -- the objects on which the client has a right in force, with its rights: agents, regions, signals, kernels, each by number
 abbrev pub listing : Ledger → ClientId → List (Object × Rights)
-listing grants client = listing_by (in_force grants client) (all_objects (rules_in grants))
+listing grants client = listing_by (in_force grants client) (all_objects (count (rules_in grants)))

@@ -1,13 +1,13 @@
 -- What grants keep of a policy: how many clients and objects there are, and its allow rows.
-use Rattle.std.specs.Prelude.{ℕ, Bool, ◌&&◌, ◌++◌, nat_lt, nat_le, List, length, map}
-use Rattle.std.specs.List.{list_any, range_with_len}
+use Rattle.std.specs.Prelude.{ℕ, Bool, ◌&&◌, nat_lt, nat_le, List, length}
+use Rattle.std.specs.List.{list_any}
 use Rattle.aql_packet.specs.declared.ids.ClientId.{ClientId}
 use Rattle.policy.specs.declared.object.Kind.{Kind}
 use Rattle.policy.specs.declared.object.Kind.TheVariants as kind
 use Rattle.policy.specs.declared.object.Object.{Object}
 use Rattle.policy.specs.declared.rights.Rights.{Rights}
 use Rattle.policy.specs.declared.row.AllowRow.{AllowRow}
-use Rattle.policy.specs.Object.{kind_of, number_of, object_of}
+use Rattle.policy.specs.Object.{kind_of, number_of}
 use Rattle.policy.specs.Policy.{Declared, covers}
 use Rattle.policy.specs.Rights.{each_right}
 
@@ -48,12 +48,3 @@ knows rules object = nat_lt 0 (number_of object) && nat_le (number_of object) (c
 -- each right of the set is covered by some allow row, for the client and the object
 abbrev pub allows : Rules → ClientId → Object → Rights → Bool
 allows rules client object rights = each_right rights (λ right. list_any (covers client object right) rules.allows)
-
--- the objects of a kind, by number
-abbrev pub objects_of : Rules → Kind → List Object
-objects_of rules of = map (object_of of) (range_with_len 1 (count rules of))
-
--- all objects: agents, regions, signals, kernels, each by number
-abbrev pub all_objects : Rules → List Object
-all_objects rules =
-    objects_of rules kind.Agent ++ objects_of rules kind.Region ++ objects_of rules kind.Signal ++ objects_of rules kind.Kernel

@@ -3,7 +3,8 @@
 ghost use Rattle.std.specs.Prelude.{◌≡◌, ◌+◌, ◌<◌, ◌≤◌, ◌++◌, ◌∷◌, [], true, IfOk, OnOk, OnErr, Ok, length};
 ghost use Rattle.policy.specs.declared.rights.Right.{Right};
 ghost use Rattle.policy.specs.Rights.{has, each_right, rights_that};
-ghost use Rattle.grants.specs.Rules.{rules_of, objects_of};
+ghost use Rattle.policy.specs.Listing.{objects_of_kind, listing_by};
+ghost use Rattle.grants.specs.Rules.{count, rules_of};
 
 use crate::cells::Cells;
 use crate::counting::{put_holds, uncount_packet};
@@ -43,7 +44,7 @@ impl Model for Grants {
 }
 
 impl Grants {
-    ghost use Rattle.grants.specs.Ledger.{IsNew, Gives, Takes, Holds, Releases, RevokeAnswers, rules_in, in_force, holds, grant_due, rights_on, are_in_force, listing, listing_by, places};
+    ghost use Rattle.grants.specs.Ledger.{IsNew, Gives, Takes, Holds, Releases, RevokeAnswers, rules_in, in_force, holds, grant_due, rights_on, are_in_force, listing, places};
 
     /// No right is in force yet, and no packet holds one.
     pub fn new(alloc: Global, policy: &Policy) -> Result<Grants, AllocError>
@@ -306,7 +307,7 @@ impl Grants {
         client: ClientId,
         kind: Kind,
     ) -> Result<(), AllocError>
-        ensures { OnOk result (rows.new ≡ rows.old ++ listing_by (in_force self.now client) (objects_of (rules_in self.now) kind)) }
+        ensures { OnOk result (rows.new ≡ rows.old ++ listing_by (in_force self.now client) (objects_of_kind (count (rules_in self.now)) kind)) }
     {
         for before in 0..self.table.rules().count(kind) {
             self.list_object(rows, client, Object::of(kind, before as u64 + 1))?;
@@ -315,7 +316,7 @@ impl Grants {
     }
 
     // Puts an object on which the client has a right behind the others.
-    #[tactic(auto, unfolding(crate::specs::Ledger::listing_by))]
+    #[tactic(auto, unfolding(policy::specs::Listing::listing_by))]
     fn list_object(
         &self,
         rows: &mut Sequence<(Object, Rights)>,

@@ -3,7 +3,7 @@
 ghost use Rattle.std.specs.Prelude.{◌≡◌, ◌≤◌, ◌⊎◌, ◌&&◌, not, filter, vec_len, vec_capacity};
 ghost use Rattle.grants.specs.Pairs.{same_pair};
 ghost use Rattle.grants.specs.Holders.{IsUpTo, IsFirstTo};
-ghost use Rattle.grants.specs.Holds.{held, holds_one, is_of, is_on, meet};
+ghost use Rattle.grants.specs.Holds.{held, holds_one, is_of, is_on, have_common_right};
 
 use aql_packet::{ClientId, PacketId, QueueId};
 use policy::{Object, Right, Rights};
@@ -43,15 +43,15 @@ impl Hold {
 
     // Whether it is on one of the client's rights on the object.
     fn blocks(&self, client: ClientId, object: Object, rights: Rights) -> bool
-        ensures { result ≡ (same_pair client object self.now.client self.now.object && meet rights self.now.rights) }
+        ensures { result ≡ (same_pair client object self.now.client self.now.object && have_common_right rights self.now.rights) }
     {
-        client == self.client && object == self.object && meet(rights, self.rights)
+        client == self.client && object == self.object && have_common_right(rights, self.rights)
     }
 }
 
 // Whether two sets have a right in common.
-fn meet(a: Rights, b: Rights) -> bool
-    ensures { result ≡ meet a b }
+fn have_common_right(a: Rights, b: Rights) -> bool
+    ensures { result ≡ have_common_right a b }
 {
     Right::ALL
         .iter()

@@ -8,7 +8,7 @@ use Rattle.policy.specs.declared.rights.Right.{Right}
 use Rattle.policy.specs.declared.rights.Rights.{Rights}
 use Rattle.core_model.specs.Holds.{ObjectRight, held_by_pointer}
 use Rattle.core_model.specs.Kernels.{wide_arguments}
-use Rattle.packet_processor.specs.Holding.{among, as_rights}
+use Rattle.packet_processor.specs.Holding.{rights_passing, as_rights}
 
 -- the item at a place stands before those behind it
 pub at_place : {X : Type 0} (xs : List X) (i : ℕ) (d : X) → i < length xs → drop i xs ≡ get_or xs i d ∷ drop (i + 1) xs
@@ -20,10 +20,10 @@ more all piece splits held now whole x rest tail is grown so_far =
     ap (λ ys. ys ++ all tail) grown ∙ append_assoc held (piece x) (all tail)
     ∙ ap (λ ys. held ++ ys) (sym (splits x tail)) ∙ ap (λ xs. held ++ all xs) (sym is) ∙ so_far
 
-pub among-splits : (test : Right → Bool) (on : Object) (x : Right) (xs : List Right) → among test on (x ∷ xs) ≡ among test on (x ∷ []) ++ among test on xs
-among-splits test on x xs = by_test (test x) refl
+pub rights_passing-splits : (test : Right → Bool) (on : Object) (x : Right) (xs : List Right) → rights_passing test on (x ∷ xs) ≡ rights_passing test on (x ∷ []) ++ rights_passing test on xs
+rights_passing-splits test on x xs = by_test (test x) refl
   where
-    by_test : (b : Bool) → test x ≡ b → among test on (x ∷ xs) ≡ among test on (x ∷ []) ++ among test on xs
+    by_test : (b : Bool) → test x ≡ b → rights_passing test on (x ∷ xs) ≡ rights_passing test on (x ∷ []) ++ rights_passing test on xs
     by_test true is = rw is refl
     by_test false is = rw is refl
 

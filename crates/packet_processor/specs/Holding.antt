@@ -11,5 +11,5 @@ abbrev pub as_rights : ObjectRight → Object × Rights
 as_rights h = (h.0, set_of h.1)
 
 -- those of some rights on an object that pass a test, each as a set
-abbrev pub among : (Right → Bool) → Object → List Right → List (Object × Rights)
-among test on rights = map as_rights (map (λ right. (on, right)) (filter test rights))
+abbrev pub rights_passing : (Right → Bool) → Object → List Right → List (Object × Rights)
+rights_passing test on rights = map as_rights (map (λ right. (on, right)) (filter test rights))

@@ -7,7 +7,7 @@ ghost use Rattle.aql_packet.specs.declared.ids.ClientId.{ClientId};
 ghost use Rattle.core_model.specs.Holds.{all_in_force, right_needed, held_by_needs, held_by_pointer};
 ghost use Rattle.core_model.specs.Kernels.{wide_arguments};
 ghost use Rattle.packet_processor.specs.Judged.{facts_seen};
-ghost use Rattle.packet_processor.specs.Holding.{among, as_rights};
+ghost use Rattle.packet_processor.specs.Holding.{rights_passing, as_rights};
 
 use crate::facts::Facts;
 use crate::judging::object_of;
@@ -101,7 +101,7 @@ fn hold_if_in_force(
     object: Object,
     right: Right,
 ) -> Result<(), AllocError>
-    ensures { OnOk result (held.new ≡ held.old ++ among ((facts_seen facts.now).in_force object) object (right ∷ [])) }
+    ensures { OnOk result (held.new ≡ held.old ++ rights_passing ((facts_seen facts.now).in_force object) object (right ∷ [])) }
 {
     if facts.grants.is_in_force(facts.client, object, right) {
         held.push((object, Rights::of(right)))?;

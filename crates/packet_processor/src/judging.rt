@@ -1,6 +1,6 @@
 //! The launch rules, tried in order on a packet.
 
-ghost use Rattle.std.specs.Prelude.{◌≡◌, find, not, option_to_list};
+ghost use Rattle.std.specs.Prelude.{◌≡◌, find, option_to_list};
 ghost use Rattle.std.specs.List.{flat_map, list_all};
 ghost use Rattle.core_model.specs.LaunchRules as rules;
 ghost use Rattle.core_model.specs.Needs.{object_of};

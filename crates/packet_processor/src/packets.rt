@@ -1,4 +1,4 @@
-//! What a packet's kind says of its completion.
+//! What packets of each kind say of their completion, and when a barrier packet is ready.
 
 ghost use Rattle.std.specs.Prelude.{◌≡◌};
 ghost use Rattle.core_model.specs.LaunchRules.{is_barrier};

@@ -10,7 +10,7 @@ use Rattle.policy.specs.declared.row.AllowRow.{AllowRow}
 use Rattle.policy.specs.declared.row.Takes.{Takes}
 use Rattle.policy.specs.Policy.{Declared, Name, Source, names}
 use Rattle.policy.specs.Reading.{◌>>=◌, FileGives, FileFails}
-use Rattle.policy.specs.Format.{file_head, regions_of, objects_of, declared_by, array_of, named_row, allow_row, client_keys, agent_keys, signal_keys, kernel_keys, nothing, takes, initial_value, kernel_source, IsFile, IsRefused, in_file}
+use Rattle.policy.specs.Format.{file_head, regions_of, objects_of, declared_by, array_of, named_row, allow_row, client_keys, agent_keys, signal_keys, kernel_keys, no_more_keys, takes, initial_value, kernel_source, IsFile, IsRefused, in_file}
 
 -- a fault of the file is the text's
 pub refused_in_file : (text : List ℕ) (file : Members) → length text ≤ MOST_POLICY_BYTES → IsFile text file → (r : Result Declared ReadPolicyError) → FileGives r (declared_by file) → IfErr r (IsRefused text)
@@ -29,7 +29,7 @@ fails_at_allows file declared e head objects fails = rw (← head, objects) (aft
 
 -- a fault in the kernels is the objects'
 pub fails_at_kernels : (file : Members) (clients : List (Name × Unit {0})) (agents : List (Name × Takes)) (regions : List (Name × ℕ)) (signals : List (Name × ℤ)) (e : ReadPolicyError)
-    → array_of Client MOST_CLIENTS (named_row client_keys nothing) file ≡ Ok clients → array_of Agent MOST_AGENTS (named_row agent_keys takes) file ≡ Ok agents
+    → array_of Client MOST_CLIENTS (named_row client_keys no_more_keys) file ≡ Ok clients → array_of Agent MOST_AGENTS (named_row agent_keys takes) file ≡ Ok agents
     → regions_of file ≡ Ok regions → array_of Signal MOST_SIGNALS (named_row signal_keys initial_value) file ≡ Ok signals
     → FileFails e (array_of Kernel MOST_KERNELS (named_row kernel_keys kernel_source) file) → FileFails e (objects_of file)
 fails_at_kernels file clients agents regions signals e c a r s fails = rw (c, a, r, s) (after e (array_of Kernel MOST_KERNELS (named_row kernel_keys kernel_source) file) fails)

@@ -1,8 +1,10 @@
 -- The fault of a file is that of the first of its checks that fails.
 use Rattle.std.proofs.Common.{◌≡◌, ℕ, ◌+◌, nat_le, ◌==◌, length, Bool, true, false, codes, List, [], ◌∷◌, ◌++◌, map, sum, sum_by, ℤ, Option, Some, None, option_and_then, Result, Ok, Err, refl, sym, ap, subst, ◌∙◌, length-append}
-use Rattle.std.specs.List.{list_any, list_all}
+use Rattle.std.specs.List.{list_any, list_all, cons_option}
+use Rattle.std.specs.Result.{result_err}
 use Rattle.std.specs.Str.{bytes_eq}
 use Rattle.std.proofs.lemmas.List.{map-append, append_assoc}
+use Rattle.std.proofs.lemmas.List.Elements.{filter_map-append}
 use Rattle.std.proofs.lemmas.List.Sums.{sum-map}
 use Rattle.toml.specs.Data.{Data, Members, get_member, as_table}
 use Rattle.aql_packet.specs.declared.memory.TheConstants.{MOST_REGIONS}
@@ -19,29 +21,16 @@ use Rattle.policy.specs.SectionNames.{name_of_section}
 use Rattle.policy.specs.Names.{Name, names, number_in}
 use Rattle.policy.specs.Policy.{Declared, Source, names_of}
 use Rattle.policy.specs.Reading.{◌>>=◌, unless, or_fault, fault_in, fault_of_file}
-use Rattle.policy.specs.Format.{a_name, a_length, a_choice, a_kind, some_rights, an_entry, a_text, in_row, of_table, is_table, tables_in, rows_in, items_in, keys_in, read_each, array_of, key, only, named_row, allow_row, nothing, takes, region_length, initial_value, kernel_source, subject_of, target_of, client_keys, agent_keys, region_keys, signal_keys, kernel_keys, allow_keys, file_keys, is_version, file_head, regions_of, objects_of, declared_by}
-use Rattle.policy.specs.Checks.{first_of, fault_of, put_before, said_by, says, row_name, row_length, rows_of, rows_at, names_at, section_of, named_checks, client_rest, agent_rest, region_rest, signal_rest, kernel_rest, allow_checks, rights_check, client_check, object_check, array_checks, named_array_checks, sum_check, head_checks, object_checks, file_checks}
+use Rattle.policy.specs.Format.{a_name, a_length, a_choice, a_kind, some_rights, an_entry, a_text, in_row, of_table, is_table, tables_in, rows_in, items_in, keys_in, read_each, array_of, key, only, named_row, allow_row, no_more_keys, takes, region_length, initial_value, kernel_source, subject_of, target_of, client_keys, agent_keys, region_keys, signal_keys, kernel_keys, allow_keys, file_keys, is_version, file_head, regions_of, objects_of, declared_by}
+use Rattle.policy.specs.Checks.{first_of, said_by, says, row_name, row_length, rows_of, rows_at, names_at, section_of, named_checks, client_rest, agent_rest, region_rest, signal_rest, kernel_rest, allow_checks, rights_check, client_check, object_check, array_checks, named_array_checks, sum_check, head_checks, object_checks, file_checks}
+use Rattle.policy.proofs.StepLemmas.{then_ok, in_row_ok}
 use Rattle.policy.proofs.CheckLemmas.{step_after, check_after, check_last, check_alone, key_says, named_agrees, array_agrees}
 
 -- what two steps give, each of the two gave
-then_ok : {A B E : Type 0} (r : Result A E) (f : A → Result B E) (b : B) → (r >>= f) ≡ Ok b → (a : A) × (r ≡ Ok a) × (f a ≡ Ok b)
-then_ok (Ok x) f b h = (x, refl, h)
-then_ok (Err e) f b h = cc
-
-in_row_ok : {A : Type 0} (s : Section) (n : ℕ) (r : Result A Cause) (x : A) → in_row s n r ≡ Ok x → r ≡ Ok x
-in_row_ok s n (Ok y) x h = cc
-in_row_ok s n (Err e) x h = cc
-
 -- ---- what rows say
 
-put_before-append : {X : Type 0} (o : Option X) (xs ys : List X) → put_before o xs ++ ys ≡ put_before o (xs ++ ys)
-put_before-append None xs ys = refl
-put_before-append (Some x) xs ys = refl
-
 said_by-append : {X : Type 0} (f : Members → Option X) (ds es : List Data) → said_by f (ds ++ es) ≡ said_by f ds ++ said_by f es
-said_by-append f [] es = refl
-said_by-append f (d ∷ ds) es =
-    ap (put_before (option_and_then f (as_table d))) (said_by-append f ds es) ∙ sym (put_before-append (option_and_then f (as_table d)) (said_by f ds) (said_by f es))
+said_by-append f ds es = filter_map-append (λ d. option_and_then f (as_table d)) ds es
 
 -- a row that was read says what was read
 table_says : {R X : Type 0} (read : Members → Result R Cause) (g : R → X) (f : Members → Option X) → ((row : Members) (r : R) → read row ≡ Ok r → f row ≡ Some (g r))
@@ -56,7 +45,7 @@ module _ {R X : Type 0} (s : Section) (read : List R → Members → Result R Ca
       → map g (before ++ r ∷ []) ≡ said_by f (above ++ d ∷ [])
   said_more before above d r same h =
       map-append g before (r ∷ []) ∙ ap (λ xs. xs ++ g r ∷ []) same
-      ∙ sym (said_by-append f above (d ∷ []) ∙ ap (λ o. said_by f above ++ put_before o []) (table_says (read before) g f (each before) (as_table d) r h))
+      ∙ sym (said_by-append f above (d ∷ []) ∙ ap (λ o. said_by f above ++ cons_option o []) (table_says (read before) g f (each before) (as_table d) r h))
 
   read_says : (ds : List Data) (before rows : List R) → read_each s read before ds ≡ Ok rows → map g rows ≡ map g before ++ said_by f ds
   read_says [] before rows h = let e : before ≡ rows = cc in subst (λ x. map g x ≡ map g before ++ []) e (sym (append-nil (map g before)))
@@ -70,7 +59,7 @@ module _ {R X : Type 0} (s : Section) (read : List R → Members → Result R Ca
       read_says ds (before ++ p.0 ∷ []) rows p.2
       ∙ ap (λ xs. xs ++ said_by f ds) (map-append g before (p.0 ∷ []))
       ∙ append_assoc (map g before) (g p.0 ∷ []) (said_by f ds)
-      ∙ ap (λ o. map g before ++ put_before o (said_by f ds)) (sym (table_says (read before) g f (each before) (as_table d) p.0 q))
+      ∙ ap (λ o. map g before ++ cons_option o (said_by f ds)) (sym (table_says (read before) g f (each before) (as_table d) p.0 q))
 
   array_says : (limit : ℕ) (file : Members) (rows : List R) → array_of s limit read file ≡ Ok rows → map g rows ≡ said_by f (rows_at s file)
   array_says limit file rows h = at (get_member (name_of_section s) file) h
@@ -106,8 +95,8 @@ module _ {V : Type 0} (known : List Name) (rest : Members → Result V Cause) wh
     named_says : (rows : List (Name × V)) → array_of s limit (named_row known rest) file ≡ Ok rows → names rows ≡ names_at s file
     named_says rows h = array_says s (named_row known rest) (λ row. row.0) row_name (λ before row r e. (named_parts before row r e).0) limit file rows h
 
-    named_array : (checks : Members → List (Option Cause)) → ((row : Members) → fault_of (rest row) ≡ first_of (checks row))
-        → fault_of (array_of s limit (named_row known rest) file) ≡ first_of (named_array_checks s limit known checks file)
+    named_array : (checks : Members → List (Option Cause)) → ((row : Members) → result_err (rest row) ≡ first_of (checks row))
+        → result_err (array_of s limit (named_row known rest) file) ≡ first_of (named_array_checks s limit known checks file)
     named_array checks agrees =
         array_agrees s (named_row known rest) (λ above. named_checks known checks (said_by row_name above))
         (λ before above. (names before ≡ said_by row_name above) × (length before ≡ length above))
@@ -119,12 +108,12 @@ module _ {V : Type 0} (known : List Name) (rest : Members → Result V Cause) wh
         (λ before above fits row. named_agrees known rest checks agrees before (said_by row_name above) fits.0 row)
         (refl, refl) limit file
 
-kernel_agrees : (row : Members) → fault_of (kernel_source row) ≡ first_of (kernel_rest row)
+kernel_agrees : (row : Members) → result_err (kernel_source row) ≡ first_of (kernel_rest row)
 kernel_agrees row = check_after (key (codes "entry") an_entry row) _ _ (λ entry e. check_last (key (codes "text") a_text row) _)
 
 -- ---- regions
 
-regions_agree : (file : Members) → fault_of (regions_of file) ≡ first_of (named_array_checks section.Region MOST_REGIONS region_keys region_rest file ++ sum_check file ∷ [])
+regions_agree : (file : Members) → result_err (regions_of file) ≡ first_of (named_array_checks section.Region MOST_REGIONS region_keys region_rest file ++ sum_check file ∷ [])
 regions_agree file =
     step_after (array_of section.Region MOST_REGIONS (named_row region_keys region_length) file) _ (named_array_checks section.Region MOST_REGIONS region_keys region_rest file) (sum_check file ∷ [])
     (named_array region_keys region_length section.Region MOST_REGIONS file region_rest (λ row. check_alone (region_length row)))
@@ -138,13 +127,13 @@ regions_agree file =
         (λ before row r e. key_says (codes "length") a_length row r.1 (named_parts region_keys region_length before row r e).1) MOST_REGIONS file rows h)
 
     total : (rows : List (Name × ℕ)) → array_of section.Region MOST_REGIONS (named_row region_keys region_length) file ≡ Ok rows
-        → fault_of (unless (nat_le (sum_by (λ region. region.1) rows) MOST_MEMORY_BYTES) (fault_in section.Region 0 TooMany) >>= (λ _. Ok rows)) ≡ first_of (sum_check file ∷ [])
+        → result_err (unless (nat_le (sum_by (λ region. region.1) rows) MOST_MEMORY_BYTES) (fault_in section.Region 0 TooMany) >>= (λ _. Ok rows)) ≡ first_of (sum_check file ∷ [])
     total rows h = rw (sizes rows h) (check_last (unless (nat_le (sum (said_by row_length (rows_at section.Region file))) MOST_MEMORY_BYTES) (fault_in section.Region 0 TooMany)) (λ _. rows))
 
 -- ---- allow rows
 
 allow_agrees : (declared : Declared) (clients : List Name) (objects : Kind → List Name) → declared.clients ≡ clients → ((on : Kind) → names_of declared on ≡ objects on)
-    → (row : Members) → fault_of (allow_row declared row) ≡ first_of (allow_checks clients objects row)
+    → (row : Members) → result_err (allow_row declared row) ≡ first_of (allow_checks clients objects row)
 allow_agrees declared clients objects same_clients same_objects row =
     check_after (only allow_keys row) _ _ (λ u e.
     check_after (key (codes "client") a_choice row) _ _ (λ client c.
@@ -153,7 +142,7 @@ allow_agrees declared clients objects same_clients same_objects row =
     rest client on object (key_says (codes "client") a_choice row client c) (key_says (codes "kind") a_kind row on k) (key_says (codes "object") a_choice row object o)))))
   where
     rest : (client : Option Name) (on : Kind) (object : Option Name) → says (codes "client") a_choice row ≡ Some client → says (codes "kind") a_kind row ≡ Some on → says (codes "object") a_choice row ≡ Some object
-        → fault_of {A = AllowRow} (key (codes "rights") (some_rights on) row >>= (λ rights. or_fault UnknownName (subject_of declared.clients client) >>= (λ subject. or_fault UnknownName (target_of on (names_of declared on) object) >>= (λ target. Ok (record { subject = subject; target = target; rights = rights })))))
+        → result_err {T = AllowRow} (key (codes "rights") (some_rights on) row >>= (λ rights. or_fault UnknownName (subject_of declared.clients client) >>= (λ subject. or_fault UnknownName (target_of on (names_of declared on) object) >>= (λ target. Ok (record { subject = subject; target = target; rights = rights })))))
         ≡ first_of (rights_check (says (codes "kind") a_kind row) row ∷ client_check clients (says (codes "client") a_choice row) ∷ object_check objects (says (codes "kind") a_kind row) (says (codes "object") a_choice row) ∷ [])
     rest client on object c k o =
         rw (c, k, o, ← same_clients, ← same_objects on)
@@ -162,7 +151,7 @@ allow_agrees declared clients objects same_clients same_objects row =
         check_last (or_fault UnknownName (target_of on (names_of declared on) object)) _)))
 
 allows_agree : (declared : Declared) (file : Members) → declared.clients ≡ names_at section.Client file → ((on : Kind) → names_of declared on ≡ names_at (section_of on) file)
-    → fault_of (array_of section.Allow MOST_ALLOW_ROWS (λ _ row. allow_row declared row) file)
+    → result_err (array_of section.Allow MOST_ALLOW_ROWS (λ _ row. allow_row declared row) file)
     ≡ first_of (array_checks section.Allow MOST_ALLOW_ROWS (λ above. allow_checks (names_at section.Client file) (λ on. names_at (section_of on) file)) file)
 allows_agree declared file clients objects =
     array_agrees section.Allow (λ _ row. allow_row declared row) (λ above. allow_checks (names_at section.Client file) (λ on. names_at (section_of on) file))
@@ -174,22 +163,22 @@ allows_agree declared file clients objects =
 
 -- ---- the file
 
-head_agrees : (file : Members) → fault_of (file_head file) ≡ first_of (head_checks file)
+head_agrees : (file : Members) → result_err (file_head file) ≡ first_of (head_checks file)
 head_agrees file =
     check_after (unless (list_all (λ k. list_any (bytes_eq k) file_keys) (keys_in file)) (fault_of_file BadValue)) _ _
     (λ u e. check_alone (unless (is_version (get_member (codes "version") file)) (fault_of_file BadValue)))
 
-last_step : {A B E : Type 0} (r : Result A E) (f : A → B) (xs : List (Option E)) → fault_of r ≡ first_of xs → fault_of (r >>= (λ x. Ok (f x))) ≡ first_of xs
+last_step : {A B E : Type 0} (r : Result A E) (f : A → B) (xs : List (Option E)) → result_err r ≡ first_of xs → result_err (r >>= (λ x. Ok (f x))) ≡ first_of xs
 last_step (Ok x) f xs h = h
 last_step (Err e) f xs h = h
 
-no_rest : (row : Members) → fault_of (nothing row) ≡ first_of (client_rest row)
+no_rest : (row : Members) → result_err (no_more_keys row) ≡ first_of (client_rest row)
 no_rest row = refl
 
-objects_agree : (file : Members) → fault_of (objects_of file) ≡ first_of (object_checks file)
+objects_agree : (file : Members) → result_err (objects_of file) ≡ first_of (object_checks file)
 objects_agree file =
-    step_after (array_of section.Client MOST_CLIENTS (named_row client_keys nothing) file) _ (named_array_checks section.Client MOST_CLIENTS client_keys client_rest file) _
-    (named_array client_keys nothing section.Client MOST_CLIENTS file client_rest no_rest) (λ clients c.
+    step_after (array_of section.Client MOST_CLIENTS (named_row client_keys no_more_keys) file) _ (named_array_checks section.Client MOST_CLIENTS client_keys client_rest file) _
+    (named_array client_keys no_more_keys section.Client MOST_CLIENTS file client_rest no_rest) (λ clients c.
     step_after (array_of section.Agent MOST_AGENTS (named_row agent_keys takes) file) _ (named_array_checks section.Agent MOST_AGENTS agent_keys agent_rest file) _
     (named_array agent_keys takes section.Agent MOST_AGENTS file agent_rest (λ row. check_alone (takes row))) (λ agents a.
     step_after (regions_of file) _ (named_array_checks section.Region MOST_REGIONS region_keys region_rest file ++ sum_check file ∷ []) _ (regions_agree file) (λ regions r.
@@ -205,7 +194,7 @@ module _ (file : Members) (declared : Declared) (h : objects_of file ≡ Ok decl
 
   objects_say : SaysNames declared
   objects_say =
-      let a = then_ok (array_of section.Client MOST_CLIENTS (named_row client_keys nothing) file) _ declared h in
+      let a = then_ok (array_of section.Client MOST_CLIENTS (named_row client_keys no_more_keys) file) _ declared h in
       let b = then_ok (array_of section.Agent MOST_AGENTS (named_row agent_keys takes) file) _ declared a.2 in
       let c = then_ok (regions_of file) _ declared b.2 in
       let d = then_ok (array_of section.Signal MOST_SIGNALS (named_row signal_keys initial_value) file) _ declared c.2 in
@@ -215,7 +204,7 @@ module _ (file : Members) (declared : Declared) (h : objects_of file ≡ Ok decl
       let same : r.0 ≡ c.0 = cc in
       let whole : record { clients = names a.0; agents = b.0; regions = c.0; signals = d.0; kernels = e.0; allows = [] } ≡ declared = cc in
       subst SaysNames whole (
-        named_says client_keys nothing section.Client MOST_CLIENTS file a.0 a.1,
+        named_says client_keys no_more_keys section.Client MOST_CLIENTS file a.0 a.1,
         by_kind b.0 c.0 d.0 e.0 (named_says agent_keys takes section.Agent MOST_AGENTS file b.0 b.1)
             (subst (λ x. names x ≡ names_at section.Region file) same (named_says region_keys region_length section.Region MOST_REGIONS file r.0 r.1))
             (named_says signal_keys initial_value section.Signal MOST_SIGNALS file d.0 d.1) (named_says kernel_keys kernel_source section.Kernel MOST_KERNELS file e.0 e.1) (names a.0),
@@ -231,7 +220,7 @@ module _ (file : Members) (declared : Declared) (h : objects_of file ≡ Ok decl
       by_kind agents regions signals kernels a r s k clients kind.Kernel = k
 
 -- the fault of a file is that of the first of its checks that fails
-pub faults_agree : (file : Members) → fault_of (declared_by file) ≡ first_of (file_checks file)
+pub faults_agree : (file : Members) → result_err (declared_by file) ≡ first_of (file_checks file)
 faults_agree file =
     step_after (file_head file) _ (head_checks file) _ (head_agrees file) (λ u e.
     step_after (objects_of file) _ (object_checks file) _ (objects_agree file) (λ declared d.

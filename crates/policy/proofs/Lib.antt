@@ -1,9 +1,11 @@
 pub mod NameLemmas
 pub mod RightsLemmas
+pub mod PairLemmas
 pub mod ArrayLemmas
 pub mod CoverLemmas
 pub mod ValueLemmas
 pub mod FileLemmas
+pub mod StepLemmas
 pub mod LimitLemmas
 pub mod CheckLemmas
 pub mod FirstFaults

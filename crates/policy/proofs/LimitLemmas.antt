@@ -18,21 +18,14 @@ use Rattle.policy.specs.Policy.{Name, Source, Declared, names, number_in}
 use Rattle.policy.specs.Reading.{◌>>=◌, unless, or_fault, fault_in}
 use Rattle.aql_packet.specs.Memory.{are_region_lengths, is_region_length}
 use Rattle.policy.specs.Limits.{IsWithinLimits}
-use Rattle.policy.specs.Format.{in_row, of_table, is_table, tables_in, rows_in, items_in, read_each, array_of, right_value, key, a_name, a_length, length_of_number, only, named_row, region_keys, region_length, regions_of, allow_row, nothing, takes, initial_value, kernel_source, client_keys, agent_keys, signal_keys, kernel_keys}
+use Rattle.policy.specs.Format.{in_row, of_table, is_table, tables_in, rows_in, items_in, read_each, array_of, right_value, key, a_name, a_length, length_of_number, only, named_row, region_keys, region_length, regions_of, allow_row, no_more_keys, takes, initial_value, kernel_source, client_keys, agent_keys, signal_keys, kernel_keys}
 use Rattle.policy.specs.SectionNames.{name_of_section}
+use Rattle.policy.proofs.StepLemmas.{then_ok, in_row_ok}
 
 -- what two steps give, each of the two gave
-then_ok : {A B E : Type 0} (r : Result A E) (f : A → Result B E) (b : B) → (r >>= f) ≡ Ok b → (a : A) × (r ≡ Ok a) × (f a ≡ Ok b)
-then_ok (Ok x) f b h = (x, refl, h)
-then_ok (Err e) f b h = cc
-
 passed : {E : Type 0} (test : Bool) (e : E) (u : Unit {0}) → unless test e ≡ Ok u → test ≡ true
 passed true e u h = refl
 passed false e u h = cc
-
-in_row_ok : {A : Type 0} (s : Section) (n : ℕ) (r : Result A Cause) (x : A) → in_row s n r ≡ Ok x → r ≡ Ok x
-in_row_ok s n (Ok y) x h = cc
-in_row_ok s n (Err e) x h = cc
 
 of_table_ok : {A : Type 0} (read : Members → Result A Cause) (o : Option Members) (x : A) → of_table read o ≡ Ok x → (row : Members) × (read row ≡ Ok x)
 of_table_ok read None x h = cc
@@ -145,14 +138,14 @@ regions_fit file regions h =
 
 -- what is declared before the allow rows keeps to the limits
 pub objects_within : (file : Members) (clients : List (Name × Unit {0})) (agents : List (Name × Takes)) (regions : List (Name × ℕ)) (signals : List (Name × ℤ)) (kernels : List (Name × Source))
-    → array_of section.Client MOST_CLIENTS (named_row client_keys nothing) file ≡ Ok clients → array_of section.Agent MOST_AGENTS (named_row agent_keys takes) file ≡ Ok agents
+    → array_of section.Client MOST_CLIENTS (named_row client_keys no_more_keys) file ≡ Ok clients → array_of section.Agent MOST_AGENTS (named_row agent_keys takes) file ≡ Ok agents
     → regions_of file ≡ Ok regions → array_of section.Signal MOST_SIGNALS (named_row signal_keys initial_value) file ≡ Ok signals
     → array_of section.Kernel MOST_KERNELS (named_row kernel_keys kernel_source) file ≡ Ok kernels
     → IsWithinLimits (record { clients = names clients; agents = agents; regions = regions; signals = signals; kernels = kernels; allows = [] })
 objects_within file clients agents regions signals kernels c a r s k =
     let fit = regions_fit file regions r in
     record {
-      clients = subst (λ n. n ≤ MOST_CLIENTS) (sym (length-map clients (λ row. row.0))) (few_rows section.Client (named_row client_keys nothing) MOST_CLIENTS file clients c);
+      clients = subst (λ n. n ≤ MOST_CLIENTS) (sym (length-map clients (λ row. row.0))) (few_rows section.Client (named_row client_keys no_more_keys) MOST_CLIENTS file clients c);
       agents = few_rows section.Agent (named_row agent_keys takes) MOST_AGENTS file agents a;
       regions = fit.0;
       memory = fit.1;

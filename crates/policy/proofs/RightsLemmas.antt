@@ -6,7 +6,7 @@ use Rattle.std.proofs.lemmas.Nat.Bits.{and_pow, bit_at_or, bit_at-lt}
 use Rattle.policy.specs.declared.rights.Right.{Right}
 use Rattle.policy.specs.declared.rights.Right.TheVariants.{Use, Read, Write, Wait, Change, Launch}
 use Rattle.policy.specs.declared.rights.Rights.{Rights}
-use Rattle.policy.specs.Rights.{has, rights_that, among}
+use Rattle.policy.specs.Rights.{has, rights_that, by_right}
 
 -- the place of a right's bit
 abbrev pub place_of : Right → ℕ
@@ -78,7 +78,7 @@ in_each p h true = (halves (p true) (p false) h).0
 in_each p h false = (halves (p true) (p false) h).1
 
 abbrev agrees : Right → Bool → Bool → Bool → Bool → Bool → Bool → Bool
-agrees right a b c d e f = same (has (rights_that (among a b c d e f)) right) (among a b c d e f right)
+agrees right a b c d e f = same (has (rights_that (by_right a b c d e f)) right) (by_right a b c d e f right)
 
 abbrev agrees_each : Right → Bool
 agrees_each right = either_way (λ a. either_way (λ b. either_way (λ c. either_way (λ d. either_way (λ e. either_way (λ f. agrees right a b c d e f))))))
@@ -91,9 +91,9 @@ agreed Wait = refl
 agreed Change = refl
 agreed Launch = refl
 
-has-among : (a b c d e f : Bool) (right : Right) → has (rights_that (among a b c d e f)) right ≡ among a b c d e f right
-has-among a b c d e f right =
-    same_is (has (rights_that (among a b c d e f)) right) (among a b c d e f right)
+has-by_right : (a b c d e f : Bool) (right : Right) → has (rights_that (by_right a b c d e f)) right ≡ by_right a b c d e f right
+has-by_right a b c d e f right =
+    same_is (has (rights_that (by_right a b c d e f)) right) (by_right a b c d e f right)
     (in_each (λ f. agrees right a b c d e f)
     (in_each (λ e. either_way (λ f. agrees right a b c d e f))
     (in_each (λ d. either_way (λ e. either_way (λ f. agrees right a b c d e f)))
@@ -101,7 +101,7 @@ has-among a b c d e f right =
     (in_each (λ b. either_way (λ c. either_way (λ d. either_way (λ e. either_way (λ f. agrees right a b c d e f)))))
     (in_each (λ a. either_way (λ b. either_way (λ c. either_way (λ d. either_way (λ e. either_way (λ f. agrees right a b c d e f)))))) (agreed right) a) b) c) d) e) f)
 
-by_six : (test : Right → Bool) (right : Right) → among (test Use) (test Read) (test Write) (test Wait) (test Change) (test Launch) right ≡ test right
+by_six : (test : Right → Bool) (right : Right) → by_right (test Use) (test Read) (test Write) (test Wait) (test Change) (test Launch) right ≡ test right
 by_six test Use = refl
 by_six test Read = refl
 by_six test Write = refl
@@ -112,4 +112,4 @@ by_six test Launch = refl
 -- the set of the rights that pass a test has just these
 pub has-rights_that : (test : Right → Bool) (right : Right) → has (rights_that test) right ≡ test right
 has-rights_that test right =
-    has-among (test Use) (test Read) (test Write) (test Wait) (test Change) (test Launch) right ∙ by_six test right
+    has-by_right (test Use) (test Read) (test Write) (test Wait) (test Change) (test Launch) right ∙ by_six test right

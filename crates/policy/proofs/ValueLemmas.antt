@@ -14,7 +14,7 @@ use Rattle.policy.specs.declared.fault.Section.{Section}
 use Rattle.policy.specs.Reading.{fault_in}
 use Rattle.std.proofs.lemmas.Bool.Decides.{nat_tests}
 use Rattle.std.proofs.lemmas.List.{length-map}
-use Rattle.policy.specs.Rights.{rights_that, among}
+use Rattle.policy.specs.Rights.{rights_that, by_right}
 use Rattle.policy.specs.Format.{keys_in, is_table, tables_in, elements, items_in, is_text, dispatches_in, names_right, rights_in}
 
 pub list_any-map : {X Y : Type 0} (p : X → Bool) (h : Y → X) (ys : List Y) → list_any p (map h ys) ≡ list_any (λ y. p (h y)) ys
@@ -55,7 +55,7 @@ module _ (vs : List Value) where
       → a ≡ list_any (λ v. is_text (codes "USE") (view v)) vs → b ≡ list_any (λ v. is_text (codes "READ") (view v)) vs
       → c ≡ list_any (λ v. is_text (codes "WRITE") (view v)) vs → d ≡ list_any (λ v. is_text (codes "WAIT") (view v)) vs
       → e ≡ list_any (λ v. is_text (codes "CHANGE") (view v)) vs → f ≡ list_any (λ v. is_text (codes "LAUNCH") (view v)) vs
-      → rights ≡ rights_that (among a b c d e f) → Some rights ≡ rights_in on (map view vs)
+      → rights ≡ rights_that (by_right a b c d e f) → Some rights ≡ rights_in on (map view vs)
   rights_seen on rights a b c d e f h ha hb hc hd he hf hr =
       rw (
         list_all-map (names_right on) view vs,

@@ -1,7 +1,8 @@
 -- The checks of a policy file, each by itself, in the order in which their faults are told: the file's keys and its
 -- version, then array by array and row by row; in a row its keys, their values in order, and its names (own).
-use Rattle.std.specs.Prelude.{ℕ, ◌+◌, ◌==◌, nat_le, codes, List, [], ◌∷◌, ◌++◌, length, map, sum, Option, Some, None, option_map, option_and_then, Result, Ok, Err}
-use Rattle.std.specs.List.{list_any, list_all}
+use Rattle.std.specs.Prelude.{ℕ, ◌+◌, ◌==◌, nat_le, codes, List, [], ◌∷◌, ◌++◌, length, map, sum, Option, Some, None, option_map, option_and_then}
+use Rattle.std.specs.List.{list_any, list_all, filter_map}
+use Rattle.std.specs.Result.{result_err}
 use Rattle.std.specs.Str.{bytes_eq}
 use Rattle.toml.specs.Data.{Data, Members, get_member, as_table}
 use Rattle.aql_packet.specs.declared.memory.TheConstants.{MOST_REGIONS}
@@ -24,21 +25,11 @@ first_of [] = None
 first_of (None ∷ later) = first_of later
 first_of (Some fault ∷ later) = Some fault
 
--- the fault of a check
-abbrev pub fault_of : {A E : Type 0} → Result A E → Option E
-fault_of (Ok value) = None
-fault_of (Err fault) = Some fault
-
 -- ---- what rows say of themselves, each by itself
 
 -- what each of some rows says, those left out that don't say it
-abbrev pub put_before : {X : Type 0} → Option X → List X → List X
-put_before None xs = xs
-put_before (Some x) xs = x ∷ xs
-
 abbrev pub said_by : {X : Type 0} → (Members → Option X) → List Data → List X
-said_by says [] = []
-said_by says (d ∷ ds) = put_before (option_and_then says (as_table d)) (said_by says ds)
+said_by says rows = filter_map (λ row. option_and_then says (as_table row)) rows
 
 -- what a row says at a key
 abbrev pub says : {X : Type 0} → Name → (Data → Option X) → Members → Option X
@@ -74,51 +65,51 @@ section_of kind.Kernel = section.Kernel
 -- an earlier row has the name already
 abbrev pub double_name : List Name → Option Name → Option Cause
 double_name above None = None
-double_name above (Some name) = fault_of (unless (number_in above name == 0) DoubleName)
+double_name above (Some name) = result_err (unless (number_in above name == 0) DoubleName)
 
 -- a row with a name of its own, below rows of these names: its keys, its name, the rest of it, and its name again
 abbrev pub named_checks : List Name → (Members → List (Option Cause)) → List Name → Members → List (Option Cause)
 named_checks known rest above row =
-    fault_of (only known row) ∷ fault_of (key (codes "name") a_name row) ∷ rest row ++ double_name above (row_name row) ∷ []
+    result_err (only known row) ∷ result_err (key (codes "name") a_name row) ∷ rest row ++ double_name above (row_name row) ∷ []
 
 abbrev pub client_rest : Members → List (Option Cause)
 client_rest row = []
 
 abbrev pub agent_rest : Members → List (Option Cause)
-agent_rest row = fault_of (takes row) ∷ []
+agent_rest row = result_err (takes row) ∷ []
 
 abbrev pub region_rest : Members → List (Option Cause)
-region_rest row = fault_of (region_length row) ∷ []
+region_rest row = result_err (region_length row) ∷ []
 
 abbrev pub signal_rest : Members → List (Option Cause)
-signal_rest row = fault_of (initial_value row) ∷ []
+signal_rest row = result_err (initial_value row) ∷ []
 
 abbrev pub kernel_rest : Members → List (Option Cause)
-kernel_rest row = fault_of (key (codes "entry") an_entry row) ∷ fault_of (key (codes "text") a_text row) ∷ []
+kernel_rest row = result_err (key (codes "entry") an_entry row) ∷ result_err (key (codes "text") a_text row) ∷ []
 
 -- the rights of an allow row are those of its kind
 abbrev pub rights_check : Option Kind → Members → Option Cause
 rights_check None row = None
-rights_check (Some on) row = fault_of (key (codes "rights") (some_rights on) row)
+rights_check (Some on) row = result_err (key (codes "rights") (some_rights on) row)
 
 -- its client is declared
 abbrev pub client_check : List Name → Option (Option Name) → Option Cause
 client_check clients None = None
-client_check clients (Some client) = fault_of (or_fault UnknownName (subject_of clients client))
+client_check clients (Some client) = result_err (or_fault UnknownName (subject_of clients client))
 
 -- its object is declared, among those of its kind
 abbrev pub object_check : (Kind → List Name) → Option Kind → Option (Option Name) → Option Cause
 object_check objects None object = None
 object_check objects (Some on) None = None
-object_check objects (Some on) (Some object) = fault_of (or_fault UnknownName (target_of on (objects on) object))
+object_check objects (Some on) (Some object) = result_err (or_fault UnknownName (target_of on (objects on) object))
 
 -- an allow row: its keys, each in turn, and then the names
 abbrev pub allow_checks : List Name → (Kind → List Name) → Members → List (Option Cause)
 allow_checks clients objects row =
-    fault_of (only allow_keys row)
-    ∷ fault_of (key (codes "client") a_choice row)
-    ∷ fault_of (key (codes "kind") a_kind row)
-    ∷ fault_of (key (codes "object") a_choice row)
+    result_err (only allow_keys row)
+    ∷ result_err (key (codes "client") a_choice row)
+    ∷ result_err (key (codes "kind") a_kind row)
+    ∷ result_err (key (codes "object") a_choice row)
     ∷ rights_check (says (codes "kind") a_kind row) row
     ∷ client_check clients (says (codes "client") a_choice row)
     ∷ object_check objects (says (codes "kind") a_kind row) (says (codes "object") a_choice row)
@@ -140,8 +131,8 @@ rows_checks at checks above (d ∷ ds) =
 abbrev pub tables_checks : Section → ℕ → (List Data → Members → List (Option Cause)) → Option (List Data) → List (Option PolicyFault)
 tables_checks at limit checks None = Some (fault_in at 0 BadValue) ∷ []
 tables_checks at limit checks (Some ds) =
-    fault_of (unless (list_all is_table ds) (fault_in at 0 BadValue))
-    ∷ fault_of (unless (nat_le (length ds) limit) (fault_in at 0 TooMany))
+    result_err (unless (list_all is_table ds) (fault_in at 0 BadValue))
+    ∷ result_err (unless (nat_le (length ds) limit) (fault_in at 0 TooMany))
     ∷ rows_checks at checks [] ds
 
 -- the same at a key
@@ -158,14 +149,14 @@ named_array_checks at limit known rest = array_checks at limit (λ above. named_
 -- the regions together don't have too many bytes
 abbrev pub sum_check : Members → Option PolicyFault
 sum_check file =
-    fault_of (unless (nat_le (sum (said_by row_length (rows_at section.Region file))) MOST_MEMORY_BYTES) (fault_in section.Region 0 TooMany))
+    result_err (unless (nat_le (sum (said_by row_length (rows_at section.Region file))) MOST_MEMORY_BYTES) (fault_in section.Region 0 TooMany))
 
 -- ---- the file
 
 abbrev pub head_checks : Members → List (Option PolicyFault)
 head_checks file =
-    fault_of (unless (list_all (λ k. list_any (bytes_eq k) file_keys) (keys_in file)) (fault_of_file BadValue))
-    ∷ fault_of (unless (is_version (get_member (codes "version") file)) (fault_of_file BadValue))
+    result_err (unless (list_all (λ k. list_any (bytes_eq k) file_keys) (keys_in file)) (fault_of_file BadValue))
+    ∷ result_err (unless (is_version (get_member (codes "version") file)) (fault_of_file BadValue))
     ∷ []
 
 abbrev pub object_checks : Members → List (Option PolicyFault)

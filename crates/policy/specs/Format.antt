@@ -179,8 +179,8 @@ abbrev pub file_keys : List Name
 file_keys = codes "version" ∷ codes "client" ∷ codes "agent" ∷ codes "region" ∷ codes "signal" ∷ codes "kernel" ∷ codes "allow" ∷ []
 
 -- what a row holds beside its name
-abbrev pub nothing : Members → Result (Unit {0}) Cause
-nothing row = Ok tt
+abbrev pub no_more_keys : Members → Result (Unit {0}) Cause
+no_more_keys row = Ok tt
 
 abbrev pub takes : Members → Result Takes Cause
 takes = key (codes "takes") some_dispatches
@@ -291,7 +291,7 @@ regions_of file = do
 -- the clients and the objects, with no allow rows yet
 abbrev pub objects_of : Members → Result Declared PolicyFault
 objects_of file = do
-  clients ← array_of section.Client MOST_CLIENTS (named_row client_keys nothing) file
+  clients ← array_of section.Client MOST_CLIENTS (named_row client_keys no_more_keys) file
   agents ← array_of section.Agent MOST_AGENTS (named_row agent_keys takes) file
   regions ← regions_of file
   signals ← array_of section.Signal MOST_SIGNALS (named_row signal_keys initial_value) file

@@ -13,4 +13,6 @@ pub mod Limits
 pub mod Inside
 pub mod Format
 pub mod Choice
+pub mod Pairs
+pub mod Listing
 pub mod Checks

@@ -37,10 +37,10 @@ abbrev pub rights_that : (Right → Bool) → Rights
 rights_that test = record { 0 = sum_by (λ right. if test right then bit_of right else 0) all_rights }
 
 -- the right is one of those of which it is said so
-abbrev pub among : (a b c d e f : Bool) → Right → Bool
-among a b c d e f Use = a
-among a b c d e f Read = b
-among a b c d e f Write = c
-among a b c d e f Wait = d
-among a b c d e f Change = e
-among a b c d e f Launch = f
+abbrev pub by_right : (a b c d e f : Bool) → Right → Bool
+by_right a b c d e f Use = a
+by_right a b c d e f Read = b
+by_right a b c d e f Write = c
+by_right a b c d e f Wait = d
+by_right a b c d e f Change = e
+by_right a b c d e f Launch = f

@@ -97,8 +97,8 @@ impl Flags for Rights {
 }
 
 impl Rights {
-    ghost use Rattle.std.specs.Prelude.{◌||◌, ◌&&◌, not};
-    ghost use Rattle.policy.specs.Rights.{has, set_of, each_right, rights_that, among};
+    ghost use Rattle.std.specs.Prelude.{◌||◌};
+    ghost use Rattle.policy.specs.Rights.{has, set_of, each_right, rights_that, by_right};
 
     /// No right.
     pub const NONE: Rights = Rights(0);
@@ -142,7 +142,7 @@ impl Rights {
         change: bool,
         launch: bool,
     ) -> Rights
-        ensures { result ≡ rights_that (among use_agent read write wait change launch) }
+        ensures { result ≡ rights_that (by_right use_agent read write wait change launch) }
     {
         Rights(
             bit(use_agent, Rights::USE)

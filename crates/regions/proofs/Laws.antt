@@ -3,7 +3,8 @@ use Rattle.std.proofs.Common.{◌≡◌, ℕ, zero, suc, ◌+◌, ◌-◌, ◌*�
 use Rattle.std.proofs.lemmas.Bool.{lt-ltb, le-leb, ltb-true, ltb-false, leb-true, and_parts, and_from, cond-true, cases_lt}
 use Rattle.std.proofs.lemmas.List.{length-drop, length-map, length-replicate, length-take-le, get_or-take, get_or-drop, get_or-replicate, get_or_past, get_or_default, same_lists}
 use Rattle.std.proofs.lemmas.Option.{none-some, slice_get-get_or, slice_get_past, slice_get_within, get_or_from_slice_get}
-use Rattle.regions.specs.Memory.{region_of, offset_of, region_bytes, region_length, byte_at, bytes_from, lengths_of, lies_in_region, is_within, covers, zeros, IsWithin, IsMemory, IsWritten}
+use Rattle.aql_packet.specs.Memory.{covers}
+use Rattle.regions.specs.Memory.{region_of, offset_of, region_bytes, region_length, byte_at, bytes_from, lengths_of, lies_in_region, is_within, zeros, IsWithin, IsMemory, IsWritten}
 use Rattle.regions.specs.declared.fault.RegionFault.TheVariants.{NoRegion, PastEnd}
 use Rattle.regions.specs.Faults.{range_fault}
 use Rattle.regions.proofs.Lookups.{region_length-is}

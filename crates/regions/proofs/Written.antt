@@ -5,7 +5,8 @@ use Rattle.std.proofs.lemmas.List.Elements.{All-from_get_or, All-replicate, All-
 use Rattle.std.proofs.lemmas.List.{length-drop, length-set, take_at, get_or-take, get_or-drop, get_or_append_left, get_or-append_right, length-take-le, get_or-set_same, get_or-set_other, get_or_read}
 use Rattle.std.proofs.lemmas.Option.{slice_get-get_or, slice_get_past}
 use Rattle.regions.specs.declared.regions.Place.{Place}
-use Rattle.regions.specs.Memory.{region_of, offset_of, region_bytes, covers, bytes_from, overlaid, lengths_of, IsMemory, IsWritten}
+use Rattle.aql_packet.specs.Memory.{covers}
+use Rattle.regions.specs.Memory.{region_of, offset_of, region_bytes, bytes_from, overlaid, lengths_of, IsMemory, IsWritten}
 use Rattle.regions.specs.Place.{IsPlaceOf, laid_at}
 use Rattle.regions.proofs.Invariant.{length-overlaid, lengths_of-laid_at, IsMemory-laid_at}
 

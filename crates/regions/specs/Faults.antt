@@ -1,4 +1,4 @@
--- When a range of addresses is refused. This project's own.
+-- When a range of addresses is refused, and how that is told. This project's own.
 use Rattle.std.specs.Prelude.{ℕ, List, codes, Option, Some, None, if◌then◌else◌}
 use Rattle.std.specs.Option.{option_or}
 use Rattle.regions.specs.declared.fault.RegionFault.{RegionFault}

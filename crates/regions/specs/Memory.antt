@@ -1,6 +1,7 @@
 -- The byte memory: a list of regions, each the list of its bytes. All of it is this project's own.
 use Rattle.std.specs.Prelude.{◌≡◌, ℕ, ◌+◌, ◌-◌, ◌/◌, ◌%◌, ◌<◌, ◌≤◌, Bool, ◌&&◌, nat_lt, nat_le, if◌then◌else◌, List, [], ◌∷◌, ◌++◌, length, take, drop, map, replicate, slice_get, slice_index, slice_index_or, Option, All}
 use Rattle.aql_packet.specs.declared.memory.TheConstants.{MOST_REGIONS, MOST_REGION_BYTES, REGION_SPAN}
+use Rattle.aql_packet.specs.Memory.{covers}
 
 -- the number of the region in which an address would lie: region h covers addresses from h * REGION_SPAN (own)
 abbrev pub region_of : ℕ → ℕ
@@ -43,10 +44,6 @@ is_within lengths address size =
 pub record IsWithin (regions : List (List ℕ)) (address size : ℕ) : Type 0 where
   pub begins : offset_of address < length (region_bytes regions (region_of address))
   pub ends : offset_of address + size ≤ length (region_bytes regions (region_of address))
-
--- whether an address is one of a range (own)
-abbrev pub covers : ℕ → ℕ → ℕ → Bool
-covers address size x = nat_le address x && nat_lt x (address + size)
 
 -- the new memory is the old one with these bytes from an address on, and every other address as before (own)
 abbrev pub IsWritten : List (List ℕ) → ℕ → List ℕ → List (List ℕ) → Type 0

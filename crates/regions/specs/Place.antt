@@ -1,5 +1,6 @@
 -- Which region has a number, and where a range lies in the list of regions. This project's own.
-use Rattle.std.specs.Prelude.{◌≡◌, ℕ, ◌+◌, ◌-◌, ◌<◌, ◌≤◌, List, [], length, take, drop, slice_index_or, slice_set, slice_get, Option, Some, None, if◌then◌else◌, nat_lt}
+use Rattle.std.specs.Prelude.{◌≡◌, ℕ, ◌+◌, ◌<◌, ◌≤◌, List, [], length, take, drop, slice_index_or, slice_set, Option, Some, None, if◌then◌else◌}
+use Rattle.aql_packet.specs.Ids.{numbered}
 use Rattle.aql_packet.specs.declared.ids.RegionHandle.{RegionHandle}
 use Rattle.regions.specs.declared.regions.Place.{Place}
 use Rattle.regions.specs.Memory.{region_of, offset_of, lies_in_region, overlaid}
@@ -10,7 +11,7 @@ handle_at lengths address = if lies_in_region lengths address then Some (record 
 
 -- the length of the region with this number, counting from 1, or none where there is no such region (own)
 abbrev pub length_of_region : List ℕ → ℕ → Option ℕ
-length_of_region lengths number = if nat_lt 0 number then slice_get lengths (number - 1) else None
+length_of_region lengths number = numbered lengths number
 
 -- as many bytes as this, from a place on, lie in one region of the list (own)
 pub record LiesInside (regions : List (List ℕ)) (place : Place) (size : ℕ) : Type 0 where

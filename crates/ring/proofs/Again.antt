@@ -18,7 +18,8 @@ use Rattle.ring_core.specs.Machine.{read_index, slot_word}
 use Rattle.ring_core.specs.Rule.{IsRule, IsTied, ticket_of}
 use Rattle.ring_core.proofs.Kept.{replays_keep}
 use Rattle.ring.specs.Bytes.{words_of}
-use Rattle.ring.specs.Made.{WasMade, WereMade, knowing, knowing_all, body_read, read, showing}
+use Rattle.ring_core.specs.Runs.{after_own}
+use Rattle.ring.specs.Made.{WasMade, WereMade, knowing_all, body_read, read, showing}
 use Rattle.ring.specs.Showing.{AreBytes}
 use Rattle.ring.proofs.Facts.{processor_at}
 use Rattle.ring.proofs.Loading.{Gathered, gathering, gathered}
@@ -108,7 +109,7 @@ body_again size producers number k v w q pos body e h =
 were_split : (size producers number : ℕ) (part : Part) (xs ys : List Made) → WereMade size producers number part (xs ++ ys) → WereMade size producers number part xs × WereMade size producers number (knowing_all part xs) ys
 were_split size producers number part [] ys h = (tt, h)
 were_split size producers number part (x ∷ xs) ys h =
-    let r = were_split size producers number (knowing part x) xs ys h.1 in
+    let r = were_split size producers number (after_own part x) xs ys h.1 in
     ((h.0, r.0), r.1)
 
 body_at : (size producers number : ℕ) (part : Part) (words : List ℕ) (n j : ℕ) → j < n → WereMade size producers number part (body_read words n) → WasMade size producers number (knowing_all part (body_read words j)) (read (LoadBody (suc j)) (slice_index words (suc j)))

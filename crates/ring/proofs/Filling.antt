@@ -14,17 +14,18 @@ use Rattle.ring_core.specs.Tickets.{held, changed, only_open, open_ticket, is_pu
 use Rattle.ring_core.specs.Parts.{may_make, after_producing, passes}
 use Rattle.ring_core.specs.Machine.{word_place}
 use Rattle.ring_core.proofs.Seats.{held_changed_same, held_changed_other}
-use Rattle.ring.specs.Made.{WereMade, knowing, knowing_all, body_stored, stored}
+use Rattle.ring_core.specs.Runs.{after_own}
+use Rattle.ring.specs.Made.{WereMade, knowing_all, body_stored, stored}
 
 -- ---- steps in turn
 
 pub knowing_append : (part : Part) (xs ys : List Made) → knowing_all part (xs ++ ys) ≡ knowing_all (knowing_all part xs) ys
 knowing_append part [] ys = refl
-knowing_append part (x ∷ xs) ys = knowing_append (knowing part x) xs ys
+knowing_append part (x ∷ xs) ys = knowing_append (after_own part x) xs ys
 
 pub were_append : (size producers number : ℕ) (part : Part) (xs ys : List Made) → WereMade size producers number part xs → WereMade size producers number (knowing_all part xs) ys → WereMade size producers number part (xs ++ ys)
 were_append size producers number part [] ys a b = b
-were_append size producers number part (x ∷ xs) ys a b = (a.0, were_append size producers number (knowing part x) xs ys a.1 b)
+were_append size producers number part (x ∷ xs) ys a b = (a.0, were_append size producers number (after_own part x) xs ys a.1 b)
 
 -- ---- tickets
 
@@ -78,7 +79,7 @@ filling id words p t opens (suc k) =
     let w : ℕ = slice_index words (suc k) in
     record {
       part = after_producing h.part (StoreBody (record { 0 = id }) (suc k) w) 0;
-      is = knowing_append (Producer p) (body_stored id words k) (stored (StoreBody (record { 0 = id }) (suc k) w) ∷ []) ∙ ap (λ u. knowing u (stored (StoreBody (record { 0 = id }) (suc k) w))) h.is;
+      is = knowing_append (Producer p) (body_stored id words k) (stored (StoreBody (record { 0 = id }) (suc k) w) ∷ []) ∙ ap (λ u. after_own u (stored (StoreBody (record { 0 = id }) (suc k) w))) h.is;
       ticket = change_open id (writing (suc k) w) h.part.tickets (filled words t k) h.ticket (body_leaves_header (filled words t k) k w);
       left = h.left;
       others = λ j ne. change_other id j (writing (suc k) w) h.part.tickets ne ∙ h.others j ne;

@@ -22,7 +22,8 @@ use Rattle.ring_core.proofs.States.{replays_push}
 use Rattle.ring.specs.declared.share.Numbered.{Numbered}
 use Rattle.ring.specs.declared.share.Shape.{Shape}
 use Rattle.ring.specs.Shares.{alone, first_share, shape_of, IsKept}
-use Rattle.ring.specs.Made.{WasMade, knowing}
+use Rattle.ring_core.specs.Runs.{after_own}
+use Rattle.ring.specs.Made.{WasMade}
 use Rattle.ring.specs.Steps.{made_of, only_number, IsReady, IsTold, IsLoad, IsStore, IsAdd}
 use Rattle.ring.proofs.Shares.{unite_step, unite_cut, unite_join, unite_first}
 
@@ -91,7 +92,7 @@ same_after (Processor p) ClearHeader n m e f = refl
 same_after part RaiseReadIndex n m e f = absurd (cc)
 
 -- what a seat knows after a step is told by what it read
-as_known : (part : Part) (access : Access) (n : ℕ) → knowing part (made_of access n) ≡ part_after part access n
+as_known : (part : Part) (access : Access) (n : ℕ) → after_own part (made_of access n) ≡ part_after part access n
 as_known part Reserve n = refl
 as_known part (LoadReadIndex ticket) n = refl
 as_known part (StoreBody ticket place word) n = same_after part (StoreBody ticket place word) 0 n refl refl

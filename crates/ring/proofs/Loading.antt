@@ -16,7 +16,8 @@ use Rattle.ring_core.proofs.Kept.{replays_keep}
 use Rattle.ring.specs.declared.share.Numbered.{Numbered}
 use Rattle.ring.specs.Shares.{alone}
 use Rattle.ring.specs.Passes.{RingSeen, only_part}
-use Rattle.ring.specs.Made.{WasMade, knowing, knowing_all, body_read, read}
+use Rattle.ring_core.specs.Runs.{after_own}
+use Rattle.ring.specs.Made.{WasMade, knowing_all, body_read, read}
 use Rattle.ring.specs.Steps.{only_number, IsReady, HasGained}
 use Rattle.ring.specs.Showing.{IsLoadable}
 use Rattle.ring.proofs.Facts.{processor_at}
@@ -53,7 +54,7 @@ gathering words q (suc k) =
     let w : ℕ = slice_index words (suc k) in
     record {
       part = after_processing h.part (LoadBody (suc k)) w;
-      is = knowing_append (Processor q) (body_read words k) (read (LoadBody (suc k)) w ∷ []) ∙ ap (λ u. knowing u (read (LoadBody (suc k)) w)) h.is;
+      is = knowing_append (Processor q) (body_read words k) (read (LoadBody (suc k)) w ∷ []) ∙ ap (λ u. after_own u (read (LoadBody (suc k)) w)) h.is;
       collected = ap (λ (c : List (Option ℕ)). set c (suc k) (Some w)) h.collected;
       retired = h.retired;
       raising = h.raising;

@@ -20,7 +20,8 @@ use Rattle.ring_core.proofs.Kept.{replays_keep}
 use Rattle.ring.specs.declared.share.Numbered.{Numbered}
 use Rattle.ring.specs.Shares.{alone}
 use Rattle.ring.specs.Passes.{RingSeen, only_part, as_producer, IsProducerPass}
-use Rattle.ring.specs.Made.{WasMade, WereMade, Gained, knowing, knowing_all, read, stored, body_stored, packet_stored, publication}
+use Rattle.ring_core.specs.Runs.{after_own}
+use Rattle.ring.specs.Made.{WasMade, WereMade, Gained, knowing_all, read, stored, body_stored, packet_stored, publication}
 use Rattle.ring.specs.Steps.{only_number, IsReady, HasGained}
 use Rattle.ring.specs.Publishing.{IsFillable}
 use Rattle.ring.proofs.Filling.{open_held, some_ticket, change_open, change_other, knowing_append, Filled, filling}
@@ -160,7 +161,7 @@ module _ (size producers number allowance id seen : ℕ) (me me1 : ME) (pos : 0 
     known2 : knowing_all (Producer part1) (packet_stored id words) ≡ Producer part2
     known2 =
         knowing_append (Producer part1) (body_stored id words 7) (stored (StoreHeader (record { 0 = id }) (slice_index words 0)) ∷ [])
-        ∙ ap (λ u. knowing u (stored (StoreHeader (record { 0 = id }) (slice_index words 0)))) body.is
+        ∙ ap (λ u. after_own u (stored (StoreHeader (record { 0 = id }) (slice_index words 0)))) body.is
 
     pub published : ProducerSteps size producers number part0 (publication id seen words) part2 me2
     published =

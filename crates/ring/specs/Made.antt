@@ -3,11 +3,10 @@ use Rattle.std.specs.Prelude.{◌≡◌, ℕ, zero, suc, List, [], ◌∷◌, �
 use Rattle.ring_core.specs.declared.access.Access.{Access}
 use Rattle.ring_core.specs.declared.access.Access.TheVariants.{LoadReadIndex, StoreBody, StoreHeader, LoadHeader, LoadBody, ClearHeader, RaiseReadIndex}
 use Rattle.ring_core.specs.declared.access.Step.{Step}
-use Rattle.ring_core.specs.declared.access.Seen.{Seen}
 use Rattle.ring_core.specs.declared.access.Seen.TheVariants.{Read, Stored}
 use Rattle.ring_core.specs.declared.access.Made.{Made}
 use Rattle.ring_core.specs.declared.part.Part.{Part}
-use Rattle.ring_core.specs.Parts.{part_after}
+use Rattle.ring_core.specs.Runs.{after_own}
 use Rattle.ring_core.specs.Machine.{Machine, Makes, Replays, part_at}
 
 -- an access that read a word, and one that stored
@@ -16,11 +15,6 @@ read access word = record { access = access; seen = Read word }
 
 abbrev pub stored : Access → Made
 stored access = record { access = access; seen = Stored }
-
--- the word that an access read; a store reads none
-abbrev pub word_of : Seen → ℕ
-word_of (Read word) = word
-word_of Stored = 0
 
 -- a seat that knew a part made this step: in a machine to which some list of steps leads from the
 -- opening, and in which the seat had that part, the step is allowed, tells this, and leads on
@@ -32,20 +26,16 @@ pub record WasMade (size producers number : ℕ) (part : Part) (made : Made) : T
   pub had : part_at machine number ≡ part
   pub makes : Makes machine (record { seat = number; access = made.access }) made.seen next
 
--- what a seat knows after a step that it made
-abbrev pub knowing : Part → Made → Part
-knowing part made = part_after part made.access (word_of made.seen)
-
--- what it knows after several, in turn
+-- what a seat knows after several steps that it made, in turn
 abbrev pub knowing_all : Part → List Made → Part
 knowing_all part [] = part
-knowing_all part (made ∷ rest) = knowing_all (knowing part made) rest
+knowing_all part (made ∷ rest) = knowing_all (after_own part made) rest
 
 -- it made them, in turn
 abbrev pub WereMade : ℕ → ℕ → ℕ → Part → List Made → Type 0
 WereMade size producers number part [] = ⊤
 WereMade size producers number part (made ∷ rest) =
-    WasMade size producers number part made × WereMade size producers number (knowing part made) rest
+    WasMade size producers number part made × WereMade size producers number (after_own part made) rest
 
 -- a seat gained just these steps, in turn
 abbrev pub Gained : ℕ → ℕ → ℕ → Part → List Made → Part → Type 0

@@ -1,4 +1,4 @@
--- A ring as it opens (own).
+-- Why a ring isn't opened (own).
 use Rattle.std.specs.Prelude.{◌≡◌, ℕ, true, false}
 use Rattle.aql_packet.specs.Ring.{is_ring_size}
 use Rattle.ring_core.specs.Machine.{is_producer_count}

@@ -1,5 +1,5 @@
 -- What a contract sees of a ring and of its passes (own).
-use Rattle.std.specs.Prelude.{◌≡◌, ℕ, List, [], ◌∷◌, map, length, Option, Some, None, Bool, true, false, ⊤}
+use Rattle.std.specs.Prelude.{◌≡◌, ℕ, List, [], ◌∷◌, map, length, Option, Some, None, true, false, ⊤}
 use Rattle.atomic_table.specs.Seated.{TableId}
 use Rattle.ring_core.specs.declared.part.Part.{Part}
 use Rattle.ring_core.specs.declared.part.Part.TheVariants.{Producer, Processor}
@@ -52,11 +52,6 @@ as_processor (Producer part) = record { retired = []; collected = no_words; rais
 abbrev pub only_part : List Numbered → Part
 only_part [] = nobody
 only_part (entry ∷ rest) = entry.part
-
--- a packet's words, if they are kept
-abbrev pub packet_if : Bool → List ℕ → Option (List ℕ)
-packet_if true words = Some words
-packet_if false words = None
 
 -- the words collected of a packet that was shown, or of none
 abbrev pub collected_of : Option (List ℕ) → List (Option ℕ)

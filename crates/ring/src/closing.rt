@@ -1,9 +1,8 @@
 //! The end of a ring: once its passes have come back, what its words are.
 
-ghost use Rattle.std.specs.Prelude.{◌≡◌, ◌↔◌, ◌+◌, ◌*◌, ◌<◌, ℕ, [], ◌++◌, IfOk, IfErr, All, true, false, length, map, ◌∷◌};
+ghost use Rattle.std.specs.Prelude.{◌≡◌, ◌↔◌, ◌+◌, ◌*◌, ◌<◌, [], ◌++◌, IfOk, IfErr, All, true, false, length, map, ◌∷◌};
 ghost use Rattle.ring.specs.Settling.{has_pass, has_passes, IsSettled, IsClosed, share_of};
 ghost use Rattle.ring.specs.declared.closing.SettleFault.{SettleFault};
-ghost use Rattle.ring.specs.Shares.{alone};
 
 use crate::processor::ProcessorPass;
 use crate::producer::ProducerPass;

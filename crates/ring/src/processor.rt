@@ -1,6 +1,6 @@
 //! The processor's pass: it is shown packets, in the order of their ids, and retires them.
 
-ghost use Rattle.std.specs.Prelude.{◌≡◌, ◌↔◌, ℕ, ◌+◌, [], ◌∷◌, IsTrue, length, true};
+ghost use Rattle.std.specs.Prelude.{◌≡◌, ◌↔◌, ◌+◌, IsTrue, length, true};
 ghost use Rattle.aql_packet.specs.Ring.{is_ring_size};
 ghost use Rattle.ring.specs.Bytes.{words_of};
 ghost use Rattle.ring.specs.Made.{retiring};
@@ -42,13 +42,14 @@ pub struct ProcessorPass {
 }
 
 impl Model for ProcessorPass {
-    ghost use Rattle.ring.specs.Passes.{ProcessorSeen, IsProcessorPass, as_processor, only_part, packet_if};
+    ghost use Rattle.std.specs.Bool.{then_some};
+    ghost use Rattle.ring.specs.Passes.{ProcessorSeen, IsProcessorPass, as_processor, only_part};
 
     ghost Value = { ProcessorSeen };
 
     ghost view = { λ p. record { table = p.seat.table_id; part = as_processor (only_part p.seat.me.0) } };
 
-    ghost invariant = { λ p. IsProcessorPass p.next (packet_if p.whole p.packet) p.seat.me };
+    ghost invariant = { λ p. IsProcessorPass p.next (then_some p.whole p.packet) p.seat.me };
 }
 
 impl Ring {

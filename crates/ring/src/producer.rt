@@ -1,6 +1,6 @@
 //! A producer's pass: it reserves ids and publishes packets under them.
 
-ghost use Rattle.std.specs.Prelude.{◌≡◌, ◌≢◌, ℕ, ◌+◌, [], ◌∷◌, ◌++◌, IfOk, IfErr, false, nat_lt, get_or};
+ghost use Rattle.std.specs.Prelude.{◌≡◌, ◌≢◌, ℕ, ◌+◌, [], ◌∷◌, IfOk, IfErr, false, nat_lt, get_or};
 ghost use Rattle.ring_core.specs.declared.access.Access.{Access};
 ghost use Rattle.ring_core.specs.Words.{is_invalid};
 ghost use Rattle.ring_core.specs.Machine.{word_place};

@@ -1,6 +1,6 @@
 //! The ring: its words, and how its passes are cut from one seat.
 
-ghost use Rattle.std.specs.Prelude.{◌≡◌, ◌≤◌, ℕ, [], IfOk, IfErr, true, take, drop, replicate, All};
+ghost use Rattle.std.specs.Prelude.{◌≡◌, [], IfOk, IfErr, true, take, drop, replicate, All};
 ghost use Rattle.aql_packet.specs.Ring.{is_ring_size};
 ghost use Rattle.ring_core.specs.Parts.{new_producer};
 ghost use Rattle.ring.specs.Dealt.{dealt, new_processor_pass};

@@ -1,8 +1,7 @@
 //! What the seats of a ring know, and how it is cut and united. No value of these types is made but
 //! `Shape`: they serve the proofs.
 
-ghost use Rattle.std.specs.Prelude.{◌≡◌, ℕ, [], ◌++◌, take, drop};
-ghost use Rattle.atomic_table.specs.Table.{State, Me};
+ghost use Rattle.std.specs.Prelude.{ℕ, [], ◌++◌, take, drop};
 ghost use Rattle.ring_core.specs.declared.access.Access.{Access};
 ghost use Rattle.ring.specs.Shares.{IsKept, first_share};
 ghost use Rattle.ring.specs.Steps.{IsTold};

@@ -2,7 +2,7 @@
 
 ghost use Rattle.std.specs.Prelude.{◌≡◌, None, length, slice_set, Some, is_some, if◌then◌else◌};
 ghost use Rattle.std.specs.List.{list_all};
-ghost use Rattle.ring_core.specs.Words.{no_words, is_body, has_body, packet_of, is_invalid};
+ghost use Rattle.ring_core.specs.Words.{is_body, has_body, packet_of, is_invalid};
 ghost use Rattle.ring_core.specs.Tickets.{blank, is_published, shows_room};
 
 use aql_packet::{INVALID, PacketId, header_of};

@@ -6,7 +6,7 @@ use Rattle.script.specs.declared.answers.Answers.{Answers}
 use Rattle.script.specs.declared.fault.ScriptFault.{ScriptFault}
 use Rattle.script.specs.declared.fault.ScriptFault.TheVariants.{OutOfMemory, BadLine, Read, Write}
 use Rattle.script.specs.declared.session.Session.{Session}
-use Rattle.script.specs.Words.{kept}
+use Rattle.script.specs.Words.{nonempty_before}
 use Rattle.script.specs.Answers.{AppendsBeginning, IsCaused, NoneFailed, ReadsBlock, read_more}
 use Rattle.script.specs.Runs.{Law, Runs, ServedAtMostOne, lines_from, lines_of}
 use Rattle.script.specs.Sessions.{Took, Failed, Ended, Why, begun, pending, with_further, at_end}
@@ -226,7 +226,7 @@ pub outcome_end : {S : Type 0} (law : Law S) (old mid new : S) (held holds hande
     Ended law mid new before after → Appends holds handed (pending after) → RunsScript law old new held handed had further (Ok done)
 outcome_end law old mid new held holds handed had left further before after done so k at empty ended given =
     let out : pending after ≡ ended.text = ended.out ∙ ap (λ front. front ++ ended.text) empty in
-    let all : lines_of ((so.read ++ []) ++ rest_of further) ≡ so.done ++ kept (begun before) [] =
+    let all : lines_of ((so.read ++ []) ++ rest_of further) ≡ so.done ++ nonempty_before (begun before) [] =
     lines_behind law old mid held holds had left before [] (rest_of further) so ∙ ap (λ lines. so.done ++ lines) (at_end_lines before further at) in (
       (so.read ++ []) ++ rest_of further,
       tells_script had further (so.read ++ []) (consumes_more had left further so.read [] so.taken k),
@@ -235,7 +235,7 @@ outcome_end law old mid new held holds handed had left further before after done
         (
           so.text ++ ended.text,
           subst (λ lines. Runs law old lines (so.text ++ ended.text) new) (sym all)
-              (runs_append law old mid new so.done (kept (begun before) []) so.text ended.text so.runs ended.runs),
+              (runs_append law old mid new so.done (nonempty_before (begun before) []) so.text ended.text so.runs ended.runs),
           appends_more held holds handed so.text ended.text so.handed (subst (λ text. Appends holds handed text) out given),
         ),
       ),
@@ -253,8 +253,8 @@ pub written_end : {S : Type 0} (law : Law S) (old mid new : S) (held holds hande
     MatchResult ended (λ _. Ended law mid new before after) (Failed law mid new before after (at_end before)) →
     AppendsBeginning holds handed (pending after) → RunsScript law old new held handed had further (Err Write)
 written_end law old mid new held holds handed had left further before after (Ok done) so k at empty ended given =
-    written law old mid new held holds handed had left further before after [] (at_end before) so k empty (at_end_lines before further at) (kept (begun before) []) ended.text new ended.runs ended.out
-    ([], sym (append-nil (kept (begun before) [])), inl refl) given
+    written law old mid new held holds handed had left further before after [] (at_end before) so k empty (at_end_lines before further at) (nonempty_before (begun before) []) ended.text new ended.runs ended.out
+    ([], sym (append-nil (nonempty_before (begun before) [])), inl refl) given
 written_end law old mid new held holds handed had left further before after (Err fault) so k at empty failed given =
     written_failed law old mid new held holds handed had left further before after [] (at_end before) so k empty (at_end_lines before further at) fault failed given
 

@@ -1,12 +1,12 @@
 -- Lines give their text back, and numbers are the sums of their digits.
-use Rattle.std.proofs.Common.{◌≡◌, ℕ, zero, suc, ◌+◌, ◌*◌, ◌^◌, Bool, true, false, cond, not, List, [], ◌∷◌, ◌++◌, length, map, flat_map, Option, Some, None, refl, sym, ap, ◌∙◌, subst, inl, inr, ◌⊎◌, eqb, append_assoc, append-nil, arith}
+use Rattle.std.proofs.Common.{◌≡◌, ℕ, suc, ◌+◌, ◌*◌, ◌^◌, Bool, true, false, cond, not, List, [], ◌∷◌, ◌++◌, length, Option, Some, None, refl, sym, ap, ◌∙◌, inl, inr, ◌⊎◌, eqb, append_assoc, append-nil, arith}
 use Rattle.std.proofs.lemmas.List.{length-map}
 use Rattle.std.specs.Prelude.{◌==◌, ◌&&◌, nat_lt, option_and_then, unwrap_or, if◌then◌else◌}
 use Rattle.std.specs.List.{list_all}
 use Rattle.std.proofs.lemmas.Bool.Decides.{nat_tests, eqb_tells}
 use Rattle.std.proofs.lemmas.List.Folds.{list_all-append}
 use Rattle.std.proofs.Math.Nat.{add-mul, mul_assoc, mul-one, pow-succ', pow-zero}
-use Rattle.script.specs.Words.{kept, digit_of, with_digit, number_from, decimal_word, address_word}
+use Rattle.script.specs.Words.{nonempty_before, digit_of, with_digit, number_from, decimal_word, address_word}
 use Rattle.script.specs.Runs.{lines_from, lines_of}
 use Rattle.script.specs.Splitting.{ends_line, ended, joined, is_line, digits_of, sum_of_digits}
 use Rattle.script.proofs.Running.{lines_end, lines_feed, lines_byte}
@@ -19,7 +19,7 @@ lacks [] [] = []
 lacks (first ∷ line) [] = 10 ∷ []
 lacks line (byte ∷ bytes) = if byte == 10 then lacks [] bytes else lacks (line ++ byte ∷ []) bytes
 
-joined_kept : (line : List ℕ) → joined (kept line []) ≡ (line ++ []) ++ lacks line []
+joined_kept : (line : List ℕ) → joined (nonempty_before line []) ≡ (line ++ []) ++ lacks line []
 unfolding lacks
 joined_kept [] = refl
 joined_kept (first ∷ line) = append-nil ((first ∷ line) ++ 10 ∷ []) ∙ ap (λ front. front ++ 10 ∷ []) (sym (append-nil (first ∷ line)))
@@ -75,7 +75,7 @@ is_line_more line byte h other =
     let e : (byte == 10) ≡ false = grind (arith, nat_tests) in
     list_all-append (λ b. not (b == 10)) line (byte ∷ []) ∙ rw (h, e) refl
 
-kept_lines : (line : List ℕ) → is_line line ≡ true → list_all is_line (kept line []) ≡ true
+kept_lines : (line : List ℕ) → is_line line ≡ true → list_all is_line (nonempty_before line []) ≡ true
 kept_lines [] h = refl
 kept_lines (first ∷ line) h = rw h refl
 

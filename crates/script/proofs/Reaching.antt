@@ -1,5 +1,5 @@
 -- What a line does is a list of requests.
-use Rattle.std.proofs.Common.{◌≡◌, ℕ, zero, suc, ◌+◌, Bool, true, false, List, [], ◌∷◌, ◌++◌, drop, replicate, slice_index, slice_set, Option, Some, None, Result, Ok, Err, refl, sym, subst}
+use Rattle.std.proofs.Common.{◌≡◌, ℕ, zero, suc, ◌+◌, Bool, true, false, List, [], ◌∷◌, ◌++◌, drop, replicate, slice_index, slice_set, Option, Some, None, Result, Ok, Err, refl, subst}
 use Rattle.aql_packet.specs.declared.ids.PacketId.{PacketId}
 use Rattle.aql_packet.specs.declared.ids.QueueId.{QueueId}
 use Rattle.ring_core.specs.declared.access.Access.{Access}
@@ -10,7 +10,7 @@ use Rattle.world.specs.declared.reply.Answer.{Answer}
 use Rattle.world.specs.declared.reply.Refusal.{Refusal}
 use Rattle.world.specs.declared.request.Request.{Request}
 use Rattle.world.specs.declared.request.Request.TheVariants as request
-use Rattle.world.specs.Dues.{AreReplies, IsServed, Reply}
+use Rattle.world.specs.Dues.{AreReplies, Reply}
 use Rattle.world.specs.States.{Joined, slots_of}
 use Rattle.script.specs.declared.command.Command.{Command}
 use Rattle.script.specs.declared.command.Command.TheVariants as command
@@ -23,7 +23,7 @@ use Rattle.script.specs.declared.lines.Line.TheVariants as lines
 use Rattle.script.specs.Actions.{Action, and_then, asks, goes_on, if_else, makes, number_read, packet_read, reads, returns, step}
 use Rattle.script.specs.Expansions.{ask, collects, does, form_of, leaves_ring, peek, peek_line, publish, publish_room, publish_where, retire, retire_decided, retire_line, serve, serve_shown, shown_as, shown_or_empty, shows, stores, stores_body, submit}
 use Rattle.script.specs.Lines.{line_of}
-use Rattle.script.specs.Runs.{Reaches, Replied, RepliedAs, Runs, worlds}
+use Rattle.script.specs.Runs.{Reaches, RepliedAs, Runs, worlds}
 
 -- ---- requests behind one another
 

@@ -7,13 +7,13 @@ use Rattle.script.specs.declared.fault.ScriptFault.{ScriptFault}
 use Rattle.script.specs.declared.fault.ScriptFault.TheVariants.{OutOfMemory, BadLine, Read, Write}
 use Rattle.script.specs.declared.session.Session.{Session}
 use Rattle.policy.specs.Policy.{Declared}
-use Rattle.script.specs.Words.{kept}
+use Rattle.script.specs.Words.{nonempty_before}
 use Rattle.script.specs.Lines.{line_of}
 use Rattle.script.specs.Runs.{Law, Runs, Replied, lines_from}
 use Rattle.script.specs.Sessions.{Took, Failed, EndedLine, FailedLine, WhyLine, Why, begun, pending, with_further}
 use Rattle.script.proofs.Splitting.{left_at}
 
-pub lines_end : (line : List ℕ) → lines_from line [] ≡ kept line []
+pub lines_end : (line : List ℕ) → lines_from line [] ≡ nonempty_before line []
 unfolding lines_from
 lines_end line = refl
 

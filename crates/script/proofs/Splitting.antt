@@ -2,13 +2,13 @@
 use Rattle.std.proofs.Common.{◌≡◌, ℕ, zero, suc, ◌+◌, ◌<◌, ◌≤◌, true, false, List, [], ◌∷◌, ◌++◌, length, get_or, take, drop, refl, sym, ap, ◌∙◌, add-one, arith}
 use Rattle.std.proofs.lemmas.List.{take_more, take_all, drop_all, length-take-le}
 use Rattle.std.proofs.Math.Seq.{drop-cons}
-use Rattle.script.specs.Words.{Word, is_blank, kept, words, words_from}
+use Rattle.script.specs.Words.{Word, is_blank, nonempty_before, words, words_from}
 
-pub words_from_end : (word : Word) → words_from word [] ≡ kept word []
+pub words_from_end : (word : Word) → words_from word [] ≡ nonempty_before word []
 unfolding words_from
 words_from_end word = refl
 
-pub words_from_blank : (word : Word) (byte : ℕ) (bytes : List ℕ) → is_blank byte ≡ true → words_from word (byte ∷ bytes) ≡ kept word (words bytes)
+pub words_from_blank : (word : Word) (byte : ℕ) (bytes : List ℕ) → is_blank byte ≡ true → words_from word (byte ∷ bytes) ≡ nonempty_before word (words bytes)
 unfolding words_from
 words_from_blank word byte bytes h = rw h refl
 
@@ -29,7 +29,7 @@ words_more text i h other =
     rw (take_more text i 0 h, left_at text i h) (sym (words_from_other (take i text) (get_or text i 0) (drop (i + 1) text) other))
 
 -- a word that has a byte is kept
-pub kept_begun : (word : Word) (further : List Word) → 0 < length word → kept word further ≡ word ∷ further
+pub kept_begun : (word : Word) (further : List Word) → 0 < length word → nonempty_before word further ≡ word ∷ further
 kept_begun [] further h = absurd (omega arith)
 kept_begun (byte ∷ word) further h = refl
 
@@ -41,7 +41,7 @@ pub word_found : (text : List ℕ) (i : ℕ) → i < length text → is_blank (g
 word_found text zero h blank begins = absurd (differs (sym begins ∙ blank))
 word_found text (suc i) h blank begins =
     let begun : 0 < length (take (suc i) text) = rw (length-take-le (suc i) text (omega arith)) (omega arith) in
-    let here : words_from (take (suc i) text) (drop (suc i) text) ≡ kept (take (suc i) text) (words (drop (suc i + 1) text)) =
+    let here : words_from (take (suc i) text) (drop (suc i) text) ≡ nonempty_before (take (suc i) text) (words (drop (suc i + 1) text)) =
     ap (λ bytes. words_from (take (suc i) text) bytes) (left_at text (suc i) h) ∙ words_from_blank (take (suc i) text) (get_or text (suc i) 0) (drop (suc i + 1) text) blank in
     here ∙ kept_begun (take (suc i) text) (words (drop (suc i + 1) text)) begun ∙ ap (λ further. take (suc i) text ∷ further) (words_skipped text (suc i) h blank)
 

@@ -1,5 +1,6 @@
 -- Lines and the requests that they stand for, row by row (own).
 use Rattle.std.specs.Prelude.{ℕ, Bool, false, ◌==◌, nat_lt, ℤ, List, [], ◌∷◌, length, codes, Option, Some, None, option_map, option_and_then, bytes_eq, if◌then◌else◌}
+use Rattle.std.specs.Option.{option_or}
 use Rattle.aql_packet.specs.declared.ids.ClientId.{ClientId}
 use Rattle.aql_packet.specs.declared.ids.QueueId.{QueueId}
 use Rattle.aql_packet.specs.declared.ids.PacketId.{PacketId}
@@ -8,8 +9,9 @@ use Rattle.aql_packet.specs.declared.ids.SignalHandle.{SignalHandle}
 use Rattle.policy.specs.declared.object.Kind.{Kind}
 use Rattle.policy.specs.declared.object.Kind.TheVariants as kind
 use Rattle.policy.specs.declared.object.Object.{Object}
-use Rattle.policy.specs.declared.object.Object.TheVariants as object
 use Rattle.policy.specs.declared.rights.Rights.{Rights}
+use Rattle.policy.specs.Format.{kind_named}
+use Rattle.policy.specs.Object.{object_of}
 use Rattle.policy.specs.Policy.{Declared, number_in, names_of}
 use Rattle.signals.specs.declared.operation.SignalOp.{SignalOp}
 use Rattle.signals.specs.declared.operation.SignalOp.TheVariants as op
@@ -27,7 +29,7 @@ use Rattle.script.specs.declared.lines.Line.TheVariants as line
 use Rattle.script.specs.declared.verbs.Verb.{Verb}
 use Rattle.script.specs.declared.verbs.Verb.TheVariants as verb
 use Rattle.script.specs.Actions.{step}
-use Rattle.script.specs.Words.{Word, words, no_words, one_word, two_words, three_words, four_words, five_words, decimal_word, signed_word, address_word, bytes_word, eight_bytes, packet_word, rights_word, kind_word, condition_word}
+use Rattle.script.specs.Words.{Word, words, no_words, one_word, two_words, three_words, four_words, five_words, decimal_word, signed_word, address_word, bytes_word, eight_bytes, packet_word, rights_word, condition_word}
 
 -- the client of a name; a name that isn't there is number 0
 abbrev pub client_in : Declared → Word → ClientId
@@ -35,10 +37,7 @@ client_in policy name = record { 0 = number_in policy.clients name }
 
 -- the object of a kind and a name; a name that isn't there is number 0
 abbrev pub object_in : Declared → Kind → Word → Object
-object_in policy kind.Agent name = object.Agent (record { 0 = number_in (names_of policy kind.Agent) name })
-object_in policy kind.Region name = object.Region (record { 0 = number_in (names_of policy kind.Region) name })
-object_in policy kind.Signal name = object.Signal (record { 0 = number_in (names_of policy kind.Signal) name })
-object_in policy kind.Kernel name = object.Kernel (record { 0 = number_in (names_of policy kind.Kernel) name })
+object_in policy kind name = object_of kind (number_in (names_of policy kind) name)
 
 -- the agent of a name, and the signal of a name
 abbrev pub agent_in : Declared → Word → AgentHandle
@@ -63,7 +62,7 @@ processes access queue = command.Ask (step queue 0 access)
 -- `C KIND NAME R,R`
 abbrev pub rights_on : Declared → List Word → Option (ClientId × Object × Rights)
 rights_on policy words = option_and_then (λ w. option_and_then (λ kind. option_map (λ rights.
-    (client_in policy w.0, object_in policy kind w.2, rights)) (rights_word w.3)) (kind_word w.1)) (four_words words)
+    (client_in policy w.0, object_in policy kind w.2, rights)) (rights_word w.3)) (kind_named w.1)) (four_words words)
 
 -- `grant C KIND NAME R,R`
 abbrev pub grant_row : Declared → List Word → Option Command
@@ -153,14 +152,9 @@ abbrev pub cas_operation : Declared → List Word → Option Command
 cas_operation policy words = option_and_then (λ w. if bytes_eq w.2 (codes "cas") then option_and_then (λ expected. option_map (λ value.
     calls (call.ChangeSignal (client_in policy w.0) (signal_in policy w.1) (op.Cas expected value))) (signed_word w.4)) (signed_word w.3) else None) (five_words words)
 
--- the first of two answers, if there is one
-abbrev pub either_of : {X : Type 0} → Option X → Option X → Option X
-either_of None second = second
-either_of (Some first) second = Some first
-
 -- `signal C NAME OP V`, `signal C NAME cas V V`
 abbrev pub signal_row : Declared → List Word → Option Command
-signal_row policy words = either_of (plain_operation policy words) (cas_operation policy words)
+signal_row policy words = option_or (plain_operation policy words) (cas_operation policy words)
 
 -- `load C NAME`
 abbrev pub load_row : Declared → List Word → Option Command

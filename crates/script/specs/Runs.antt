@@ -9,14 +9,14 @@ use Rattle.script.specs.declared.command.Command.{Command}
 use Rattle.script.specs.declared.command.LineAnswer.{LineAnswer}
 use Rattle.script.specs.declared.lines.Line.{Line}
 use Rattle.script.specs.declared.lines.Line.TheVariants as line
-use Rattle.script.specs.Words.{kept}
+use Rattle.script.specs.Words.{nonempty_before}
 use Rattle.script.specs.Lines.{line_of}
 use Rattle.script.specs.Replies.{text_of_line}
 use Rattle.script.specs.Expansions.{does}
 
 -- lines of bytes that come behind the begin of a line: a line ends at a line feed, or at the end if it has a byte
 unfoldable pub lines_from : List ℕ → List ℕ → List (List ℕ)
-lines_from line [] = kept line []
+lines_from line [] = nonempty_before line []
 lines_from line (byte ∷ bytes) = if byte == 10 then line ∷ lines_from [] bytes else lines_from (line ++ byte ∷ []) bytes
 
 -- the lines of a text

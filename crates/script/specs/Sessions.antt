@@ -3,7 +3,7 @@ use Rattle.std.specs.Prelude.{ℕ, ◌≡◌, ◌+◌, ◌≤◌, List, [], ◌�
 use Rattle.script.specs.declared.fault.ScriptFault.{ScriptFault}
 use Rattle.script.specs.declared.fault.ScriptFault.TheVariants.{OutOfMemory, BadLine, Read, Write}
 use Rattle.script.specs.declared.session.Session.{Session}
-use Rattle.script.specs.Words.{kept}
+use Rattle.script.specs.Words.{nonempty_before}
 use Rattle.script.specs.Lines.{line_of}
 use Rattle.script.specs.Runs.{Law, Runs, Replied, ServedAtMostOne, lines_from}
 
@@ -45,7 +45,7 @@ abbrev pub with_further : Session → List ℕ → List ℕ → List (List ℕ)
 with_further session bytes more = lines_from (begun session) (bytes ++ more)
 
 abbrev pub at_end : Session → List ℕ → List (List ℕ)
-at_end session more = kept (begun session) []
+at_end session more = nonempty_before (begun session) []
 
 -- lines could not all be served: the replies of those done before wait
 pub record Failed {S : Type 0} (law : Law S) (old new : S) (before after : Session) (lines : List ℕ → List (List ℕ)) (fault : ScriptFault) : Type 0 where
@@ -59,7 +59,7 @@ pub record Failed {S : Type 0} (law : Law S) (old new : S) (before after : Sessi
 -- the end was taken: the line that was begun is done
 pub record Ended {S : Type 0} (law : Law S) (old new : S) (before after : Session) : Type 0 where
   pub text : List ℕ
-  pub runs : Runs law old (kept (begun before) []) text new
+  pub runs : Runs law old (nonempty_before (begun before) []) text new
   pub out : pending after ≡ pending before ++ text
 
 -- the line that was begun is served, and the next one begins

@@ -6,8 +6,6 @@ use Rattle.policy.specs.declared.rights.Right.{Right}
 use Rattle.policy.specs.declared.rights.Right.TheVariants.{Use, Read, Write, Wait, Change, Launch}
 use Rattle.policy.specs.declared.rights.Rights.{Rights}
 use Rattle.policy.specs.Rights.{bit_of}
-use Rattle.policy.specs.declared.object.Kind.{Kind}
-use Rattle.policy.specs.declared.object.Kind.TheVariants as kind
 use Rattle.signals.specs.declared.operation.Condition.{Condition}
 use Rattle.signals.specs.declared.operation.Condition.TheVariants as condition
 
@@ -20,14 +18,14 @@ abbrev pub is_blank : ℕ → Bool
 is_blank byte = (byte == 32 || byte == 9) || byte == 13
 
 -- a word, if it has a byte, before further words
-abbrev pub kept : Word → List Word → List Word
-kept [] further = further
-kept (byte ∷ word) further = (byte ∷ word) ∷ further
+abbrev pub nonempty_before : Word → List Word → List Word
+nonempty_before [] further = further
+nonempty_before (byte ∷ word) further = (byte ∷ word) ∷ further
 
 -- the words of bytes that come behind the begin of a word
 unfoldable pub words_from : Word → List ℕ → List Word
-words_from word [] = kept word []
-words_from word (byte ∷ bytes) = if is_blank byte then kept word (words_from [] bytes) else words_from (word ++ byte ∷ []) bytes
+words_from word [] = nonempty_before word []
+words_from word (byte ∷ bytes) = if is_blank byte then nonempty_before word (words_from [] bytes) else words_from (word ++ byte ∷ []) bytes
 
 -- the words of a line
 abbrev pub words : List ℕ → List Word
@@ -168,15 +166,6 @@ no_rights = record { 0 = 0 }
 -- `R,R` in any order, repeats counting once, or `-` for no right
 abbrev pub rights_word : Word → Option Rights
 rights_word word = if bytes_eq word (codes "-") then Some no_rights else rights_with no_rights (items_from [] word)
-
--- a kind of objects
-abbrev pub kind_word : Word → Option Kind
-kind_word word =
-    if bytes_eq word (codes "agent") then Some kind.Agent
-    else if bytes_eq word (codes "region") then Some kind.Region
-    else if bytes_eq word (codes "signal") then Some kind.Signal
-    else if bytes_eq word (codes "kernel") then Some kind.Kernel
-    else None
 
 -- a condition on a signal's value
 abbrev pub condition_word : Word → Option Condition

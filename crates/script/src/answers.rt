@@ -1,7 +1,7 @@
 //! The calls that a run makes to its reader and its writer, and what these answered: no other function of the
 //! engine calls them.
 
-ghost use Rattle.std.specs.Prelude.{◌≡◌, ◌+◌, ◌<◌, ◌≤◌, ◌^◌, ℕ, length, IfErr, OnErr, OnOk, true};
+ghost use Rattle.std.specs.Prelude.{◌≡◌, ◌+◌, ◌<◌, ◌^◌, length, IfErr, OnErr, OnOk, true};
 ghost use Rattle.std.specs.Io.KnownBytes.{Appends, Keeps};
 ghost use Rattle.script.specs.Answers.{none_yet, read_more, read_failing, write_failing, ReadsBlock, Takes, AppendsBeginning};
 ghost use Rattle.script.specs.declared.fault.ScriptFault.TheVariants.{Read, Write};

@@ -1,6 +1,6 @@
 //! The engine: it reads a line, does what it asks, and writes the reply.
 
-ghost use Rattle.std.specs.Prelude.{◌≡◌, ◌++◌, MatchResult, OnOk, OnErr, IfOk, Result, string_bytes};
+ghost use Rattle.std.specs.Prelude.{◌≡◌, ◌++◌, MatchResult, OnOk, OnErr, Result, string_bytes};
 ghost use Rattle.world.specs.declared.reply.Refusal.{Refusal};
 ghost use Rattle.script.specs.declared.command.LineAnswer.{LineAnswer};
 ghost use Rattle.script.specs.Expansions.{does};

@@ -1,9 +1,9 @@
 //! Lines are done: each makes its requests of the world in turn, up to the first that is refused.
 
-ghost use Rattle.std.specs.Prelude.{◌≡◌, ◌∷◌, [], drop, replicate};
+ghost use Rattle.std.specs.Prelude.{◌≡◌, ◌∷◌, drop, replicate};
 ghost use Rattle.ring_core.specs.Tickets.{shows_room};
 ghost use Rattle.script.specs.Actions.{asks, makes, number_read, packet_read, reads, step};
-ghost use Rattle.script.specs.Expansions.{ask, collects, does, form_of, form_of_access, form_of_call, leaves_ring, peek, publish, publish_room, publish_where, gives_old, peek_line, retire, retire_decided, retire_line, serve, serve_shown, shown_or_empty, shows, stores, stores_body, submit};
+ghost use Rattle.script.specs.Expansions.{ask, collects, does, form_of, form_of_access, form_of_call, leaves_ring, peek, publish, publish_where, gives_old, peek_line, retire, retire_decided, retire_line, serve, serve_shown, shown_or_empty, shows, stores, stores_body, submit};
 
 use crate::command::{Command, Form, LineAnswer, LineReply, Shown};
 use aql_packet::{PacketId, QueueId};

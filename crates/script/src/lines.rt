@@ -2,7 +2,7 @@
 
 ghost use Rattle.std.specs.Prelude.{◌≡◌, IfOk, option_map};
 ghost use Rattle.script.specs.Words.{words};
-ghost use Rattle.script.specs.Lines.{client_in, object_in, agent_in, signal_in, rights_on, grant_row, revoke_row, queue_row, queue_of, packet_of_queue, steps, processes, reserve_row, room_row, store_of, word_row, part_row, publish_row, submit_row, write_row, read_row, operation_of, plain_operation, cas_operation, signal_row, load_row, test_row, list_row, audit_row, command_of, line_of, asked_by, is_comment, IsPlain};
+ghost use Rattle.script.specs.Lines.{client_in, object_in, agent_in, signal_in, rights_on, grant_row, revoke_row, queue_row, queue_of, packet_of_queue, calls, asks, steps, processes, reserve_row, room_row, store_of, word_row, part_row, publish_row, submit_row, write_row, read_row, operation_of, plain_operation, cas_operation, signal_row, load_row, test_row, list_row, audit_row, command_of, line_of, asked_by, is_comment, IsPlain};
 
 use crate::command::Command;
 use crate::numbers::{
@@ -165,6 +165,39 @@ fn packet_id(line: &[u8]) -> Option<(QueueId, PacketId)>
     let queue = decimal(queue)?;
     let packet = decimal(packet)?;
     Some((QueueId(queue), PacketId(packet)))
+}
+
+// `stop Q`
+fn stop(line: &[u8]) -> Option<Command>
+    ensures { result ≡ option_map (λ queue. calls (Call.Stop queue)) (queue_of (words line.now)) }
+{
+    Some(calls(Call::Stop {
+        queue: queue_id(line)?,
+    }))
+}
+
+// `run Q ID`
+fn run(line: &[u8]) -> Option<Command>
+    ensures { result ≡ option_map (λ row. calls (Call.RunNext row.0 row.1)) (packet_of_queue (words line.now)) }
+{
+    let (queue, packet) = packet_id(line)?;
+    Some(calls(Call::RunNext { queue, packet }))
+}
+
+// `poll Q ID`
+fn poll(line: &[u8]) -> Option<Command>
+    ensures { result ≡ option_map (λ row. calls (Call.Poll row.0 row.1)) (packet_of_queue (words line.now)) }
+{
+    let (queue, packet) = packet_id(line)?;
+    Some(calls(Call::Poll { queue, packet }))
+}
+
+// `finish Q ID`
+fn finish(line: &[u8]) -> Option<Command>
+    ensures { result ≡ option_map (λ row. calls (Call.Finish row.0 row.1)) (packet_of_queue (words line.now)) }
+{
+    let (queue, packet) = packet_id(line)?;
+    Some(calls(Call::Finish { queue, packet }))
 }
 
 // `reserve Q P`
@@ -423,6 +456,15 @@ fn list(policy: &Policy, line: &[u8]) -> Option<Command>
     }))
 }
 
+// `errors Q`
+fn errors(line: &[u8]) -> Option<Command>
+    ensures { result ≡ option_map (λ queue. asks (Query.Errors queue)) (queue_of (words line.now)) }
+{
+    Some(asks(Query::Errors {
+        queue: queue_id(line)?,
+    }))
+}
+
 // `audit`
 fn audit(line: &[u8]) -> Option<Command>
     ensures { result ≡ audit_row (words line.now) }
@@ -442,9 +484,7 @@ fn plain_command(policy: &Policy, verb: Verb, line: &[u8]) -> Option<Command>
         Verb::Grant => grant(policy, line),
         Verb::Revoke => revoke(policy, line),
         Verb::Queue => queue(policy, line),
-        Verb::Stop => Some(calls(Call::Stop {
-            queue: queue_id(line)?,
-        })),
+        Verb::Stop => stop(line),
         Verb::Reserve => reserve(line),
         Verb::Room => room(line),
         Verb::Look => Some(processes(Access::LoadHeader, queue_id(line)?)),
@@ -463,26 +503,15 @@ fn plain_command(policy: &Policy, verb: Verb, line: &[u8]) -> Option<Command>
         Verb::Serve => Some(Command::Serve {
             queue: queue_id(line)?,
         }),
-        Verb::Run => {
-            let (queue, packet) = packet_id(line)?;
-            Some(calls(Call::RunNext { queue, packet }))
-        }
-        Verb::Poll => {
-            let (queue, packet) = packet_id(line)?;
-            Some(calls(Call::Poll { queue, packet }))
-        }
-        Verb::Finish => {
-            let (queue, packet) = packet_id(line)?;
-            Some(calls(Call::Finish { queue, packet }))
-        }
+        Verb::Run => run(line),
+        Verb::Poll => poll(line),
+        Verb::Finish => finish(line),
         Verb::Read => read(policy, line),
         Verb::Signal => change(policy, line),
         Verb::Load => load(policy, line),
         Verb::Test => test(policy, line),
         Verb::List => list(policy, line),
-        Verb::Errors => Some(asks(Query::Errors {
-            queue: queue_id(line)?,
-        })),
+        Verb::Errors => errors(line),
         Verb::Audit => audit(line),
         Verb::Word | Verb::Publish | Verb::Submit | Verb::Write => None,
     }

@@ -1,7 +1,8 @@
 //! Numbers, bytes, rights and kinds that single words stand for.
 
 ghost use Rattle.std.specs.Prelude.{◌≡◌, ◌∷◌, [], ◌+◌, ◌<◌, ◌≤◌, IfOk, IfSome, option_map, length};
-ghost use Rattle.script.specs.Words.{digit_of, with_digit, number_from, decimal_word, negative, positive, signed_word, address_word, byte_of, bytes_word, word_at, eight_bytes, words_of, packet_word, items_from, items_behind, right_of, with_right, rights_with, rights_word, kind_word, condition_word};
+ghost use Rattle.policy.specs.Format.{kind_named};
+ghost use Rattle.script.specs.Words.{digit_of, with_digit, number_from, decimal_word, negative, positive, signed_word, address_word, byte_of, bytes_word, word_at, eight_bytes, words_of, packet_word, items_from, items_behind, right_of, with_right, rights_with, rights_word, condition_word};
 
 use crate::words::is_word;
 use aql_packet::Address;
@@ -250,7 +251,7 @@ pub fn rights(word: &[u8]) -> Option<Rights>
 
 /// A kind of objects.
 pub fn kind(word: &[u8]) -> Option<Kind>
-    ensures { result ≡ kind_word word.now }
+    ensures { result ≡ kind_named word.now }
 {
     if is_word(word, "agent") {
         Some(Kind::Agent)

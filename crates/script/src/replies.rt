@@ -1,7 +1,7 @@
 //! Replies as text.
 
-ghost use Rattle.std.specs.Prelude.{◌≡◌, ◌++◌, OnOk, length, flat_map, codes, decimal, string_bytes};
-ghost use Rattle.script.specs.Replies.{name_of_refusal, details_of_refusal, text_of_refusal, text_of_name, text_of_cause, text_of_taken, text_of_worked, text_of_polled, text_of_outcome, text_of_listed, text_of_listing, line_of_error, text_of_errors, text_of_answer, tells_old, text_of_number, text_of_seen, text_of_made, text_of_words, text_of_why, text_of_line_answer, text_of_line};
+ghost use Rattle.std.specs.Prelude.{◌≡◌, ◌++◌, OnOk, codes, decimal, string_bytes};
+ghost use Rattle.script.specs.Replies.{name_of_refusal, details_of_refusal, text_of_refusal, text_of_name, text_of_cause, text_of_taken, text_of_worked, text_of_polled, text_of_outcome, text_of_listed, text_of_listing, text_of_errors, text_of_answer, tells_old, text_of_number, text_of_seen, text_of_made, text_of_words, text_of_why, text_of_line_answer, text_of_line};
 ghost use Rattle.script.specs.Texts.{text_of_bytes, text_of_word};
 
 use crate::command::{Form, LineAnswer, LineReply, Shown};

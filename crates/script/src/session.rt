@@ -1,6 +1,6 @@
 //! A script in the course of its run: bytes are taken as they come, and each line that ends is served.
 
-ghost use Rattle.std.specs.Prelude.{◌≡◌, ◌∷◌, [], ◌+◌, ◌<◌, ◌^◌, MatchResult, length, slice_index};
+ghost use Rattle.std.specs.Prelude.{◌∷◌, [], ◌+◌, ◌<◌, ◌^◌, MatchResult, length};
 ghost use Rattle.script.specs.Runs.{worlds};
 ghost use Rattle.script.specs.Sessions.{Took, Failed, Ended, EndedLine, FailedLine, with_further, at_end};
 

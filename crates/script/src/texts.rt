@@ -1,7 +1,7 @@
 //! Numbers, bytes, names and lists as replies write them.
 
-ghost use Rattle.std.specs.Prelude.{◌≡◌, ◌++◌, ◌<◌, ◌∷◌, [], OnOk, string_bytes, map, filter, take, length};
-ghost use Rattle.script.specs.Texts.{hex_digit, hex_digits, text_of_address, text_of_byte, text_of_bytes, text_of_word, text_of_rights, text_of_client, with_commas, comma_if, has_items, names_of_rights};
+ghost use Rattle.std.specs.Prelude.{◌≡◌, ◌++◌, ◌<◌, ◌∷◌, [], OnOk, string_bytes};
+ghost use Rattle.script.specs.Texts.{hex_digit, hex_digits, text_of_address, text_of_byte, text_of_bytes, text_of_word, text_of_rights, text_of_client, comma_if};
 
 use aql_packet::{Address, ClientId};
 use byteorder::{ByteOrder, LittleEndian};

@@ -1,7 +1,7 @@
 //! The words of a line.
 
-ghost use Rattle.std.specs.Prelude.{◌≡◌, ◌<◌, ◌≤◌, ◌∷◌, [], ℕ, List, length, MatchOption, option_map, option_copied, IfOk, None, bytes_eq, slice_index, false};
-ghost use Rattle.script.specs.Words.{Word, is_blank, words, no_words, one_word, two_words, three_words, four_words, five_words};
+ghost use Rattle.std.specs.Prelude.{◌≡◌, ◌<◌, ◌∷◌, [], length, MatchOption, option_map, option_copied, None, bytes_eq, slice_index, false};
+ghost use Rattle.script.specs.Words.{is_blank, words, no_words, one_word, two_words, three_words, four_words, five_words};
 
 // Whether a byte stands between words.
 fn is_blank(byte: u8) -> bool

@@ -1,8 +1,9 @@
 -- The values of signals, and what an operation and a condition mean (PSA, Signals; PRM, Notification
 -- (signal) Instructions). A value is a 64-bit signed number, and arithmetic on it wraps (own).
-use Rattle.std.specs.Prelude.{ℕ, ℤ, ◌+ℤ◌, ◌-ℤ◌, ◌-◌, List, slice_get, slice_set, Bool, not, if◌then◌else◌, nat_lt, int_lt, Option, Some, None}
+use Rattle.std.specs.Prelude.{ℕ, ℤ, ◌+ℤ◌, ◌-ℤ◌, ◌-◌, List, slice_set, Bool, not, if◌then◌else◌, int_lt, Option, Some, None}
 use Rattle.std.specs.Ordering.{int_eq}
 use Rattle.std.specs.Int.{w64, int_wrap, int_bit_and, int_bit_or, int_bit_xor}
+use Rattle.aql_packet.specs.Ids.{numbered}
 use Rattle.signals.specs.declared.operation.SignalOp.{SignalOp}
 use Rattle.signals.specs.declared.operation.SignalOp.TheVariants.{Store, Add, Subtract, And, Or, Xor, Exchange, Cas}
 use Rattle.signals.specs.declared.signals.UnknownSignal.{UnknownSignal}
@@ -33,7 +34,7 @@ meets Gte value against = not (int_lt value against)
 
 -- The value of the signal with a number: they are numbered from 1 (own).
 unfoldable pub value_of : List ℤ → ℕ → Option ℤ
-value_of values number = if nat_lt 0 number then slice_get values (number - 1) else None
+value_of values number = numbered values number
 
 -- The values after an operation on the signal with a number; where there is none, as before.
 unfoldable pub after : List ℤ → ℕ → SignalOp → List ℤ

@@ -49,7 +49,8 @@ use Rattle.world.specs.Dues.{Reply, asked_size, hindrance, is_decided, taking}
 use Rattle.world.specs.InStep.{IsInStep, IsJoined, IsUntouched, Stands}
 use Rattle.world.specs.Making.{AreDecided, MakesAt, MakesWhere, decided_after, ring_made, rings_of, with_queue_ring}
 use Rattle.world.specs.Obeying.{Asks, HandsOver, Obeys, Opens, TakesAt, new_ring, ring_taken, rings_opened}
-use Rattle.world.proofs.Numbering.{numbered_new, numbered_next, numbered_old, numbered_other, numbered_same}
+use Rattle.core_model.proofs.Turns.{numbered-new, numbered-end}
+use Rattle.world.proofs.Numbering.{numbered_old, numbered_other, numbered_same}
 use Rattle.world.proofs.Entering.{due_answers, due_enters}
 use Rattle.world.proofs.Joining.{IsAside, same_queue}
 use Rattle.world.proofs.Kept.{call_aside, unhindered}
@@ -241,9 +242,9 @@ module _ (core core' : History) (rings new : List QueueRing) (h : IsJoined (Worl
   opened_decided size producers (Ok opened) next queue r at =
       elim (eqb_tells queue.0 (length rings + 1)) [
         | inl e ↦
-            let place : numbered (rings ++ new_ring size producers ∷ []) queue.0 ≡ Some (new_ring size producers) = ap (numbered (rings ++ new_ring size producers ∷ [])) e.1 ∙ numbered_new rings (new_ring size producers) in
+            let place : numbered (rings ++ new_ring size producers ∷ []) queue.0 ≡ Some (new_ring size producers) = ap (numbered (rings ++ new_ring size producers ∷ [])) e.1 ∙ numbered-new rings (new_ring size producers) in
             let is : new_ring size producers ≡ r = same_some (new_ring size producers) r (sym place ∙ at) in
-            let none : numbered rings queue.0 ≡ None = ap (numbered rings) e.1 ∙ numbered_next rings in
+            let none : numbered rings queue.0 ≡ None = ap (numbered rings) e.1 ∙ numbered-end rings in
             let fresh : IsUntouched core queue = subst (Stands core queue) (ring_is core rings queue None none) (h.each queue) in
             let zero_next : next_id core'.start core'.entries queue ≡ 0 = next queue ∙ fresh.next in
             subst (λ (y : QueueRing). y.decided ≡ is_decided core' queue y.ring) is (ap (nat_lt 0) (sym zero_next))

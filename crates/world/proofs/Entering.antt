@@ -2,7 +2,6 @@
 use Rattle.std.proofs.Common.{◌≡◌, List, [], ◌∷◌, ◌++◌, refl, ap, ◌∙◌, Bool, true, false, Option, Some, None, inl}
 use Rattle.std.specs.Prelude.{option_to_list, if◌then◌else◌}
 use Rattle.std.specs.List.{filter_map}
-use Rattle.std.proofs.lemmas.List.{append-nil}
 use Rattle.std.proofs.lemmas.List.Elements.{filter_map-append}
 use Rattle.aql_packet.specs.declared.ids.QueueId.{QueueId}
 use Rattle.core_model.specs.declared.event.Event.{Event}
@@ -15,15 +14,11 @@ use Rattle.core_model.specs.Queues.{next_id, openings}
 use Rattle.core_model.specs.Owed.{Owed, owed, refuses, answers, enters}
 use Rattle.core_model.specs.Legal.{IsLegal, due, entry_of, history_after, lacks_room, reply_of, within_room}
 use Rattle.core_model.specs.Headline.{GoesOn}
-use Rattle.core_model.proofs.More.{with_some}
+use Rattle.core_model.proofs.More.{with_some, with_some-to_list}
 use Rattle.core_model.proofs.Served.{event-goes_on}
 use Rattle.world.specs.InStep.{size_of, sizes, taken_from, takes}
 
 -- ---- lists of what entries tell
-
-to_list : {X : Type 0} (xs : List X) (o : Option X) → xs ++ option_to_list o ≡ with_some xs o
-to_list xs None = append-nil xs
-to_list xs (Some x) = refl
 
 one_told : {X : Type 0} (o : Option X) → filter_map (λ (x : Option X). x) (o ∷ []) ≡ option_to_list o
 one_told None = refl
@@ -32,12 +27,12 @@ one_told (Some x) = refl
 pub takes_more : (es : List Entry) (e : Entry) (queue : QueueId) → takes (es ++ e ∷ []) queue ≡ with_some (takes es queue) (taken_from queue e.event)
 unfolding takes
 takes_more es e queue =
-    filter_map-append _ es (e ∷ []) ∙ ap (λ x. filter_map (λ (entry : Entry). taken_from queue entry.event) es ++ x) (one_told (taken_from queue e.event)) ∙ to_list _ (taken_from queue e.event)
+    filter_map-append _ es (e ∷ []) ∙ ap (λ x. filter_map (λ (entry : Entry). taken_from queue entry.event) es ++ x) (one_told (taken_from queue e.event)) ∙ with_some-to_list _ (taken_from queue e.event)
 
 pub sizes_more : (es : List Entry) (e : Entry) → sizes (es ++ e ∷ []) ≡ with_some (sizes es) (size_of e.event)
 unfolding sizes
 sizes_more es e =
-    filter_map-append _ es (e ∷ []) ∙ ap (λ x. filter_map (λ (entry : Entry). size_of entry.event) es ++ x) (one_told (size_of e.event)) ∙ to_list _ (size_of e.event)
+    filter_map-append _ es (e ∷ []) ∙ ap (λ x. filter_map (λ (entry : Entry). size_of entry.event) es ++ x) (one_told (size_of e.event)) ∙ with_some-to_list _ (size_of e.event)
 
 pub no_takes : (queue : QueueId) → takes [] queue ≡ []
 unfolding takes

@@ -1,8 +1,10 @@
 -- Items by number, from 1: with another in the place of one, and with one more.
 use Rattle.std.proofs.Common.{◌≡◌, ◌≢◌, ℕ, zero, suc, ◌+◌, ◌-◌, ◌<◌, ◌≤◌, List, [], ◌∷◌, ◌++◌, length, refl, sym, ap, ◌∙◌, Bool, true, false, Some, None, arith}
-use Rattle.std.specs.Prelude.{map, nat_lt, option_map, slice_get, slice_set, if◌then◌else◌}
+use Rattle.std.specs.Prelude.{map, nat_lt, slice_get, slice_set, if◌then◌else◌}
 use Rattle.std.proofs.lemmas.Bool.{ltb-true, ltb-false}
+use Rattle.std.proofs.lemmas.Option.{slice_get_past}
 use Rattle.policy.specs.Policy.{numbered}
+use Rattle.executor.proofs.Maps.{get_append_left, get_set_other}
 
 -- ---- by place
 
@@ -10,32 +12,6 @@ get_same : {X : Type 0} (xs : List X) (i : ℕ) (x y : X) → slice_get xs i ≡
 get_same [] i x y e = absurd (cc)
 get_same (z ∷ xs) zero x y e = refl
 get_same (z ∷ xs) (suc i) x y e = get_same xs i x y e
-
-get_other : {X : Type 0} (xs : List X) (i j : ℕ) (y : X) → j ≢ i → slice_get (slice_set xs i y) j ≡ slice_get xs j
-get_other [] i j y apart = refl
-get_other (z ∷ xs) zero zero y apart = absurd (apart refl)
-get_other (z ∷ xs) zero (suc j) y apart = refl
-get_other (z ∷ xs) (suc i) zero y apart = refl
-get_other (z ∷ xs) (suc i) (suc j) y apart = get_other xs i j y (λ e. apart (ap suc e))
-
-pub get_left : {X : Type 0} (xs ys : List X) (i : ℕ) → i < length xs → slice_get (xs ++ ys) i ≡ slice_get xs i
-get_left [] ys i lt = absurd (omega arith)
-get_left (x ∷ xs) ys zero lt = refl
-get_left (x ∷ xs) ys (suc i) lt = get_left xs ys i (omega arith)
-
-pub get_last : {X : Type 0} (xs : List X) (x : X) → slice_get (xs ++ x ∷ []) (length xs) ≡ Some x
-get_last [] x = refl
-get_last (y ∷ xs) x = get_last xs x
-
-get_past : {X : Type 0} (xs : List X) (i : ℕ) → length xs ≤ i → slice_get xs i ≡ None
-get_past [] i le = refl
-get_past (x ∷ xs) zero le = absurd (omega arith)
-get_past (x ∷ xs) (suc i) le = get_past xs i (omega arith)
-
-get_map : {X Y : Type 0} (f : X → Y) (xs : List X) (i : ℕ) → slice_get (map f xs) i ≡ option_map f (slice_get xs i)
-get_map f [] i = refl
-get_map f (x ∷ xs) zero = refl
-get_map f (x ∷ xs) (suc i) = get_map f xs i
 
 pub map_same : {X Y : Type 0} (f : X → Y) (xs : List X) (i : ℕ) (x y : X) → slice_get xs i ≡ Some x → f y ≡ f x → map f (slice_set xs i y) ≡ map f xs
 map_same f [] i x y e same = refl
@@ -75,38 +51,19 @@ numbered_other xs n m x y found apart = by_test (nat_lt 0 m) refl
         let at = numbered_place xs n x found in
         let positive : 0 < m = ltb-true 0 m is in
         let places : m - 1 ≢ n - 1 = λ e. apart (omega arith) in
-        get_other xs (n - 1) (m - 1) y places
+        get_set_other xs (n - 1) (m - 1) y places
     by_test false is = refl
 
-pub numbered_map : {X Y : Type 0} (f : X → Y) (xs : List X) (n : ℕ) → numbered (map f xs) n ≡ option_map f (numbered xs n)
-numbered_map f xs n = by_test (nat_lt 0 n)
-  where
-    by_test : (b : Bool) → (if b then slice_get (map f xs) (n - 1) else None) ≡ option_map f (if b then slice_get xs (n - 1) else None)
-    by_test true = get_map f xs (n - 1)
-    by_test false = refl
-
--- one item more has the next number, and the others keep theirs
-pub numbered_next : {X : Type 0} (xs : List X) → numbered xs (length xs + 1) ≡ None
-numbered_next xs =
-    let positive : nat_lt 0 (length xs + 1) ≡ true = grind arith in
-    let place : length xs + 1 - 1 ≡ length xs = omega arith in
-    rw (positive, place) (get_past xs (length xs) (omega arith))
-
-pub numbered_new : {X : Type 0} (xs : List X) (x : X) → numbered (xs ++ x ∷ []) (length xs + 1) ≡ Some x
-numbered_new xs x =
-    let positive : nat_lt 0 (length xs + 1) ≡ true = grind arith in
-    let place : length xs + 1 - 1 ≡ length xs = omega arith in
-    rw (positive, place) (get_last xs x)
-
+-- one item more has the next number (`numbered-new` of core_model), and the others keep theirs
 pub numbered_old : {X : Type 0} (xs : List X) (x : X) (n : ℕ) → n ≢ length xs + 1 → numbered (xs ++ x ∷ []) n ≡ numbered xs n
 numbered_old xs x n apart = by_test (nat_lt 0 n) refl
   where
     by_place : (b : Bool) → nat_lt (n - 1) (length xs) ≡ b → 0 < n → slice_get (xs ++ x ∷ []) (n - 1) ≡ slice_get xs (n - 1)
-    by_place true is positive = get_left xs (x ∷ []) (n - 1) (ltb-true (n - 1) (length xs) is)
+    by_place true is positive = get_append_left xs (x ∷ []) (n - 1) (ltb-true (n - 1) (length xs) is)
     by_place false is positive =
         let past : length xs ≤ n - 1 = ltb-false (n - 1) (length xs) is in
         let longer : length (xs ++ x ∷ []) ≡ length xs + 1 = length_more xs x in
-        get_past (xs ++ x ∷ []) (n - 1) (omega arith) ∙ sym (get_past xs (n - 1) past)
+        slice_get_past (xs ++ x ∷ []) (n - 1) (omega arith) ∙ sym (slice_get_past xs (n - 1) past)
       where
         length_more : {X : Type 0} (xs : List X) (x : X) → length (xs ++ x ∷ []) ≡ length xs + 1
         length_more [] x = refl
@@ -120,7 +77,7 @@ pub numbered_none : {X : Type 0} (xs : List X) (n : ℕ) → length xs ≡ 0 →
 numbered_none xs n e = by_test (nat_lt 0 n)
   where
     by_test : (b : Bool) → (if b then slice_get xs (n - 1) else None) ≡ None
-    by_test true = get_past xs (n - 1) (omega arith)
+    by_test true = slice_get_past xs (n - 1) (omega arith)
     by_test false = refl
 
 -- an item in its own place changes nothing

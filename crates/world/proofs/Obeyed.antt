@@ -29,14 +29,15 @@ use Rattle.world.specs.Calls.{event_of}
 use Rattle.world.specs.Dues.{IsServed, Meets, Reply, asked_size, due_collected, due_step, due_take, due_where, hindrance, is_decided, of_core, owed_to, rings_after, taken_reply, taking}
 use Rattle.world.specs.Making.{AreDecided, MakesAt, MakesWhere, rings_of, with_queue_ring}
 use Rattle.world.specs.Obeying.{Asks, HandsOver, Obeys, Opens, TakesAt, new_ring, ring_taken, rings_opened, told_opened, told_taken}
-use Rattle.world.proofs.Numbering.{map_more, map_same, map_set, numbered_map, numbered_place}
+use Rattle.policy.proofs.NameLemmas.{numbered-map}
+use Rattle.world.proofs.Numbering.{map_more, map_same, map_set, numbered_place}
 
 abbrev pub World : History → List QueueRing → Joined
 World core rings = joined core (rings_of rings)
 
 -- the ring of a queue, by what is kept of it
 pub ring_is : (core : History) (rings : List QueueRing) (queue : QueueId) (o : Option QueueRing) → numbered rings queue.0 ≡ o → ring_of (World core rings) queue ≡ option_map (λ r. r.ring) o
-ring_is core rings queue o found = numbered_map (λ (r : QueueRing). r.ring) rings queue.0 ∙ ap (option_map (λ (r : QueueRing). r.ring)) found
+ring_is core rings queue o found = numbered-map (λ (r : QueueRing). r.ring) rings queue.0 ∙ ap (option_map (λ (r : QueueRing). r.ring)) found
 
 -- ---- steps
 

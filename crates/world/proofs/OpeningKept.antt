@@ -1,6 +1,6 @@
 -- A queue that is opened gets a ring of its own, in which nothing happened.
 use Rattle.std.proofs.Common.{◌≡◌, ◌≢◌, ℕ, ◌+◌, ◌≤◌, List, [], ◌∷◌, ◌++◌, length, refl, sym, ap, ◌∙◌, subst, Bool, true, false, Option, Some, None, inl, inr, arith, length-append}
-use Rattle.std.specs.Prelude.{◌==◌, nat_le, if◌then◌else◌}
+use Rattle.std.specs.Prelude.{nat_le, if◌then◌else◌}
 use Rattle.std.proofs.lemmas.Bool.Decides.{eqb_tells}
 use Rattle.aql_packet.specs.declared.ids.AgentHandle.{AgentHandle}
 use Rattle.aql_packet.specs.declared.ids.ClientId.{ClientId}
@@ -31,7 +31,8 @@ use Rattle.world.specs.States.{Joined, joined, ring_of}
 use Rattle.world.specs.Dues.{asked_size, rings_after}
 use Rattle.world.specs.InStep as InStep
 use Rattle.world.specs.InStep.{IsInStep, IsJoined, IsUntouched, Stands}
-use Rattle.world.proofs.Numbering.{map_more, numbered_new, numbered_next, numbered_old}
+use Rattle.core_model.proofs.Turns.{numbered-new, numbered-end}
+use Rattle.world.proofs.Numbering.{map_more, numbered_old}
 use Rattle.world.proofs.Entering.{due_answers, due_enters, due_legal, sizes_more, takes_more}
 use Rattle.world.proofs.Joining.{stands_along}
 
@@ -108,7 +109,7 @@ module _ (world : Joined) (h : IsJoined world) (client : ClientId) (agent : Agen
 
     new_here : (queue : QueueId) → queue.0 ≡ length world.rings + 1 → Stands New queue (Some NewRing)
     new_here queue is =
-        let none : ring_of world queue ≡ None = ap (numbered world.rings) is ∙ numbered_next world.rings in
+        let none : ring_of world queue ≡ None = ap (numbered world.rings) is ∙ numbered-end world.rings in
         let fresh : Stands New queue None = after queue None (subst (Stands world.core queue) none (h.each queue)) in
         (ring_opens size producers fits few, opens_in_step New queue size producers fresh)
 
@@ -127,7 +128,7 @@ module _ (world : Joined) (h : IsJoined world) (client : ClientId) (agent : Agen
           ∙ sym (sizes_more world.core.entries TheEntry);
       each = λ queue.
           elim (eqb_tells queue.0 (length world.rings + 1)) [
-            | inl e ↦ subst (Stands New queue) (sym (ap (numbered (world.rings ++ NewRing ∷ [])) e.1 ∙ numbered_new world.rings NewRing)) (new_here queue e.1)
+            | inl e ↦ subst (Stands New queue) (sym (ap (numbered (world.rings ++ NewRing ∷ [])) e.1 ∙ numbered-new world.rings NewRing)) (new_here queue e.1)
             | inr e ↦ subst (Stands New queue) (sym (numbered_old world.rings NewRing queue.0 e.1)) (after queue (ring_of world queue) (h.each queue))
           ];
     }

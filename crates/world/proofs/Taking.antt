@@ -25,7 +25,8 @@ use Rattle.world.specs.Bytes.{bytes_of}
 use Rattle.world.specs.States.{Joined, ring_of, with_core}
 use Rattle.world.specs.Dues.{taking}
 use Rattle.world.specs.InStep.{IsInStep, IsJoined, IsPublished, Stands, published, takes}
-use Rattle.world.proofs.Numbering.{get_last, get_left}
+use Rattle.executor.proofs.Maps.{get_append_left}
+use Rattle.core_model.proofs.Turns.{slice_get-last}
 use Rattle.world.proofs.Entering.{due_enters, due_legal, sizes_more, takes_more}
 use Rattle.world.proofs.Joining.{same_queue, stands_along}
 
@@ -81,14 +82,14 @@ module _ (world : Joined) (h : IsJoined world) (queue : QueueId) (ring : Machine
           | inr below ↦
               let was = here.1.whole id below.1 in
               let inside : id < length (takes world.core.entries queue) = omega (arith, here.1.count, below.1) in
-              (was.0, ap (λ xs. slice_get xs id) takes_longer ∙ get_left (takes world.core.entries queue) (bytes_of words ∷ []) id inside ∙ was.1)
+              (was.0, ap (λ xs. slice_get xs id) takes_longer ∙ get_append_left (takes world.core.entries queue) (bytes_of words ∷ []) id inside ∙ was.1)
           | inl last ↦
               let at : id ≡ read_index ring = omega (arith, last.1, lt, next_more, is_next) in
               let end : id ≡ length (takes world.core.entries queue) = omega (arith, at, is_next, here.1.count) in (
                 subst (IsPublished ring) (sym at) is_published.0,
                 ap (λ xs. slice_get xs id) takes_longer
                     ∙ ap (slice_get (takes world.core.entries queue ++ bytes_of words ∷ [])) end
-                    ∙ get_last (takes world.core.entries queue) (bytes_of words)
+                    ∙ slice_get-last (takes world.core.entries queue) (bytes_of words)
                     ∙ ap Some is_published.1
                     ∙ ap (λ i. Some (published ring i)) (sym at),
               )

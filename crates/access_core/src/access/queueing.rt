@@ -1,4 +1,4 @@
-//! Queues are opened, and their packets handed over.
+//! Queues are opened.
 
 ghost use Rattle.std.specs.Prelude.{◌≡◌, ◌<◌, [], OnOk, IfErr, IfOk, length};
 ghost use Rattle.core_model.specs.declared.limits.TheConstants.{QUEUES};

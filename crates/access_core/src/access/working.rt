@@ -1,11 +1,10 @@
 //! Packets in flight are found, completed and released.
 
-ghost use Rattle.std.specs.Prelude.{◌≡◌, ◌++◌, ◌∷◌, [], ◌-◌, Some, IfErr, IfOk, fold, is_some, length, true};
+ghost use Rattle.std.specs.Prelude.{◌≡◌, ◌-◌, Some, IfErr, IfOk, fold, true};
 ghost use Rattle.core_model.specs.declared.entry.Effect.TheVariants as effect;
 ghost use Rattle.core_model.specs.Memory.{region_lengths, signals_after};
-ghost use Rattle.core_model.specs.Queues.{owner};
 ghost use Rattle.core_model.specs.Needs.{completion_signal};
-ghost use Rattle.core_model.specs.Owed.{completion_of, signal_decrement, refuses, is_finished};
+ghost use Rattle.core_model.specs.Owed.{completion_of, refuses, is_finished};
 ghost use Rattle.core_model.specs.Legal.{Meets, as_accepted, due};
 ghost use Rattle.access_core.specs.inner.QueueChanges.{IsThere, freed, freed_by, with_queue, with_release, without_one};
 ghost use Rattle.access_core.specs.inner.LiesInRegions.{lies_in_regions};

@@ -9,7 +9,7 @@ ghost use Rattle.policy.specs.declared.fault.Section.TheVariants.{Allow};
 ghost use Rattle.policy.specs.declared.limits.TheConstants.{MOST_ALLOW_ROWS, MOST_SIGNALS};
 ghost use Rattle.policy.specs.Table.{named};
 ghost use Rattle.policy.specs.SectionNames.{name_of_section};
-ghost use Rattle.policy.specs.Reading.{or_fault, seen, placed, RowGives, FileGives};
+ghost use Rattle.policy.specs.Reading.{or_fault, map_ok, placed, RowGives, FileGives};
 ghost use Rattle.policy.specs.Format.{is_table, rows_in, tables_in, of_table, named_row, allow_row, array_of};
 
 use crate::fault::{Cause, PolicyFault, ReadPolicyError, RowError, Section};
@@ -32,7 +32,7 @@ fn are_tables(items: &[Value]) -> bool
 
 // The rows of an array of tables, of at most so many.
 fn tables_in(section: Section, limit: usize, items: &[Value]) -> Result<(), PolicyFault>
-    ensures rows { seen (λ _. map view items.now) result ≡ tables_in section limit (Some (map view items.now)) }
+    ensures rows { map_ok (λ _. map view items.now) result ≡ tables_in section limit (Some (map view items.now)) }
     ensures bound { OnOk result (length items.now ≤ limit) }
 {
     if !are_tables(items) {
@@ -46,7 +46,7 @@ fn tables_in(section: Section, limit: usize, items: &[Value]) -> Result<(), Poli
 
 /// The rows of an array, of at most so many: none where the array is absent.
 pub fn rows_in(section: Section, limit: usize, file: &Table) -> Result<&[Value], PolicyFault>
-    ensures rows { seen (λ rows. map view rows.now) result ≡ rows_in section limit (get_member (name_of_section section) (table_view file.now)) }
+    ensures rows { map_ok (λ rows. map view rows.now) result ≡ rows_in section limit (get_member (name_of_section section) (table_view file.now)) }
     ensures bound { IfOk result (λ rows. length rows.now ≤ limit) }
 {
     let Some(array) = values::find(file, section.name()) else {

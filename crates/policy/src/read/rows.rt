@@ -1,6 +1,6 @@
 //! The rows of a policy file's arrays.
 
-ghost use Rattle.std.specs.Prelude.{◌≡◌, List, ℕ, Bool, true, Result, codes, string_bytes, map};
+ghost use Rattle.std.specs.Prelude.{◌≡◌, List, Result, codes, string_bytes};
 ghost use Rattle.std.specs.List.{list_all, list_any};
 ghost use Rattle.std.specs.Str.{bytes_eq};
 ghost use Rattle.std.specs.BTreeMap.{keys};
@@ -12,8 +12,8 @@ ghost use Rattle.policy.specs.Names.{Name};
 ghost use Rattle.policy.specs.Choice.{chosen};
 ghost use Rattle.policy.specs.Policy.{names_of};
 ghost use Rattle.policy.specs.Table.{named};
-ghost use Rattle.policy.specs.Reading.{or_fault, unless, seen, RowGives};
-ghost use Rattle.policy.specs.Format.{keys_in, only, key, named_row, a_name, an_entry, a_text, a_length, a_number, some_dispatches, client_keys, agent_keys, region_keys, signal_keys, kernel_keys, nothing, takes, region_length, initial_value, kernel_source, a_choice, a_kind, some_rights, subject_of, target_of, allow_row, allow_keys};
+ghost use Rattle.policy.specs.Reading.{or_fault, map_ok, RowGives};
+ghost use Rattle.policy.specs.Format.{keys_in, only, key, named_row, a_name, an_entry, a_text, a_length, a_number, some_dispatches, client_keys, agent_keys, region_keys, signal_keys, kernel_keys, no_more_keys, takes, region_length, initial_value, kernel_source, a_choice, a_kind, some_rights, subject_of, target_of, allow_row, allow_keys};
 
 use crate::fault::{Cause, RowError};
 use crate::kernel_source::KernelSource;
@@ -73,14 +73,14 @@ pub fn only<K: Keys>(row: &Table) -> Result<(), Cause>
 
 // The value at a key that a row has to have.
 fn value_at<'a>(row: &'a Table, name: &str) -> Result<&'a Value, Cause>
-    ensures { seen (λ v. view v.now) result ≡ or_fault MissingKey (get_member name.now (table_view row.now)) }
+    ensures { map_ok (λ v. view v.now) result ≡ or_fault MissingKey (get_member name.now (table_view row.now)) }
 {
     values::find(row, name).ok_or(Cause::MissingKey)
 }
 
 /// A row's name.
 pub fn name_at(row: &Table) -> Result<&str, Cause>
-    ensures { seen (λ s. s.now) result ≡ key (codes "name") a_name (table_view row.now) }
+    ensures { map_ok (λ s. s.now) result ≡ key (codes "name") a_name (table_view row.now) }
 {
     values::a_name(value_at(row, "name")?).ok_or(Cause::BadValue)
 }
@@ -125,21 +125,21 @@ fn initial_at(row: &Table) -> Result<i64, Cause>
 
 // The name of a kernel's entry.
 fn entry_at(row: &Table) -> Result<&str, Cause>
-    ensures { seen (λ s. s.now) result ≡ key (codes "entry") an_entry (table_view row.now) }
+    ensures { map_ok (λ s. s.now) result ≡ key (codes "entry") an_entry (table_view row.now) }
 {
     values::an_entry(value_at(row, "entry")?).ok_or(Cause::BadValue)
 }
 
 // The text of a kernel's module.
 fn text_at(row: &Table) -> Result<&str, Cause>
-    ensures { seen (λ s. s.now) result ≡ key (codes "text") a_text (table_view row.now) }
+    ensures { map_ok (λ s. s.now) result ≡ key (codes "text") a_text (table_view row.now) }
 {
     values::a_text(value_at(row, "text")?).ok_or(Cause::BadValue)
 }
 
 // A name, or "*", at a key.
 fn choice_at<'a>(row: &'a Table, name: &str) -> Result<Choice<'a>, Cause>
-    ensures { seen chosen result ≡ key name.now a_choice (table_view row.now) }
+    ensures { map_ok chosen result ≡ key name.now a_choice (table_view row.now) }
 {
     values::a_choice(value_at(row, name)?).ok_or(Cause::BadValue)
 }
@@ -230,7 +230,7 @@ impl Keys for () {
 }
 
 impl NamedRow for () {
-    ghost reading = { nothing };
+    ghost reading = { no_more_keys };
 
     fn read(_alloc: Global, _row: &Table) -> Result<(), RowError> {
         Ok(())

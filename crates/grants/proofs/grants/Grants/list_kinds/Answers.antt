@@ -1,8 +1,9 @@
 -- The rows of the four kinds are the listing.
 use Rattle.std.proofs.Common.{◌∙◌, ◌++◌, ap}
 use Rattle.policy.specs.declared.object.Kind.TheVariants as kind
-use Rattle.grants.specs.Rules.{objects_of}
-use Rattle.grants.specs.Ledger.{in_force, listing_by, rules_in}
+use Rattle.policy.specs.Listing.{objects_of_kind, listing_by}
+use Rattle.grants.specs.Rules.{count}
+use Rattle.grants.specs.Ledger.{in_force, rules_in}
 use Rattle.grants.proofs.ListingLemmas.{listed-kinds}
 use Rattle.grants.proofs.grants.Grants.list_kinds.Goals as goal
 
@@ -10,7 +11,7 @@ pub returns : goal.returns
 returns c =
     let rules = rules_in c.args.self.now in
     c.in_ok-list_kind-4.ensures
-    ∙ ap (λ rows. rows ++ listing_by (in_force c.args.self.now c.args.client) (objects_of rules kind.Kernel)) (c.in_ok-list_kind-3.ensures
-    ∙ ap (λ rows. rows ++ listing_by (in_force c.args.self.now c.args.client) (objects_of rules kind.Signal)) (c.in_ok-list_kind-2.ensures
-    ∙ ap (λ rows. rows ++ listing_by (in_force c.args.self.now c.args.client) (objects_of rules kind.Region)) c.in_ok-list_kind.ensures))
-    ∙ listed-kinds (in_force c.args.self.now c.args.client) c.args.rows.now (objects_of rules kind.Agent) (objects_of rules kind.Region) (objects_of rules kind.Signal) (objects_of rules kind.Kernel)
+    ∙ ap (λ rows. rows ++ listing_by (in_force c.args.self.now c.args.client) (objects_of_kind (count rules) kind.Kernel)) (c.in_ok-list_kind-3.ensures
+    ∙ ap (λ rows. rows ++ listing_by (in_force c.args.self.now c.args.client) (objects_of_kind (count rules) kind.Signal)) (c.in_ok-list_kind-2.ensures
+    ∙ ap (λ rows. rows ++ listing_by (in_force c.args.self.now c.args.client) (objects_of_kind (count rules) kind.Region)) c.in_ok-list_kind.ensures))
+    ∙ listed-kinds (in_force c.args.self.now c.args.client) c.args.rows.now (objects_of_kind (count rules) kind.Agent) (objects_of_kind (count rules) kind.Region) (objects_of_kind (count rules) kind.Signal) (objects_of_kind (count rules) kind.Kernel)

@@ -11,14 +11,15 @@ use Rattle.ring.specs.Made.{Gained, WereMade, read, showing}
 use Rattle.ring.specs.Showing.{AreBytes}
 use Rattle.ring.specs.Steps.{only_number}
 use Rattle.ring.proofs.Again.{not_empty, words_again, bytes_told}
-use Rattle.ring.specs.Passes.{ProcessorSeen, as_processor, only_part, packet_if}
+use Rattle.std.specs.Bool.{then_some}
+use Rattle.ring.specs.Passes.{ProcessorSeen, as_processor, only_part}
 use Rattle.ring.proofs.Processing.{ME, shown_steps, shown_index, shown_packet, shown_pass}
 use Rattle.ring.proofs.processor.ProcessorPass.peek.Goals as goal
 
 pub invariant_of-self-in-Some : goal.invariant_of-self-in-Some
 invariant_of-self-in-Some c =
     let got = c.in-Some.ensures.loaded in
-    shown_pass c.args.ring.now.size c.args.ring.now.producers c.self.inside.next (packet_if c.self.inside.whole c.self.inside.packet) c.self.inside.seat.me c.load_packet.new.seat.me c.in-Some.words (ring_size_bounds c.args.ring.now.size c.load_packet.ensures.fits).0 c.self.invariant got.0 got.1 got.2
+    shown_pass c.args.ring.now.size c.args.ring.now.producers c.self.inside.next (then_some c.self.inside.whole c.self.inside.packet) c.self.inside.seat.me c.load_packet.new.seat.me c.in-Some.words (ring_size_bounds c.args.ring.now.size c.load_packet.ensures.fits).0 c.self.invariant got.0 got.1 got.2
 
 pub returns-in-None-clause-again : goal.returns-in-None-clause-again
 returns-in-None-clause-again c = λ shown bytes is.
@@ -51,9 +52,9 @@ returns-in-Some-clause-peeked c =
     let ring = c.args.ring.now in
     let pos : 0 < ring.size = (ring_size_bounds ring.size c.load_packet.ensures.fits).0 in
     let words : words_of c.bytes_of.result ≡ c.in-Some.words = c.bytes_of.ensures in
-    let steps = shown_steps ring.size ring.producers c.self.inside.next (packet_if c.self.inside.whole c.self.inside.packet) c.self.inside.seat.me c.load_packet.new.seat.me c.in-Some.words pos c.self.invariant got.0 got.1 got.2 in
-    let index = shown_index ring.size ring.producers c.self.inside.next (packet_if c.self.inside.whole c.self.inside.packet) c.self.inside.seat.me c.load_packet.new.seat.me c.in-Some.words pos c.self.invariant got.0 got.1 got.2 in
-    let packet = shown_packet ring.size ring.producers c.self.inside.next (packet_if c.self.inside.whole c.self.inside.packet) c.self.inside.seat.me c.load_packet.new.seat.me c.in-Some.words pos c.self.invariant got.0 got.1 got.2 in
+    let steps = shown_steps ring.size ring.producers c.self.inside.next (then_some c.self.inside.whole c.self.inside.packet) c.self.inside.seat.me c.load_packet.new.seat.me c.in-Some.words pos c.self.invariant got.0 got.1 got.2 in
+    let index = shown_index ring.size ring.producers c.self.inside.next (then_some c.self.inside.whole c.self.inside.packet) c.self.inside.seat.me c.load_packet.new.seat.me c.in-Some.words pos c.self.invariant got.0 got.1 got.2 in
+    let packet = shown_packet ring.size ring.producers c.self.inside.next (then_some c.self.inside.whole c.self.inside.packet) c.self.inside.seat.me c.load_packet.new.seat.me c.in-Some.words pos c.self.invariant got.0 got.1 got.2 in
     let after = as_processor (only_part c.load_packet.new.seat.me.0) in (
       ap (λ (ws : List ℕ). is_invalid (get_or ws 0 0)) words ∙ got.1,
       c.self.invariant.index ∙ ap (λ v. length v.part.retired) c.self.view_is,

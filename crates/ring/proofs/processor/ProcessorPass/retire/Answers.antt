@@ -4,7 +4,8 @@ use Rattle.ring_core.specs.declared.part.Part.TheVariants.{Processor}
 use Rattle.aql_packet.specs.Ring.{is_ring_size}
 use Rattle.ring_core.specs.Machine.{is_producer_count}
 use Rattle.ring.specs.Made.{Gained, retiring}
-use Rattle.ring.specs.Passes.{ProcessorSeen, as_processor, only_part, packet_if}
+use Rattle.std.specs.Bool.{then_some}
+use Rattle.ring.specs.Passes.{ProcessorSeen, as_processor, only_part}
 use Rattle.ring.proofs.Processing.{retired_steps, found_index, retired_pass}
 use Rattle.ring.proofs.processor.ProcessorPass.retire.Goals as goal
 
@@ -13,7 +14,7 @@ overflow_add-self c =
     let ring = c.args.ring.now in
     let fits : is_ring_size ring.size ≡ true = ap (λ r. is_ring_size r.size) (sym c.ring.view_is) ∙ c.ring.invariant.fits in
     let few : is_producer_count ring.producers ≡ true = ap (λ r. is_producer_count r.producers) (sym c.ring.view_is) ∙ c.ring.invariant.few in
-    let found = found_index ring.size ring.producers c.self.inside.next c.add_one-index.result (packet_if c.self.inside.whole c.self.inside.packet) c.self.inside.seat.me c.store.new.seat.me c.add_one-index.new.seat.me fits few c.self.invariant c.store.ensures.told c.add_one-index.ensures.told in
+    let found = found_index ring.size ring.producers c.self.inside.next c.add_one-index.result (then_some c.self.inside.whole c.self.inside.packet) c.self.inside.seat.me c.store.new.seat.me c.add_one-index.new.seat.me fits few c.self.invariant c.store.ensures.told c.add_one-index.ensures.told in
     let lt : c.add_one-index.result + 1 < 2 ^ 64 = found.1 in
     omega (arith, lt)
 
@@ -22,7 +23,7 @@ invariant_of-self c =
     let ring = c.args.ring.now in
     let fits : is_ring_size ring.size ≡ true = ap (λ r. is_ring_size r.size) (sym c.ring.view_is) ∙ c.ring.invariant.fits in
     let few : is_producer_count ring.producers ≡ true = ap (λ r. is_producer_count r.producers) (sym c.ring.view_is) ∙ c.ring.invariant.few in
-    retired_pass ring.size ring.producers c.self.inside.next c.add_one-index.result (packet_if c.self.inside.whole c.self.inside.packet) c.self.inside.seat.me c.store.new.seat.me c.add_one-index.new.seat.me fits few c.self.invariant c.store.ensures.told c.add_one-index.ensures.told
+    retired_pass ring.size ring.producers c.self.inside.next c.add_one-index.result (then_some c.self.inside.whole c.self.inside.packet) c.self.inside.seat.me c.store.new.seat.me c.add_one-index.new.seat.me fits few c.self.invariant c.store.ensures.told c.add_one-index.ensures.told
 
 pub returns : goal.returns
 returns c =
@@ -30,8 +31,8 @@ returns c =
     let index : ℕ = c.add_one-index.result in
     let fits : is_ring_size ring.size ≡ true = ap (λ r. is_ring_size r.size) (sym c.ring.view_is) ∙ c.ring.invariant.fits in
     let few : is_producer_count ring.producers ≡ true = ap (λ r. is_producer_count r.producers) (sym c.ring.view_is) ∙ c.ring.invariant.few in
-    let steps = retired_steps ring.size ring.producers c.self.inside.next index (packet_if c.self.inside.whole c.self.inside.packet) c.self.inside.seat.me c.store.new.seat.me c.add_one-index.new.seat.me fits few c.self.invariant c.store.ensures.told c.add_one-index.ensures.told in
-    let found = found_index ring.size ring.producers c.self.inside.next index (packet_if c.self.inside.whole c.self.inside.packet) c.self.inside.seat.me c.store.new.seat.me c.add_one-index.new.seat.me fits few c.self.invariant c.store.ensures.told c.add_one-index.ensures.told in
+    let steps = retired_steps ring.size ring.producers c.self.inside.next index (then_some c.self.inside.whole c.self.inside.packet) c.self.inside.seat.me c.store.new.seat.me c.add_one-index.new.seat.me fits few c.self.invariant c.store.ensures.told c.add_one-index.ensures.told in
+    let found = found_index ring.size ring.producers c.self.inside.next index (then_some c.self.inside.whole c.self.inside.packet) c.self.inside.seat.me c.store.new.seat.me c.add_one-index.new.seat.me fits few c.self.invariant c.store.ensures.told c.add_one-index.ensures.told in
     let after = as_processor (only_part c.add_one-index.new.seat.me.0) in
     record {
       retired = (

@@ -1,11 +1,15 @@
--- Clients and objects that a test finds the same.
-use Rattle.std.proofs.Common.{◌≡◌, ℕ, Bool, true, false, ◌&&◌, ◌==◌, refl, sym, ap, true≢false}
+-- Clients and objects that a test finds the same, and what is so of every right.
+use Rattle.std.proofs.Common.{◌≡◌, ℕ, Bool, true, false, not, ◌&&◌, ◌||◌, ◌==◌, refl, sym, ap, true≢false}
 use Rattle.std.proofs.lemmas.Bool.Decides.{Decides-eqb}
 use Rattle.aql_packet.specs.declared.ids.ClientId.{ClientId}
 use Rattle.policy.specs.declared.object.Object.{Object}
 use Rattle.policy.specs.declared.object.Object.TheVariants.{Agent, Region, Signal, Kernel}
 use Rattle.policy.specs.Object.{same_object}
-use Rattle.grants.specs.Pairs.{same_pair}
+use Rattle.policy.specs.declared.rights.Right.{Right}
+use Rattle.policy.specs.declared.rights.Right.TheVariants.{Use, Read, Write, Wait, Change, Launch}
+use Rattle.policy.specs.declared.rights.Rights.{Rights}
+use Rattle.policy.specs.Pairs.{same_pair}
+use Rattle.policy.specs.Rights.{has, each_right}
 
 pub both : (a b : Bool) → (a && b) ≡ true → (a ≡ true) × (b ≡ true)
 both true b h = (refl, h)
@@ -40,3 +44,24 @@ same_object_itself (Kernel h) = itself h.0
 
 pub same_pair_itself : (c : ClientId) (o : Object) → same_pair c o c o ≡ true
 same_pair_itself c o = rw (itself c.0) (same_object_itself o)
+
+-- what is so of each of the six is so of every right
+pub for_each_right : (P : Right → Type 0) → P Use → P Read → P Write → P Wait → P Change → P Launch → (right : Right) → P right
+for_each_right P a b c d e f Use = a
+for_each_right P a b c d e f Read = b
+for_each_right P a b c d e f Write = c
+for_each_right P a b c d e f Wait = d
+for_each_right P a b c d e f Change = e
+for_each_right P a b c d e f Launch = f
+
+implied : (a b : Bool) → (not a || b) ≡ true → a ≡ true → b ≡ true
+implied true b h e = h
+implied false b h e = absurd (true≢false (sym e))
+
+-- each right of the set passes the test
+pub each_right-has : (rights : Rights) (test : Right → Bool) → each_right rights test ≡ true → (right : Right) → has rights right ≡ true → test right ≡ true
+each_right-has rights test h right =
+    let a = both _ _ h in let b = both _ _ a.1 in let c = both _ _ b.1 in let d = both _ _ c.1 in let e = both _ _ d.1 in let f = both _ _ e.1 in
+    for_each_right (λ r. has rights r ≡ true → test r ≡ true)
+    (implied (has rights Use) (test Use) a.0) (implied (has rights Read) (test Read) b.0) (implied (has rights Write) (test Write) c.0)
+    (implied (has rights Wait) (test Wait) d.0) (implied (has rights Change) (test Change) e.0) (implied (has rights Launch) (test Launch) f.0) right
