@@ -24,13 +24,13 @@ use Rattle.hsail_reader.specs.declared.types.UnaryOperation.TheVariants.{Convert
 
 -- a register to set, at a type of this class
 abbrev pub is_set : RegisterClass → Operand → Bool
-is_set class (operand.Target t) = is_same_class (type_class t.kind) class
-is_set class _ = false
+is_set c (operand.Target t) = is_same_class (type_class t.kind) c
+is_set c _ = false
 
 -- a source to read, at a type of this class
 abbrev pub is_read : RegisterClass → Operand → Bool
-is_read class (operand.Source s) = is_same_class (type_class s.kind) class
-is_read class _ = false
+is_read c (operand.Source s) = is_same_class (type_class s.kind) c
+is_read c _ = false
 
 -- an address to load from
 abbrev pub is_loaded : Operand → Bool
