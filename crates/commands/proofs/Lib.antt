@@ -1,4 +1,3 @@
 pub mod Judging
-pub mod Writing
 pub mod Rows
 pub mod Entries

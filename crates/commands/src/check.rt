@@ -44,11 +44,7 @@ fn text_of_counts(alloc: Global, policy: &Policy) -> Result<String, AllocError>
 }
 
 // Writes a text of counts, and has the writer pass it on.
-fn pass_on<W: io::Write>(
-    text: &str,
-    out: &mut W,
-    answers: &mut Answers,
-) -> Result<(), ScriptFault>
+fn pass_on<W: io::Write>(text: &str, out: &mut W, answers: &mut Answers) -> Result<(), ScriptFault>
     requires { answers.old.write_failed ≡ false }
     ensures { WritesText text.now result answers.new (W.contents out.old) (W.contents out.new) }
 {

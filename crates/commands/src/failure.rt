@@ -133,12 +133,7 @@ fn line_of(alloc: Global, failure: Failure) -> Result<String, AllocError>
 }
 
 // Writes a line, and tells how the command ends: failed, where the writer failed.
-fn tell_line<E: io::Write>(
-    line: &str,
-    ending: Status,
-    err: &mut E,
-    answers: &mut Answers,
-) -> Status
+fn tell_line<E: io::Write>(line: &str, ending: Status, err: &mut E, answers: &mut Answers) -> Status
     requires { answers.old.write_failed ≡ false }
     ensures { TellsLine line.now ending answers.new (E.contents err.old) (E.contents err.new) result }
 {
