@@ -8,6 +8,7 @@ pub mod Pieces
 pub mod Grammars
 pub mod Terminals
 pub mod RowOperations
+mod ModuleRows
 pub mod Decided
 pub mod Loop
 pub mod Located

@@ -14,7 +14,7 @@ has_type Untyped t text s = s.1
 has_type set t text s = s.1
 
 -- a word that is spelled is of the row that spells it
-row_word : (code : Opcode) (text : List ℕ) → SpellsOpcode code text → IsRowWord code
+pub row_word : (code : Opcode) (text : List ℕ) → SpellsOpcode code text → IsRowWord code
 row_word code text (row, rest, listed, whole, (modifiers, type, parts, spelled, allowed, typed, form, operands)) = record {
   row = row;
   listed = listed;

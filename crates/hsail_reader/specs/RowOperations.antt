@@ -2,9 +2,10 @@
 -- allows, a type that the row has, and the operands that the row has at their places, each at the type that the row
 -- gives it (PRM, the chapters on instructions; which rows there are is (own)).
 use Rattle.std.specs.Prelude.{◌≡◌, true}
-use Rattle.std.specs.List.{Contains}
+use Rattle.std.specs.List.{All, Contains}
 use Rattle.hsail_reader.specs.Rows.{InstructionRow, allows, kind_at, rows, types_of}
-use Rattle.hsail_reader.specs.Nouns.{DataType, Opcode, Operand, Operation, Shape, TypeSet, B1, Untyped}
+use Rattle.hsail_reader.specs.Nouns.{DataType, Item, Module, Opcode, Operand, Operation, Shape, TypeSet, B1, Untyped}
+use Rattle.hsail_reader.specs.declared.module.Item.TheVariants as an_item
 use Rattle.hsail_reader.specs.declared.module.Operand.TheVariants as an_operand
 use Rattle.hsail_reader.specs.declared.rows.Shape.TheVariants as shape
 
@@ -43,3 +44,12 @@ pub record IsOfRow (op : Operation) : Type 0 where
   pub second : HasShape row.operands.1 op.kind op.operands.second
   pub third : HasShape row.operands.2 op.kind op.operands.third
   pub fourth : HasShape row.operands.3 op.kind op.operands.fourth
+
+-- an item of a kernel is no instruction, or its operation is of a row
+abbrev pub IsItemOfRow : Item → Type 0
+IsItemOfRow (an_item.Instruction i) = IsOfRow i.operation
+IsItemOfRow _ = Unit {0}
+
+-- all operations of a module are of rows
+abbrev pub AreOfRows : Module → Type 0
+AreOfRows m = All (λ k. All IsItemOfRow k.items) m.kernels

@@ -2,6 +2,7 @@
 
 ghost use Rattle.std.specs.Prelude.{◌≡◌, ℕ, List, true, Ok};
 ghost use Rattle.hsail_reader.specs.Grammar.{SpellModule, IsTextOf};
+ghost use Rattle.hsail_reader.specs.RowOperations.{AreOfRows};
 ghost use Rattle.hsail_reader.specs.Sample.{sample, sample_module};
 ghost use Rattle.hsail_reader.specs.Syntax.{module_at, reading};
 ghost use Rattle.hsail_reader.specs.TextTokens.{AreTokens, PlacedToken};
@@ -36,4 +37,9 @@ pub fn texts_are_read_as_spelled()
     ensures spelled { (text : List ℕ) (m : Module) → reading text ≡ Ok m → IsTextOf text m }
     ensures one { (text : List ℕ) (a b : Module) → IsTextOf text a → IsTextOf text b → a ≡ b }
     ensures some { IsTextOf sample sample_module }
+{}
+
+/// All operations of a module are of rows of the table, where a text spells the module. It does nothing.
+pub fn spelled_operations_are_of_rows()
+    ensures { (text : List ℕ) (m : Module) → IsTextOf text m → AreOfRows m }
 {}

@@ -19,8 +19,8 @@ mod words;
 
 pub use fault::{Cause, ReadError, ReadFault};
 pub use grammar::{
-    modules_are_read_as_spelled, texts_are_cut_as_spelled, texts_are_read_as_spelled,
-    words_are_read_as_spelled,
+    modules_are_read_as_spelled, spelled_operations_are_of_rows, texts_are_cut_as_spelled,
+    texts_are_read_as_spelled, words_are_read_as_spelled,
 };
 pub use module::{
     Access, Address, Argument, GroupVariable, Indexed, Instruction, Item, Kernel, Label, Module,
