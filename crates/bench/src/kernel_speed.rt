@@ -3,7 +3,7 @@
 
 use crate::fault::Fault;
 use aql_packet::RegionHandle;
-use executor::{Dispatch, Extent, HeldRegion, Run, run_group};
+use executor::{Dispatch, Extent, HeldRegion, Run, View, run_group};
 use hsail_reader::read_module;
 use kernel_check::{Checked, check};
 use policy::Rights;
@@ -118,7 +118,7 @@ fn run_items(
     checked: &Checked,
     items: u32,
     arguments: &[u8],
-    view: &[HeldRegion<'_>],
+    view: &View<'_>,
 ) -> Result<Sequence<Run>, Fault> {
     if items < 1 || items > MOST_ITEMS || checked.count() < 1 {
         return Err(Fault::Kernel);
@@ -146,8 +146,9 @@ fn run_items(
 /// Measures so many items that count in registers.
 pub fn count(rt: &impl Clock, alloc: Global, items: u32) -> Result<Taken, Fault> {
     let checked = kernel(alloc, COUNTING)?;
+    let view = View::new(alloc);
     let start = Instant::now(rt)?;
-    run_items(alloc, &checked, items, &[], &[])?;
+    run_items(alloc, &checked, items, &[], &view)?;
     let time = start.elapsed(rt)?;
     Ok(Taken {
         steps: u64::from(items).wrapping_mul(COUNTING_STEPS),
@@ -178,11 +179,12 @@ fn run_storing(
 ) -> Result<Duration, Fault> {
     let checked = kernel(alloc, text)?;
     let bytes = vec![in alloc; 0; REGION_BYTES]?;
-    let view = [HeldRegion {
+    let mut view = View::new(alloc);
+    view.put(HeldRegion {
         handle: RegionHandle(REGION),
         rights: Rights::from_each(false, true, true, false, false, false),
         bytes: bytes.as_slice(),
-    }];
+    })?;
     let start = Instant::now(rt)?;
     let runs = run_items(alloc, &checked, items, &ARGUMENT, &view)?;
     let time = start.elapsed(rt)?;

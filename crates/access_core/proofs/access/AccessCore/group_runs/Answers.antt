@@ -1,11 +1,10 @@
 -- The executor can run the group on what it is lent, and what it comes to is what the history says.
-use Rattle.std.proofs.Common.{◌≡◌, ◌∙◌, ap, refl, sym, List, Some, All, length, map, slice_get, true}
+use Rattle.std.proofs.Common.{◌≡◌, ◌∙◌, ap, refl, sym, List, Some, All, length, slice_get, true}
 use Rattle.std.proofs.lemmas.Result.{IfErr-weaker, IfOk-weaker}
 use Rattle.executor.specs.Results.{FailsAs, FinishesAs, group_result, wrote}
 use Rattle.executor.specs.Runs.{GroupInput, input_of}
 use Rattle.executor.specs.declared.dispatch.Dispatch.{Dispatch}
 use Rattle.executor.specs.declared.run.Run.{Run}
-use Rattle.executor.specs.Items.{lent_region}
 use Rattle.access_core.specs.declared.kernel.Kernel.{Kernel}
 use Rattle.access_core.specs.inner.Running.{FaultsAs, next_result}
 use Rattle.access_core.proofs.GroupRuns.{block-is, entry-below, faults-as, kernel-there, program-is, program-there, program_at, result-is, runnable, runs-within}
@@ -36,7 +35,7 @@ run_group-requires-clause-runnable c =
     c.args.place.progress.groups_run c.requires.left
 
 -- what the executor is asked to run
-abbrev asked : goal.After-drop-view → Dispatch
+abbrev asked : goal.After-drop-view-inside → Dispatch
 asked c = record {
   kernel = c.kernel_at-kernel.result.now.entry;
   group_size = c.group_size.result;
@@ -46,15 +45,15 @@ asked c = record {
 }
 
 -- and what it answers for
-abbrev input : goal.After-drop-view → GroupInput
-input c = input_of (program_at c.kernel_at-kernel.result.now) (asked c) c.args.place.progress.groups_run c.as_slice-2.result.now
+abbrev input : goal.After-drop-view-inside → GroupInput
+input c = input_of (program_at c.kernel_at-kernel.result.now) (asked c) c.args.place.progress.groups_run c.in_ok-view.view
 
-here : (c : goal.After-drop-view) → slice_get c.kernel_at-kernel.result.now.checked c.kernel_at-kernel.result.now.entry ≡ Some (program_at c.kernel_at-kernel.result.now)
+here : (c : goal.After-drop-view-inside) → slice_get c.kernel_at-kernel.result.now.checked c.kernel_at-kernel.result.now.entry ≡ Some (program_at c.kernel_at-kernel.result.now)
 here c =
     let at = ap (λ (ks : List Kernel). numbered ks c.args.dispatch.kernel_object.0) (sym c.as_slice.ensures.value) ∙ c.kernel_at-kernel.ensures in
     program-there c.self.inside c.self.invariant _ c.self.view_is c.args.queue c.args.packet c.args.place c.requires.found c.args.dispatch c.requires.packet_is c.kernel_at-kernel.result.now at
 
-same : (c : goal.After-drop-view) → next_result c.args.self.now c.args.queue c.args.packet c.args.place c.args.dispatch ≡ group_result (input c)
+same : (c : goal.After-drop-view-inside) → next_result c.args.self.now c.args.queue c.args.packet c.args.place c.args.dispatch ≡ group_result (input c)
 same c =
     let a = c.self.inside in
     let h = c.args.self.now in
@@ -65,8 +64,7 @@ same c =
     (record { group_size_is = c.group_size.ensures; grid_size_is = c.grid_size.ensures; segment_is = refl; arguments_are = c.get.ensures ∙ block })
     (program_at c.kernel_at-kernel.result.now)
     (program-is a c.self.invariant h c.self.view_is c.args.queue c.args.packet c.args.place c.requires.found d c.requires.packet_is c.kernel_at-kernel.result.now at _ (here c))
-    c.args.place.progress.groups_run c.groups_read_where_they_may.ensures c.as_slice-2.result.now
-    (ap (map lent_region) c.as_slice-2.ensures.value ∙ c.in_ok-view.ensures)
+    c.args.place.progress.groups_run c.groups_read_where_they_may.ensures c.in_ok-view.view c.in_ok-view.ensures
 
 pub returns-clause-ok : goal.returns-clause-ok
 returns-clause-ok c =

@@ -1,22 +1,48 @@
 -- The next region is lent where it is held.
-use Rattle.std.proofs.Common.{◌≡◌, ◌∙◌, ◌++◌, ap, sym, arith, length, option_to_list, Option}
+use Rattle.std.proofs.Common.{◌≡◌, ◌∙◌, ◌+◌, ◌<◌, ◌++◌, ap, sym, arith, length, option_to_list, Option, All, List, subst, true, ℕ}
+use Rattle.std.specs.Prelude.{option_map}
 use Rattle.std.proofs.lemmas.List.{append-nil, length-map}
+use Rattle.executor.specs.Items.{lent_region}
 use Rattle.executor.specs.declared.view.HeldRegion.{HeldRegion}
-use Rattle.policy.specs.Policy.{Declared}
+use Rattle.policy.specs.Policy.{Declared, region_lengths as declared_lengths}
 use Rattle.core_model.specs.Holds.{packet_rights}
-use Rattle.access_core.proofs.LendingLemmas.{lent-all, lent-behind, lent_so_far}
-use Rattle.access_core.proofs.Terms.{region_lengths}
+use Rattle.access_core.proofs.LendingLemmas.{few-regions, lent-all, lent-behind, lent-below, lent-number, lent_so_far}
+use Rattle.access_core.proofs.Terms.{are_region_lengths, region_lengths}
 use Rattle.access_core.proofs.access.AccessCore.view.Goals as goal
-use Rattle.access_core.proofs.access.AccessCore.view.Goals.{in-Some+in_ok-push, in_default}
+use Rattle.access_core.proofs.access.AccessCore.view.Goals.{in-Some+in_ok-put, in_default}
+
+number-is : (c : goal.After-view-1) → c.in-Some.held.handle.0 ≡ c.loop-before.before + 1
+number-is c =
+    let h = c.args.self.now in
+    lent-number h.start h.entries (packet_rights h.start h.entries c.args.queue c.args.packet) (c.loop-before.before + 1) c.in-Some.held
+    (ap (option_map lent_region) (sym c.in-Some.is) ∙ c.region_if_held.ensures)
+
+pub put-requires-clause-begins : goal.put-requires-clause-begins
+put-requires-clause-begins c = omega (arith, number-is c)
+
+pub put-requires-clause-ends : goal.put-requires-clause-ends
+put-requires-clause-ends c =
+    let h = c.args.self.now in
+    let fit : are_region_lengths (region_lengths h.start) ≡ true = ap (λ (p : Declared). are_region_lengths (declared_lengths p)) (sym c.policy.ensures) ∙ c.object_count-before-end.ensures.limits.regions in
+    let few = few-regions (region_lengths h.start) fit in
+    let declared = ap (λ (p : Declared). length p.regions) c.policy.ensures in
+    let long = length-map h.start.policy.regions (λ row. row.1) in
+    omega (arith, number-is c, c.loop-before-test.true, c.loop-before.auto.before-end, c.object_count-before-end.ensures.count, declared, long, few)
+
+pub put-requires-clause-behind : goal.put-requires-clause-behind
+put-requires-clause-behind c =
+    let h = c.args.self.now in
+    subst (λ (n : ℕ). All (λ region. region.handle.0 < n) c.loop-before.view) (sym (number-is c))
+    (lent-below h.start h.entries (packet_rights h.start h.entries c.args.queue c.args.packet) c.loop-before.before c.loop-before.view c.loop-before.invariant)
 
 pub loop-before-preserved : goal.loop-before-preserved
 loop-before-preserved c =
     let h = c.args.self.now in
-    let before = c.loop-before.view.items in
+    let before = c.loop-before.view in
     lent-behind h.start h.entries (packet_rights h.start h.entries c.args.queue c.args.packet) c.loop-before.before before _ c.region_if_held.result c.loop-before.invariant c.region_if_held.ensures
     (elim c.match-region_if_held.branch [
-      | in-Some+in_ok-push w ↦ ap (λ v. v.items) w.view-is ∙ w.in_ok-push.ensures.items ∙ ap (λ (o : Option HeldRegion). before ++ option_to_list o) (sym w.in-Some.is)
-      | in_default w ↦ ap (λ v. v.items) w.view-is ∙ sym (append-nil before) ∙ ap (λ (o : Option HeldRegion). before ++ option_to_list o) (sym w.in_default.is)
+      | in-Some+in_ok-put w ↦ w.view-is ∙ w.in_ok-put.ensures ∙ ap (λ (o : Option HeldRegion). before ++ option_to_list o) (sym w.in-Some.is)
+      | in_default w ↦ w.view-is ∙ sym (append-nil before) ∙ ap (λ (o : Option HeldRegion). before ++ option_to_list o) (sym w.in_default.is)
     ])
 
 pub returns : goal.returns
