@@ -1,3 +1,4 @@
 pub mod ArgumentBlocks
 pub mod Opening
+pub mod Tables
 pub mod inner

@@ -1,6 +1,6 @@
 //! The argument blocks of packets in flight, as they were at their launches.
 
-ghost use Rattle.std.specs.Prelude.{◌≡◌, ◌++◌, ◌∷◌, [], OnErr, OnOk, filter, not};
+ghost use Rattle.std.specs.Prelude.{◌≡◌, ◌++◌, ◌∷◌, [], OnErr, OnOk, filter, length, not};
 ghost use Rattle.access_core.specs.ArgumentBlocks.{block_of, is_block};
 
 use aql_packet::{PacketId, QueueId};
@@ -43,6 +43,13 @@ impl ArgumentBlocks {
         ArgumentBlocks {
             blocks: Sequence::new(alloc),
         }
+    }
+
+    /// How many blocks there are.
+    pub fn len(&self) -> usize
+        ensures { result ≡ length self.now }
+    {
+        self.blocks.len()
     }
 
     /// The block of a packet in flight; of another packet, no bytes.

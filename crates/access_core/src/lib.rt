@@ -8,6 +8,8 @@ mod access;
 mod argument_blocks;
 mod kernel;
 mod queue;
+mod tables;
 
 pub use access::{AccessCore, OpenFault};
 pub use kernel::Kernel;
+pub use tables::TableSizes;

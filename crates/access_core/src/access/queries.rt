@@ -3,8 +3,10 @@
 ghost use Rattle.std.specs.Prelude.{◌≡◌};
 ghost use Rattle.core_model.specs.declared.answer.Answer.TheVariants as answer;
 ghost use Rattle.core_model.specs.Legal.{IsLegal, Replies, RepliesOrLacks, as_variant};
+ghost use Rattle.access_core.specs.Tables.{table_sizes};
 
 use crate::access::AccessCore;
+use crate::tables::TableSizes;
 use aql_packet::{Address, ClientId, QueueId, SignalHandle};
 use core_model::{Entry, MOST_HOST_BYTES, Query, Range, Refusal};
 use policy::{Object, Policy, Right, Rights};
@@ -28,6 +30,18 @@ impl AccessCore {
         ensures legal { IsLegal self.now.start self.now.entries }
     {
         self.audit.as_slice()
+    }
+
+    /// How long the core's tables are: what its history says, so calls that say they take no memory make none of
+    /// them longer.
+    pub fn table_sizes(&self) -> TableSizes
+        ensures { result ≡ table_sizes self.now }
+    {
+        TableSizes {
+            queues: self.queues.len(),
+            argument_blocks: self.blocks.len(),
+            audit_places: self.audit.len() + self.audit.room(),
+        }
     }
 
     /// The `length` bytes of memory from an address on. Refused in this order: no client has the

@@ -1,0 +1,13 @@
+//! How long the tables are that a core keeps.
+
+/// How long the tables are that a core keeps beside its policy, its memory, its signals and its rights in
+/// force, all of which stay as long as the policy has them (own).
+#[derive(Clone, Copy, Debug, PartialEq, Eq)]
+pub struct TableSizes {
+    /// Queues: as many as were opened.
+    pub queues: usize,
+    /// Argument blocks: one of each packet in flight.
+    pub argument_blocks: usize,
+    /// Places of the audit, for its entries and those to come: its capacity.
+    pub audit_places: usize,
+}
