@@ -2,7 +2,7 @@
 //! that the proofs of the tests don't carry what each call is owed.
 
 use crate::studio::{POLICY, kernels, read};
-use access_core::{AccessCore, Kernel, OpenFault};
+use access_core::{AccessCore, Kernel, OpenFault, TableSizes};
 use aql_packet::{
     Address, AgentDispatch, AgentHandle, ClientId, Header, KernelDispatch, KernelObject, Packet,
     PacketId, QueueId, RegionHandle, Scope, SignalHandle, encode,
@@ -210,12 +210,30 @@ fn ends_once(alloc: Global, core: &mut AccessCore) -> bool {
         && becomes(alloc, core, 0, &encode(&FILL), Err(Refusal::OutOfStep(1)))
 }
 
-/// Whether a packet goes its way on a queue of Nora's.
+fn sizes(core: &AccessCore) -> TableSizes {
+    core.table_sizes()
+}
+
+/// Whether the core's tables have so many queues and argument blocks, and all places of the audit.
+fn has_tables(core: &AccessCore, queues: usize, argument_blocks: usize) -> bool {
+    sizes(core)
+        == TableSizes {
+            queues,
+            argument_blocks,
+            audit_places: 100,
+        }
+}
+
+/// Whether a packet goes its way on a queue of Nora's, and the core's tables are as long as it has them.
 fn goes_its_way(alloc: Global, core: &mut AccessCore) -> bool {
     grants_all(core)
+        && has_tables(core, 0, 0)
         && opens_queue(alloc, core)
+        && has_tables(core, 1, 0)
         && runs_in_its_turn(alloc, core)
+        && has_tables(core, 1, 1)
         && ends_once(alloc, core)
+        && has_tables(core, 1, 0)
 }
 
 fn is_handed_over_once(alloc: Global, mut core: AccessCore) -> bool {
