@@ -118,6 +118,7 @@ module _ (start : Start) (es : List Entry) (all : List ObjectRight) where
       up_to i d known =
           let inside : i < count = omega (arith, known, length-range_with_len 1 count) in
           omega (arith, inside, get_or-range_with_len 1 count i d inside)
+
       numbers : (regions : List Borrowed) → All (λ region. region.number < count + 1) (map lent_region regions) → All (λ region. region.handle.0 < count + 1) regions
       numbers [] below i d known = absurd (omega (arith, known))
       numbers (r ∷ rs) below zero d known = below 0 (lent_region d) (omega arith)
@@ -130,6 +131,7 @@ module _ (start : Start) (es : List Entry) (all : List ObjectRight) where
       number_or : Option LentRegion → ℕ
       number_or None = number
       number_or (Some region) = region.number
+
       by_test : (region : HeldRegion) (b : Bool) → (region.rights.0 == 0) ≡ b → region.number ≡ number → number_or (lent_if_held start es region) ≡ number
       by_test region true none is = rw none refl
       by_test region false some is = rw some is

@@ -1,6 +1,8 @@
 //! The measurements of kernels: items that count, items that load, add and store, and items that meet at
 //! barriers.
 
+ghost use Rattle.std.specs.Prelude.{◌≤◌, ◌^◌, length};
+
 use crate::fault::Fault;
 use aql_packet::RegionHandle;
 use executor::{Dispatch, Extent, HeldRegion, Run, View, run_group};
@@ -88,15 +90,16 @@ const MEETING_STEPS: u64 = 65_535;
 /// How often an item of the meeting kernel adds 1.
 const MEETING_TURNS: u64 = 13_106;
 
-/// The region of the kernels that store, and their argument: the region's first address.
-const REGION: u32 = 1;
+/// How many regions the kernels that store are lent. They store in the last, whose first address is their
+/// argument.
+const REGIONS: u32 = 64;
 
-const ARGUMENT: [u8; 8] = [0, 0, 0, 0, 1, 0, 0, 0];
+const ARGUMENT: [u8; 8] = [0, 0, 0, 0, 64, 0, 0, 0];
 
 /// How many bytes of group memory each kernel is given.
 const GROUP_MEMORY: u32 = 4;
 
-/// How many bytes the region has.
+/// How many bytes that region has.
 const REGION_BYTES: usize = 8_192;
 
 /// How many steps some items took, and how long.
@@ -168,6 +171,21 @@ fn sum(runs: &Sequence<Run>) -> u64 {
     sum
 }
 
+/// Lends the same bytes as each of the regions.
+fn lend<'a>(alloc: Global, bytes: &'a [u8]) -> Result<View<'a>, Fault>
+    requires { length bytes.now ≤ 2 ^ 24 }
+{
+    let mut view = View::new(alloc);
+    'regions: for before in 0..REGIONS {
+        view.put(HeldRegion {
+            handle: RegionHandle(before + 1),
+            rights: Rights::from_each(false, true, true, false, false, false),
+            bytes,
+        })?;
+    }
+    Ok(view)
+}
+
 /// Runs so many items of a kernel that stores; what they stored has to add up to their turns. How long
 /// they took.
 fn run_storing(
@@ -179,12 +197,7 @@ fn run_storing(
 ) -> Result<Duration, Fault> {
     let checked = kernel(alloc, text)?;
     let bytes = vec![in alloc; 0; REGION_BYTES]?;
-    let mut view = View::new(alloc);
-    view.put(HeldRegion {
-        handle: RegionHandle(REGION),
-        rights: Rights::from_each(false, true, true, false, false, false),
-        bytes: bytes.as_slice(),
-    })?;
+    let view = lend(alloc, bytes.as_slice())?;
     let start = Instant::now(rt)?;
     let runs = run_items(alloc, &checked, items, &ARGUMENT, &view)?;
     let time = start.elapsed(rt)?;
