@@ -8,7 +8,7 @@ use aql_packet::MOST_REGIONS;
 use std::alloc::{AllocError, Global};
 use std::marker::Model;
 
-/// The regions that a packet holds, in the order of their numbers. Whatever their number, the one that an
+/// The regions that a packet holds, in the order of their numbers. However many there are, the one that an
 /// address lies in is found by two look-ups. A contract sees the list of regions.
 #[derive(Drop)]
 pub struct View<'a> {
@@ -43,7 +43,7 @@ impl<'a> View<'a> {
     /// Puts a region behind others, whose numbers are less.
     pub fn put(&mut self, region: HeldRegion<'a>) -> Result<(), AllocError>
         requires begins { 1 ≤ region.handle.0 }
-        requires ends { region.handle.0 ≤ 64 }
+        requires ends { region.handle.0 ≤ MOST_REGIONS }
         requires behind { All (λ before. before.handle.0 < region.handle.0) self.old }
         ensures { OnOk result (self.new ≡ self.old ++ region.entry ∷ []) }
     {

@@ -1,5 +1,5 @@
 -- The next region is lent where it is held.
-use Rattle.std.proofs.Common.{◌≡◌, ◌∙◌, ◌+◌, ◌<◌, ◌++◌, ap, sym, arith, length, option_to_list, Option, All, List, subst, true, ℕ}
+use Rattle.std.proofs.Common.{◌≡◌, ◌∙◌, ◌+◌, ◌<◌, ◌++◌, ap, sym, arith, length, option_to_list, Option, All, subst, true, ℕ}
 use Rattle.std.specs.Prelude.{option_map}
 use Rattle.std.proofs.lemmas.List.{append-nil, length-map}
 use Rattle.executor.specs.Items.{lent_region}
