@@ -11,7 +11,7 @@ use Rattle.core_model.specs.Kernels.{no_kernel}
 use Rattle.kernel_check.specs.Programs.{Program}
 use Rattle.policy.specs.Policy.{Declared, Name, Source}
 use Rattle.policy.proofs.NameLemmas.{position-map}
-use Rattle.commands.specs.Kernels.{checked_text, entry_in, first_without_entry, has_its_entry, kernel_of, programs_in}
+use Rattle.commands.specs.Kernels.{entry_in, first_without_entry, has_its_entry, kernel_of, programs_in}
 
 entry-there : (programs : List Program) (entry : List ℕ) → nat_lt (entry_in programs entry) (length programs) ≡ is_some (position (λ kernel. bytes_eq entry kernel.name) programs)
 entry-there programs entry = by_place (position (λ kernel. bytes_eq entry kernel.name) programs) refl
@@ -22,7 +22,7 @@ entry-there programs entry = by_place (position (λ kernel. bytes_eq entry kerne
 
 -- a source's kernel has an entry just where its module has one of the name
 has-entry : (source : Source) → has_entry (kernel_of source) ≡ has_its_entry source
-has-entry source = entry-there (programs_in (checked_text source.text)) source.entry
+has-entry source = entry-there (programs_in source.text) source.entry
 
 first-missing : (rows : List (Name × Source)) → first_missing (map (λ row. kernel_of row.1) rows) ≡ first_without_entry rows
 first-missing rows =

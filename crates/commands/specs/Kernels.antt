@@ -1,7 +1,7 @@
 -- Which kernels of a policy are let pass, what packets may then launch, and which is the first that isn't let pass (own).
 use Rattle.std.specs.Prelude.{ℕ, ◌≡◌, ◌<◌, ◌≤◌, Bool, not, List, [], length, map, position, Option, Some, None, is_some, option_map, Result, Ok, Err, ⊤}
 use Rattle.std.specs.Option.{unwrap_or}
-use Rattle.std.specs.Result.{result_err}
+use Rattle.std.specs.Result.{result_err, result_unwrap_or}
 use Rattle.std.specs.Str.{bytes_eq}
 use Rattle.access_core.specs.declared.kernel.Kernel.{Kernel}
 use Rattle.hsail_reader.specs.declared.module.Module.{Module}
@@ -31,9 +31,9 @@ checked_reading (Err fault) = Err (Read fault)
 unfoldable pub checked_text : List ℕ → Result (List Program) KernelCause
 checked_text text = checked_reading (reading text)
 
-abbrev pub programs_in : Result (List Program) KernelCause → List Program
-programs_in (Ok programs) = programs
-programs_in (Err cause) = []
+-- the checked kernels of a kernel's text, none where something is wrong with it
+abbrev pub programs_in : List ℕ → List Program
+programs_in text = result_unwrap_or (checked_text text) []
 
 -- what is wrong with a kernel's text, if anything is
 abbrev pub cause_of : List ℕ → Option KernelCause
@@ -46,13 +46,13 @@ entry_in programs entry = unwrap_or (position (λ kernel. bytes_eq entry kernel.
 -- what packets may launch by a source: the kernel of its module that its entry names
 abbrev pub kernel_of : Source → Kernel
 kernel_of source = record {
-  checked = programs_in (checked_text source.text);
-  entry = entry_in (programs_in (checked_text source.text)) source.entry;
+  checked = programs_in source.text;
+  entry = entry_in (programs_in source.text) source.entry;
 }
 
 -- whether a source's module has a kernel of its entry's name
 abbrev pub has_its_entry : Source → Bool
-has_its_entry source = is_some (position (λ kernel. bytes_eq source.entry kernel.name) (programs_in (checked_text source.text)))
+has_its_entry source = is_some (position (λ kernel. bytes_eq source.entry kernel.name) (programs_in source.text))
 
 -- the index of the first kernel whose module has none of its entry's name, if there is one
 abbrev pub first_without_entry : List (Name × Source) → Option ℕ
