@@ -20,6 +20,20 @@ impl io::Write for Full {
     }
 }
 
+/// A writer that takes all bytes and can pass none on, as a pipe that nobody reads any more.
+#[derive(Drop)]
+struct Stuck;
+
+impl io::Write for Stuck {
+    fn write(&mut self, bytes: &[u8]) -> io::Result<usize> {
+        Ok(bytes.len())
+    }
+
+    fn flush(&mut self) -> io::Result<()> {
+        Err(io::Error::from(AllocError))
+    }
+}
+
 /// A reader of some bytes that fails behind them, as a broken pipe does.
 #[derive(Drop)]
 struct Broken<'a> {
@@ -49,6 +63,26 @@ fn a_writer_that_fails_is_told(rt: HostRuntime) {
         10,
         &mut script,
         &mut Full,
+        &mut err,
+    );
+    assert_eq!(rt; status, Status::Failed);
+    assert!(rt; err.as_slice() == b"write fault\n".as_slice());
+}
+
+#[test]
+fn a_writer_that_passes_nothing_on_is_told(rt: HostRuntime) {
+    let mut err = Vec::new(rt.alloc());
+    let status = check_policy(rt.alloc(), POLICY.as_bytes(), &mut Stuck, &mut err);
+    assert_eq!(rt; status, Status::Failed);
+    assert!(rt; err.as_slice() == b"write fault\n".as_slice());
+    let mut err = Vec::new(rt.alloc());
+    let mut script = "audit\n".as_bytes();
+    let status = run_policy(
+        rt.alloc(),
+        POLICY.as_bytes(),
+        10,
+        &mut script,
+        &mut Stuck,
         &mut err,
     );
     assert_eq!(rt; status, Status::Failed);
