@@ -8,7 +8,7 @@ use Rattle.aql_packet.specs.Ids.{same_packet}
 use Rattle.core_model.specs.Flight.{with_launched}
 use Rattle.access_core.proofs.Terms.{Denied, Effect, Entry, Event, InFlight, Launched, Outcome, Packet, PacketId, Place, Progress, QueueError, QueueId}
 use Rattle.core_model.specs.declared.flight.TheConstants.{LAUNCH_PROGRESS}
-use Rattle.access_core.proofs.Terms.{QueueView, Start, Take, as_launched, decoded, entry_of, error_without_place, error_of, errors, errors-more, flight}
+use Rattle.access_core.proofs.Terms.{QueueView, Start, Take, as_launched, decoded, entry_of, error_without_place, error_of, errors-more, flight}
 use Rattle.access_core.proofs.Terms.{flight-more, flight_after_effect, flight_of, hands_over_packet_of, is_packet, is_stopped-more, launched_by, next_id, next_id-more}
 use Rattle.access_core.proofs.Terms.{place_of, progress, progress-more, progress_after, queue_at, stops_queue, with_entry, with_error, with_progress, without}
 use Rattle.core_model.specs.declared.outcome.Outcome.TheVariants as outcome

@@ -1,7 +1,7 @@
 //! Numbers in the bytes of a packet, little-endian (PSA, Architected Queuing Language).
 
 ghost use Rattle.aql_packet.specs.Numbers.{number_at, written};
-ghost use Rattle.std.specs.Prelude.{length, ◌+◌, ◌<◌, ◌==◌, ◌^◌, ◌≡◌, ◌≤◌};
+ghost use Rattle.std.specs.Prelude.{◌+◌, ◌<◌, ◌==◌, ◌^◌, ◌≡◌, ◌≤◌};
 
 use byteorder::{ByteOrder, LittleEndian};
 

@@ -3,7 +3,7 @@
 ghost use Rattle.aql_packet.specs.Layout.{PacketOf, is_well_formed};
 ghost use Rattle.aql_packet.specs.Numbers.{bits};
 ghost use Rattle.aql_packet.specs.Reading.{agent_at, barrier_at, decoded, header_at, is_known, is_plain_header, kernel_at, packet_at, packet_type, refusal, reserved_is_zero, scope_of};
-ghost use Rattle.std.specs.Prelude.{IsTrue, MatchResult, ◌==◌, ◌<◌, ◌^◌, ◌≡◌, IfOk};
+ghost use Rattle.std.specs.Prelude.{IsTrue, MatchResult, ◌==◌, ◌<◌, ◌≡◌, IfOk};
 
 use crate::ids::{Address, KernelObject, SignalHandle};
 use crate::numbers::{is_zero_at, u16_at, u32_at, u64_at};

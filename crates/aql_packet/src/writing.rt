@@ -1,9 +1,8 @@
 //! Packets to bytes (PSA, Architected Queuing Language).
 
 ghost use Rattle.aql_packet.specs.Layout.{IsHeader, Lays, LaysAgent, LaysBarrier, LaysKernel, PacketOf, is_well_formed, scope_number};
-ghost use Rattle.aql_packet.specs.Numbers.{bit_of, bits};
 ghost use Rattle.aql_packet.specs.Reading.{decoded};
-ghost use Rattle.std.specs.Prelude.{IsTrue, List, length, Some, ℕ, ◌<◌, ◌≡◌, ◌≤◌};
+ghost use Rattle.std.specs.Prelude.{IsTrue, List, Some, ℕ, ◌<◌, ◌≡◌, ◌≤◌};
 
 use crate::numbers::{put_u16, put_u32, put_u64};
 use crate::packet::{AgentDispatch, Barrier, Header, KernelDispatch, Packet, Scope};

@@ -6,8 +6,6 @@ ghost use Rattle.std.specs.Option.{option_copied};
 ghost use Rattle.std.specs.Str.{bytes_eq};
 ghost use Rattle.toml.specs.Data.{get_member};
 ghost use Rattle.toml.specs.View.{view, table_view};
-ghost use Rattle.policy.specs.Object.{same_kind};
-ghost use Rattle.policy.specs.RightNames.{name_of_right};
 ghost use Rattle.policy.specs.Choice.{chosen};
 ghost use Rattle.policy.specs.Format.{is_name_byte, is_name, a_name, a_text, a_number, an_entry, a_length, length_of_number, is_text, items_in, dispatches_in, some_dispatches, kind_named, a_kind, kind_of_right, names_right, rights_in, some_rights, a_choice, choice_of};
 
