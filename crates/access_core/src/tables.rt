@@ -1,7 +1,7 @@
 //! How long the tables are that a core keeps.
 
-/// How long the tables are that a core keeps beside its policy, its memory, its signals and its rights in
-/// force, all of which stay as long as the policy has them (own).
+/// How long the tables are that a core keeps of its queues, of its packets in flight and of its entries (own).
+/// Memory, signals and rights in force are as long as the policy has them.
 #[derive(Clone, Copy, Debug, PartialEq, Eq)]
 pub struct TableSizes {
     /// Queues: as many as were opened.

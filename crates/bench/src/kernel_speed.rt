@@ -4,7 +4,7 @@
 ghost use Rattle.std.specs.Prelude.{◌≤◌, ◌^◌, length};
 
 use crate::fault::Fault;
-use aql_packet::RegionHandle;
+use aql_packet::{MOST_REGIONS, RegionHandle};
 use executor::{Dispatch, Extent, HeldRegion, Run, View, run_group};
 use hsail_reader::read_module;
 use kernel_check::{Checked, check};
@@ -90,10 +90,7 @@ const MEETING_STEPS: u64 = 65_535;
 /// How often an item of the meeting kernel adds 1.
 const MEETING_TURNS: u64 = 13_106;
 
-/// How many regions the kernels that store are lent. They store in the last, whose first address is their
-/// argument.
-const REGIONS: u32 = 64;
-
+/// The argument of the kernels that store: the first address of the last of all regions, which they are lent.
 const ARGUMENT: [u8; 8] = [0, 0, 0, 0, 64, 0, 0, 0];
 
 /// How many bytes of group memory each kernel is given.
@@ -176,7 +173,7 @@ fn lend<'a>(alloc: Global, bytes: &'a [u8]) -> Result<View<'a>, Fault>
     requires { length bytes.now ≤ 2 ^ 24 }
 {
     let mut view = View::new(alloc);
-    'regions: for before in 0..REGIONS {
+    'regions: for before in 0..MOST_REGIONS as u32 {
         view.put(HeldRegion {
             handle: RegionHandle(before + 1),
             rights: Rights::from_each(false, true, true, false, false, false),

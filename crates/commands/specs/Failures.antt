@@ -43,7 +43,7 @@ status_of (Line number) = Refused
 status_of Read = Failed
 status_of Write = Failed
 
--- its line
+-- a failure's line
 abbrev pub line_of_failure : Failure → List ℕ
 line_of_failure failure = text_of_failure failure ++ 10 ∷ []
 

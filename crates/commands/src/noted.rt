@@ -5,7 +5,7 @@ ghost use Rattle.commands.specs.Commands.{none_noted};
 
 use script::Answers;
 
-/// What the reader and the writers of a command answered so far. Only the calls that read and write change it.
+/// What the reader and the writers of a command answered so far.
 #[derive(Drop)]
 pub struct Noted {
     /// What the script's reader answered, and the writer of its replies, or of a policy's counts.

@@ -17,7 +17,7 @@ abbrev pub if_long : ℕ → Option HeldRegion → Option HeldRegion
 if_long offset None = None
 if_long offset (Some region) = if nat_lt offset (length region.bytes.now) then Some region else None
 
--- a table from the numbers 0 to 64 to places, by which that region is found that a walk over all finds; there are fewer
+-- a table from the numbers up to `MOST_REGIONS` to places, by which that region is found that a walk over all finds; there are fewer
 -- regions than a number that is above all of theirs
 pub record Finds (places : List ℕ) (regions : List HeldRegion) : Type 0 where
   pub size : length places ≡ MOST_REGIONS + 1

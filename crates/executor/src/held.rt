@@ -1,5 +1,5 @@
 //! The regions that a packet holds, and how the one that an address lies in is found.
-ghost use Rattle.std.specs.Prelude.{◌≡◌, ◌<◌, ◌≤◌, ◌++◌, ◌∷◌, [], All, OnOk, find};
+ghost use Rattle.std.specs.Prelude.{◌≡◌, ◌<◌, ◌≤◌, ◌++◌, ◌∷◌, [], All, OnErr, OnOk, find};
 ghost use Rattle.std.specs.Option.{option_copied};
 ghost use Rattle.executor.specs.Views.{has_byte_at};
 
@@ -45,7 +45,8 @@ impl<'a> View<'a> {
         requires begins { 1 ≤ region.handle.0 }
         requires ends { region.handle.0 ≤ MOST_REGIONS }
         requires behind { All (λ before. before.handle.0 < region.handle.0) self.old }
-        ensures { OnOk result (self.new ≡ self.old ++ region.entry ∷ []) }
+        ensures ok { OnOk result (self.new ≡ self.old ++ region.entry ∷ []) }
+        ensures err { OnErr result (self.new ≡ self.old) }
     {
         self.regions.push(region)?;
         self.places[region.handle.0 as usize] = self.regions.len() as u8;

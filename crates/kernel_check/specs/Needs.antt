@@ -1,6 +1,7 @@
 -- What the step of an operation needs of it (PRM, the chapters on instructions): registers and sources of the classes
--- that the step has at their places, an address, a label or a dimension where the step has one, and a type for which
--- there are such steps. Where all of it is there, nothing in `Steps` stands in for what isn't.
+-- that the step has at their places, an address, a label or a dimension where the step has one, and a width for which
+-- there are such steps. Which types a row has is the row's (`IsOfRow` of `hsail_reader`), and that names, addresses and
+-- numbers stand for something is the check's (`IsFaithful`).
 use Rattle.std.specs.Prelude.{Bool, true, false, not, ◌&&◌, ◌||◌, ◌==◌}
 use Rattle.kernel_check.specs.Causes.{is_same_segment}
 use Rattle.kernel_check.specs.Operands.{is_same_class}

@@ -1,5 +1,5 @@
 -- A step reads and sets what its instruction has, in the order of the text: the first register is set, and the
--- sources stand behind it (PRM, Operands).
+-- sources stand behind it (PRM, Operands). A register is told by its number; of which class it is, `Steps` says.
 use Rattle.std.specs.Prelude.{◌≡◌, ℕ, ◌%◌, ◌^◌, List, [], ◌∷◌, ◌++◌, ◌==◌, Option, Some, None}
 use Rattle.kernel_check.specs.Constants.{constant_bits}
 use Rattle.kernel_check.specs.Steps.{reads, sets, slot_of, sources_of, target_in}
@@ -49,7 +49,7 @@ AreSources [] sources = Unit {0}
 AreSources (a ∷ later) [] = ⊥
 AreSources (a ∷ later) (t ∷ sources) = IsSource a t × AreSources later sources
 
--- what is set is a register of the text
+-- what is set has the number of a register of the text
 abbrev pub IsTarget : Option ℕ → Register → Type 0
 IsTarget None r = Unit {0}
 IsTarget (Some n) r = n ≡ slot_of r
@@ -58,7 +58,7 @@ IsTarget (Some n) r = n ≡ slot_of r
 abbrev pub KeepsOrder : Operation → Step → Type 0
 KeepsOrder op s = IsTarget (sets s) (target_in op.operands.first) × AreSources (reads s) (sources_of op.form op)
 
--- the register that an operand sets
+-- the number of the register that an operand sets
 abbrev pub set_by : Operand → Option ℕ
 set_by (operand.Target t) = Some (slot_of t.register)
 set_by _ = None
@@ -78,7 +78,7 @@ AreAllSources [] [] = Unit {0}
 AreAllSources (a ∷ later) (t ∷ sources) = IsSource a t × AreAllSources later sources
 AreAllSources _ _ = ⊥
 
--- a step sets the register that the text sets, if there is one, and reads all the sources of the text, in their
--- order
+-- a step sets the register of the number that the text sets, if there is one, and reads all the sources of the text, in
+-- their order
 abbrev pub KeepsAll : Operation → Step → Type 0
 KeepsAll op s = (sets s ≡ set_by op.operands.first) × AreAllSources (reads s) (sources_by op.operands)

@@ -1,8 +1,8 @@
 -- The step that an instruction comes to. Where nothing is wrong with the instruction, each register's
 -- number is below 64, each constant fits its place and each name stands for something (the law
--- `steps_are_faithful`), so the zeros below never come in. An operation that a program holds is of a row of the table
+-- `steps_are_faithful`), so the zeros below never come in. An operation, of whatever module, is of a row of the table
 -- (the law `operations_are_of_rows` of `hsail_reader`), and has what its step needs (the law
--- `steps_have_what_they_need`), so neither do the moves, the returns and what else stands for an operation that has not.
+-- `steps_have_what_they_need`), so neither do the moves, the returns and what else stands for an operation that hasn't.
 use Rattle.std.specs.Prelude.{ℕ, ◌+◌, ◌%◌, ◌^◌, List, [], ◌∷◌, Bool, true, false, ◌==◌, nat_lt, if◌then◌else◌, Option, Some, None, unwrap_or}
 use Rattle.kernel_check.specs.Constants.{constant_bits}
 use Rattle.kernel_check.specs.declared.layout.Placed.{Placed}

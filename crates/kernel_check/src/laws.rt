@@ -37,8 +37,9 @@ pub fn steps_are_faithful()
 
 /// An operation of a row of the table, as each of a module is (`operations_are_of_rows` of `hsail_reader`), has all
 /// that its step needs: registers and sources of the step's classes, an address, a label or a dimension where
-/// the step has one, and a type for which there are such steps. Its step sets the register that the text sets,
-/// if there is one, and reads all the sources of the text, in their order. It does nothing.
+/// the step has one, and a type for which there are such steps. Its step sets the register of the number that
+/// the text sets, if there is one, and reads all the sources of the text, registers by number, in their order.
+/// It does nothing.
 pub fn steps_have_what_they_need()
     ensures needed { (op : Operation) → IsOfRow op → leaves_nothing_out op ≡ true }
     ensures all { (arguments : List ℕ → Option Placed) (labels : List ℕ → Option ℕ) (op : Operation)

@@ -9,7 +9,7 @@ ghost use Rattle.script.specs.declared.fault.ScriptFault.TheVariants.{Read, Writ
 use crate::fault::ScriptFault;
 use std::io;
 
-// The most writes for the replies to one block, of those that are interrupted too (own).
+// The most writes for one text, of those that are interrupted too (own).
 const MOST_WRITES: u64 = 1 << 40;
 
 /// What the reader and the writer of a run answered so far. Only the calls of this module change it.
@@ -19,7 +19,7 @@ pub struct Answers {
     reads: u64,
     // Whether a read failed.
     read_failed: bool,
-    // Whether the writer failed: it gave an error, or took none of some bytes.
+    // Whether the writer failed: it gave an error, took none of some bytes, or was asked 2^40 times.
     write_failed: bool,
 }
 

@@ -32,8 +32,8 @@ impl AccessCore {
         self.audit.as_slice()
     }
 
-    /// How long the core's tables are: what its history says, so calls that say they take no memory make none of
-    /// them longer.
+    /// How long these tables of the core are, as its history says: calls that take no memory make none of them
+    /// longer.
     pub fn table_sizes(&self) -> TableSizes
         ensures { result ≡ table_sizes self.now }
     {
