@@ -1,3 +1,5 @@
+//! A module as its text spells it: kernels, items and operations.
+
 ghost use Rattle.std.specs.Prelude.{◌≡◌};
 ghost use Rattle.hsail_reader.specs.RowOperations.{IsOfRow};
 

@@ -1,3 +1,5 @@
+//! The table of instructions: a row for each, and the modifiers that it may have.
+
 ghost use Rattle.std.specs.Prelude.{◌≡◌, map};
 ghost use Rattle.hsail_reader.specs.Rows.{allows, bracketed_rows, kind_at, modifier_rows, modifier_view, row_view, rows, types_of, type_name};
 

@@ -1,3 +1,5 @@
+//! Lexemes and tokens: the words of a kernel text.
+
 ghost use Rattle.std.specs.Prelude.{◌≡◌};
 ghost use Rattle.hsail_reader.specs.Bytes.{spelled};
 ghost use Rattle.hsail_reader.specs.Lexemes.{lexed};

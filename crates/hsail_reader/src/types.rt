@@ -1,3 +1,5 @@
+//! The nouns of the language: data types, registers, segments, modifiers and operations.
+
 ghost use Rattle.std.specs.Prelude.{◌≡◌};
 ghost use Rattle.hsail_reader.specs.Rows.{with_number};
 ghost use Rattle.hsail_reader.specs.Types.{type_bits, type_class, alignment_bytes};

@@ -1,4 +1,4 @@
--- What a group of a kernel dispatch is owed, by what it came to.
+-- What a group of a kernel dispatch is lent, and what it is owed by what it came to.
 use Rattle.std.specs.Prelude.{◌≡◌, ◌==◌, ℕ, List, Option, None, Some, map, if◌then◌else◌}
 use Rattle.aql_packet.specs.declared.ids.ClientId.{ClientId}
 use Rattle.aql_packet.specs.declared.ids.PacketId.{PacketId}
