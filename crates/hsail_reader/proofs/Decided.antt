@@ -1,7 +1,7 @@
 -- Each line of the grammar decides its choices by the next token.
 use Rattle.std.proofs.Common.{◌≡◌, ℕ, ⊎_elim, inl, inr, List, [], ◌∷◌, Bool, true, false, Option, Some, None, refl, sym, ap, subst, ◌∙◌}
 use Rattle.std.specs.Option.{option_map}
-use Rattle.hsail_reader.specs.Grammar.{signed, constant, source, offset, place, place_inside, index, address_inside, address, operand, next_operand, operation, operands, labelled, performed, extent, declared, aligned, plain, unlabelled, item, items, body, alignment, kernarg_flaw, argument, next_argument, some_arguments, signature, kernel_begin, kernel, is_none_left, kernels, fields, module_text}
+use Rattle.hsail_reader.specs.Grammar.{signed, constant, source, offset, place, place_inside, index, address_inside, address, operand, next_operand, operation_with, operands, labelled, performed, extent, declared, aligned, plain, unlabelled, item, items, body, alignment, kernarg_flaw, argument, next_argument, some_arguments, signature, kernel_begin, kernel, is_none_left, kernels, fields, module_text}
 use Rattle.hsail_reader.specs.Grammars.{Grammar, give, behind, spells, begun_by, begins, read}
 use Rattle.hsail_reader.specs.Terminals.{mark_of, number_of, register_of, same_kind, same_word, word_at, picked, align_of, align, group_of, semicolon, open_bracket, close_parenthesis, close_brace, syntax, at_begin, behind_align}
 use Rattle.hsail_reader.specs.TextTokens.{PlacedToken}
@@ -166,7 +166,7 @@ next_first s kind f F law to (a, x, end, (b, between, (one, front, comma, there)
 
 -- what stands behind the second operand of a row, and behind its first
 abbrev from_fourth : Opcode → Operand → Operand → Operand → Grammar Operation
-from_fourth code a b c = behind (next_operand code.operands.3 code.kind) (λ d. give (operation code a b c d))
+from_fourth code a b c = behind (next_operand code.operands.3 code.kind) (λ d. give (operation_with code a b c d))
 
 abbrev from_third : Opcode → Operand → Operand → Grammar Operation
 from_third code a b = behind (next_operand code.operands.2 code.kind) (from_fourth code a b)
@@ -176,7 +176,7 @@ operations : (code : Opcode) (F : Front) → BeforeNoBracket F → Decides (oper
 unfolding operands
 operations code F law =
     let third : (a b : Operand) → BeforeNoBracket (Behind (from_fourth code a b) F) =
-    λ a b. next_first code.operands.3 code.kind (λ c d. give (operation code a b c d)) F (λ c. given (operation code a b c) F law) in
+    λ a b. next_first code.operands.3 code.kind (λ c d. give (operation_with code a b c d)) F (λ c. given (operation_with code a b c) F law) in
     let second : (a : Operand) → BeforeNoBracket (Behind (from_third code a) F) =
     λ a. next_first code.operands.2 code.kind (from_fourth code a) F (third a) in (
       operand_decides code.operands.0 code.kind _ (next_first code.operands.1 code.kind (from_third code) F second),
@@ -184,7 +184,7 @@ operations code F law =
         next_decides code.operands.1 code.kind _ (second a),
         λ b. (
           next_decides code.operands.2 code.kind _ (third a b),
-          λ c. (next_decides code.operands.3 code.kind _ (given (operation code a b c) F law), λ d. tt),
+          λ c. (next_decides code.operands.3 code.kind _ (given (operation_with code a b c) F law), λ d. tt),
         ),
       ),
     )

@@ -87,8 +87,9 @@ abbrev pub next_operand : Shape → DataType → Grammar Operand
 next_operand shape.Absent kind = give an_operand.Absent
 next_operand s kind = comma >> operand s kind
 
-abbrev pub operation : Opcode → Operand → Operand → Operand → Operand → Operation
-operation code a b c d = record {
+-- the operation of an opcode with these operands
+abbrev pub operation_with : Opcode → Operand → Operand → Operand → Operand → Operation
+operation_with code a b c d = record {
   form = code.form;
   modifiers = code.modifiers;
   kind = code.kind;
@@ -102,7 +103,7 @@ operands code = do
   b ← next_operand code.operands.1 code.kind
   c ← next_operand code.operands.2 code.kind
   d ← next_operand code.operands.3 code.kind
-  give (operation code a b c d)
+  give (operation_with code a b c d)
 
 -- a label: @name :
 unfoldable pub labelled : Grammar Item
