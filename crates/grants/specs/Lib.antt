@@ -5,3 +5,4 @@ pub mod Holds
 pub mod Cells
 pub mod Ledger
 pub mod Laws
+pub mod inner

@@ -29,7 +29,7 @@ pub struct Grants {
 
 impl Model for Grants {
     ghost use Rattle.std.specs.Prelude.{◌-◌, vec_len, vec_capacity};
-    ghost use Rattle.grants.specs.Cells.{IsCounted};
+    ghost use Rattle.grants.specs.inner.Counts.{IsCounted};
     ghost use Rattle.grants.specs.Ledger.{Ledger};
 
     ghost Value = { Ledger };
