@@ -11,7 +11,7 @@ use Rattle.policy.specs.declared.rights.Rights.{Rights}
 use Rattle.policy.specs.Rights.{has, all_rights}
 use Rattle.grants.specs.declared.hold.Hold.{Hold}
 use Rattle.grants.specs.declared.cell.Cell.{Cell}
-use Rattle.grants.specs.Rules.{knows_client, knows}
+use Rattle.policy.specs.Rules.{knows_client, knows}
 use Rattle.grants.specs.Holders.{same_packet, IsFirstTo}
 use Rattle.grants.specs.Holds.{held}
 use Rattle.grants.specs.inner.PacketHolds.{is_of, hold_of, holds_one}

@@ -9,7 +9,7 @@ use Rattle.policy.specs.declared.rights.Right.{Right}
 use Rattle.policy.specs.Object.{kind_of, number_of}
 use Rattle.policy.specs.Rights.{has}
 use Rattle.grants.specs.declared.cell.Cell.{Cell}
-use Rattle.grants.specs.Rules.{Rules, knows_client, knows}
+use Rattle.policy.specs.Rules.{Rules, knows_client, knows}
 
 -- ---- places
 

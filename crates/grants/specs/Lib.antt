@@ -1,5 +1,4 @@
 pub mod Pairs
-pub mod Rules
 pub mod Holders
 pub mod Holds
 pub mod Cells
