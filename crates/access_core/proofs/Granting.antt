@@ -8,7 +8,7 @@ use Rattle.access_core.proofs.Least.{passes, least-none, least-first}
 use Rattle.access_core.proofs.Terms.{ClientId, Grant, History, InFlight, Inside, IsCached, IsFirstTo, Object, PacketId, QueueId, Revoke, RevokeAnswers, Rights}
 use Rattle.access_core.proofs.Terms.{Rules, allows, declares, declares_client, due, enters, flight, grant_due, history_of, holder, holds_one_of, is_full}
 use Rattle.access_core.proofs.Terms.{is_holder, is_queue_of, knows, knows_client, refusal_of, refuse_unless, refuses, rules_in, rules_of, start_of}
-use Rattle.grants.specs.Rules as rules_kept
+use Rattle.policy.specs.Rules as rules_kept
 use Rattle.grants.specs.declared.refusal.Refusal.TheVariants as why
 use Rattle.core_model.specs.declared.outcome.Outcome.TheVariants as outcome
 use Rattle.core_model.specs.declared.refusal.Refusal.TheVariants as refusal

@@ -3,7 +3,7 @@ use Rattle.std.proofs.Common.{◌≡◌, List, ◌∙◌, ap, true, Ok}
 use Rattle.core_model.specs.Queries.{query_answer}
 use Rattle.access_core.proofs.Terms.{ClientId, History, Inside, IsCached, Object, Rights, Rules, all_objects, count_of, declares_client, history_of, listing, listing_by}
 use Rattle.access_core.proofs.Terms.{start_of}
-use Rattle.grants.specs.Rules as rules_kept
+use Rattle.policy.specs.Rules as rules_kept
 use Rattle.grants.specs.Ledger as ledger
 use Rattle.core_model.specs.declared.answer.Answer.TheVariants as answer
 use Rattle.core_model.specs.declared.event.Query.TheVariants as query

@@ -1,5 +1,5 @@
 -- Requests that are served one behind the other.
-use Rattle.std.proofs.Common.{List, [], ◌∷◌, ◌++◌, refl, ap, subst, inl, inr, Result}
+use Rattle.std.proofs.Common.{List, [], ◌∷◌, ◌++◌, refl, subst, Result}
 use Rattle.core_model.specs.declared.event.Query.{Query}
 use Rattle.core_model.specs.declared.event.Request.{Request}
 use Rattle.access_core.proofs.Terms.{AreReplies, Event, History, IsServed, MeetsOrLacks, Outcome, Refusal, RepliesOrLacks, AnswerOrRefusal, as_reply}
@@ -7,13 +7,11 @@ use Rattle.core_model.specs.declared.event.Request.TheVariants as request
 
 -- an event that got what was due, or wanted memory, was served
 pub served-event : (event : Event) (old new : History) (made : Result Outcome Refusal) → MeetsOrLacks event old new made → IsServed old (request.Event event) (as_reply made) new
-served-event event old new made (inl meets) = inl (ap as_reply meets.reply_is, meets.history_is)
-served-event event old new made (inr lacks) = inr (lacks.may, ap as_reply lacks.reply_is, lacks.history_is)
+served-event event old new made got = (made, refl, got)
 
 -- a query that got its answer, or wanted memory, was served
 pub served-query : (asked : Query) (old : History) (reply : AnswerOrRefusal) → RepliesOrLacks asked old reply → IsServed old (request.Query asked) reply old
-served-query asked old reply (inl replies) = inl (replies, refl)
-served-query asked old reply (inr lacks) = inr (lacks.0, lacks.1, refl)
+served-query asked old reply got = (got, refl)
 
 -- one request more is served behind others
 pub AreReplies-more : (old mid new : History) (requests : List Request) (replies : List AnswerOrRefusal) (asked : Request) (reply : AnswerOrRefusal)

@@ -11,7 +11,7 @@ use Rattle.packet_processor.proofs.FirstFailing.{first_failing-decoded}
 use Rattle.core_model.specs.Queues.{opening_of, next_id}
 use Rattle.core_model.specs.declared.need.Need.{Need}
 use Rattle.core_model.specs.LaunchRules.{cause_to_wait}
-use Rattle.packet_processor.specs.Judged.{later_failing}
+use Rattle.packet_processor.specs.inner.FieldRules.{later_failing, rules_of_fields}
 use Rattle.core_model.specs.Owed.{owed}
 use Rattle.std.proofs.Common.{◌⊎◌, inl, inr, not}
 use Rattle.std.proofs.lemmas.Bool.{or_right}
@@ -26,7 +26,6 @@ use Rattle.core_model.specs.Headline.{MayReach, MayReachRange, argument_ranges}
 use Rattle.core_model.specs.Holds.{held_by_arguments, held_by_needs}
 use Rattle.core_model.specs.Kernels.{kernel_of}
 use Rattle.core_model.specs.LaunchRules.{has_form, meets_rule}
-use Rattle.packet_processor.specs.Judged.{rules_of_fields}
 use Rattle.access_core.specs.inner.Deciding.{IsBlockPlaced}
 use Rattle.access_core.specs.inner.QueueChanges.{with_launched}
 use Rattle.access_core.proofs.CachedMore.{QueuesAfter, none-launched}

@@ -24,7 +24,8 @@ pub use Rattle.core_model.specs.Grants.{in_force, in_force_after}
 pub use Rattle.core_model.specs.History.{History, Start}
 pub use Rattle.core_model.specs.Holds.{ObjectRight, right_needed, rights_at_launch, holder, holds_one_of, is_launch, is_queue_of, is_up_to, least_in_flight}
 pub use Rattle.core_model.specs.LaunchRules.{Facts, first_failing_rule, is_barrier, need_is_met, lies_whole, cause_to_wait}
-pub use Rattle.core_model.specs.Legal.{AreReplies, IsLegal, IsServed, Meets, MeetsOrLacks, RepliesOrLacks, as_reply, due, entry_of, lacks_room, with_entry}
+pub use Rattle.core_model.specs.Legal.{AreReplies, IsLegal, IsServed, Meets, MeetsOrLacks, RepliesOrLacks, as_reply, due, entry_of, lacks_room}
+pub use Rattle.core_model.specs.inner.Entries.{with_entry}
 pub use Rattle.core_model.specs.Legal.{within_room}
 pub use Rattle.core_model.specs.Memory.{byte_after, memory_at, memory_from, region_lengths, signals, signals_after}
 pub use Rattle.core_model.specs.Needs.{completion_signal, function_of, memory_needs, needs}
@@ -45,11 +46,11 @@ pub use Rattle.core_model.specs.declared.outcome.Taken.TheVariants.{Denied, Laun
 pub use Rattle.core_model.specs.declared.refusal.Refusal.{Refusal}
 pub use Rattle.grants.specs.Holders.{IsFirstTo, IsUpTo}
 pub use Rattle.grants.specs.Ledger.{Holds, IsNew, Ledger, Releases, RevokeAnswers, are_in_force, grant_due, holds, is_holder, rules_in}
-pub use Rattle.grants.specs.Rules.{Rules, knows, knows_client, rules_of}
 pub use Rattle.packet_processor.specs.Queueing.{as_launched, is_at, with_progress, without}
 pub use Rattle.packet_processor.specs.declared.places.Place.{Place}
 pub use Rattle.policy.proofs.NameLemmas.{numbered-map, numbered-next}
-pub use Rattle.policy.specs.Policy.{Name, allows, count_of, declares, declares_client, numbered, row_of}
+pub use Rattle.policy.specs.Policy.{Name, allows, count_of, declares, declares_client, numbered, row_of, rules_of}
+pub use Rattle.policy.specs.Rules.{Rules, knows, knows_client}
 pub use Rattle.policy.specs.Listing.{all_objects, listing_by}
 pub use Rattle.policy.specs.Rights.{all_rights, bit_of, each_right, has, rights_that}
 pub use Rattle.policy.specs.declared.object.Object.{Object}

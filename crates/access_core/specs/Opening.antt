@@ -2,13 +2,12 @@
 use Rattle.std.specs.Prelude.{ℕ, ◌+◌, ◌==◌, ◌≡◌, ◌&&◌, Bool, not, nat_le, nat_lt, List, [], length, map, position, slice_get, Option, Some, None, Result, Ok, Err, if◌then◌else◌}
 use Rattle.std.specs.Option.{unwrap_or}
 use Rattle.kernel_check.specs.Programs.{Program}
-use Rattle.policy.specs.Policy.{Declared, initial_values, numbered, region_lengths}
+use Rattle.policy.specs.Policy.{Declared, initial_values, numbered, region_lengths, rules_of}
 use Rattle.core_model.specs.declared.limits.TheConstants.{MOST_ENTRIES}
 use Rattle.core_model.specs.History.{History}
 use Rattle.core_model.specs.Kernels.{no_kernel, segments_of}
 use Rattle.core_model.specs.Legal.{empty_history}
 use Rattle.regions.specs.Memory.{zeros}
-use Rattle.grants.specs.Rules.{rules_of}
 use Rattle.grants.specs.Ledger.{IsNew, rules_in}
 use Rattle.access_core.specs.declared.access.opening.Parts.{Parts}
 use Rattle.access_core.specs.declared.access.OpenFault.{OpenFault}

@@ -36,6 +36,7 @@ use Rattle.core_model.specs.declared.outcome.Taken.TheVariants as taken
 use Rattle.core_model.specs.declared.outcome.Worked.TheVariants as worked
 use Rattle.core_model.specs.declared.outcome.Polled.TheVariants as polled_as
 use Rattle.core_model.specs.declared.refusal.Refusal.{Refusal}
+use Rattle.core_model.specs.declared.refusal.Refusal.TheVariants.{Busy}
 use Rattle.core_model.specs.declared.entry.Effect.{Effect}
 use Rattle.core_model.specs.declared.entry.Effect.TheVariants as effect
 use Rattle.core_model.specs.declared.entry.Entry.{Entry}
@@ -53,7 +54,7 @@ use Rattle.core_model.specs.Needs.{completion_signal}
 use Rattle.core_model.specs.LaunchRules.{first_failing_rule, cause_to_wait, is_barrier}
 use Rattle.core_model.specs.View.{Given, given, group_input}
 use Rattle.core_model.specs.Work.{groups_of, write_of_run, agent_writes, is_ready, is_negative, seen_dependencies, newly_seen_positions}
-use Rattle.core_model.specs.Owed.{refuse_if, Owed, owed, answers, enters, refuse_if_held, owed_verdict, for_packet, error_without_place, facts_of, is_host_size, is_finished, signal_decrement, owed_take, group_error, group_owed, owed_group, owed_poll, owed_finish, owed_sight, barrier_in, release_of, old_if_asked}
+use Rattle.core_model.specs.Owed.{refuse_if, refuses, Owed, owed, answers, enters, owed_verdict, for_packet, error_without_place, facts_of, is_host_size, is_finished, signal_decrement, owed_take, group_error, group_owed, owed_group, owed_poll, owed_finish, owed_sight, barrier_in, release_of, old_if_asked}
 use Rattle.core_model.proofs.Lists.{found-passes}
 use Rattle.core_model.proofs.Launches.{refuse_if-passed, refuse_unless-passed, for_some-found}
 
@@ -94,7 +95,7 @@ module _ (start : Start) (es : List Entry) (told : Outcome) (effects : List Effe
     pub is_quiet : IsQuiet
     pub unheld : holder start es client on rights ≡ None
 
-  unheld-passed : (o : Option InFlight) (rest : Owed) → refuse_if_held o rest ≡ enters told effects → (o ≡ None) × (rest ≡ enters told effects)
+  unheld-passed : (o : Option InFlight) (rest : Owed) → elim o [ None ↦ rest | Some f ↦ refuses (Busy f.queue f.id) ] ≡ enters told effects → (o ≡ None) × (rest ≡ enters told effects)
   unheld-passed None rest same = (refl, same)
   unheld-passed (Some f) rest same = absurd cc
 

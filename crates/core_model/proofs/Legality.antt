@@ -7,7 +7,8 @@ use Rattle.core_model.specs.declared.event.Event.{Event}
 use Rattle.core_model.specs.declared.outcome.Outcome.{Outcome}
 use Rattle.core_model.specs.History.{Start}
 use Rattle.core_model.specs.Owed.{enters, owed}
-use Rattle.core_model.specs.Legal.{IsLegal, IsLegalAfter, entry_of, with_entry}
+use Rattle.core_model.specs.Legal.{IsLegal, IsLegalAfter, entry_of}
+use Rattle.core_model.specs.inner.Entries.{with_entry}
 
 IsLegalAfter-more : (start : Start) (before entries : List Entry) (event : Event) (outcome : Outcome) (effects : List Effect) → IsLegalAfter start before entries → owed start (before ++ entries) event ≡ enters outcome effects → IsLegalAfter start before (entries ++ entry_of event outcome effects ∷ [])
 IsLegalAfter-more start before [] event outcome effects legal owing = (rw append-nil at owing, tt)

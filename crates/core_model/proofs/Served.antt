@@ -52,9 +52,8 @@ module _ (old : History) (legal : Legal old) (event : Event) where
   event-goes_on new reply (inr lacks) = stays old new legal lacks.history_is
 
 request-goes_on : (old new : History) (asked : Request) (reply : AnswerOrRefusal) → Legal old → IsServed old asked reply new → GoesOn old new
-request-goes_on old new (request.Event event) reply legal (inl served) = after-due old legal event new served.1
-request-goes_on old new (request.Query query) reply legal (inl served) = stays old new legal served.1
-request-goes_on old new asked reply legal (inr lacked) = stays old new legal lacked.2
+request-goes_on old new (request.Event event) reply legal served = event-goes_on old legal event new served.0 served.2
+request-goes_on old new (request.Query query) reply legal served = stays old new legal served.1
 
 through : (old mid new : History) → GoesOn old mid → GoesOn mid new → GoesOn old new
 through old mid new one two = record {
@@ -81,6 +80,6 @@ refused-event old new event why (answers outcome) told is = absurd cc
 refused-event old new event why (enters outcome effects) told is = absurd cc
 
 pub refused-stays : (old new : History) (asked : Request) (why : Refusal) → IsServed old asked (Err why) new → new ≡ old
-refused-stays old new (request.Event event) why (inl served) = refused-event old new event why (due old event) served.0 served.1
-refused-stays old new (request.Query query) why (inl served) = served.1
-refused-stays old new asked why (inr lacked) = lacked.2
+refused-stays old new (request.Event event) why (made, told, inl meets) = refused-event old new event why (due old event) (told ∙ ap as_reply meets.reply_is) meets.history_is
+refused-stays old new (request.Event event) why (made, told, inr lacks) = lacks.history_is
+refused-stays old new (request.Query query) why served = served.1

@@ -38,10 +38,6 @@ IsLegal start entries = IsLegalAfter start [] entries
 abbrev pub entry_of : Event → Outcome → List Effect → Entry
 entry_of event outcome effects = record { event = event; outcome = outcome; effects = effects }
 
--- the entries with one more behind them (own)
-abbrev pub with_entry : List Entry → Event → Outcome → List Effect → List Entry
-with_entry entries event outcome effects = entries ++ entry_of event outcome effects ∷ []
-
 -- whether an audit has no room for one entry more: after it fewer places would be free than packets are in flight (own)
 abbrev pub lacks_room : History → Entry → Bool
 lacks_room history entry =
@@ -69,7 +65,7 @@ reply_of (enters outcome effects) = Ok outcome
 abbrev pub entries_after : List Entry → Event → Owed → List Entry
 entries_after entries event (refuses why) = entries
 entries_after entries event (answers outcome) = entries
-entries_after entries event (enters outcome effects) = with_entry entries event outcome effects
+entries_after entries event (enters outcome effects) = entries ++ entry_of event outcome effects ∷ []
 
 -- the history after an event that is owed this (own)
 abbrev pub history_after : History → Event → Owed → History
@@ -121,11 +117,6 @@ query_may_lack (Ok _) = true
 abbrev pub as_reply : Result Outcome Refusal → AnswerOrRefusal
 as_reply made = as_variant answer.Outcome made
 
--- the reply that is due to a request (own)
-abbrev pub reply_due : History → Request → AnswerOrRefusal
-reply_due history (request.Event event) = as_reply (reply_of (due history event))
-reply_due history (request.Query asked) = query_answer history.start history.entries asked
-
 -- a query got its answer, or its refusal, and changed nothing (own)
 abbrev pub Replies : Query → History → AnswerOrRefusal → Type 0
 Replies asked history reply = reply ≡ query_answer history.start history.entries asked
@@ -135,21 +126,11 @@ abbrev pub RepliesOrLacks : Query → History → AnswerOrRefusal → Type 0
 RepliesOrLacks asked history reply =
     Replies asked history reply ⊎ ((query_may_lack (query_answer history.start history.entries asked) ≡ true) × (reply ≡ Err refusal.OutOfMemory))
 
--- whether a request may want memory (own)
-abbrev pub request_may_lack : History → Request → Bool
-request_may_lack history (request.Event event) = may_lack event (due history event)
-request_may_lack history (request.Query asked) = query_may_lack (query_answer history.start history.entries asked)
-
--- the history that is due after a request: queries change nothing (own)
-abbrev pub history_due : History → Request → History
-history_due history (request.Event event) = history_after history event (due history event)
-history_due history (request.Query asked) = history
-
--- a request was served: it got the reply that is due and left what is due, or was told that memory was wanted, and then it counts as not made (own)
+-- a request was served: an event got and left what was due, and a query, which changes nothing, got its reply; or either was told that
+-- memory was wanted, and then it counts as not made (own)
 abbrev pub IsServed : History → Request → AnswerOrRefusal → History → Type 0
-IsServed old asked reply new =
-    ((reply ≡ reply_due old asked) × (new ≡ history_due old asked))
-    ⊎ ((request_may_lack old asked ≡ true) × (reply ≡ Err refusal.OutOfMemory) × (new ≡ old))
+IsServed old (request.Event event) reply new = (made : Result Outcome Refusal) × (reply ≡ as_reply made) × MeetsOrLacks event old new made
+IsServed old (request.Query asked) reply new = RepliesOrLacks asked old reply × (new ≡ old)
 
 -- these replies answer these requests in turn, and lead from one history to the other (own)
 abbrev pub AreReplies : History → List Request → List AnswerOrRefusal → History → Type 0

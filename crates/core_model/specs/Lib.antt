@@ -1,4 +1,3 @@
-pub mod Effects
 pub mod History
 pub mod Grants
 pub mod Memory
@@ -15,3 +14,4 @@ pub mod Queries
 pub mod Legal
 pub mod Headline
 pub mod Refusals
+pub mod inner

@@ -189,11 +189,6 @@ old_if_asked (op.Exchange _) old = old
 old_if_asked (op.Cas _ _) old = old
 old_if_asked _ old = pos 0
 
--- the refusal of a revocation by the packet that holds a right (own)
-abbrev pub refuse_if_held : Option InFlight → Owed → Owed
-refuse_if_held None rest = rest
-refuse_if_held (Some f) rest = refuses (refusal.Busy f.queue f.id)
-
 -- what an event is owed after these entries, whatever room the audit has: its refusals in order, then its outcome (own)
 unfoldable pub owed : Start → List Entry → Event → Owed
 owed start entries (Grant client on rights) =
@@ -204,8 +199,7 @@ owed start entries (Grant client on rights) =
 owed start entries (Revoke client on rights) =
     refuse_unless (declares_client start.policy client) refusal.UnknownClient
     (refuse_unless (declares start.policy on) refusal.UnknownObject
-    (refuse_if_held (holder start entries client on rights)
-    (enters outcome.Accepted [])))
+    (elim (holder start entries client on rights) [ None ↦ enters outcome.Accepted [] | Some f ↦ refuses (refusal.Busy f.queue f.id) ]))
 owed start entries (OpenQueue client agent size) =
     refuse_unless (declares_client start.policy client) refusal.UnknownClient
     (refuse_unless (in_force start entries client (object.Agent agent) right.Use) (refusal.Denied right.Use)

@@ -28,7 +28,7 @@ impl Model for Effects {
 
     ghost Value = { List Effect };
 
-    ghost use Rattle.core_model.specs.Effects.{effects_in_order};
+    ghost use Rattle.core_model.specs.inner.Effects.{effects_in_order};
 
     ghost view = { λ e. effects_in_order e.kept };
 }

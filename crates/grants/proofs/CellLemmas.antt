@@ -10,7 +10,8 @@ use Rattle.policy.specs.declared.rights.Rights.{Rights}
 use Rattle.policy.specs.Rights.{has, each_right}
 use Rattle.grants.specs.declared.cell.Cell.{Cell}
 use Rattle.grants.specs.Pairs.{same_pair}
-use Rattle.grants.specs.Cells.{Table, SameRights, SameCounts, cell_of, has_right, count_in, count_of, replacement, one_for_right}
+use Rattle.grants.specs.Cells.{Table, cell_of, has_right}
+use Rattle.grants.specs.inner.Counts.{SameRights, SameCounts, count_in, count_of, replacement, one_for_right}
 use Rattle.policy.proofs.PairLemmas.{same_pair_is}
 
 pub once-le : (rights : Rights) (right : Right) → one_for_right rights right ≤ 1

@@ -15,9 +15,10 @@ use Rattle.policy.specs.Rights.{has, all_rights}
 use Rattle.grants.specs.declared.hold.Hold.{Hold}
 use Rattle.grants.specs.Pairs.{same_pair}
 use Rattle.grants.specs.Holders.{same_packet}
-use Rattle.grants.specs.Holds.{is_hold_of, held, holds_of}
+use Rattle.grants.specs.Holds.{held}
+use Rattle.grants.specs.inner.Counts.{is_hold_of, holds_of, IsCounted, hold_count, count_in, count_of, one_for_right}
 use Rattle.grants.specs.declared.cell.Cell.{Cell}
-use Rattle.grants.specs.Cells.{Table, IsCounted, cell_of, hold_count, count_in, count_of, one_for_right}
+use Rattle.grants.specs.Cells.{Table, cell_of}
 use Rattle.std.proofs.lemmas.Bool.{lt-ltb}
 use Rattle.policy.proofs.PairLemmas.{same_pair_itself}
 

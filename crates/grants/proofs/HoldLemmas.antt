@@ -14,7 +14,8 @@ use Rattle.policy.specs.Rights.{has, all_rights}
 use Rattle.grants.specs.declared.hold.Hold.{Hold}
 use Rattle.grants.specs.Pairs.{same_pair}
 use Rattle.grants.specs.Holders.{same_packet, IsUpTo, IsFirstTo}
-use Rattle.grants.specs.Holds.{is_of, is_on, is_hold, held, hold_of, have_common_right, holds_one}
+use Rattle.grants.specs.Holds.{is_on, is_hold, held}
+use Rattle.grants.specs.inner.PacketHolds.{is_of, hold_of, have_common_right, holds_one}
 use Rattle.policy.proofs.ValueLemmas.{list_any-map}
 use Rattle.policy.proofs.PairLemmas.{both, same_number, itself}
 

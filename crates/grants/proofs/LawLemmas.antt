@@ -10,7 +10,7 @@ use Rattle.policy.specs.declared.rights.Right.{Right}
 use Rattle.policy.specs.declared.rights.Rights.{Rights}
 use Rattle.policy.specs.Rights.{has, all_rights, each_right}
 use Rattle.policy.specs.Listing.{all_objects, listing_by}
-use Rattle.grants.specs.Rules.{count}
+use Rattle.policy.specs.Rules.{count}
 use Rattle.grants.specs.Pairs.{same_pair, is_one_of, names}
 use Rattle.grants.specs.Holders.{same_packet}
 use Rattle.grants.specs.Ledger.{Ledger, rules_in, in_force, holds}

@@ -11,10 +11,12 @@ use Rattle.policy.specs.declared.rights.Rights.{Rights}
 use Rattle.policy.specs.Rights.{has, all_rights}
 use Rattle.grants.specs.declared.hold.Hold.{Hold}
 use Rattle.grants.specs.declared.cell.Cell.{Cell}
-use Rattle.grants.specs.Rules.{knows_client, knows}
+use Rattle.policy.specs.Rules.{knows_client, knows}
 use Rattle.grants.specs.Holders.{same_packet, IsFirstTo}
-use Rattle.grants.specs.Holds.{is_of, held, hold_of, holds_one}
-use Rattle.grants.specs.Cells.{Table, SameRights, IsCounted, cell_of, count_of}
+use Rattle.grants.specs.Holds.{held}
+use Rattle.grants.specs.inner.PacketHolds.{is_of, hold_of, holds_one}
+use Rattle.grants.specs.Cells.{Table, cell_of}
+use Rattle.grants.specs.inner.Counts.{SameRights, IsCounted, count_of}
 use Rattle.grants.specs.Ledger.{Ledger, Holds, Releases, rules_in, is_holder}
 use Rattle.policy.proofs.PairLemmas.{both}
 use Rattle.grants.proofs.HoldLemmas.{held-pushed, held-dropped, holder, first_same}

@@ -10,8 +10,9 @@ use Rattle.policy.specs.declared.object.Object.{Object}
 use Rattle.policy.specs.declared.object.Object.TheVariants.{Agent, Region, Signal, Kernel}
 use Rattle.grants.specs.declared.cell.Cell.{Cell}
 use Rattle.grants.specs.Pairs.{same_pair}
-use Rattle.grants.specs.Rules.{Rules, knows_client, knows}
-use Rattle.grants.specs.Cells.{object_count, object_place, place_of, item_at, replacement}
+use Rattle.policy.specs.Rules.{Rules, knows_client, knows}
+use Rattle.grants.specs.Cells.{object_count, object_place, place_of, item_at}
+use Rattle.grants.specs.inner.Counts.{replacement}
 use Rattle.policy.proofs.PairLemmas.{both, same_pair_is, same_pair_itself}
 
 from_one : (n m : ℕ) → (nat_lt 0 n && nat_le n m) ≡ true → (0 < n) × (n ≤ m)

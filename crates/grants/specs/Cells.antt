@@ -1,40 +1,15 @@
--- The table: a cell for each client and object, with the rights in force and, for each right, how many holds there are of it.
-use Rattle.std.specs.Prelude.{◌≡◌, ℕ, ◌+◌, ◌-◌, ◌*◌, Bool, false, ◌&&◌, List, Option, Some, None, if◌then◌else◌}
+-- The table: a cell for each client and object, with the rights in force and, for each right, how many holds there are of it (`inner/Counts.antt`).
+use Rattle.std.specs.Prelude.{ℕ, ◌+◌, ◌-◌, ◌*◌, Bool, false, ◌&&◌, List, Option, Some, None, if◌then◌else◌}
 use Rattle.std.specs.List.{slice_get}
 use Rattle.aql_packet.specs.declared.ids.ClientId.{ClientId}
 use Rattle.policy.specs.declared.object.Kind.{Kind}
 use Rattle.policy.specs.declared.object.Kind.TheVariants as kind
 use Rattle.policy.specs.declared.object.Object.{Object}
 use Rattle.policy.specs.declared.rights.Right.{Right}
-use Rattle.policy.specs.declared.rights.Right.TheVariants.{Use, Read, Write, Wait, Change, Launch}
-use Rattle.policy.specs.declared.rights.Rights.{Rights}
 use Rattle.policy.specs.Object.{kind_of, number_of}
 use Rattle.policy.specs.Rights.{has}
-use Rattle.grants.specs.declared.cell.Counts.{Counts}
 use Rattle.grants.specs.declared.cell.Cell.{Cell}
-use Rattle.grants.specs.declared.hold.Hold.{Hold}
-use Rattle.grants.specs.Rules.{Rules, knows_client, knows}
-use Rattle.grants.specs.Holds.{holds_of}
-
--- the count of a right
-abbrev pub count_of : Counts → Right → ℕ
-count_of counts Use = counts.use_agent
-count_of counts Read = counts.read
-count_of counts Write = counts.write
-count_of counts Wait = counts.wait
-count_of counts Change = counts.change
-count_of counts Launch = counts.launch
-
--- no right, and no hold
-abbrev pub empty_cell : Cell
-empty_cell = record {
-  rights = record { 0 = 0 };
-  held = record { use_agent = 0; read = 0; write = 0; wait = 0; change = 0; launch = 0 };
-}
-
--- one, for a right of the set
-abbrev pub one_for_right : Rights → Right → ℕ
-one_for_right rights right = if has rights right then 1 else 0
+use Rattle.policy.specs.Rules.{Rules, knows_client, knows}
 
 -- ---- places
 
@@ -63,11 +38,6 @@ abbrev pub item_at : List Cell → Option ℕ → Option Cell
 item_at cells (Some place) = slice_get cells place
 item_at cells None = None
 
--- a cell in the place of another, if there is one
-abbrev pub replacement : Cell → Option Cell → Option Cell
-replacement new (Some cell) = Some new
-replacement new None = None
-
 -- ---- the table as the rest of the crate sees it
 
 -- The rules, and the cells of the declared clients and objects, by place.
@@ -84,29 +54,6 @@ abbrev pub has_right : Right → Option Cell → Bool
 has_right right (Some cell) = has cell.rights right
 has_right right None = false
 
--- how many holds of a right a cell counts
-abbrev pub count_in : Right → Option Cell → ℕ
-count_in right (Some cell) = count_of cell.held right
-count_in right None = 0
-
 -- whether the client's right on the object is in force
 abbrev pub in_table : Table → ClientId → Object → Right → Bool
 in_table table client object right = has_right right (cell_of table client object)
-
--- how many holds of the client's right on the object are counted
-abbrev pub hold_count : Table → ClientId → Object → Right → ℕ
-hold_count table client object right = count_in right (cell_of table client object)
-
--- each count is the number of listed holds of its right
-abbrev pub IsCounted : Table → List Hold → Type 0
-IsCounted table holds = (client : ClientId) (object : Object) (right : Right) → hold_count table client object right ≡ holds_of holds client object right
-
--- the rights in force, and the rules, are as before
-pub record SameRights (old new : Table) : Type 0 where
-  pub same_rules : new.rules ≡ old.rules
-  pub same_rights : (client : ClientId) (object : Object) (right : Right) → in_table new client object right ≡ in_table old client object right
-
--- the counts, and the rules, are as before
-pub record SameCounts (old new : Table) : Type 0 where
-  pub same_rules : new.rules ≡ old.rules
-  pub same_counts : (client : ClientId) (object : Object) (right : Right) → hold_count new client object right ≡ hold_count old client object right

@@ -7,7 +7,7 @@ use Rattle.policy.specs.declared.object.Object.{Object}
 use Rattle.policy.specs.declared.rights.Right.{Right}
 use Rattle.policy.specs.declared.rights.Rights.{Rights}
 use Rattle.policy.specs.Listing.{all_objects, listing_by}
-use Rattle.grants.specs.Rules.{count}
+use Rattle.policy.specs.Rules.{count}
 use Rattle.grants.specs.Pairs.{is_one_of, names}
 use Rattle.grants.specs.Holders.{same_packet}
 use Rattle.grants.specs.Ledger.{Ledger, rules_in, in_force, holds, IsNew, Gives, Takes, Holds, Releases, grant_due, RevokeAnswers, are_in_force, listing}

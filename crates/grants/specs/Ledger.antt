@@ -12,7 +12,7 @@ use Rattle.policy.specs.Rights.{has, all_rights, each_right, rights_that}
 use Rattle.grants.specs.declared.refusal.Refusal.{Refusal}
 use Rattle.grants.specs.declared.refusal.Refusal.TheVariants.{NotAllowed, Busy, UnknownObject, UnknownClient}
 use Rattle.grants.specs.declared.hold.Hold.{Hold}
-use Rattle.grants.specs.Rules.{Rules, count, knows_client, knows, allows}
+use Rattle.policy.specs.Rules.{Rules, count, knows_client, knows, allows}
 use Rattle.grants.specs.Pairs.{is_one_of, names}
 use Rattle.grants.specs.Holders.{same_packet, IsFirstTo}
 use Rattle.grants.specs.Holds.{held}

@@ -1,7 +1,7 @@
 pub mod Pairs
-pub mod Rules
 pub mod Holders
 pub mod Holds
 pub mod Cells
 pub mod Ledger
 pub mod Laws
+pub mod inner

@@ -4,7 +4,7 @@ ghost use Rattle.std.specs.Prelude.{◌≡◌, ◌+◌, ◌-◌, ◌<◌, ◌≤
 ghost use Rattle.std.specs.List.{list_any};
 ghost use Rattle.policy.specs.declared.rights.Right.{Right};
 ghost use Rattle.policy.specs.Rights.{has, all_rights};
-ghost use Rattle.grants.specs.Cells.{count_of, one_for_right};
+ghost use Rattle.grants.specs.inner.Counts.{count_of, one_for_right};
 
 use crate::sets::{difference, union};
 use policy::{Right, Rights};

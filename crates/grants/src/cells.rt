@@ -8,9 +8,10 @@ ghost use Rattle.policy.specs.declared.object.Object.{Object};
 ghost use Rattle.policy.specs.declared.rights.Right.{Right};
 ghost use Rattle.policy.specs.Rights.{each_right};
 ghost use Rattle.grants.specs.Pairs.{same_pair, is_one_of};
-ghost use Rattle.grants.specs.Rules.{rules_of, knows_client, knows};
-ghost use Rattle.grants.specs.Holds.{is_hold_of};
-ghost use Rattle.grants.specs.Cells.{SameRights, SameCounts, cell_of, hold_count, empty_cell, in_table, one_for_right, replacement};
+ghost use Rattle.policy.specs.Policy.{rules_of};
+ghost use Rattle.policy.specs.Rules.{knows_client, knows};
+ghost use Rattle.grants.specs.inner.Counts.{is_hold_of, SameRights, SameCounts, hold_count, empty_cell, one_for_right, replacement};
+ghost use Rattle.grants.specs.Cells.{cell_of, in_table};
 
 use crate::cell::Cell;
 use crate::hold::Hold;

@@ -3,8 +3,9 @@
 ghost use Rattle.std.specs.Prelude.{◌≡◌, ◌+◌, ◌≤◌, ◌++◌, true, not, filter, map, vec_len, vec_capacity, length};
 ghost use Rattle.std.specs.List.{list_all};
 ghost use Rattle.policy.specs.Rights.{each_right};
-ghost use Rattle.grants.specs.Cells.{IsCounted, SameRights, in_table};
-ghost use Rattle.grants.specs.Holds.{hold_of, is_of};
+ghost use Rattle.grants.specs.Cells.{in_table};
+ghost use Rattle.grants.specs.inner.Counts.{IsCounted, SameRights};
+ghost use Rattle.grants.specs.inner.PacketHolds.{hold_of, is_of};
 
 use crate::cells::Cells;
 use crate::hold::Hold;

@@ -4,7 +4,8 @@ ghost use Rattle.std.specs.Prelude.{◌≡◌, ◌+◌, ◌<◌, ◌≤◌, ◌+
 ghost use Rattle.policy.specs.declared.rights.Right.{Right};
 ghost use Rattle.policy.specs.Rights.{has, each_right, rights_that};
 ghost use Rattle.policy.specs.Listing.{objects_of_kind, listing_by};
-ghost use Rattle.grants.specs.Rules.{count, rules_of};
+ghost use Rattle.policy.specs.Policy.{rules_of};
+ghost use Rattle.policy.specs.Rules.{count};
 
 use crate::cells::Cells;
 use crate::counting::{put_holds, uncount_packet};
@@ -29,7 +30,7 @@ pub struct Grants {
 
 impl Model for Grants {
     ghost use Rattle.std.specs.Prelude.{◌-◌, vec_len, vec_capacity};
-    ghost use Rattle.grants.specs.Cells.{IsCounted};
+    ghost use Rattle.grants.specs.inner.Counts.{IsCounted};
     ghost use Rattle.grants.specs.Ledger.{Ledger};
 
     ghost Value = { Ledger };

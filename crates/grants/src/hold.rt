@@ -3,7 +3,8 @@
 ghost use Rattle.std.specs.Prelude.{◌≡◌, ◌≤◌, ◌⊎◌, ◌&&◌, not, filter, vec_len, vec_capacity};
 ghost use Rattle.grants.specs.Pairs.{same_pair};
 ghost use Rattle.grants.specs.Holders.{IsUpTo, IsFirstTo};
-ghost use Rattle.grants.specs.Holds.{held, holds_one, is_of, is_on, have_common_right};
+ghost use Rattle.grants.specs.Holds.{held, is_on};
+ghost use Rattle.grants.specs.inner.PacketHolds.{holds_one, is_of, have_common_right};
 
 use aql_packet::{ClientId, PacketId, QueueId};
 use policy::{Object, Right, Rights};

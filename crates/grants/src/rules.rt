@@ -20,7 +20,7 @@ pub struct Rules {
 }
 
 impl Model for Rules {
-    ghost use Rattle.grants.specs.Rules.{Rules as Kept};
+    ghost use Rattle.policy.specs.Rules.{Rules as Kept};
 
     ghost Value = { Kept };
 
@@ -39,7 +39,8 @@ impl Model for Rules {
 }
 
 impl Rules {
-    ghost use Rattle.grants.specs.Rules.{rules_of, count, knows_client, knows, allows};
+    ghost use Rattle.policy.specs.Policy.{rules_of};
+    ghost use Rattle.policy.specs.Rules.{count, knows_client, knows, allows};
     ghost use Rattle.grants.specs.Cells.{object_count, objects_before, place_of};
 
     /// The rules of a policy.

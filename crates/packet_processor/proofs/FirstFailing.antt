@@ -10,7 +10,7 @@ use Rattle.queue_error.specs.declared.rule.Rule.{Rule}
 use Rattle.queue_error.specs.declared.rule.Rule.TheVariants as rule
 use Rattle.queue_error.specs.Texts.{rule_of}
 use Rattle.core_model.specs.LaunchRules.{Facts, first_failing_rule}
-use Rattle.packet_processor.specs.Judged.{later_failing}
+use Rattle.packet_processor.specs.inner.FieldRules.{later_failing}
 
 -- the first codec rule that fails, by what each answers
 first_codec : Bool → Bool → Bool → Option CodecRule

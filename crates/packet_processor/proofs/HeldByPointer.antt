@@ -8,7 +8,8 @@ use Rattle.policy.specs.declared.rights.Right.{Right}
 use Rattle.policy.specs.declared.rights.Rights.{Rights}
 use Rattle.core_model.specs.Holds.{ObjectRight, held_by_pointer}
 use Rattle.core_model.specs.Kernels.{wide_arguments}
-use Rattle.packet_processor.specs.Holding.{rights_passing, as_rights}
+use Rattle.packet_processor.specs.Holding.{as_rights}
+use Rattle.packet_processor.specs.inner.RightsPassing.{rights_passing}
 
 -- the item at a place stands before those behind it
 pub at_place : {X : Type 0} (xs : List X) (i : ℕ) (d : X) → i < length xs → drop i xs ≡ get_or xs i d ∷ drop (i + 1) xs

@@ -1,12 +1,9 @@
 -- What a packet is judged by, as the launch rules see it, and the verdict.
-use Rattle.std.specs.Prelude.{◌≡◌, ℕ, not, List, [], ◌∷◌, Option, Some, None, find}
-use Rattle.aql_packet.specs.declared.packet.Packet.{Packet}
+use Rattle.std.specs.Prelude.{◌≡◌, ℕ, List, Some, None}
 use Rattle.aql_packet.specs.Reading.{decoded}
 use Rattle.regions.specs.Memory.{lengths_of}
-use Rattle.queue_error.specs.declared.rule.Rule.{Rule}
-use Rattle.queue_error.specs.declared.rule.Rule.TheVariants.{L4, L5, L6, L7, L8, L9, L10}
 use Rattle.grants.specs.Ledger.{in_force}
-use Rattle.core_model.specs.LaunchRules.{Facts, meets_rule, first_failing_rule}
+use Rattle.core_model.specs.LaunchRules.{Facts, first_failing_rule}
 use Rattle.packet_processor.specs.declared.facts.Facts.{Facts as Lent}
 use Rattle.packet_processor.specs.declared.facts.Verdict.{Verdict}
 use Rattle.packet_processor.specs.declared.facts.Verdict.TheVariants.{Launch, Deny}
@@ -20,14 +17,6 @@ facts_seen lent = record {
   lengths = lengths_of lent.regions.now;
   kernels = lent.kernels.now;
 }
-
--- the rules that look at a packet's fields, in the order in which they are tried
-abbrev pub rules_of_fields : List Rule
-rules_of_fields = L4 ∷ L5 ∷ L6 ∷ L7 ∷ L8 ∷ L9 ∷ L10 ∷ []
-
--- the first of them that fails
-abbrev pub later_failing : Facts → Packet → Option Rule
-later_failing facts p = find (λ rule. not (meets_rule facts p rule)) rules_of_fields
 
 -- bytes were judged: no rule fails and they lay out the packet, or this is the first rule that fails
 abbrev pub Judges : Facts → List ℕ → Verdict → Type 0

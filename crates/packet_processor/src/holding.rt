@@ -7,7 +7,8 @@ ghost use Rattle.aql_packet.specs.declared.ids.ClientId.{ClientId};
 ghost use Rattle.core_model.specs.Holds.{all_in_force, right_needed, held_by_needs, held_by_pointer};
 ghost use Rattle.core_model.specs.Kernels.{wide_arguments};
 ghost use Rattle.packet_processor.specs.Judged.{facts_seen};
-ghost use Rattle.packet_processor.specs.Holding.{rights_passing, as_rights};
+ghost use Rattle.packet_processor.specs.Holding.{as_rights};
+ghost use Rattle.packet_processor.specs.inner.RightsPassing.{rights_passing};
 
 use crate::facts::Facts;
 use crate::judging::object_of;

@@ -5,7 +5,8 @@ ghost use Rattle.std.specs.List.{flat_map, list_all};
 ghost use Rattle.core_model.specs.LaunchRules as rules;
 ghost use Rattle.core_model.specs.Needs.{object_of};
 ghost use Rattle.regions.specs.Memory.{lengths_of};
-ghost use Rattle.packet_processor.specs.Judged.{facts_seen, later_failing, Judges};
+ghost use Rattle.packet_processor.specs.Judged.{facts_seen, Judges};
+ghost use Rattle.packet_processor.specs.inner.FieldRules.{later_failing};
 
 use crate::facts::{Facts, Verdict};
 use crate::kernels::{has_arguments, has_segments, has_sizes};

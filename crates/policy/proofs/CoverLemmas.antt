@@ -7,7 +7,7 @@ use Rattle.policy.specs.declared.object.Object.{Object}
 use Rattle.policy.specs.declared.rights.Right.{Right}
 use Rattle.policy.specs.declared.rights.Rights.{Rights}
 use Rattle.policy.specs.declared.row.AllowRow.{AllowRow}
-use Rattle.policy.specs.Policy.{covers, is_for, is_on}
+use Rattle.policy.specs.Rules.{covers, is_for, is_on}
 use Rattle.policy.specs.Rights.{has}
 use Rattle.policy.proofs.RightsLemmas.{has-or}
 

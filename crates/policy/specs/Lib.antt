@@ -7,6 +7,7 @@ pub mod Object
 pub mod Names
 pub mod Table
 pub mod Kernel
+pub mod Rules
 pub mod Policy
 pub mod Reading
 pub mod Limits

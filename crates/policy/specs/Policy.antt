@@ -1,20 +1,16 @@
 -- What a policy declares, as plain lists, and what it allows.
-use Rattle.std.specs.Prelude.{ℕ, ℤ, Bool, true, ◌&&◌, ◌==◌, nat_lt, nat_le, List, length, map, Option, option_map}
-use Rattle.std.specs.List.{list_any}
+use Rattle.std.specs.Prelude.{ℕ, ℤ, Bool, List, length, map, Option, option_map}
 use Rattle.aql_packet.specs.declared.ids.ClientId.{ClientId}
 use Rattle.policy.specs.declared.object.Kind.{Kind}
 use Rattle.policy.specs.declared.object.Kind.TheVariants as kind
 use Rattle.policy.specs.declared.object.Object.{Object}
 use Rattle.policy.specs.declared.rights.Right.{Right}
 use Rattle.policy.specs.declared.rights.Rights.{Rights}
-use Rattle.policy.specs.declared.row.Subject.{Subject}
-use Rattle.policy.specs.declared.row.Subject.TheVariants as subject
-use Rattle.policy.specs.declared.row.Target.{Target}
-use Rattle.policy.specs.declared.row.Target.TheVariants as target
 use Rattle.policy.specs.declared.row.AllowRow.{AllowRow}
 use Rattle.policy.specs.declared.row.Takes.{Takes}
-use Rattle.policy.specs.Object.{kind_of, number_of, same_kind, same_object}
-use Rattle.policy.specs.Rights.{has, each_right}
+use Rattle.policy.specs.Object.{kind_of, number_of}
+use Rattle.policy.specs.Rules as by_rules
+use Rattle.policy.specs.Rules.{Rules, count, knows_client, knows}
 pub use Rattle.policy.specs.Names.{Name, names, numbered, number_in}
 pub use Rattle.policy.specs.Kernel.{Source}
 
@@ -48,13 +44,6 @@ names_of policy kind.Region = names policy.regions
 names_of policy kind.Signal = names policy.signals
 names_of policy kind.Kernel = names policy.kernels
 
--- how many objects of a kind there are
-abbrev pub count_of : Declared → Kind → ℕ
-count_of policy kind.Agent = length policy.agents
-count_of policy kind.Region = length policy.regions
-count_of policy kind.Signal = length policy.signals
-count_of policy kind.Kernel = length policy.kernels
-
 -- the name of an object
 abbrev pub name_in : Declared → Object → Option Name
 name_in policy object = numbered (names_of policy (kind_of object)) (number_of object)
@@ -79,32 +68,35 @@ initial_of policy n = row_of policy.signals n
 abbrev pub source_of : Declared → ℕ → Option Source
 source_of policy n = row_of policy.kernels n
 
+-- ---- what is allowed
+
+-- the rules of a policy
+abbrev pub rules_of : Declared → Rules
+rules_of policy = record {
+  clients = length policy.clients;
+  agents = length policy.agents;
+  regions = length policy.regions;
+  signals = length policy.signals;
+  kernels = length policy.kernels;
+  allows = policy.allows;
+}
+
+-- how many objects of a kind there are
+abbrev pub count_of : Declared → Kind → ℕ
+count_of policy = count (rules_of policy)
+
 -- the policy declares the client
 abbrev pub declares_client : Declared → ClientId → Bool
-declares_client policy client = nat_lt 0 client.0 && nat_le client.0 (length policy.clients)
+declares_client policy = knows_client (rules_of policy)
 
 -- the policy declares the object
 abbrev pub declares : Declared → Object → Bool
-declares policy object = nat_lt 0 (number_of object) && nat_le (number_of object) (count_of policy (kind_of object))
-
--- an allow row is for the client
-abbrev pub is_for : Subject → ClientId → Bool
-is_for subject.Any client = true
-is_for (subject.One named) client = named.0 == client.0
-
--- an allow row is on the object
-abbrev pub is_on : Target → Object → Bool
-is_on (target.Any kind) object = same_kind kind (kind_of object)
-is_on (target.One named) object = same_object named object
-
--- the row covers the client, the object and the right
-abbrev pub covers : ClientId → Object → Right → AllowRow → Bool
-covers client object right row = (is_for row.subject client && is_on row.target object) && has row.rights right
+declares policy = knows (rules_of policy)
 
 -- some row covers the client, the object and the right
 abbrev pub allowed : Declared → ClientId → Object → Right → Bool
-allowed policy client object right = list_any (covers client object right) policy.allows
+allowed policy = by_rules.allowed (rules_of policy)
 
 -- each right of the set is allowed
 abbrev pub allows : Declared → ClientId → Object → Rights → Bool
-allows policy client object rights = each_right rights (allowed policy client object)
+allows policy = by_rules.allows (rules_of policy)

@@ -3,7 +3,7 @@
 ghost use Rattle.std.specs.Prelude.{◌≡◌};
 ghost use Rattle.std.specs.List.{list_any};
 ghost use Rattle.policy.specs.declared.rights.Right.{Right};
-ghost use Rattle.policy.specs.Policy.{covers};
+ghost use Rattle.policy.specs.Rules.{covers};
 ghost use Rattle.policy.specs.Rights.{has, each_right};
 
 use crate::object::Object;

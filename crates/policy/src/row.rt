@@ -36,7 +36,7 @@ pub struct AllowRow {
 }
 
 impl AllowRow {
-    ghost use Rattle.policy.specs.Policy.{is_for, is_on};
+    ghost use Rattle.policy.specs.Rules.{is_for, is_on};
 
     /// Whether the row covers a client and an object.
     pub fn covers(&self, client: ClientId, object: Object) -> bool

@@ -264,15 +264,14 @@ module _ (core core' : History) (rings new : List QueueRing) (h : IsJoined (Worl
   call_decided call ((replied, served, told), same) = subst (AreDecided core') (sym same) (decided_along core core' rings (by_served served) d)
     where
       by_served : cores_law.IsServed core (asked.Event (event_of call)) replied core' → (queue : QueueId) → next_id core'.start core'.entries queue ≡ next_id core.start core.entries queue
-      by_served (inl (is, leads)) queue = ap (λ (x : History). next_id x.start x.entries queue) leads ∙ aside_next core (event_of call) (call_aside (World core rings) h call) (due core (event_of call)) queue
-      by_served (inr (may, is, leads)) queue = ap (λ (x : History). next_id x.start x.entries queue) leads
+      by_served (made, is, inl m) queue = ap (λ (x : History). next_id x.start x.entries queue) m.history_is ∙ aside_next core (event_of call) (call_aside (World core rings) h call) (due core (event_of call)) queue
+      by_served (made, is, inr l) queue = ap (λ (x : History). next_id x.start x.entries queue) l.history_is
 
   query_decided : (query : Query) → Asks (asked.Query query) core reply core' × (new ≡ rings) → AreDecided core' new
   query_decided query ((replied, served, told), same) = subst (AreDecided core') (sym same) (decided_along core core' rings (by_served served) d)
     where
       by_served : cores_law.IsServed core (asked.Query query) replied core' → (queue : QueueId) → next_id core'.start core'.entries queue ≡ next_id core.start core.entries queue
-      by_served (inl (is, leads)) queue = ap (λ (x : History). next_id x.start x.entries queue) leads
-      by_served (inr (may, is, leads)) queue = ap (λ (x : History). next_id x.start x.entries queue) leads
+      by_served (is, leads) queue = ap (λ (x : History). next_id x.start x.entries queue) leads
 
   pub obeyed_decided : (wanted : Request) → Obeys wanted core rings reply core' new → AreDecided core' new
   obeyed_decided (request.Step queue step) (makes, same) = subst (λ (x : History). AreDecided x new) (sym same) (step_decided core rings h d queue step reply new (numbered rings queue.0) refl makes)

@@ -135,15 +135,15 @@ module _ (core core' : History) (old new : List QueueRing) (decided : AreDecided
   call_served call ((replied, served, told), same) = by_served served
     where
       by_served : cores_law.IsServed core (asked.Event (event_of call)) replied core' → IsServed (World core old) (request.Call call) reply (World core' new)
-      by_served (inl (is, leads)) = inl (told ∙ ap of_core is, λ i. joined (leads i) (rings_of (same i)))
-      by_served (inr (may, is, leads)) = inr (may, told ∙ ap of_core is, λ i. joined (leads i) (rings_of (same i)))
+      by_served (made, is, inl m) = inl (told ∙ ap of_core (is ∙ ap as_reply m.reply_is), λ i. joined (m.history_is i) (rings_of (same i)))
+      by_served (made, is, inr l) = inr (l.may, told ∙ ap of_core (is ∙ ap as_reply l.reply_is), λ i. joined (l.history_is i) (rings_of (same i)))
 
   query_served : (query : Query) → Asks (asked.Query query) core reply core' × (new ≡ old) → IsServed (World core old) (request.Query query) reply (World core' new)
   query_served query ((replied, served, told), same) = by_served served
     where
       by_served : cores_law.IsServed core (asked.Query query) replied core' → IsServed (World core old) (request.Query query) reply (World core' new)
-      by_served (inl (is, leads)) = inl (told ∙ ap of_core is, λ i. joined (leads i) (rings_of (same i)))
-      by_served (inr (may, is, leads)) = inr (may, told ∙ ap of_core is, λ i. joined (leads i) (rings_of (same i)))
+      by_served (inl is, leads) = inl (told ∙ ap of_core is, λ i. joined (leads i) (rings_of (same i)))
+      by_served (inr (may, is), leads) = inr (may, told ∙ ap of_core is, λ i. joined (leads i) (rings_of (same i)))
 
   -- any request
   pub obeyed_served : (wanted : Request) → Obeys wanted core old reply core' new → IsServed (World core old) wanted reply (World core' new)

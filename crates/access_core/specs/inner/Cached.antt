@@ -5,7 +5,7 @@ use Rattle.aql_packet.specs.declared.ids.QueueId.{QueueId}
 use Rattle.aql_packet.specs.declared.ids.PacketId.{PacketId}
 use Rattle.policy.specs.declared.object.Object.{Object}
 use Rattle.policy.specs.declared.rights.Right.{Right}
-use Rattle.policy.specs.Policy.{numbered}
+use Rattle.policy.specs.Policy.{numbered, rules_of}
 use Rattle.regions.specs.Memory.{byte_at, lengths_of, lies_in_region}
 use Rattle.sequences.specs.Room.{Roomy}
 use Rattle.core_model.specs.declared.entry.Entry.{Entry}
@@ -20,7 +20,6 @@ use Rattle.core_model.specs.Kernels.{segments_of}
 use Rattle.core_model.specs.Legal.{IsLegal}
 use Rattle.access_core.specs.declared.access.AccessCore.TheInside.{Inside}
 use Rattle.grants.specs.Ledger as ledger
-use Rattle.grants.specs.Rules.{rules_of}
 use Rattle.access_core.specs.ArgumentBlocks.{AreBlocksOf, block_of}
 use Rattle.access_core.specs.Opening.{has_entry, program_of}
 use Rattle.access_core.specs.inner.Held.{packet_holds}

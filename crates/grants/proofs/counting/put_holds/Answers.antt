@@ -4,8 +4,9 @@ use Rattle.policy.specs.declared.object.Object.{Object}
 use Rattle.policy.specs.declared.object.Object.TheVariants.{Agent}
 use Rattle.policy.specs.declared.rights.Rights.{Rights}
 use Rattle.policy.specs.Rights.{each_right}
-use Rattle.grants.specs.Cells.{IsCounted, in_table}
-use Rattle.grants.specs.Holds.{hold_of}
+use Rattle.grants.specs.Cells.{in_table}
+use Rattle.grants.specs.inner.Counts.{IsCounted}
+use Rattle.grants.specs.inner.PacketHolds.{hold_of}
 use Rattle.grants.proofs.CellLemmas.{all_at, each_right-same, SameRights-then}
 use Rattle.grants.proofs.CountLemmas.{counted-le, counted_more, put-more}
 use Rattle.grants.proofs.counting.put_holds.Goals as goal

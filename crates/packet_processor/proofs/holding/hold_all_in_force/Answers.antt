@@ -1,7 +1,7 @@
 use Rattle.std.proofs.Common.{[], ◌∷◌, arith}
 use Rattle.policy.specs.Rights.{all_rights}
 use Rattle.packet_processor.specs.Judged.{facts_seen}
-use Rattle.packet_processor.specs.Holding.{rights_passing}
+use Rattle.packet_processor.specs.inner.RightsPassing.{rights_passing}
 use Rattle.packet_processor.proofs.HeldByPointer.{rights_passing-splits, at_place, more}
 use Rattle.packet_processor.proofs.holding.hold_all_in_force.Goals as goal
 

@@ -2,7 +2,7 @@
 use Rattle.std.proofs.Common.{◌≡◌, ◌++◌, drop}
 use Rattle.policy.specs.Rights.{all_rights}
 use Rattle.packet_processor.specs.Judged.{facts_seen}
-use Rattle.packet_processor.specs.Holding.{rights_passing}
+use Rattle.packet_processor.specs.inner.RightsPassing.{rights_passing}
 use Rattle.packet_processor.proofs.holding.hold_all_in_force.Given as goal
 
 abbrev pub invariant-rights : goal.invariant-rights

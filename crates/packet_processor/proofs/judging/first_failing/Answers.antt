@@ -5,7 +5,8 @@ use Rattle.std.proofs.lemmas.Iterator.{YieldsList-from_slice}
 use Rattle.std.proofs.lemmas.Iterator.Search.{find_from_yields_List}
 use borrow.Author.Tests.{tests}
 use Rattle.core_model.specs.LaunchRules.{meets_rule}
-use Rattle.packet_processor.specs.Judged.{facts_seen, rules_of_fields}
+use Rattle.packet_processor.specs.Judged.{facts_seen}
+use Rattle.packet_processor.specs.inner.FieldRules.{rules_of_fields}
 use Rattle.packet_processor.proofs.judging.first_failing.Goals as goal
 
 pub returns : goal.returns

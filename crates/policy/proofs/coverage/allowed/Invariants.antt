@@ -1,7 +1,7 @@
 use Rattle.std.proofs.Common.{◌≡◌, take}
 use Rattle.std.specs.List.{list_any}
 use Rattle.policy.specs.declared.rights.Right.{Right}
-use Rattle.policy.specs.Policy.{covers}
+use Rattle.policy.specs.Rules.{covers}
 use Rattle.policy.specs.Rights.{has}
 use Rattle.policy.proofs.coverage.allowed.Given as goal
 

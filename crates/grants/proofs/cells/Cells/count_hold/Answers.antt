@@ -3,7 +3,8 @@ use Rattle.std.proofs.Common.{◌≡◌, ◌∙◌, ◌+◌, ◌<◌, ◌&&◌, 
 use Rattle.std.specs.Prelude.{if◌then◌else◌}
 use Rattle.std.proofs.lemmas.Bool.{false_from_ne_true}
 use Rattle.policy.specs.Rights.{has}
-use Rattle.grants.specs.Cells.{has_right, count_in, cell_of, in_table}
+use Rattle.grants.specs.Cells.{has_right, cell_of, in_table}
+use Rattle.grants.specs.inner.Counts.{count_in}
 use Rattle.policy.proofs.PairLemmas.{each_right-has}
 use Rattle.grants.proofs.CellLemmas.{at_each, at_each_same, same_granted}
 use Rattle.grants.proofs.cells.Cells.count_hold.Goals as goal

@@ -3,7 +3,7 @@ use Rattle.std.proofs.Common.{◌∙◌, ap, sym, ◌&&◌}
 use Rattle.std.specs.Box.{boxed_slice_items}
 use Rattle.std.specs.Option.{is_some}
 use Rattle.std.specs.Prelude.{slice_get}
-use Rattle.grants.specs.Rules.{knows_client, knows}
+use Rattle.policy.specs.Rules.{knows_client, knows}
 use Rattle.grants.specs.Cells.{item_at}
 use Rattle.grants.proofs.PlaceLemmas.{cell-declared}
 use Rattle.grants.proofs.cells.Cells.get.Goals as goal

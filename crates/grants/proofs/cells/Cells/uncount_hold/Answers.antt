@@ -2,7 +2,8 @@
 use Rattle.std.proofs.Common.{◌≡◌, ◌∙◌, ◌+◌, ◌≤◌, ◌&&◌, sym, subst, Some, None, arith}
 use Rattle.std.specs.Prelude.{if◌then◌else◌}
 use Rattle.policy.specs.Rights.{has}
-use Rattle.grants.specs.Cells.{count_in, cell_of, one_for_right}
+use Rattle.grants.specs.Cells.{cell_of}
+use Rattle.grants.specs.inner.Counts.{count_in, one_for_right}
 use Rattle.grants.proofs.CellLemmas.{at_each, at_each_same, same_granted}
 use Rattle.grants.proofs.cells.Cells.uncount_hold.Goals as goal
 

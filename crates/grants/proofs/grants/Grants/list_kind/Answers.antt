@@ -2,7 +2,7 @@
 use Rattle.std.proofs.Common.{◌≡◌, ◌∙◌, ◌++◌, ap, map, arith}
 use Rattle.std.specs.List.{range_with_len}
 use Rattle.policy.specs.Object.{object_of}
-use Rattle.grants.specs.Rules.{count}
+use Rattle.policy.specs.Rules.{count}
 use Rattle.policy.specs.Listing.{listing_by}
 use Rattle.grants.specs.Ledger.{in_force, rules_in}
 use Rattle.grants.proofs.ListingLemmas.{listed-none, listed-more}

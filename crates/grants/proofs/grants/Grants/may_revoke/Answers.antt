@@ -2,7 +2,7 @@
 use Rattle.std.proofs.Common.{◌∙◌, sym, subst, Some, None}
 use Rattle.std.specs.Prelude.{vec_len, vec_capacity, ◌-◌}
 use Rattle.grants.specs.Holders.{IsFirstTo}
-use Rattle.grants.specs.Holds.{holds_one}
+use Rattle.grants.specs.inner.PacketHolds.{holds_one}
 use Rattle.grants.proofs.LedgerLemmas.{declared, holder_first, none_holds}
 use Rattle.grants.proofs.grants.Grants.may_revoke.Goals as goal
 

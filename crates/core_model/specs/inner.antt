@@ -1,0 +1,3 @@
+-- What private clauses and proofs speak of.
+pub mod Effects
+pub mod Entries

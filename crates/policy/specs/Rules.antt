@@ -1,0 +1,62 @@
+-- The rules of a policy, by which rights are granted: how many clients and objects there are, and the allow rows.
+use Rattle.std.specs.Prelude.{ℕ, Bool, true, ◌&&◌, ◌==◌, nat_lt, nat_le, List}
+use Rattle.std.specs.List.{list_any}
+use Rattle.aql_packet.specs.declared.ids.ClientId.{ClientId}
+use Rattle.policy.specs.declared.object.Kind.{Kind}
+use Rattle.policy.specs.declared.object.Kind.TheVariants as kind
+use Rattle.policy.specs.declared.object.Object.{Object}
+use Rattle.policy.specs.declared.rights.Right.{Right}
+use Rattle.policy.specs.declared.rights.Rights.{Rights}
+use Rattle.policy.specs.declared.row.Subject.{Subject}
+use Rattle.policy.specs.declared.row.Subject.TheVariants as subject
+use Rattle.policy.specs.declared.row.Target.{Target}
+use Rattle.policy.specs.declared.row.Target.TheVariants as target
+use Rattle.policy.specs.declared.row.AllowRow.{AllowRow}
+use Rattle.policy.specs.Object.{kind_of, number_of, same_kind, same_object}
+use Rattle.policy.specs.Rights.{has, each_right}
+
+-- What is kept of a policy where only grants are judged: its numbers of clients and of objects of each kind, and its allow rows.
+pub record Rules : Type 0 where
+  pub clients : ℕ
+  pub agents : ℕ
+  pub regions : ℕ
+  pub signals : ℕ
+  pub kernels : ℕ
+  pub allows : List AllowRow
+
+-- how many objects of a kind there are
+abbrev pub count : Rules → Kind → ℕ
+count rules kind.Agent = rules.agents
+count rules kind.Region = rules.regions
+count rules kind.Signal = rules.signals
+count rules kind.Kernel = rules.kernels
+
+-- the client is declared
+abbrev pub knows_client : Rules → ClientId → Bool
+knows_client rules client = nat_lt 0 client.0 && nat_le client.0 rules.clients
+
+-- the object is declared
+abbrev pub knows : Rules → Object → Bool
+knows rules object = nat_lt 0 (number_of object) && nat_le (number_of object) (count rules (kind_of object))
+
+-- an allow row is for the client
+abbrev pub is_for : Subject → ClientId → Bool
+is_for subject.Any client = true
+is_for (subject.One named) client = named.0 == client.0
+
+-- an allow row is on the object
+abbrev pub is_on : Target → Object → Bool
+is_on (target.Any kind) object = same_kind kind (kind_of object)
+is_on (target.One named) object = same_object named object
+
+-- the row covers the client, the object and the right
+abbrev pub covers : ClientId → Object → Right → AllowRow → Bool
+covers client object right row = (is_for row.subject client && is_on row.target object) && has row.rights right
+
+-- some row covers the client, the object and the right
+abbrev pub allowed : Rules → ClientId → Object → Right → Bool
+allowed rules client object right = list_any (covers client object right) rules.allows
+
+-- each right of the set is allowed
+abbrev pub allows : Rules → ClientId → Object → Rights → Bool
+allows rules client object rights = each_right rights (allowed rules client object)
