@@ -22,7 +22,7 @@ use Rattle.grants.specs.Ledger as ledger
 -- the argument block of a packet behind an entry: what its launch gives it, or the block that is kept
 abbrev pub arguments_behind : Inside → Event → Outcome → QueueId → PacketId → List ℕ
 arguments_behind a event outcome queue id =
-    if is_launch queue id (launched_by event outcome) then arguments_if (start_of a) a.audit.items (launched_by event outcome) else block_of a.blocks queue id
+    if is_launch queue id (launched_by event outcome) then arguments_if (start_of a) a.audit.items (launched_by event outcome) else block_of a.blocks.items queue id
 
 -- How the grants follow an entry, and with them the argument blocks.
 pub record GrantsAfter (a : Inside) (new : Ledger) (blocks : List ArgumentBlock) (event : Event) (outcome : Outcome) (effects : List Effect) : Type 0 where
@@ -51,7 +51,7 @@ pub record QueuesAfter (a : Inside) (new : List Queue) (count : ℕ) (event : Ev
 pub record FieldsAfter (a b : Inside) (event : Event) (outcome : Outcome) (effects : List Effect) : Type 0 where
   pub same : ((b.policy ≡ a.policy) × (b.kernels ≡ a.kernels) × (b.segments ≡ a.segments)) × (b.capacity ≡ a.capacity)
   pub audit : IsEntered a.audit b.audit (entry_of event outcome effects)
-  pub grants : GrantsAfter a b.grants b.blocks event outcome effects
+  pub grants : GrantsAfter a b.grants b.blocks.items event outcome effects
   pub memory : MemoryAfter a.memory b.memory effects
   pub values : b.signals ≡ fold signals_after a.signals effects
   pub queues : QueuesAfter a b.queues.items b.flying event outcome effects
@@ -92,13 +92,13 @@ module _ (a b : Inside) (event : Event) (outcome : Outcome) (effects : List Effe
 
   -- the argument blocks of packets in flight are those of their launches
   arguments-after : owed (start_of a) a.audit.items event ≡ enters outcome effects
-      → All (λ f. block_of b.blocks f.queue f.id ≡ arguments (start_of a) (with_entry a.audit.items event outcome effects) f.queue f.id) (flight (start_of a) (with_entry a.audit.items event outcome effects))
+      → All (λ f. block_of b.blocks.items f.queue f.id ≡ arguments (start_of a) (with_entry a.audit.items event outcome effects) f.queue f.id) (flight (start_of a) (with_entry a.audit.items event outcome effects))
   arguments-after owing = λ k d below.
       let f = get_or (flight (start_of a) (with_entry a.audit.items event outcome effects)) k d in
       after.grants.arguments k d below ∙ same f (kept k d below) ∙ sym (arguments-more (start_of a) a.audit.items (entry_of event outcome effects) was.legal owing f.queue f.id)
     where
       Kept : InFlight → Type 0
-      Kept f = is_launch f.queue f.id (launched_by event outcome) ≡ false → block_of a.blocks f.queue f.id ≡ arguments (start_of a) a.audit.items f.queue f.id
+      Kept f = is_launch f.queue f.id (launched_by event outcome) ≡ false → block_of a.blocks.items f.queue f.id ≡ arguments (start_of a) a.audit.items f.queue f.id
 
       launched : (f : InFlight) → launched_by event outcome ≡ Some f → Kept f
       launched f is other =
@@ -108,14 +108,14 @@ module _ (a b : Inside) (event : Event) (outcome : Outcome) (effects : List Effe
 
       kept : All Kept (flight (start_of a) (with_entry a.audit.items event outcome effects))
       kept = rw flight-more (all-after Kept (entry_of event outcome effects) (flight (start_of a) a.audit.items) launched
-          (All-weaker (λ f. block_of a.blocks f.queue f.id ≡ arguments (start_of a) a.audit.items f.queue f.id) Kept (λ f is other. is) (flight (start_of a) a.audit.items) was.arguments))
+          (All-weaker (λ f. block_of a.blocks.items f.queue f.id ≡ arguments (start_of a) a.audit.items f.queue f.id) Kept (λ f is other. is) (flight (start_of a) a.audit.items) was.arguments))
 
       same : (f : InFlight) → Kept f → arguments_behind a event outcome f.queue f.id
           ≡ (if is_launch f.queue f.id (launched_by event outcome) then arguments_if (start_of a) a.audit.items (launched_by event outcome) else arguments (start_of a) a.audit.items f.queue f.id)
       same f is = either (is_launch f.queue f.id (launched_by event outcome)) refl
         where
           either : (c : Bool) → is_launch f.queue f.id (launched_by event outcome) ≡ c
-              → (if c then arguments_if (start_of a) a.audit.items (launched_by event outcome) else block_of a.blocks f.queue f.id)
+              → (if c then arguments_if (start_of a) a.audit.items (launched_by event outcome) else block_of a.blocks.items f.queue f.id)
               ≡ (if c then arguments_if (start_of a) a.audit.items (launched_by event outcome) else arguments (start_of a) a.audit.items f.queue f.id)
           either true now = refl
           either false other = is other

@@ -5,6 +5,7 @@ use Rattle.std.proofs.lemmas.Bool.{cases_eq, eqb-true, lt-ltb}
 use Rattle.std.proofs.lemmas.List.Elements.{All-set}
 use Rattle.std.proofs.lemmas.Option.{get_or_from_slice_get, slice_get-get_or, slice_get_within}
 use Rattle.std.proofs.Math.Seq.{map-set_same}
+use Rattle.access_core.specs.inner.Cached.{error_places}
 use Rattle.access_core.proofs.Terms.{Entry, IsSound, PacketId, Queue, QueueId, QueueView, Start, cached, cached_opening, freed, freed_by, numbered, queue_at}
 use Rattle.access_core.proofs.Terms.{with_queue}
 
@@ -58,6 +59,11 @@ module _ (qs : List Queue) (n : QueueId) (change : Queue → Queue) (q : Queue) 
   pub openings-changed : cached_opening (change q) ≡ cached_opening q → map cached_opening (with_queue qs n change) ≡ map cached_opening qs
   openings-changed same =
       rw with_queue-is (map-set_same cached_opening qs (n.0 - 1) (change q) q (same ∙ ap cached_opening (sym (get_or_from_slice_get qs (n.0 - 1) q q place.1))))
+
+  -- and the room for errors, where the changed queue has as many places for them
+  pub errors-changed : error_places (change q) ≡ error_places q → map error_places (with_queue qs n change) ≡ map error_places qs
+  errors-changed same =
+      rw with_queue-is (map-set_same error_places qs (n.0 - 1) (change q) q (same ∙ ap error_places (sym (get_or_from_slice_get qs (n.0 - 1) q q place.1))))
 
   pub length-changed : length (with_queue qs n change) ≡ length qs
   length-changed = rw with_queue-is (length-set qs (n.0 - 1) (change q))

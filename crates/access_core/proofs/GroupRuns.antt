@@ -101,11 +101,11 @@ module _ (a : Inside) (kept : IsCached a) (old : History) (seen_as : history_of 
     program-is p here = sym (ap (λ o. unwrap_or o no_kernel) (kernels-are d.kernel_object.0 ∙ ap (option_map program_of) at) ∙ ap (λ o. unwrap_or o no_kernel) here)
 
   -- its argument block is as it was at its launch
-  pub block-is : block_of a.blocks queue id ≡ arguments old.start old.entries queue id
+  pub block-is : block_of a.blocks.items queue id ≡ arguments old.start old.entries queue id
   block-is =
-      let blocks = subst (λ (h : History). All (λ f. block_of a.blocks f.queue f.id ≡ arguments h.start h.entries f.queue f.id) (flight h.start h.entries)) seen_as kept.arguments in
-      let of_flying = found-all (λ (f : InFlight). block_of a.blocks f.queue f.id ≡ arguments old.start old.entries f.queue f.id) (is_packet queue id) (flight old.start old.entries) found.flying blocks found.found in
-      (λ i. block_of a.blocks (sym named.0 i) (sym named.1 i)) ∙ of_flying ∙ (λ i. arguments old.start old.entries (named.0 i) (named.1 i))
+      let blocks = subst (λ (h : History). All (λ f. block_of a.blocks.items f.queue f.id ≡ arguments h.start h.entries f.queue f.id) (flight h.start h.entries)) seen_as kept.arguments in
+      let of_flying = found-all (λ (f : InFlight). block_of a.blocks.items f.queue f.id ≡ arguments old.start old.entries f.queue f.id) (is_packet queue id) (flight old.start old.entries) found.flying blocks found.found in
+      (λ i. block_of a.blocks.items (sym named.0 i) (sym named.1 i)) ∙ of_flying ∙ (λ i. arguments old.start old.entries (named.0 i) (named.1 i))
 
   module _ (asked : Dispatch) (asks : IsAsked asked d (arguments old.start old.entries queue id)) (p : Program) (p_is : p ≡ kernel_of old.start d) (group : ℕ) where
     -- the executor can run it

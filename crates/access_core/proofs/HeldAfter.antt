@@ -47,7 +47,7 @@ held-still a kept event outcome effects none launches same queue id client on ri
 -- ---- argument blocks
 
 -- an entry that launches nothing leaves each block as it is
-pub blocks-still : (a : Inside) (event : Event) (outcome : Outcome) → launched_by event outcome ≡ None → (fs : List InFlight) → All (λ f. block_of a.blocks f.queue f.id ≡ arguments_behind a event outcome f.queue f.id) fs
+pub blocks-still : (a : Inside) (event : Event) (outcome : Outcome) → launched_by event outcome ≡ None → (fs : List InFlight) → All (λ f. block_of a.blocks.items f.queue f.id ≡ arguments_behind a event outcome f.queue f.id) fs
 blocks-still a event outcome launches fs = λ k d below. rw launches refl
 
 -- a packet's block isn't touched where another's is dropped
@@ -64,17 +64,17 @@ block-without q i f other found (b ∷ bs) = either (is_block q i b) refl (λ g.
         rw another (rest found)
 
 blocks-dropped : (a : Inside) (event : Event) (outcome : Outcome) → launched_by event outcome ≡ None → (q : QueueId) (i : PacketId) (fs : List InFlight)
-    → All (λ f. block_of (filter (λ b. not (is_block q i b)) a.blocks) f.queue f.id ≡ arguments_behind a event outcome f.queue f.id) (filter (λ f. not (is_packet q i f)) fs)
+    → All (λ f. block_of (filter (λ b. not (is_block q i b)) a.blocks.items) f.queue f.id ≡ arguments_behind a event outcome f.queue f.id) (filter (λ f. not (is_packet q i f)) fs)
 blocks-dropped a event outcome launches q i fs =
-    All-weaker (λ f. not (is_packet q i f) ≡ true) (λ f. block_of (filter (λ b. not (is_block q i b)) a.blocks) f.queue f.id ≡ arguments_behind a event outcome f.queue f.id)
-    (λ f other. rw launches (block-without q i f other [] a.blocks)) (filter (λ f. not (is_packet q i f)) fs) (filter-passes (λ f. not (is_packet q i f)) fs)
+    All-weaker (λ f. not (is_packet q i f) ≡ true) (λ f. block_of (filter (λ b. not (is_block q i b)) a.blocks.items) f.queue f.id ≡ arguments_behind a event outcome f.queue f.id)
+    (λ f other. rw launches (block-without q i f other [] a.blocks.items)) (filter (λ f. not (is_packet q i f)) fs) (filter-passes (λ f. not (is_packet q i f)) fs)
 
 -- a packet that is launched has its block behind the others
 blocks-launched : (a : Inside) (event : Event) (outcome : Outcome) (q : QueueId) (i : PacketId) (p : Packet) (bytes : List ℕ) → launched_by event outcome ≡ Some (record { queue = q; id = i; packet = p }) → bytes ≡ arguments_of (start_of a) a.audit.items p
-    → (fs : List InFlight) → All (λ f. block_of (a.blocks ++ record { queue = q; packet = i; bytes = bytes } ∷ []) f.queue f.id ≡ arguments_behind a event outcome f.queue f.id) fs
+    → (fs : List InFlight) → All (λ f. block_of (a.blocks.items ++ record { queue = q; packet = i; bytes = bytes } ∷ []) f.queue f.id ≡ arguments_behind a event outcome f.queue f.id) fs
 blocks-launched a event outcome q i p bytes launches is fs = λ k d below.
     let f = get_or fs k d in
-    fold-append (block_behind f.queue f.id) [] a.blocks (record { queue = q; packet = i; bytes = bytes } ∷ [])
+    fold-append (block_behind f.queue f.id) [] a.blocks.items (record { queue = q; packet = i; bytes = bytes } ∷ [])
     ∙ (rw (launches, is) refl)
 
 -- what is told of each item is told of those that are left
@@ -99,7 +99,7 @@ blocks-with q i p bytes fs bs are =
 
 -- so a call that doesn't touch the grants leaves them as the history says
 pub grants-still : (a : Inside) → IsCached a → (event : Event) (outcome : Outcome) (effects : List Effect) → opening_of event ≡ None → launched_by event outcome ≡ None → ((client : ClientId) (on : Object) (right : Right) (b : Bool) → in_force_after client on right b event ≡ b)
-    → flight (start_of a) (with_entry a.audit.items event outcome effects) ≡ flight (start_of a) a.audit.items → GrantsAfter a a.grants a.blocks event outcome effects
+    → flight (start_of a) (with_entry a.audit.items event outcome effects) ≡ flight (start_of a) a.audit.items → GrantsAfter a a.grants a.blocks.items event outcome effects
 grants-still a kept event outcome effects none launches same flying = record {
   granted = λ client on right. sym (same client on right _);
   rules = refl;
@@ -184,7 +184,7 @@ held-left start es e owners queue id client on right (f ∷ fs) all =
 -- a packet that leaves flight holds nothing after it, and has no argument block
 pub grants-released : (a : Inside) → IsCached a → (event : Event) (outcome : Outcome) (effects : List Effect) → opening_of event ≡ None → launched_by event outcome ≡ None → ((client : ClientId) (on : Object) (right : Right) (b : Bool) → in_force_after client on right b event ≡ b)
     → (new : Ledger) (blocks : List ArgumentBlock) (q : QueueId) (i : PacketId) → flight (start_of a) (with_entry a.audit.items event outcome effects) ≡ filter (λ f. not (is_packet q i f)) (flight (start_of a) a.audit.items) → Releases a.grants new q i
-    → blocks ≡ filter (λ b. not (is_block q i b)) a.blocks → GrantsAfter a new blocks event outcome effects
+    → blocks ≡ filter (λ b. not (is_block q i b)) a.blocks.items → GrantsAfter a new blocks event outcome effects
 grants-released a kept event outcome effects none launches same new blocks q i flying releases dropped = record {
   granted = λ client on right. releases.same_rights client on right ∙ sym (same client on right _);
   rules = releases.same_rules;
@@ -194,7 +194,7 @@ grants-released a kept event outcome effects none launches same new blocks q i f
       ∙ sym (held-without (owner (start_of a) a.audit.items) (packet_rights (start_of a) a.audit.items) q i queue id client on right (flight (start_of a) a.audit.items))
       ∙ (λ j. packet_holds (λ (n : QueueId). numbered (sym (owners-still a event outcome effects none) j) n.0)
       (λ n m. sym (held-unlaunched (start_of a) a.audit.items (entry_of event outcome effects) launches n m) j) (sym flying j) queue id client on right);
-  blocks_are = rw (flying, dropped) (blocks-left q i (flight (start_of a) a.audit.items) a.blocks kept.blocks_are);
+  blocks_are = rw (flying, dropped) (blocks-left q i (flight (start_of a) a.audit.items) a.blocks.items kept.blocks_are);
   arguments = rw (flying, dropped) (blocks-dropped a event outcome launches q i (flight (start_of a) a.audit.items));
 }
 
@@ -214,7 +214,7 @@ pub grants-launched : (a : Inside) → IsCached a → (event : Event) (outcome :
     → launched_by event outcome ≡ Some (record { queue = q; id = i; packet = p })
     → flight (start_of a) (with_entry a.audit.items event outcome effects) ≡ flight (start_of a) a.audit.items ++ record { queue = q; id = i; packet = p } ∷ []
     → old ≡ record a.grants { room = old.room } → rights ≡ map as_rights hs → packet_rights (start_of a) (with_entry a.audit.items event outcome effects) q i ≡ hs → owner (start_of a) a.audit.items q ≡ Some opening → Holds old new opening.client q i rights
-    → bytes ≡ arguments_of (start_of a) a.audit.items p → blocks ≡ a.blocks ++ record { queue = q; packet = i; bytes = bytes } ∷ [] → GrantsAfter a new blocks event outcome effects
+    → bytes ≡ arguments_of (start_of a) a.audit.items p → blocks ≡ a.blocks.items ++ record { queue = q; packet = i; bytes = bytes } ∷ [] → GrantsAfter a new blocks event outcome effects
 grants-launched a kept event outcome effects none still old new blocks opening q i p rights hs bytes launches flying same are gives is holds block_is pushed = record {
   granted = λ client on right. holds.same_rights client on right ∙ ap (λ (g : Ledger). ledger.in_force g client on right) same ∙ sym (still client on right _);
   rules = holds.same_rules ∙ ap ledger.rules_in same;
@@ -227,7 +227,7 @@ grants-launched a kept event outcome effects none still old new blocks opening q
       ∙ held-left (start_of a) a.audit.items (entry_of event outcome effects) (owner (start_of a) a.audit.items) queue id client on right (flight (start_of a) a.audit.items) (holding-legal (start_of a) a.audit.items kept.legal))
       ∙ held-with (owner (start_of a) a.audit.items) (packet_rights (start_of a) (with_entry a.audit.items event outcome effects)) (flight (start_of a) a.audit.items) opening q i p hs is gives queue id client on right
       ∙ (λ j. packet_holds (λ (n : QueueId). numbered (sym (owners-still a event outcome effects none) j) n.0) (packet_rights (start_of a) (with_entry a.audit.items event outcome effects)) (sym flying j) queue id client on right);
-  blocks_are = rw (flying, pushed) (blocks-with q i p bytes (flight (start_of a) a.audit.items) a.blocks kept.blocks_are);
+  blocks_are = rw (flying, pushed) (blocks-with q i p bytes (flight (start_of a) a.audit.items) a.blocks.items kept.blocks_are);
   arguments = rw pushed (blocks-launched a event outcome q i p bytes launches block_is _);
 }
 
@@ -252,7 +252,7 @@ launch-in_force a kept old client rights hs same are forced =
     ∙ forced
 
 -- a queue that is opened leaves the grants as the history says
-pub grants-opened : (a : Inside) → IsCached a → (client : ClientId) (agent : AgentHandle) (size : ℕ) (told : Outcome) → flight (start_of a) (with_entry a.audit.items (OpenQueue client agent size) told []) ≡ flight (start_of a) a.audit.items → GrantsAfter a a.grants a.blocks (OpenQueue client agent size) told []
+pub grants-opened : (a : Inside) → IsCached a → (client : ClientId) (agent : AgentHandle) (size : ℕ) (told : Outcome) → flight (start_of a) (with_entry a.audit.items (OpenQueue client agent size) told []) ≡ flight (start_of a) a.audit.items → GrantsAfter a a.grants a.blocks.items (OpenQueue client agent size) told []
 grants-opened a kept opener agent size told flying =
     let e = entry_of (OpenQueue opener agent size) told [] in
     record {

@@ -1,4 +1,5 @@
 pub mod Terms
+pub mod Seen
 pub mod CachedMore
 pub mod Calls
 pub mod QueueLemmas
@@ -8,6 +9,7 @@ pub mod GroupLemmas
 pub mod HeldOn
 pub mod QueueAt
 pub mod ChangedQueue
+pub mod Places
 pub mod PollLemmas
 pub mod StopLemmas
 pub mod LookupLemmas

@@ -117,8 +117,8 @@ module _ (a : Inside) (kept : IsCached a) (queue : QueueId) where
         sound = let less = sound-released at.q id at.sound in record { room = less.room; free = less.free; below = less.below }
 
   -- how the grants do
-  pub grants-stopped : (barrier : Option PacketId) (new : Ledger) (blocks : List ArgumentBlock) → IfSome barrier (λ id. Releases a.grants new queue id) → IfSome barrier (λ id. blocks ≡ filter (λ b. not (is_block queue id b)) a.blocks)
-      → IfNone barrier (new ≡ a.grants) → IfNone barrier (blocks ≡ a.blocks) → GrantsAfter a new blocks (Stop queue) outcome.Accepted (release_of queue barrier)
+  pub grants-stopped : (barrier : Option PacketId) (new : Ledger) (blocks : List ArgumentBlock) → IfSome barrier (λ id. Releases a.grants new queue id) → IfSome barrier (λ id. blocks ≡ filter (λ b. not (is_block queue id b)) a.blocks.items)
+      → IfNone barrier (new ≡ a.grants) → IfNone barrier (blocks ≡ a.blocks.items) → GrantsAfter a new blocks (Stop queue) outcome.Accepted (release_of queue barrier)
   grants-stopped None new blocks released dropped same same_blocks =
       subst (λ g. GrantsAfter a g blocks (Stop queue) outcome.Accepted []) (sym same)
       (subst (λ bs. GrantsAfter a a.grants bs (Stop queue) outcome.Accepted []) (sym same_blocks)

@@ -1,4 +1,6 @@
 pub mod ArgumentBlocks
+pub mod Cores
+pub mod Keeping
 pub mod Opening
 pub mod Tables
 pub mod inner

@@ -4,11 +4,11 @@ use Rattle.std.specs.Option.{unwrap_or}
 use Rattle.kernel_check.specs.Programs.{Program}
 use Rattle.policy.specs.Policy.{Declared, initial_values, numbered, region_lengths, rules_of}
 use Rattle.core_model.specs.declared.limits.TheConstants.{MOST_ENTRIES}
-use Rattle.core_model.specs.History.{History}
 use Rattle.core_model.specs.Kernels.{no_kernel, segments_of}
 use Rattle.core_model.specs.Legal.{empty_history}
 use Rattle.regions.specs.Memory.{zeros}
 use Rattle.grants.specs.Ledger.{IsNew, rules_in}
+use Rattle.access_core.specs.Cores.{Core}
 use Rattle.access_core.specs.declared.access.opening.Parts.{Parts}
 use Rattle.access_core.specs.declared.access.OpenFault.{OpenFault}
 use Rattle.access_core.specs.declared.access.OpenFault.TheVariants as fault
@@ -46,9 +46,9 @@ open_fault policy kernels capacity =
     if length kernels == length policy.kernels then fault_behind capacity (first_missing kernels) else Some fault.KernelCount
 
 -- a core is opened just where there is no fault, unless memory is wanted (own)
-abbrev pub Opens : Declared → List Kernel → ℕ → Result History OpenFault → Type 0
+abbrev pub Opens : Declared → List Kernel → ℕ → Result Core OpenFault → Type 0
 Opens policy kernels capacity (Ok core) =
-    (open_fault policy kernels capacity ≡ None) × (core ≡ empty_history policy (map program_of kernels) capacity)
+    (open_fault policy kernels capacity ≡ None) × (core.history ≡ empty_history policy (map program_of kernels) capacity)
 Opens policy kernels capacity (Err fault.OutOfMemory) = open_fault policy kernels capacity ≡ None
 Opens policy kernels capacity (Err why) = open_fault policy kernels capacity ≡ Some why
 

@@ -58,7 +58,8 @@ impl From<AllocError> for OpenFault {
     }
 }
 
-/// The broker's core. A contract sees its history: what it began from, and its audit's entries.
+/// The broker's core. A contract sees its history, which is what it began from and its audit's entries,
+/// and how many places its tables have.
 pub struct AccessCore {
     policy: Policy,
     /// The kernels, in order.
@@ -97,13 +98,13 @@ impl Drop for AccessCore {
 }
 
 impl Model for AccessCore {
-    ghost use Rattle.core_model.specs.History.{History};
+    ghost use Rattle.access_core.specs.Cores.{Core};
 
-    ghost Value = { History };
+    ghost Value = { Core };
 
-    ghost use Rattle.access_core.specs.inner.Cached.{history_of, IsCached};
+    ghost use Rattle.access_core.specs.inner.Cached.{core_of, IsCached};
 
-    ghost view = { history_of };
+    ghost view = { core_of };
 
     ghost invariant = { IsCached };
 }
@@ -111,15 +112,15 @@ impl Model for AccessCore {
 impl AccessCore {
     // Whether the audit has no room for an entry after which as many packets are in flight.
     fn is_full(&self) -> bool
-        ensures { result ≡ is_full self.now }
+        ensures { result ≡ is_full self.now.history }
     {
         self.capacity < self.audit.len() + 1 + self.flying
     }
 
     // Whether it has none for an entry after which one packet more is in flight.
     fn is_full_for_launch(&self) -> bool
-        ensures { result ≡ nat_lt self.now.capacity
-            (length self.now.entries + 1 + (length (flight self.now.start self.now.entries) + 1)) }
+        ensures { result ≡ nat_lt self.now.history.capacity
+            (length self.now.history.entries + 1 + (length (flight self.now.history.start self.now.history.entries) + 1)) }
     {
         self.capacity < self.audit.len() + 1 + (self.flying + 1)
     }

@@ -2,6 +2,7 @@
 
 ghost use Rattle.std.specs.Prelude.{◌≡◌, ◌++◌, ◌∷◌, [], OnErr, OnOk, filter, length, not};
 ghost use Rattle.access_core.specs.ArgumentBlocks.{block_of, is_block};
+ghost use Rattle.access_core.specs.Cores.{places_of};
 
 use aql_packet::{PacketId, QueueId};
 use sequences::Sequence;
@@ -20,41 +21,42 @@ pub struct ArgumentBlock {
 }
 
 /// The argument blocks of packets in flight, in the order of their launches. A contract sees the
-/// list.
+/// list, and how many more fit.
 #[derive(Drop)]
 pub struct ArgumentBlocks {
-    blocks: Sequence<ArgumentBlock>,
+    blocks: Vec<ArgumentBlock>,
 }
 
 impl Model for ArgumentBlocks {
-    ghost use Rattle.std.specs.Prelude.{List};
+    ghost use Rattle.std.specs.Prelude.{◌-◌, vec_len, vec_capacity};
+    ghost use Rattle.sequences.specs.Room.{Roomy};
     ghost use Rattle.access_core.specs.declared.argument_blocks.ArgumentBlock.{ArgumentBlock};
 
-    ghost Value = { List ArgumentBlock };
+    ghost Value = { Roomy ArgumentBlock };
 
-    ghost view = { λ b. b.blocks };
+    ghost view = { λ b. record { items = b.blocks.items; room = vec_capacity b.blocks - vec_len b.blocks } };
 }
 
 impl ArgumentBlocks {
     /// No packet is in flight.
     pub fn new(alloc: Global) -> ArgumentBlocks
-        ensures { result ≡ [] }
+        ensures { result.items ≡ [] }
     {
         ArgumentBlocks {
-            blocks: Sequence::new(alloc),
+            blocks: Vec::new(alloc),
         }
     }
 
     /// How many blocks there are.
     pub fn len(&self) -> usize
-        ensures { result ≡ length self.now }
+        ensures { result ≡ length self.now.items }
     {
         self.blocks.len()
     }
 
     /// The block of a packet in flight; of another packet, no bytes.
     pub fn get(&self, queue: QueueId, packet: PacketId) -> &[u8]
-        ensures { result.now ≡ block_of self.now queue packet }
+        ensures { result.now ≡ block_of self.now.items queue packet }
     {
         let mut found: &[u8] = &[];
         for block in self.blocks.as_slice() {
@@ -72,8 +74,8 @@ impl ArgumentBlocks {
         packet: PacketId,
         bytes: Sequence<u8>,
     ) -> Result<(), AllocError>
-        ensures ok { OnOk result (self.new ≡ self.old ++ record { queue = queue; packet = packet; bytes = bytes } ∷ []) }
-        ensures err { OnErr result (self.new ≡ self.old) }
+        ensures ok { OnOk result (self.new.items ≡ self.old.items ++ record { queue = queue; packet = packet; bytes = bytes } ∷ []) }
+        ensures err { OnErr result (self.new.items ≡ self.old.items) }
     {
         self.blocks.push(ArgumentBlock {
             queue,
@@ -85,7 +87,8 @@ impl ArgumentBlocks {
 
     /// Drops the block of a packet that leaves flight. It takes no memory.
     pub fn release(&mut self, queue: QueueId, packet: PacketId)
-        ensures { self.new ≡ filter (λ block. not (is_block queue packet block)) self.old }
+        ensures rest { self.new.items ≡ filter (λ block. not (is_block queue packet block)) self.old.items }
+        ensures places { places_of self.new ≡ places_of self.old }
     {
         self.blocks
             .retain(|block| !(block.queue == queue && block.packet == packet));

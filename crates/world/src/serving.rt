@@ -37,7 +37,7 @@ pub(crate) fn obey(
     rings: &mut Vec<QueueRing>,
     request: Request,
 ) -> Reply
-    ensures { Obeys request core.old rings.old.items result core.new rings.new.items }
+    ensures { Obeys request core.old.history rings.old.items result core.new.history rings.new.items }
 {
     match request {
         Request::Step { queue, step } => make_step(rings, queue, step),
@@ -63,7 +63,7 @@ pub(crate) fn obey(
 
 // Has the core serve a request.
 fn ask(alloc: Global, core: &mut AccessCore, request: core_model::Request) -> Reply
-    ensures { Asks request core.old result core.new }
+    ensures { Asks request core.old.history result core.new.history }
 {
     match core.serve(alloc, request) {
         Ok(answer) => Ok(Answer::Core(answer)),
@@ -73,7 +73,7 @@ fn ask(alloc: Global, core: &mut AccessCore, request: core_model::Request) -> Re
 
 // A queue's processor hands over the packet that it has collected.
 fn take(alloc: Global, core: &mut AccessCore, rings: &mut Vec<QueueRing>, queue: QueueId) -> Reply
-    ensures { TakesAt (numbered rings.old.items queue.0) queue core.old rings.old.items result core.new rings.new.items }
+    ensures { TakesAt (numbered rings.old.items queue.0) queue core.old.history rings.old.items result core.new.history rings.new.items }
 {
     match next_packet(rings, queue) {
         None => Err(Refusal::Core(core_model::Refusal::UnknownQueue)),
@@ -91,7 +91,7 @@ fn hand_over(
     next: Next,
 ) -> Reply
     requires { IsNext rings.old.items queue next }
-    ensures { TakesAt (numbered rings.old.items queue.0) queue core.old rings.old.items result core.new rings.new.items }
+    ensures { TakesAt (numbered rings.old.items queue.0) queue core.old.history rings.old.items result core.new.history rings.new.items }
 {
     let packet = next.packet;
     let bytes = bytes_of(&next.words);
@@ -124,7 +124,7 @@ fn asked_size(size: u64, producers: u64) -> u64
 
 // Opens a queue, with its ring. Memory for the ring is got where the core will open the queue.
 fn open(alloc: Global, core: &mut AccessCore, rings: &mut Vec<QueueRing>, opening: Opening) -> Reply
-    ensures { Opens opening.client opening.agent opening.size opening.producers core.old rings.old.items result core.new rings.new.items }
+    ensures { Opens opening.client opening.agent opening.size opening.producers core.old.history rings.old.items result core.new.history rings.new.items }
 {
     if !is_ring(opening.size, opening.producers) {
         return refuse_opening(alloc, core, rings, opening);
@@ -144,8 +144,8 @@ fn open_fit(
     opening: Opening,
 ) -> Reply
     requires fits { (is_producer_count opening.producers && is_ring_size opening.size) ≡ true }
-    requires due { MayOpen core.old opening.client opening.agent opening.size opening.producers }
-    ensures { Opens opening.client opening.agent opening.size opening.producers core.old rings.old.items result core.new rings.new.items }
+    requires due { MayOpen core.old.history opening.client opening.agent opening.size opening.producers }
+    ensures { Opens opening.client opening.agent opening.size opening.producers core.old.history rings.old.items result core.new.history rings.new.items }
 {
     match RingState::new(alloc, opening.size, opening.producers) {
         Ok(ring) => open_with(alloc, core, rings, opening, ring),
@@ -161,7 +161,7 @@ fn refuse_opening(
     opening: Opening,
 ) -> Reply
     requires { (is_producer_count opening.producers && is_ring_size opening.size) ≡ false }
-    ensures { Opens opening.client opening.agent opening.size opening.producers core.old rings.old.items result core.new rings.new.items }
+    ensures { Opens opening.client opening.agent opening.size opening.producers core.old.history rings.old.items result core.new.history rings.new.items }
 {
     let _ = rings;
     let size = asked_size(opening.size, opening.producers);
@@ -180,8 +180,8 @@ fn open_with(
     ring: RingState,
 ) -> Reply
     requires ring { ring ≡ opened opening.size opening.producers }
-    requires due { MayOpen core.old opening.client opening.agent opening.size opening.producers }
-    ensures { Opens opening.client opening.agent opening.size opening.producers core.old rings.old.items result core.new rings.new.items }
+    requires due { MayOpen core.old.history opening.client opening.agent opening.size opening.producers }
+    ensures { Opens opening.client opening.agent opening.size opening.producers core.old.history rings.old.items result core.new.history rings.new.items }
 {
     let new = QueueRing {
         ring,

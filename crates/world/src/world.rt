@@ -40,9 +40,9 @@ impl Model for World {
     ghost use Rattle.world.specs.InStep.{IsJoined};
     ghost use Rattle.world.specs.Making.{AreDecided, rings_of};
 
-    ghost view = { λ world. joined world.core (rings_of world.rings.items) };
+    ghost view = { λ world. joined world.core.history (rings_of world.rings.items) };
 
-    ghost invariant = { λ world. IsJoined (joined world.core (rings_of world.rings.items)) × AreDecided world.core world.rings.items };
+    ghost invariant = { λ world. IsJoined (joined world.core.history (rings_of world.rings.items)) × AreDecided world.core.history world.rings.items };
 }
 
 impl World {

@@ -1,5 +1,6 @@
 -- What the core caches beside its audit, and that it is what the audit says.
-use Rattle.std.specs.Prelude.{◌≡◌, ℕ, ◌+◌, ◌≤◌, Bool, true, nat_lt, [], ◌∷◌, ◌++◌, map, length, Some, All}
+use Rattle.std.specs.Prelude.{◌≡◌, ℕ, ◌+◌, ◌≤◌, Bool, true, nat_lt, [], ◌∷◌, ◌++◌, map, length, Some, All, vec_capacity}
+use Rattle.std.specs.Global.{Vec}
 use Rattle.aql_packet.specs.declared.ids.ClientId.{ClientId}
 use Rattle.aql_packet.specs.declared.ids.QueueId.{QueueId}
 use Rattle.aql_packet.specs.declared.ids.PacketId.{PacketId}
@@ -20,7 +21,11 @@ use Rattle.core_model.specs.Kernels.{segments_of}
 use Rattle.core_model.specs.Legal.{IsLegal}
 use Rattle.access_core.specs.declared.access.AccessCore.TheInside.{Inside}
 use Rattle.grants.specs.Ledger as ledger
+use Rattle.grants.specs.Ledger.{Ledger}
 use Rattle.access_core.specs.ArgumentBlocks.{AreBlocksOf, block_of}
+use Rattle.access_core.specs.Cores.{Core, TablePlaces, places_of}
+use Rattle.access_core.specs.declared.argument_blocks.ArgumentBlock.{ArgumentBlock}
+use Rattle.access_core.specs.declared.queue.Queue.{Queue}
 use Rattle.access_core.specs.Opening.{has_entry, program_of}
 use Rattle.access_core.specs.inner.Held.{packet_holds}
 pub use Rattle.access_core.specs.inner.CachedQueue.{IsSound, cached, cached_opening, queue_at}
@@ -33,6 +38,24 @@ start_of a = record { policy = a.policy; kernels = map program_of a.kernels.item
 -- the history that the fields tell
 abbrev pub history_of : Inside → History
 history_of a = record { start = start_of a; capacity = a.capacity; entries = a.audit.items }
+
+-- how many places for errors a queue has
+abbrev pub error_places : Queue → ℕ
+error_places q = places_of q.errors
+
+-- how many places the tables have that can grow
+abbrev pub table_places : Vec Queue → Ledger → Roomy ArgumentBlock → Roomy Entry → TablePlaces
+table_places queues grants blocks audit = record {
+  queue_places = vec_capacity queues;
+  error_places = map error_places queues.items;
+  hold_places = ledger.places grants;
+  block_places = places_of blocks;
+  audit_places = places_of audit;
+}
+
+-- what a contract sees of the fields
+abbrev pub core_of : Inside → Core
+core_of a = record { history = history_of a; places = table_places a.queues a.grants a.blocks a.audit }
 
 -- whether an audit has no room for an entry after which as many packets are in flight
 abbrev pub is_full : History → Bool
@@ -53,8 +76,8 @@ pub record IsCached (a : Inside) : Type 0 where
   pub held : (queue : QueueId) (id : PacketId) (client : ClientId) (on : Object) (right : Right)
       → ledger.holds a.grants queue id client on right ≡ packet_holds (owner (start_of a) a.audit.items) (packet_rights (start_of a) a.audit.items) (flight (start_of a) a.audit.items) queue id client on right
   -- the argument blocks: one of each packet in flight, as it was at its launch
-  pub blocks_are : AreBlocksOf (flight (start_of a) a.audit.items) a.blocks
-  pub arguments : All (λ f. block_of a.blocks f.queue f.id ≡ arguments (start_of a) a.audit.items f.queue f.id) (flight (start_of a) a.audit.items)
+  pub blocks_are : AreBlocksOf (flight (start_of a) a.audit.items) a.blocks.items
+  pub arguments : All (λ f. block_of a.blocks.items f.queue f.id ≡ arguments (start_of a) a.audit.items f.queue f.id) (flight (start_of a) a.audit.items)
   -- each kernel is one of its checked kernels, and has these segments
   pub entries : All (λ kernel. has_entry kernel ≡ true) a.kernels.items
   pub segments : a.segments ≡ map segments_of (map program_of a.kernels.items)

@@ -12,7 +12,8 @@ use policy::{Object, Rights};
 impl AccessCore {
     /// Gives a client rights on an object. It takes no memory.
     pub fn grant(&mut self, client: ClientId, object: Object, rights: Rights) -> Result<(), Refusal>
-        ensures { Meets (Event.Grant client object rights) self.old self.new (as_accepted result) }
+        ensures met { Meets (Event.Grant client object rights) self.old.history self.new.history (as_accepted result) }
+        ensures places { self.new.places ≡ self.old.places }
     {
         if let Err(why) = self.grants.may_grant(client, object, rights) {
             return Err(refusal_of(why));
@@ -38,7 +39,8 @@ impl AccessCore {
         object: Object,
         rights: Rights,
     ) -> Result<(), Refusal>
-        ensures { Meets (Event.Revoke client object rights) self.old self.new (as_accepted result) }
+        ensures met { Meets (Event.Revoke client object rights) self.old.history self.new.history (as_accepted result) }
+        ensures places { self.new.places ≡ self.old.places }
     {
         if let Err(why) = self.grants.may_revoke(client, object, rights) {
             return Err(refusal_of(why));

@@ -25,7 +25,8 @@ impl AccessCore {
         signal: SignalHandle,
         operation: SignalOp,
     ) -> Result<i64, Refusal>
-        ensures { Meets (Event.ChangeSignal client signal operation) self.old self.new (as_variant Outcome.Changed result) }
+        ensures met { Meets (Event.ChangeSignal client signal operation) self.old.history self.new.history (as_variant Outcome.Changed result) }
+        ensures places { self.new.places ≡ self.old.places }
     {
         let old = self.may_change(client, signal, operation)?;
         let new = change(&mut self.signals, signal, operation, old);
@@ -49,7 +50,8 @@ impl AccessCore {
         address: Address,
         bytes: Sequence<u8>,
     ) -> Result<(), Refusal>
-        ensures { MeetsOrLacks (Event.HostWrite client address bytes) self.old self.new (as_accepted result) }
+        ensures met { MeetsOrLacks (Event.HostWrite client address bytes) self.old.history self.new.history (as_accepted result) }
+        ensures places { self.new.places ≡ self.old.places }
     {
         self.may_write(client, address, &bytes)?;
         let written = bytes.copy(alloc)?;
@@ -75,10 +77,10 @@ impl AccessCore {
         address: Address,
         bytes: &Sequence<u8>,
     ) -> Result<(), Refusal>
-        ensures within { OnOk result (is_within (region_lengths self.now.start) address.0 (length bytes.now) ≡ true) }
-        ensures may { OnOk result (due self.now (Event.HostWrite client address bytes.now)
+        ensures within { OnOk result (is_within (region_lengths self.now.history.start) address.0 (length bytes.now) ≡ true) }
+        ensures may { OnOk result (due self.now.history (Event.HostWrite client address bytes.now)
             ≡ enters Outcome.Accepted (Effect.Write address bytes.now ∷ [])) }
-        ensures why { IfErr result (λ why. due self.now (Event.HostWrite client address bytes.now) ≡ refuses why) }
+        ensures why { IfErr result (λ why. due self.now.history (Event.HostWrite client address bytes.now) ≡ refuses why) }
     {
         if !self.policy().declares_client(client) {
             return Err(Refusal::UnknownClient);
@@ -100,7 +102,7 @@ impl AccessCore {
 
     // Whether a range of addresses lies whole in one region.
     pub(crate) fn lies_within(&self, address: Address, size: u64) -> bool
-        ensures { result ≡ is_within (region_lengths self.now.start) address.0 size }
+        ensures { result ≡ is_within (region_lengths self.now.history.start) address.0 size }
     {
         self.memory.contains(address, size)
     }
@@ -113,11 +115,11 @@ impl AccessCore {
         signal: SignalHandle,
         operation: SignalOp,
     ) -> Result<i64, Refusal>
-        ensures value { IfOk result (λ old. value_of (signals self.now.start self.now.entries) signal.0 ≡ Some old) }
-        ensures may { IfOk result (λ old. due self.now (Event.ChangeSignal client signal operation)
+        ensures value { IfOk result (λ old. value_of (signals self.now.history.start self.now.history.entries) signal.0 ≡ Some old) }
+        ensures may { IfOk result (λ old. due self.now.history (Event.ChangeSignal client signal operation)
             ≡ enters (Outcome.Changed (old_if_asked operation old))
             (Effect.Signal signal old (applied operation old) ∷ [])) }
-        ensures why { IfErr result (λ why. due self.now (Event.ChangeSignal client signal operation) ≡ refuses why) }
+        ensures why { IfErr result (λ why. due self.now.history (Event.ChangeSignal client signal operation) ≡ refuses why) }
     {
         if !self.policy().declares_client(client) {
             return Err(Refusal::UnknownClient);

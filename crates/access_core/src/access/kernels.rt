@@ -35,10 +35,11 @@ impl AccessCore {
         place: Place,
         dispatch: KernelDispatch,
     ) -> Result<Worked, Refusal>
-        requires found { IsInPlace self.old queue packet place }
+        requires found { IsInPlace self.old.history queue packet place }
         requires sized { has_sizes dispatch ≡ true }
         requires packet_is { place.packet ≡ kind.Kernel dispatch }
-        ensures { MeetsOrLacks (Event.RunNext queue packet) self.old self.new (as_variant Outcome.Worked result) }
+        ensures met { MeetsOrLacks (Event.RunNext queue packet) self.old.history self.new.history (as_variant Outcome.Worked result) }
+        ensures places { self.new.places ≡ self.old.places }
     {
         let count = group_count(&dispatch);
         let group = place.progress.groups_run;
@@ -61,12 +62,12 @@ impl AccessCore {
         place: Place,
         dispatch: KernelDispatch,
     ) -> Result<Sequence<Run>, RunFault>
-        requires found { IsInPlace self.now queue packet place }
+        requires found { IsInPlace self.now.history queue packet place }
         requires packet_is { place.packet ≡ kind.Kernel dispatch }
         requires left { place.progress.groups_run < groups_of (kind.Kernel dispatch) }
-        ensures ok { IfOk result (λ runs. next_result self.now queue packet place dispatch ≡ wrote runs) }
-        ensures fault { IfErr result (FaultsAs (next_result self.now queue packet place dispatch)) }
-        ensures written { IfOk result (λ runs. All (λ run. is_within (region_lengths self.now.start) run.address (length run.bytes) ≡ true) runs) }
+        ensures ok { IfOk result (λ runs. next_result self.now.history queue packet place dispatch ≡ wrote runs) }
+        ensures fault { IfErr result (FaultsAs (next_result self.now.history queue packet place dispatch)) }
+        ensures written { IfOk result (λ runs. All (λ run. is_within (region_lengths self.now.history.start) run.address (length run.bytes) ≡ true) runs) }
     {
         groups_read_where_they_may();
         self.regions_fit();
@@ -94,10 +95,11 @@ impl AccessCore {
         group: u32,
         fault: ItemFault,
     ) -> Worked
-        requires found { IsInPlace self.old queue packet place }
-        requires owed { owed self.old.start self.old.entries (Event.RunNext queue packet)
+        requires found { IsInPlace self.old.history queue packet place }
+        requires owed { owed self.old.history.start self.old.history.entries (Event.RunNext queue packet)
             ≡ fault_owed (group_error queue packet group fault.item fault.line fault.rule) }
-        ensures { Meets (Event.RunNext queue packet) self.old self.new (Ok (Outcome.Worked result)) }
+        ensures met { Meets (Event.RunNext queue packet) self.old.history self.new.history (Ok (Outcome.Worked result)) }
+        ensures places { self.new.places ≡ self.old.places }
     {
         let error = QueueError {
             queue,

@@ -31,12 +31,13 @@ impl AccessCore {
         left: u32,
         runs: Sequence<Run>,
     ) -> Result<Worked, Refusal>
-        requires found { IsInPlace self.old queue packet place }
-        requires owed { owed self.old.start self.old.entries (Event.RunNext queue packet)
+        requires found { IsInPlace self.old.history queue packet place }
+        requires owed { owed self.old.history.start self.old.history.entries (Event.RunNext queue packet)
             ≡ enters (Outcome.Worked (Worked.Ran place.progress.groups_run left)) (map write_of_run runs) }
-        requires written { All (λ run. is_within (region_lengths self.old.start) run.address (length run.bytes) ≡ true) runs }
+        requires written { All (λ run. is_within (region_lengths self.old.history.start) run.address (length run.bytes) ≡ true) runs }
         requires room { place.progress.groups_run < 2 ^ 32 - 1 }
-        ensures { MeetsOrLacks (Event.RunNext queue packet) self.old self.new (as_variant Outcome.Worked result) }
+        ensures met { MeetsOrLacks (Event.RunNext queue packet) self.old.history self.new.history (as_variant Outcome.Worked result) }
+        ensures places { self.new.places ≡ self.old.places }
     {
         let changes = changes_of(alloc, runs)?;
         if self.is_full() {

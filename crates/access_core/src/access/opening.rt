@@ -209,7 +209,7 @@ fn blank(
     requires untouched { IsUntouched policy kernels.items capacity parts }
     requires entries { All (λ kernel. has_entry kernel ≡ true) kernels.items }
     requires few { is_capacity capacity ≡ true }
-    ensures { result ≡ empty_history policy (map program_of kernels.items) capacity }
+    ensures { result.history ≡ empty_history policy (map program_of kernels.items) capacity }
 {
     let Parts {
         segments,

@@ -1,6 +1,6 @@
 //! Barrier packets in flight look at the signals that they depend on.
 
-ghost use Rattle.std.specs.Prelude.{◌≡◌, IfErr, IfOk, Ok, Some, is_some, map};
+ghost use Rattle.std.specs.Prelude.{◌≡◌, IfErr, IfOk, Ok, Some, is_some, map, vec_capacity};
 ghost use Rattle.std.specs.List.{list_any, zip};
 ghost use Rattle.std.specs.Option.{IfSome};
 ghost use Rattle.core_model.specs.Flight.{seen_by_either};
@@ -40,7 +40,8 @@ impl AccessCore {
     /// then on, whatever becomes of it (PSA, Architected Queuing Language: barrier packets). It takes
     /// no memory.
     pub fn poll(&mut self, queue: QueueId, packet: PacketId) -> Result<Polled, Refusal>
-        ensures { Meets (Event.Poll queue packet) self.old self.new (as_variant Outcome.Polled result) }
+        ensures met { Meets (Event.Poll queue packet) self.old.history self.new.history (as_variant Outcome.Polled result) }
+        ensures places { self.new.places ≡ self.old.places }
     {
         let (place, look) = self.may_poll(queue, packet)?;
         match look {
@@ -53,9 +54,9 @@ impl AccessCore {
     // The place of the packet in flight with this queue and id, and what a poll of it finds.
     fn may_poll(&self, queue: QueueId, packet: PacketId) -> Result<(Place, Look), Refusal>
         ensures may { IfOk result (λ found.
-            due self.now (Event.Poll queue packet) ≡ look_owed queue packet found.1) }
-        ensures found { IfOk result (λ found. IsInPlace self.now queue packet found.0) }
-        ensures why { IfErr result (λ why. due self.now (Event.Poll queue packet) ≡ refuses why) }
+            due self.now.history (Event.Poll queue packet) ≡ look_owed queue packet found.1) }
+        ensures found { IfOk result (λ found. IsInPlace self.now.history queue packet found.0) }
+        ensures why { IfErr result (λ why. due self.now.history (Event.Poll queue packet) ≡ refuses why) }
     {
         let place = self.place_of(queue, packet)?;
         let look = match look_at(&self.signals, &place, queue, packet) {
@@ -76,9 +77,10 @@ impl AccessCore {
 
     // Fails a packet in flight: its queue has an error more, and it leaves flight.
     fn fail(&mut self, queue: QueueId, packet: PacketId, place: Place) -> Polled
-        requires may { due self.old (Event.Poll queue packet) ≡ look_owed queue packet Look.Fails }
-        requires found { IsInPlace self.old queue packet place }
-        ensures { Meets (Event.Poll queue packet) self.old self.new (Ok (Outcome.Polled result)) }
+        requires may { due self.old.history (Event.Poll queue packet) ≡ look_owed queue packet Look.Fails }
+        requires found { IsInPlace self.old.history queue packet place }
+        ensures met { Meets (Event.Poll queue packet) self.old.history self.new.history (Ok (Outcome.Polled result)) }
+        ensures places { self.new.places ≡ self.old.places }
     {
         let error = QueueError {
             queue,
@@ -105,9 +107,10 @@ impl AccessCore {
         new: Seen,
         ready: bool,
     ) -> Polled
-        requires may { due self.old (Event.Poll queue packet) ≡ look_owed queue packet (Look.Sees new ready) }
-        requires found { IsInPlace self.old queue packet place }
-        ensures { Meets (Event.Poll queue packet) self.old self.new (Ok (Outcome.Polled result)) }
+        requires may { due self.old.history (Event.Poll queue packet) ≡ look_owed queue packet (Look.Sees new ready) }
+        requires found { IsInPlace self.old.history queue packet place }
+        ensures met { Meets (Event.Poll queue packet) self.old.history self.new.history (Ok (Outcome.Polled result)) }
+        ensures places { self.new.places ≡ self.old.places }
     {
         let progress = Progress {
             satisfied: seen_by_either(&place.progress.satisfied, &new),
@@ -254,6 +257,7 @@ pub(crate) fn fail_packet(
     requires { CanFail queues.old.items queue }
     ensures queues { queues.new.items ≡ with_queue queues.old.items queue (with_failure packet error) }
     ensures freed { result ≡ freed_by (Some packet) queues.old.items queue }
+    ensures capacity { vec_capacity queues.new ≡ vec_capacity queues.old }
 {
     let kept = &mut queues[queue.0 as usize - 1];
     kept.errors.push(error);

@@ -19,15 +19,15 @@ use std::alloc::Global;
 impl AccessCore {
     /// The policy that the core was opened with.
     pub fn policy(&self) -> &Policy
-        ensures { result.now ≡ self.now.start.policy }
+        ensures { result.now ≡ self.now.history.start.policy }
     {
         &self.policy
     }
 
     /// The audit's entries, in order: a legal history, so that all laws of legal histories hold of it.
     pub fn audit(&self) -> &[Entry]
-        ensures entries { result.now ≡ self.now.entries }
-        ensures legal { IsLegal self.now.start self.now.entries }
+        ensures entries { result.now ≡ self.now.history.entries }
+        ensures legal { IsLegal self.now.history.start self.now.history.entries }
     {
         self.audit.as_slice()
     }
@@ -35,7 +35,7 @@ impl AccessCore {
     /// How long these tables of the core are, as its history says: calls that take no memory make none of them
     /// longer.
     pub fn table_sizes(&self) -> TableSizes
-        ensures { result ≡ table_sizes self.now }
+        ensures { result ≡ table_sizes self.now.history }
     {
         TableSizes {
             queues: self.queues.len(),
@@ -56,7 +56,7 @@ impl AccessCore {
         length: u64,
     ) -> Result<Sequence<u8>, Refusal>
         ensures { RepliesOrLacks
-            (Query.HostRead client address length) self.now (as_variant answer.Bytes result) }
+            (Query.HostRead client address length) self.now.history (as_variant answer.Bytes result) }
     {
         if !self.policy().declares_client(client) {
             return Err(Refusal::UnknownClient);
@@ -79,7 +79,7 @@ impl AccessCore {
     /// wait on the signal isn't in force.
     #[tactic(auto, unfolding(core_model::specs::Queries::query_answer))]
     pub fn signal_load(&self, client: ClientId, signal: SignalHandle) -> Result<i64, Refusal>
-        ensures { Replies (Query.LoadSignal client signal) self.now (as_variant answer.Value result) }
+        ensures { Replies (Query.LoadSignal client signal) self.now.history (as_variant answer.Value result) }
     {
         if !self.policy().declares_client(client) {
             return Err(Refusal::UnknownClient);
@@ -103,7 +103,7 @@ impl AccessCore {
         value: i64,
     ) -> Result<bool, Refusal>
         ensures { Replies
-            (Query.TestSignal client signal condition value) self.now (as_variant answer.Test result) }
+            (Query.TestSignal client signal condition value) self.now.history (as_variant answer.Test result) }
     {
         let current = self.signal_load(client, signal)?;
         Ok(condition.is_met(current, value))
@@ -117,7 +117,7 @@ impl AccessCore {
         alloc: Global,
         client: ClientId,
     ) -> Result<Sequence<(Object, Rights)>, Refusal>
-        ensures { RepliesOrLacks (Query.List client) self.now (as_variant answer.Listing result) }
+        ensures { RepliesOrLacks (Query.List client) self.now.history (as_variant answer.Listing result) }
     {
         if !self.policy().declares_client(client) {
             return Err(Refusal::UnknownClient);
@@ -128,7 +128,7 @@ impl AccessCore {
     /// The errors of a queue, in order. Refused where no queue has the number.
     #[tactic(auto, unfolding(core_model::specs::Queries::query_answer))]
     pub fn errors(&self, alloc: Global, queue: QueueId) -> Result<Sequence<QueueError>, Refusal>
-        ensures { RepliesOrLacks (Query.Errors queue) self.now (as_variant answer.Errors result) }
+        ensures { RepliesOrLacks (Query.Errors queue) self.now.history (as_variant answer.Errors result) }
     {
         let Some(kept) = self.queue(queue) else {
             return Err(Refusal::UnknownQueue);

@@ -24,7 +24,7 @@ impl AccessCore {
         agent: AgentHandle,
         size: u64,
     ) -> Result<QueueId, Refusal>
-        ensures { MeetsOrLacks (Event.OpenQueue client agent size) self.old self.new (as_variant Outcome.Opened result) }
+        ensures { MeetsOrLacks (Event.OpenQueue client agent size) self.old.history self.new.history (as_variant Outcome.Opened result) }
     {
         let queue = self.may_open(client, agent, size)?;
         let errors = Reserved::with_room(alloc, SLOTS)?;
@@ -60,9 +60,9 @@ impl AccessCore {
         agent: AgentHandle,
         size: u64,
     ) -> Result<QueueId, Refusal>
-        ensures may { IfOk result (λ queue. due self.now (Event.OpenQueue client agent size) ≡ enters (Outcome.Opened queue) []) }
-        ensures few { OnOk result (length (openings self.now.start self.now.entries) < QUEUES) }
-        ensures why { IfErr result (λ why. due self.now (Event.OpenQueue client agent size) ≡ refuses why) }
+        ensures may { IfOk result (λ queue. due self.now.history (Event.OpenQueue client agent size) ≡ enters (Outcome.Opened queue) []) }
+        ensures few { OnOk result (length (openings self.now.history.start self.now.history.entries) < QUEUES) }
+        ensures why { IfErr result (λ why. due self.now.history (Event.OpenQueue client agent size) ≡ refuses why) }
     {
         if !self.policy.declares_client(client) {
             return Err(Refusal::UnknownClient);

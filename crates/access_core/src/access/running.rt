@@ -1,6 +1,6 @@
 //! The groups of dispatches in flight are run: those of agent dispatches here.
 
-ghost use Rattle.std.specs.Prelude.{◌≡◌, ◌++◌, ◌+◌, ◌-◌, ◌<◌, ◌^◌, IfOk, length, option_to_list, replicate, true};
+ghost use Rattle.std.specs.Prelude.{◌≡◌, ◌++◌, ◌+◌, ◌-◌, ◌<◌, ◌^◌, IfOk, length, option_to_list, replicate, true, vec_capacity};
 ghost use Rattle.std.specs.Int.{w64, to_le_bytes};
 ghost use Rattle.aql_packet.specs.declared.packet.Packet.TheVariants as kind;
 ghost use Rattle.regions.specs.Memory.{is_within, lengths_of};
@@ -41,7 +41,8 @@ impl AccessCore {
         queue: QueueId,
         packet: PacketId,
     ) -> Result<Worked, Refusal>
-        ensures { MeetsOrLacks (Event.RunNext queue packet) self.old self.new (as_variant Outcome.Worked result) }
+        ensures met { MeetsOrLacks (Event.RunNext queue packet) self.old.history self.new.history (as_variant Outcome.Worked result) }
+        ensures places { self.new.places ≡ self.old.places }
     {
         let place = self.place_of(queue, packet)?;
         match place.packet {
@@ -61,10 +62,11 @@ impl AccessCore {
         place: Place,
         dispatch: AgentDispatch,
     ) -> Result<Worked, Refusal>
-        requires found { IsInPlace self.old queue packet place }
-        requires within { lies_in_regions (region_lengths self.old.start) place.packet ≡ true }
+        requires found { IsInPlace self.old.history queue packet place }
+        requires within { lies_in_regions (region_lengths self.old.history.start) place.packet ≡ true }
         requires packet_is { place.packet ≡ kind.Agent dispatch }
-        ensures { MeetsOrLacks (Event.RunNext queue packet) self.old self.new (as_variant Outcome.Worked result) }
+        ensures met { MeetsOrLacks (Event.RunNext queue packet) self.old.history self.new.history (as_variant Outcome.Worked result) }
+        ensures places { self.new.places ≡ self.old.places }
     {
         if place.progress.groups_run >= 1 {
             return Ok(Worked::Done);
@@ -84,10 +86,10 @@ impl AccessCore {
 
     // What an agent's function writes, and where.
     fn function_piece(&self, alloc: Global, dispatch: &AgentDispatch) -> Result<Piece, AllocError>
-        requires { lies_in_regions (region_lengths self.now.start) (kind.Agent dispatch.now) ≡ true }
+        requires { lies_in_regions (region_lengths self.now.history.start) (kind.Agent dispatch.now) ≡ true }
         ensures written { IfOk result (λ piece. write_of piece.address.0 piece.bytes
-            ≡ function_writes self.now.start self.now.entries (function_of dispatch.now)) }
-        ensures placed { IfOk result (λ piece. IsPlaced self.now piece.address.0 (length piece.bytes)) }
+            ≡ function_writes self.now.history.start self.now.history.entries (function_of dispatch.now)) }
+        ensures placed { IfOk result (λ piece. IsPlaced self.now.history piece.address.0 (length piece.bytes)) }
     {
         match function_of(dispatch) {
             Some(AgentFunction::Fill { target, byte }) => Ok(Piece {
@@ -111,10 +113,10 @@ impl AccessCore {
 
     // What an agent's function leaves at its return address.
     fn result_piece(&self, alloc: Global, dispatch: &AgentDispatch) -> Result<Piece, AllocError>
-        requires { lies_in_regions (region_lengths self.now.start) (kind.Agent dispatch.now) ≡ true }
+        requires { lies_in_regions (region_lengths self.now.history.start) (kind.Agent dispatch.now) ≡ true }
         ensures written { IfOk result (λ piece.
-            write_of piece.address.0 piece.bytes ≡ result_writes self.now.start self.now.entries dispatch.now) }
-        ensures placed { IfOk result (λ piece. IsPlaced self.now piece.address.0 (length piece.bytes)) }
+            write_of piece.address.0 piece.bytes ≡ result_writes self.now.history.start self.now.history.entries dispatch.now) }
+        ensures placed { IfOk result (λ piece. IsPlaced self.now.history piece.address.0 (length piece.bytes)) }
     {
         let address = dispatch.return_address;
         if address.0 == 0 {
@@ -131,8 +133,8 @@ impl AccessCore {
 
     // The result of an agent's function: the old number of an addition, else 0.
     fn result_number(&self, dispatch: &AgentDispatch) -> u64
-        requires { lies_in_regions (region_lengths self.now.start) (kind.Agent dispatch.now) ≡ true }
-        ensures { result ≡ function_result self.now.start self.now.entries (function_of dispatch.now) }
+        requires { lies_in_regions (region_lengths self.now.history.start) (kind.Agent dispatch.now) ≡ true }
+        ensures { result ≡ function_result self.now.history.start self.now.history.entries (function_of dispatch.now) }
     {
         match function_of(dispatch) {
             Some(AgentFunction::Add64 { number, .. }) => self.number(number.address),
@@ -142,9 +144,9 @@ impl AccessCore {
 
     // The bytes of a range, as a list of its own.
     pub(crate) fn copied(&self, alloc: Global, range: Range) -> Result<Sequence<u8>, AllocError>
-        requires { IsPlaced self.now range.address.0 range.size }
+        requires { IsPlaced self.now.history range.address.0 range.size }
         ensures { IfOk result (λ bytes.
-            bytes ≡ memory_from self.now.start self.now.entries range.address.0 range.size) }
+            bytes ≡ memory_from self.now.history.start self.now.history.entries range.address.0 range.size) }
     {
         if range.size == 0 {
             return Ok(Sequence::new(alloc));
@@ -155,8 +157,8 @@ impl AccessCore {
 
     // The 64-bit number at an address.
     fn number(&self, address: Address) -> u64
-        requires { is_within (region_lengths self.now.start) address.0 8 ≡ true }
-        ensures { result ≡ number_in_memory self.now.start self.now.entries address.0 }
+        requires { is_within (region_lengths self.now.history.start) address.0 8 ≡ true }
+        ensures { result ≡ number_in_memory self.now.history.start self.now.history.entries address.0 }
     {
         let mut number = [0; 8];
         number.copy_from_slice(self.memory.bytes(address, 8));
@@ -178,7 +180,8 @@ pub(crate) fn one_more(progress: &Progress) -> Progress
 // Notes how far a packet in flight has come.
 pub(crate) fn advance(queues: &mut Vec<Queue>, queue: QueueId, id: PacketId, progress: Progress)
     requires { IsThere queues.old.items queue }
-    ensures { queues.new.items ≡ with_queue queues.old.items queue (with_advance id progress) }
+    ensures queues { queues.new.items ≡ with_queue queues.old.items queue (with_advance id progress) }
+    ensures capacity { vec_capacity queues.new ≡ vec_capacity queues.old }
 {
     queues[queue.0 as usize - 1].places.advance(id, progress);
 }

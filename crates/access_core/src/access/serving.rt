@@ -2,6 +2,7 @@
 
 ghost use Rattle.std.specs.Prelude.{◌≡◌, ◌≤◌, [], IfOk, OnErr, length};
 ghost use Rattle.core_model.specs.Legal.{AreReplies, IsLegal, IsServed, MeetsOrLacks, RepliesOrLacks, as_reply};
+ghost use Rattle.access_core.specs.Keeping.{MadeInPlace, ServedInPlace};
 
 use crate::access::AccessCore;
 use core_model::{Answer, Entry, Event, Outcome, Query, Refusal, Reply, Request};
@@ -9,10 +10,12 @@ use sequences::{Reserved, Sequence};
 use std::alloc::{AllocError, Global};
 
 impl AccessCore {
-    /// Serves a request: makes the call that it names.
+    /// Serves a request: makes the call that it names. But for an opening of a queue and a packet that is
+    /// handed over, none makes a table longer.
     pub fn serve(&mut self, alloc: Global, request: Request) -> Reply
-        ensures served { IsServed self.old request result self.new }
-        ensures legal { IsLegal self.new.start self.new.entries }
+        ensures served { IsServed self.old.history request result self.new.history }
+        ensures legal { IsLegal self.new.history.start self.new.history.entries }
+        ensures places { ServedInPlace request self.old.places self.new.places }
     {
         let reply = self.obey(alloc, request);
         self.ensure_legal();
@@ -26,8 +29,8 @@ impl AccessCore {
         alloc: Global,
         requests: Vec<Request>,
     ) -> Result<Reserved<Reply>, AllocError>
-        ensures replies { IfOk result (λ replies. AreReplies self.old requests.items replies.items self.new) }
-        ensures legal { IsLegal self.new.start self.new.entries }
+        ensures replies { IfOk result (λ replies. AreReplies self.old.history requests.items replies.items self.new.history) }
+        ensures legal { IsLegal self.new.history.start self.new.history.entries }
         ensures err { OnErr result (self.new ≡ self.old) }
     {
         match Reserved::with_room(alloc, requests.len()) {
@@ -49,8 +52,8 @@ impl AccessCore {
     ) -> Reserved<Reply>
         requires room { length requests.items ≤ replies.room }
         requires empty { replies.items ≡ [] }
-        ensures replies { AreReplies self.old requests.items result.items self.new }
-        ensures legal { IsLegal self.new.start self.new.entries }
+        ensures replies { AreReplies self.old.history requests.items result.items self.new.history }
+        ensures legal { IsLegal self.new.history.start self.new.history.entries }
     {
         for request in requests {
             let reply = self.obey(alloc, request);
@@ -62,14 +65,15 @@ impl AccessCore {
 
     // Does nothing but say to callers what holds of each core: its audit is a legal history.
     fn ensure_legal(&self)
-        ensures { IsLegal self.now.start self.now.entries }
+        ensures { IsLegal self.now.history.start self.now.history.entries }
     {
         self.audit.as_slice();
     }
 
     // Makes the call that a request names.
     fn obey(&mut self, alloc: Global, request: Request) -> Reply
-        ensures { IsServed self.old request result self.new }
+        ensures served { IsServed self.old.history request result self.new.history }
+        ensures places { ServedInPlace request self.old.places self.new.places }
     {
         match request {
             Request::Event(event) => as_reply(self.make(alloc, event)),
@@ -79,7 +83,8 @@ impl AccessCore {
 
     // Makes the call of an event.
     fn make(&mut self, alloc: Global, event: Event) -> Result<Outcome, Refusal>
-        ensures { MeetsOrLacks event self.old self.new result }
+        ensures met { MeetsOrLacks event self.old.history self.new.history result }
+        ensures places { MadeInPlace event self.old.places self.new.places }
     {
         match event {
             Event::Grant {
@@ -135,7 +140,7 @@ impl AccessCore {
 
     // Answers a query.
     fn answer(&self, alloc: Global, query: Query) -> Reply
-        ensures { RepliesOrLacks query self.now result }
+        ensures { RepliesOrLacks query self.now.history result }
     {
         match query {
             Query::HostRead {

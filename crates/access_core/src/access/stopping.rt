@@ -1,8 +1,9 @@
 //! Queues are stopped.
 
-ghost use Rattle.std.specs.Prelude.{◌≡◌, IfErr, IfNone, IfOk, IfSome, filter, not};
+ghost use Rattle.std.specs.Prelude.{◌≡◌, IfErr, IfNone, IfOk, IfSome, filter, not, vec_capacity};
 ghost use Rattle.access_core.specs.ArgumentBlocks.{is_block};
-ghost use Rattle.grants.specs.Ledger.{Releases};
+ghost use Rattle.access_core.specs.Cores.{places_of};
+ghost use Rattle.grants.specs.Ledger.{Releases, places};
 ghost use Rattle.core_model.specs.Owed.{enters, refuses, release_of};
 ghost use Rattle.core_model.specs.Legal.{Meets, as_accepted, due};
 ghost use Rattle.access_core.specs.inner.QueueChanges.{IsThere, freed_by, with_queue, with_stop};
@@ -20,7 +21,8 @@ impl AccessCore {
     /// Stops a queue: it launches nothing more, and its barrier packet in flight leaves flight with
     /// its completion signal as it is. Its other packets in flight go on (own). It takes no memory.
     pub fn stop(&mut self, queue: QueueId) -> Result<(), Refusal>
-        ensures { Meets (Event.Stop queue) self.old self.new (as_accepted result) }
+        ensures met { Meets (Event.Stop queue) self.old.history self.new.history (as_accepted result) }
+        ensures places { self.new.places ≡ self.old.places }
     {
         let barrier = self.may_stop(queue)?;
         self.flying -= halt(&mut self.queues, queue, barrier);
@@ -33,8 +35,8 @@ impl AccessCore {
     // The barrier packet in flight of a queue that may be stopped, if there is one: then the audit has
     // room for the stop, else it is looked for.
     fn may_stop(&self, queue: QueueId) -> Result<Option<PacketId>, Refusal>
-        ensures may { IfOk result (λ barrier. due self.now (Event.Stop queue) ≡ enters Outcome.Accepted (release_of queue barrier)) }
-        ensures why { IfErr result (λ why. due self.now (Event.Stop queue) ≡ refuses why) }
+        ensures may { IfOk result (λ barrier. due self.now.history (Event.Stop queue) ≡ enters Outcome.Accepted (release_of queue barrier)) }
+        ensures why { IfErr result (λ why. due self.now.history (Event.Stop queue) ≡ refuses why) }
     {
         let kept = match queue_of(self.queues.as_slice(), queue) {
             None => return Err(Refusal::UnknownQueue),
@@ -57,6 +59,7 @@ fn halt(queues: &mut Vec<Queue>, queue: QueueId, barrier: Option<PacketId>) -> u
     requires { IsThere queues.old.items queue }
     ensures queues { queues.new.items ≡ with_queue queues.old.items queue (with_stop barrier) }
     ensures freed { result ≡ freed_by barrier queues.old.items queue }
+    ensures capacity { vec_capacity queues.new ≡ vec_capacity queues.old }
 {
     let kept = &mut queues[queue.0 as usize - 1];
     kept.stopped = true;
@@ -72,9 +75,11 @@ fn let_go(
 ) -> Effects
     ensures effects { result ≡ release_of queue barrier }
     ensures released { IfSome barrier (λ id. Releases grants.old grants.new queue id) }
-    ensures dropped { IfSome barrier (λ id. blocks.new ≡ filter (λ block. not (is_block queue id block)) blocks.old) }
+    ensures dropped { IfSome barrier (λ id. blocks.new.items ≡ filter (λ block. not (is_block queue id block)) blocks.old.items) }
     ensures same { IfNone barrier (grants.new ≡ grants.old) }
-    ensures same_blocks { IfNone barrier (blocks.new ≡ blocks.old) }
+    ensures same_blocks { IfNone barrier (blocks.new.items ≡ blocks.old.items) }
+    ensures places { places grants.new ≡ places grants.old }
+    ensures block_places { places_of blocks.new ≡ places_of blocks.old }
 {
     match barrier {
         None => Effects::none(),

@@ -1,11 +1,12 @@
 //! Packets are handed over: they wait, are launched, or denied.
 
-ghost use Rattle.std.specs.Prelude.{◌≡◌, ◌++◌, IfErr, IfOk, Ok, OnOk, map};
+ghost use Rattle.std.specs.Prelude.{◌≡◌, ◌++◌, IfErr, IfOk, Ok, OnOk, map, vec_capacity};
 ghost use Rattle.aql_packet.specs.Reading.{barrier_bit};
 ghost use Rattle.core_model.specs.Holds.{arguments_of, rights_at_launch};
 ghost use Rattle.core_model.specs.Owed.{facts_of, refuses};
 ghost use Rattle.packet_processor.specs.Holding.{as_rights};
 ghost use Rattle.packet_processor.specs.Judged.{facts_seen, Judges};
+ghost use Rattle.access_core.specs.Keeping.{TakenInPlace};
 ghost use Rattle.access_core.specs.inner.Deciding.{Decides, IsBlockPlaced, opening_of};
 ghost use Rattle.access_core.specs.inner.QueueChanges.{CanFail, CanLaunch, with_denied, with_launched, with_queue};
 ghost use Rattle.core_model.specs.Legal.{Meets, MeetsOrLacks, due, as_variant};
@@ -59,7 +60,8 @@ fn place_next(queues: &mut Vec<Queue>, queue: QueueId, id: PacketId, packet: Pac
 // Counts the next packet of a queue as handed over, and puts an error behind the queue's others.
 fn fail_next(queues: &mut Vec<Queue>, queue: QueueId, error: QueueError)
     requires { CanFail queues.old.items queue }
-    ensures { queues.new.items ≡ with_queue queues.old.items queue (with_denied error) }
+    ensures queues { queues.new.items ≡ with_queue queues.old.items queue (with_denied error) }
+    ensures capacity { vec_capacity queues.new ≡ vec_capacity queues.old }
 {
     let kept = &mut queues[queue.0 as usize - 1];
     kept.next += 1;
@@ -82,7 +84,7 @@ fn append(
 impl AccessCore {
     // What packets of a client's queue on an agent are judged by.
     fn facts(&self, client: ClientId, agent: AgentHandle) -> Facts<'_>
-        ensures { facts_seen result ≡ facts_of self.now.start self.now.entries (record { client = client; agent = agent }) }
+        ensures { facts_seen result ≡ facts_of self.now.history.start self.now.history.entries (record { client = client; agent = agent }) }
     {
         Facts {
             client,
@@ -96,7 +98,7 @@ impl AccessCore {
 
     // Judges a packet of a client's queue on an agent.
     fn judged(&self, client: ClientId, agent: AgentHandle, bytes: &[u8; 64]) -> Verdict
-        ensures { Judges (facts_of self.now.start self.now.entries (record { client = client; agent = agent })) bytes.now result }
+        ensures { Judges (facts_of self.now.history.start self.now.history.entries (record { client = client; agent = agent })) bytes.now result }
     {
         let facts = self.facts(client, agent);
         verdict(bytes, &facts)
@@ -109,8 +111,8 @@ impl AccessCore {
         packet: PacketId,
         bytes: &[u8; 64],
     ) -> Result<Decision, Refusal>
-        ensures may { IfOk result (λ decision. Decides self.now queue packet bytes.now decision) }
-        ensures why { IfErr result (λ why. due self.now (Event.Take queue packet bytes.now) ≡ refuses why) }
+        ensures may { IfOk result (λ decision. Decides self.now.history queue packet bytes.now decision) }
+        ensures why { IfErr result (λ why. due self.now.history (Event.Take queue packet bytes.now) ≡ refuses why) }
     {
         let kept = match queue_of(self.queues.as_slice(), queue) {
             None => return Err(Refusal::UnknownQueue),
@@ -161,7 +163,8 @@ impl AccessCore {
         packet: PacketId,
         bytes: &[u8; 64],
     ) -> Result<Taken, Refusal>
-        ensures { MeetsOrLacks (Event.Take queue packet bytes.now) self.old self.new (as_variant Outcome.Taken result) }
+        ensures met { MeetsOrLacks (Event.Take queue packet bytes.now) self.old.history self.new.history (as_variant Outcome.Taken result) }
+        ensures places { IfOk result (λ became. TakenInPlace became self.old.places self.new.places) }
     {
         match self.may_take(queue, packet, bytes)? {
             Decision::Wait(cause) => Ok(Taken::Waiting(cause)),
@@ -172,8 +175,9 @@ impl AccessCore {
 
     // Denies the next packet of a queue.
     fn deny(&mut self, queue: QueueId, packet: PacketId, bytes: &[u8; 64], rule: Rule) -> Taken
-        requires { Decides self.old queue packet bytes.now (Decision.Deny rule) }
-        ensures { Meets (Event.Take queue packet bytes.now) self.old self.new (Ok (Outcome.Taken result)) }
+        requires { Decides self.old.history queue packet bytes.now (Decision.Deny rule) }
+        ensures met { Meets (Event.Take queue packet bytes.now) self.old.history self.new.history (Ok (Outcome.Taken result)) }
+        ensures places { self.new.places ≡ self.old.places }
     {
         let error = QueueError {
             queue,
@@ -199,8 +203,8 @@ impl AccessCore {
 
     // The bytes of a packet's argument block, as a list of its own: none but of a kernel dispatch.
     fn argument_block(&self, alloc: Global, packet: &Packet) -> Result<Sequence<u8>, AllocError>
-        requires { IsBlockPlaced self.now packet.now }
-        ensures { IfOk result (λ block. block ≡ arguments_of self.now.start self.now.entries packet.now) }
+        requires { IsBlockPlaced self.now.history packet.now }
+        ensures { IfOk result (λ block. block ≡ arguments_of self.now.history.start self.now.history.entries packet.now) }
     {
         let Packet::Kernel(dispatch) = packet else {
             return Ok(Sequence::new(alloc));
@@ -224,9 +228,9 @@ impl AccessCore {
         launching: &Launching,
         block: &[u8],
     ) -> Result<Sequence<(Object, Rights)>, AllocError>
-        requires { block.now ≡ arguments_of self.now.start self.now.entries launching.now.packet }
+        requires { block.now ≡ arguments_of self.now.history.start self.now.history.entries launching.now.packet }
         ensures { IfOk result (λ rights. rights
-            ≡ map as_rights (rights_at_launch self.now.start self.now.entries (opening_of launching.now) launching.now.packet)) }
+            ≡ map as_rights (rights_at_launch self.now.history.start self.now.history.entries (opening_of launching.now) launching.now.packet)) }
     {
         let mut rights = held_by_needs(alloc, launching.agent, &launching.packet)?;
         let Packet::Kernel(dispatch) = &launching.packet else {
@@ -250,8 +254,9 @@ impl AccessCore {
         bytes: &[u8; 64],
         launching: Launching,
     ) -> Result<Taken, Refusal>
-        requires { Decides self.old queue packet bytes.now (Decision.Launch launching) }
-        ensures { MeetsOrLacks (Event.Take queue packet bytes.now) self.old self.new (as_variant Outcome.Taken result) }
+        requires { Decides self.old.history queue packet bytes.now (Decision.Launch launching) }
+        ensures met { MeetsOrLacks (Event.Take queue packet bytes.now) self.old.history self.new.history (as_variant Outcome.Taken result) }
+        ensures places { IfOk result (λ became. TakenInPlace became self.old.places self.new.places) }
     {
         let block = self.argument_block(alloc, &launching.packet)?;
         let rights = self.rights_at_launch(alloc, &launching, block.as_slice())?;

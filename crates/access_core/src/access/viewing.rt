@@ -21,15 +21,15 @@ use std::alloc::{AllocError, Global};
 impl AccessCore {
     // The client whose queue has a packet in flight.
     pub(crate) fn holder_of(&self, queue: QueueId, packet: PacketId, place: Place) -> ClientId
-        requires { IsInPlace self.now queue packet place }
-        ensures { IsHolder self.now queue packet result }
+        requires { IsInPlace self.now.history queue packet place }
+        ensures { IsHolder self.now.history queue packet result }
     {
         self.queues[queue.0 as usize - 1].client
     }
 
     // Memory takes the lengths of the regions: each policy is within its limits.
     pub(crate) fn regions_fit(&self)
-        ensures { are_region_lengths (region_lengths self.now.start) ≡ true }
+        ensures { are_region_lengths (region_lengths self.now.history.start) ≡ true }
     {
         self.policy().object_count(Kind::Region);
     }
@@ -43,9 +43,9 @@ impl AccessCore {
         packet: PacketId,
         client: ClientId,
     ) -> Result<View<'_>, AllocError>
-        requires { IsHolder self.now queue packet client }
+        requires { IsHolder self.now.history queue packet client }
         ensures { IfOk result (λ view. map lent_region view
-            ≡ view_whole self.now.start self.now.entries (packet_rights self.now.start self.now.entries queue packet)) }
+            ≡ view_whole self.now.history.start self.now.history.entries (packet_rights self.now.history.start self.now.history.entries queue packet)) }
     {
         let mut view = View::new(alloc);
         for before in 0..self.policy().object_count(Kind::Region) {
@@ -65,10 +65,10 @@ impl AccessCore {
         client: ClientId,
         region: RegionHandle,
     ) -> Option<HeldRegion<'_>>
-        requires holder { IsHolder self.now queue packet client }
-        requires there { 0 < region_length (region_lengths self.now.start) region.0 }
-        ensures { option_map lent_region result ≡ lent_if_held self.now.start self.now.entries
-            (region_numbered self.now.start (packet_rights self.now.start self.now.entries queue packet) region.0) }
+        requires holder { IsHolder self.now.history queue packet client }
+        requires there { 0 < region_length (region_lengths self.now.history.start) region.0 }
+        ensures { option_map lent_region result ≡ lent_if_held self.now.history.start self.now.history.entries
+            (region_numbered self.now.history.start (packet_rights self.now.history.start self.now.history.entries queue packet) region.0) }
     {
         let rights = self.rights_on(queue, packet, client, region);
         if rights == Rights::NONE {
@@ -91,8 +91,8 @@ impl AccessCore {
         client: ClientId,
         region: RegionHandle,
     ) -> Rights
-        requires { IsHolder self.now queue packet client }
-        ensures { result ≡ rights_held (packet_rights self.now.start self.now.entries queue packet) (object.Region region) }
+        requires { IsHolder self.now.history queue packet client }
+        ensures { result ≡ rights_held (packet_rights self.now.history.start self.now.history.entries queue packet) (object.Region region) }
     {
         self.grants
             .rights_held(queue, packet, client, Object::Region(region))

@@ -1,6 +1,6 @@
 //! Packets in flight are found, completed and released.
 
-ghost use Rattle.std.specs.Prelude.{◌≡◌, ◌-◌, Some, IfErr, IfOk, fold, true};
+ghost use Rattle.std.specs.Prelude.{◌≡◌, ◌-◌, Some, IfErr, IfOk, fold, true, vec_capacity};
 ghost use Rattle.core_model.specs.declared.entry.Effect.TheVariants as effect;
 ghost use Rattle.core_model.specs.Memory.{region_lengths, signals_after};
 ghost use Rattle.core_model.specs.Needs.{completion_signal};
@@ -25,7 +25,8 @@ impl AccessCore {
     /// by 1, and the packet leaves flight (PSA, Signals). It takes no memory, and finds room in the
     /// audit.
     pub fn finish(&mut self, queue: QueueId, packet: PacketId) -> Result<(), Refusal>
-        ensures { Meets (Event.Finish queue packet) self.old self.new (as_accepted result) }
+        ensures met { Meets (Event.Finish queue packet) self.old.history self.new.history (as_accepted result) }
+        ensures places { self.new.places ≡ self.old.places }
     {
         let place = self.may_finish(queue, packet)?;
         let effects = complete(&mut self.signals, queue, packet, &place.packet);
@@ -39,9 +40,9 @@ impl AccessCore {
 
     // The place of the packet in flight with this queue and id, if its work is done.
     fn may_finish(&self, queue: QueueId, packet: PacketId) -> Result<Place, Refusal>
-        ensures may { IfOk result (λ place. due self.now (Event.Finish queue packet) ≡ finish_owed self.now queue packet place.packet) }
-        ensures found { IfOk result (λ place. IsInPlace self.now queue packet place) }
-        ensures why { IfErr result (λ why. due self.now (Event.Finish queue packet) ≡ refuses why) }
+        ensures may { IfOk result (λ place. due self.now.history (Event.Finish queue packet) ≡ finish_owed self.now.history queue packet place.packet) }
+        ensures found { IfOk result (λ place. IsInPlace self.now.history queue packet place) }
+        ensures why { IfErr result (λ why. due self.now.history (Event.Finish queue packet) ≡ refuses why) }
     {
         let place = self.place_of(queue, packet)?;
         if !is_finished(&place) {
@@ -54,9 +55,9 @@ impl AccessCore {
 
     // The place of the packet in flight with this queue and id, or why a call about it is refused.
     pub(crate) fn place_of(&self, queue: QueueId, packet: PacketId) -> Result<Place, Refusal>
-        ensures found { IfOk result (λ place. IsInPlace self.now queue packet place) }
-        ensures why { IfErr result (λ why. RefusedAt self.now queue packet why) }
-        ensures within { IfOk result (λ place. lies_in_regions (region_lengths self.now.start) place.packet ≡ true) }
+        ensures found { IfOk result (λ place. IsInPlace self.now.history queue packet place) }
+        ensures why { IfErr result (λ why. RefusedAt self.now.history queue packet why) }
+        ensures within { IfOk result (λ place. lies_in_regions (region_lengths self.now.history.start) place.packet ≡ true) }
         ensures sized { IfOk result (λ place. IsSized place.packet) }
     {
         let Some(kept) = queue_of(self.queues.as_slice(), queue) else {
@@ -74,6 +75,7 @@ pub(crate) fn release(queues: &mut Vec<Queue>, queue: QueueId, packet: PacketId)
     requires { IsThere queues.old.items queue }
     ensures queues { queues.new.items ≡ with_queue queues.old.items queue (with_release packet) }
     ensures freed { result ≡ freed_by (Some packet) queues.old.items queue }
+    ensures capacity { vec_capacity queues.new ≡ vec_capacity queues.old }
 {
     let kept = &mut queues[queue.0 as usize - 1];
     free_place(&mut kept.places, Some(packet))

@@ -10,10 +10,10 @@ use Rattle.access_core.proofs.access.AccessCore.answer.Goals as goal
 pub returns-in-Ok : goal.returns-in-Ok
 unfolding query_answer
 returns-in-Ok c =
-    subst (λ (asked : Query). RepliesOrLacks asked c.args.self.now (Ok (answer.Audit c.in-Ok.entries))) (sym c.in-Audit.is)
+    subst (λ (asked : Query). RepliesOrLacks asked c.args.self.now.history (Ok (answer.Audit c.in-Ok.entries))) (sym c.in-Audit.is)
     (inl (ap (λ (es : List Entry). Ok (answer.Audit es)) (c.in-Ok.ensures ∙ c.audit.ensures.entries)))
 
 pub returns-in-Err : goal.returns-in-Err
 unfolding query_answer
 returns-in-Err c =
-    subst (λ (asked : Query). RepliesOrLacks asked c.args.self.now (Err refusal.OutOfMemory)) (sym c.in-Audit.is) (inr (refl, refl))
+    subst (λ (asked : Query). RepliesOrLacks asked c.args.self.now.history (Err refusal.OutOfMemory)) (sym c.in-Audit.is) (inr (refl, refl))

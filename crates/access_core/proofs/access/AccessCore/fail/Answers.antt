@@ -1,7 +1,11 @@
 -- What is kept moves along with the failure, which always finds room: a packet leaves flight for its entry.
-use Rattle.std.proofs.Common.{arith, ◌++◌, refl, [], ◌∷◌}
+use Rattle.std.proofs.Common.{arith, ◌++◌, refl, [], ◌∷◌, ap, map, ◌∙◌}
 use Rattle.queue_error.specs.declared.rule.Rule.TheVariants.{B1}
 use Rattle.core_model.specs.declared.outcome.Polled.TheVariants.{Failed}
+use Rattle.access_core.specs.inner.Cached.{error_places}
+use Rattle.access_core.proofs.Places.{failed-places, places-kept}
+use Rattle.access_core.proofs.ChangedQueue.{errors-changed}
+use Rattle.access_core.proofs.Seen.{seen}
 use Rattle.access_core.proofs.HeldAfter.{grants-released}
 use Rattle.access_core.proofs.CachedMore.{IsCached-more, has_place, memory-still}
 use Rattle.access_core.proofs.QueueAt.{flight-released}
@@ -18,34 +22,44 @@ failed queue id v = record v { errors = v.errors ++ error_without_place queue id
 pub fail_packet-requires : goal.fail_packet-requires
 fail_packet-requires c =
     let a = c.self.inside in
-    let found = place-inside a _ c.self.view_is c.args.queue c.args.packet c.args.place c.requires.found in
+    let found = place-inside a _ (seen c.self.view_is) c.args.queue c.args.packet c.args.place c.requires.found in
     can-fail a c.self.invariant c.args.queue c.args.packet (is-open a c.self.invariant c.args.queue found.opening found.owner_is) found.flying found.found
 
 pub overflow_sub-self : goal.overflow_sub-self
 overflow_sub-self c =
     let a = c.self.inside in
-    let at = open-of a c.self.invariant _ c.self.view_is c.args.queue c.args.packet c.args.place c.requires.found in
+    let at = open-of a c.self.invariant _ (seen c.self.view_is) c.args.queue c.args.packet c.args.place c.requires.found in
     let below = freed-below a c.self.invariant c.args.queue c.args.packet at in
     rw c.fail_packet.ensures.freed below
 
 pub enter-requires : goal.enter-requires
-enter-requires c = has_place c.self.inside c.self.invariant _ c.self.view_is _ _ _ c.requires.may
+enter-requires c = has_place c.self.inside c.self.invariant _ (seen c.self.view_is) _ _ _ c.requires.may
 
 pub invariant_of-self : goal.invariant_of-self
 invariant_of-self c =
     let a = c.self.inside in
     let is = failure-releases c.args.queue c.args.packet in
-    let found = place-inside a _ c.self.view_is c.args.queue c.args.packet c.args.place c.requires.found in
+    let found = place-inside a _ (seen c.self.view_is) c.args.queue c.args.packet c.args.place c.requires.found in
     let at = is-open a c.self.invariant c.args.queue found.opening found.owner_is in
     IsCached-more a _ (Poll c.args.queue c.args.packet) (outcome.Polled (Failed (error_without_place c.args.queue c.args.packet.0 B1))) (effect.Release c.args.queue c.args.packet ∷ []) c.self.invariant
     (record {
       same = ((refl, refl, refl), refl);
       audit = rw c.one-effects.ensures at c.enter.ensures;
       grants = grants-released a c.self.invariant _ _ _ refl refl (λ client on right b. refl) _ _ c.args.queue c.args.packet
-          (flight-released (start_of a) a.audit.items _ _ _ c.args.queue c.args.packet is) c.release.ensures c.release-2.ensures;
+          (flight-released (start_of a) a.audit.items _ _ _ c.args.queue c.args.packet is) c.release.ensures c.release-2.ensures.rest;
       memory = memory-still a.memory _ (λ x byte. refl);
       values = refl;
       queues = rw (c.fail_packet.ensures.queues, c.fail_packet.ensures.freed) (queues-released a c.self.invariant c.args.queue c.args.packet _ _ _ is refl at (with_failure c.args.packet (error_without_place c.args.queue c.args.packet.0 B1)) (failed c.args.queue c.args.packet)
           refl (sound-failed a c.self.invariant c.args.queue c.args.packet at (error_without_place c.args.queue c.args.packet.0 B1) found.flying found.found) refl (λ m v. grind arith));
     })
-    _ c.self.view_is c.requires.may
+    _ (seen c.self.view_is) c.requires.may
+
+pub returns-clause-places : goal.returns-clause-places
+returns-clause-places c =
+    let a = c.self.inside in
+    let error = error_without_place c.args.queue c.args.packet.0 B1 in
+    let found = place-inside a _ (seen c.self.view_is) c.args.queue c.args.packet c.args.place c.requires.found in
+    let can = can-fail a c.self.invariant c.args.queue c.args.packet (is-open a c.self.invariant c.args.queue found.opening found.owner_is) found.flying found.found in
+    places-kept a _ c.self.view_is c.fail_packet.new.queues c.release.new.self c.release-2.new.self c.enter.new.audit _ c.fail_packet.ensures.capacity
+    (ap (map error_places) c.fail_packet.ensures.queues ∙ errors-changed a.queues.items c.args.queue (with_failure c.args.packet error) can.0 can.1 (failed-places can.0 c.args.packet error can.2))
+    c.release.ensures.same_places c.release-2.ensures.places c.enter.ensures

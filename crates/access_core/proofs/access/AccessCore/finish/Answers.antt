@@ -1,5 +1,9 @@
 -- What is kept moves along with the completion, which always finds room: a packet leaves flight for its entry.
-use Rattle.std.proofs.Common.{arith, refl}
+use Rattle.std.proofs.Common.{arith, refl, ap, map, ◌∙◌}
+use Rattle.access_core.specs.inner.Cached.{error_places}
+use Rattle.access_core.proofs.Places.{places-kept}
+use Rattle.access_core.proofs.ChangedQueue.{errors-changed}
+use Rattle.access_core.proofs.Seen.{seen}
 use Rattle.access_core.proofs.HeldAfter.{grants-released}
 use Rattle.access_core.proofs.CachedMore.{IsCached-more, has_place, memory-still}
 use Rattle.access_core.proofs.QueueAt.{flight-released}
@@ -12,35 +16,43 @@ use Rattle.access_core.proofs.access.AccessCore.finish.Goals as goal
 pub release-requires : goal.release-requires
 release-requires c =
     let a = c.self.inside in
-    let at = open-of a c.self.invariant _ c.self.view_is c.args.queue c.args.packet c.in_ok-place.place c.in_ok-place.ensures.found in
+    let at = open-of a c.self.invariant _ (seen c.self.view_is) c.args.queue c.args.packet c.in_ok-place.place c.in_ok-place.ensures.found in
     (at.q, at.found)
 
 pub overflow_sub-self : goal.overflow_sub-self
 overflow_sub-self c =
     let a = c.self.inside in
-    let at = open-of a c.self.invariant _ c.self.view_is c.args.queue c.args.packet c.in_ok-place.place c.in_ok-place.ensures.found in
+    let at = open-of a c.self.invariant _ (seen c.self.view_is) c.args.queue c.args.packet c.in_ok-place.place c.in_ok-place.ensures.found in
     let below = freed-below a c.self.invariant c.args.queue c.args.packet at in
     rw c.release.ensures.freed below
 
 pub enter-requires : goal.enter-requires
 enter-requires c =
-    has_place c.self.inside c.self.invariant _ c.self.view_is _ _ _ (finish-due c.self.inside c.self.invariant _ c.self.view_is _ c.args.queue c.args.packet c.in_ok-place.place.packet c.in_ok-place.ensures.may)
+    has_place c.self.inside c.self.invariant _ (seen c.self.view_is) _ _ _ (finish-due c.self.inside c.self.invariant _ (seen c.self.view_is) _ c.args.queue c.args.packet c.in_ok-place.place.packet c.in_ok-place.ensures.may)
 
 pub invariant_of-self : goal.invariant_of-self
 invariant_of-self c =
     let a = c.self.inside in
     let p = c.in_ok-place.place.packet in
     let is = finish-releases a.signals c.args.queue c.args.packet p in
-    let at = open-of a c.self.invariant _ c.self.view_is c.args.queue c.args.packet c.in_ok-place.place c.in_ok-place.ensures.found in
+    let at = open-of a c.self.invariant _ (seen c.self.view_is) c.args.queue c.args.packet c.in_ok-place.place c.in_ok-place.ensures.found in
     IsCached-more a _ (Finish c.args.queue c.args.packet) outcome.Accepted (completion_of a.signals c.args.queue c.args.packet p) c.self.invariant
     (record {
       same = ((refl, refl, refl), refl);
       audit = rw c.complete-effects.ensures.effects at c.enter.ensures;
       grants = grants-released a c.self.invariant _ _ _ refl refl (λ client on right b. refl) _ _ c.args.queue c.args.packet
-          (flight-released (start_of a) a.audit.items _ _ _ c.args.queue c.args.packet is) c.release-2.ensures c.release-3.ensures;
+          (flight-released (start_of a) a.audit.items _ _ _ c.args.queue c.args.packet is) c.release-2.ensures c.release-3.ensures.rest;
       memory = memory-still a.memory _ (λ x byte. memory-completed a.signals (completion_signal p) c.args.queue c.args.packet x byte);
       values = rw c.complete-effects.ensures.effects at c.complete-effects.ensures.values;
       queues = rw (c.release.ensures.queues, c.release.ensures.freed) (queues-released a c.self.invariant c.args.queue c.args.packet _ _ _ is refl at (with_release c.args.packet) (λ v. record v { places = without c.args.packet v.places })
           refl (sound-released at.q c.args.packet at.sound) refl (λ m v. grind arith));
     })
-    _ c.self.view_is (finish-due a c.self.invariant _ c.self.view_is _ c.args.queue c.args.packet p c.in_ok-place.ensures.may)
+    _ (seen c.self.view_is) (finish-due a c.self.invariant _ (seen c.self.view_is) _ c.args.queue c.args.packet p c.in_ok-place.ensures.may)
+
+pub returns-clause-places : goal.returns-clause-places
+returns-clause-places c =
+    let a = c.self.inside in
+    let at = open-of a c.self.invariant _ (seen c.self.view_is) c.args.queue c.args.packet c.in_ok-place.place c.in_ok-place.ensures.found in
+    places-kept a _ c.self.view_is c.release.new.queues c.release-2.new.self c.release-3.new.self c.enter.new.audit _ c.release.ensures.capacity
+    (ap (map error_places) c.release.ensures.queues ∙ errors-changed a.queues.items c.args.queue (with_release c.args.packet) at.q at.found refl)
+    c.release-2.ensures.same_places c.release-3.ensures.places c.enter.ensures

@@ -8,5 +8,5 @@ pub returns-in_ok-copied-in-Some-Copy-clause-placed : goal.returns-in_ok-copied-
 returns-in_ok-copied-in-Some-Copy-clause-placed c =
     let source = c.in-Some-Copy.source in
     let long : length c.in_ok-copied-in-Some-Copy.field-0 ≡ source.size =
-    ap length c.in_ok-copied-in-Some-Copy.ensures ∙ length-map-range_with_len (memory_at c.args.self.now.start c.args.self.now.entries) source.address.0 source.size in
+    ap length c.in_ok-copied-in-Some-Copy.ensures ∙ length-map-range_with_len (memory_at c.args.self.now.history.start c.args.self.now.history.entries) source.address.0 source.size in
     rw long (grind arith)

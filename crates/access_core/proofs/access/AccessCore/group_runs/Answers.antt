@@ -5,6 +5,7 @@ use Rattle.executor.specs.Results.{FailsAs, FinishesAs, group_result, wrote}
 use Rattle.executor.specs.Runs.{GroupInput, input_of}
 use Rattle.executor.specs.declared.dispatch.Dispatch.{Dispatch}
 use Rattle.executor.specs.declared.run.Run.{Run}
+use Rattle.access_core.proofs.Seen.{seen}
 use Rattle.access_core.specs.declared.kernel.Kernel.{Kernel}
 use Rattle.access_core.specs.inner.Running.{FaultsAs, next_result}
 use Rattle.access_core.proofs.GroupRuns.{block-is, entry-below, faults-as, kernel-there, program-is, program-there, program_at, result-is, runnable, runs-within}
@@ -13,25 +14,25 @@ use Rattle.access_core.proofs.access.AccessCore.group_runs.Goals as goal
 
 pub kernel_at-kernel-requires : goal.kernel_at-kernel-requires
 kernel_at-kernel-requires c =
-    let there = kernel-there c.self.inside c.self.invariant _ c.self.view_is c.args.queue c.args.packet c.args.place c.requires.found c.args.dispatch c.requires.packet_is in
+    let there = kernel-there c.self.inside c.self.invariant _ (seen c.self.view_is) c.args.queue c.args.packet c.args.place c.requires.found c.args.dispatch c.requires.packet_is in
     (there.0, ap (λ (ks : List Kernel). numbered ks c.args.dispatch.kernel_object.0) c.as_slice.ensures.value ∙ there.1)
 
 pub run_group-requires-clause-kernel : goal.run_group-requires-clause-kernel
 run_group-requires-clause-kernel c =
     let at = ap (λ (ks : List Kernel). numbered ks c.args.dispatch.kernel_object.0) (sym c.as_slice.ensures.value) ∙ c.kernel_at-kernel.ensures in
-    entry-below c.self.inside c.self.invariant _ c.self.view_is c.args.queue c.args.packet c.args.place c.requires.found c.args.dispatch c.requires.packet_is c.kernel_at-kernel.result.now at
+    entry-below c.self.inside c.self.invariant _ (seen c.self.view_is) c.args.queue c.args.packet c.args.place c.requires.found c.args.dispatch c.requires.packet_is c.kernel_at-kernel.result.now at
 
 pub run_group-requires-clause-runnable : goal.run_group-requires-clause-runnable
 run_group-requires-clause-runnable c =
     let a = c.self.inside in
-    let h = c.args.self.now in
+    let h = c.args.self.now.history in
     let d = c.args.dispatch in
     let at = ap (λ (ks : List Kernel). numbered ks d.kernel_object.0) (sym c.as_slice.ensures.value) ∙ c.kernel_at-kernel.ensures in
-    let block = block-is a c.self.invariant h c.self.view_is c.args.queue c.args.packet c.args.place c.requires.found d c.requires.packet_is in
+    let block = block-is a c.self.invariant h (seen c.self.view_is) c.args.queue c.args.packet c.args.place c.requires.found d c.requires.packet_is in
     λ p here.
-    runnable a c.self.invariant h c.self.view_is c.args.queue c.args.packet c.args.place c.requires.found d c.requires.packet_is _
+    runnable a c.self.invariant h (seen c.self.view_is) c.args.queue c.args.packet c.args.place c.requires.found d c.requires.packet_is _
     (record { group_size_is = c.group_size.ensures; grid_size_is = c.grid_size.ensures; segment_is = refl; arguments_are = c.get.ensures ∙ block })
-    p (program-is a c.self.invariant h c.self.view_is c.args.queue c.args.packet c.args.place c.requires.found d c.requires.packet_is c.kernel_at-kernel.result.now at p here)
+    p (program-is a c.self.invariant h (seen c.self.view_is) c.args.queue c.args.packet c.args.place c.requires.found d c.requires.packet_is c.kernel_at-kernel.result.now at p here)
     c.args.place.progress.groups_run c.requires.left
 
 -- what the executor is asked to run
@@ -51,34 +52,34 @@ input c = input_of (program_at c.kernel_at-kernel.result.now) (asked c) c.args.p
 here : (c : goal.After-drop-view-inside) → slice_get c.kernel_at-kernel.result.now.checked c.kernel_at-kernel.result.now.entry ≡ Some (program_at c.kernel_at-kernel.result.now)
 here c =
     let at = ap (λ (ks : List Kernel). numbered ks c.args.dispatch.kernel_object.0) (sym c.as_slice.ensures.value) ∙ c.kernel_at-kernel.ensures in
-    program-there c.self.inside c.self.invariant _ c.self.view_is c.args.queue c.args.packet c.args.place c.requires.found c.args.dispatch c.requires.packet_is c.kernel_at-kernel.result.now at
+    program-there c.self.inside c.self.invariant _ (seen c.self.view_is) c.args.queue c.args.packet c.args.place c.requires.found c.args.dispatch c.requires.packet_is c.kernel_at-kernel.result.now at
 
-same : (c : goal.After-drop-view-inside) → next_result c.args.self.now c.args.queue c.args.packet c.args.place c.args.dispatch ≡ group_result (input c)
+same : (c : goal.After-drop-view-inside) → next_result c.args.self.now.history c.args.queue c.args.packet c.args.place c.args.dispatch ≡ group_result (input c)
 same c =
     let a = c.self.inside in
-    let h = c.args.self.now in
+    let h = c.args.self.now.history in
     let d = c.args.dispatch in
     let at = ap (λ (ks : List Kernel). numbered ks d.kernel_object.0) (sym c.as_slice.ensures.value) ∙ c.kernel_at-kernel.ensures in
-    let block = block-is a c.self.invariant h c.self.view_is c.args.queue c.args.packet c.args.place c.requires.found d c.requires.packet_is in
-    result-is a c.self.invariant h c.self.view_is c.args.queue c.args.packet c.args.place c.requires.found d c.requires.packet_is (asked c)
+    let block = block-is a c.self.invariant h (seen c.self.view_is) c.args.queue c.args.packet c.args.place c.requires.found d c.requires.packet_is in
+    result-is a c.self.invariant h (seen c.self.view_is) c.args.queue c.args.packet c.args.place c.requires.found d c.requires.packet_is (asked c)
     (record { group_size_is = c.group_size.ensures; grid_size_is = c.grid_size.ensures; segment_is = refl; arguments_are = c.get.ensures ∙ block })
     (program_at c.kernel_at-kernel.result.now)
-    (program-is a c.self.invariant h c.self.view_is c.args.queue c.args.packet c.args.place c.requires.found d c.requires.packet_is c.kernel_at-kernel.result.now at _ (here c))
+    (program-is a c.self.invariant h (seen c.self.view_is) c.args.queue c.args.packet c.args.place c.requires.found d c.requires.packet_is c.kernel_at-kernel.result.now at _ (here c))
     c.args.place.progress.groups_run c.groups_read_where_they_may.ensures c.in_ok-view.view c.in_ok-view.ensures
 
 pub returns-clause-ok : goal.returns-clause-ok
 returns-clause-ok c =
-    IfOk-weaker c.run_group.result (FinishesAs (input c)) (λ runs. next_result c.args.self.now c.args.queue c.args.packet c.args.place c.args.dispatch ≡ wrote runs)
+    IfOk-weaker c.run_group.result (FinishesAs (input c)) (λ runs. next_result c.args.self.now.history c.args.queue c.args.packet c.args.place c.args.dispatch ≡ wrote runs)
     (λ runs ends. same c ∙ ends.1) (c.run_group.ensures.ok (program_at c.kernel_at-kernel.result.now) (here c))
 
 pub returns-clause-fault : goal.returns-clause-fault
 returns-clause-fault c =
-    IfErr-weaker c.run_group.result (FailsAs (input c)) (FaultsAs (next_result c.args.self.now c.args.queue c.args.packet c.args.place c.args.dispatch))
+    IfErr-weaker c.run_group.result (FailsAs (input c)) (FaultsAs (next_result c.args.self.now.history c.args.queue c.args.packet c.args.place c.args.dispatch))
     (λ why fails. faults-as (input c) _ (same c) why fails) (c.run_group.ensures.err (program_at c.kernel_at-kernel.result.now) (here c))
 
 pub returns-clause-written : goal.returns-clause-written
 returns-clause-written c =
-    IfOk-weaker c.run_group.result (FinishesAs (input c)) (λ (runs : List Run). All (λ (run : Run). is_within (region_lengths c.args.self.now.start) run.address (length run.bytes) ≡ true) runs)
-    (λ runs ends. runs-within c.self.inside c.self.invariant _ c.self.view_is c.args.queue c.args.packet c.args.place c.requires.found c.args.dispatch c.requires.packet_is
+    IfOk-weaker c.run_group.result (FinishesAs (input c)) (λ (runs : List Run). All (λ (run : Run). is_within (region_lengths c.args.self.now.history.start) run.address (length run.bytes) ≡ true) runs)
+    (λ runs ends. runs-within c.self.inside c.self.invariant _ (seen c.self.view_is) c.args.queue c.args.packet c.args.place c.requires.found c.args.dispatch c.requires.packet_is
     c.regions_fit.ensures c.args.place.progress.groups_run runs (same c ∙ ends.1))
     (c.run_group.ensures.ok (program_at c.kernel_at-kernel.result.now) (here c))

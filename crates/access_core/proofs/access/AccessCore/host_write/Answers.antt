@@ -2,6 +2,8 @@
 use Rattle.std.proofs.Common.{◌≡◌, refl, true, List, [], ◌∷◌, ℕ, length, subst, sym}
 use Rattle.aql_packet.specs.declared.ids.Address.{Address}
 use Rattle.core_model.specs.declared.entry.Effect.TheVariants.{Write}
+use Rattle.access_core.proofs.Places.{places-kept}
+use Rattle.access_core.proofs.Seen.{seen}
 use Rattle.access_core.proofs.HeldAfter.{grants-still}
 use Rattle.access_core.proofs.CachedMore.{IsCached-more, queues-still}
 use Rattle.access_core.proofs.QueueAt.{IsQuiet, flight-quiet}
@@ -16,7 +18,7 @@ quiet client address bytes = record { launches = refl; progress = λ queue id p.
 pub lay-requires : goal.lay-requires
 lay-requires c =
     rw (c.as_slice.ensures, c.self.invariant.lengths)
-    (subst (λ h. is_within (region_lengths h.start) c.args.address.0 (length c.args.bytes) ≡ true) (sym c.self.view_is) c.in_ok-may_write.ensures.within)
+    (subst (λ h. is_within (region_lengths h.start) c.args.address.0 (length c.args.bytes) ≡ true) (sym (seen c.self.view_is)) c.in_ok-may_write.ensures.within)
 
 pub invariant_of-self : goal.invariant_of-self
 invariant_of-self c =
@@ -34,4 +36,8 @@ invariant_of-self c =
       values = refl;
       queues = queues-still a c.self.invariant _ _ _ calm refl;
     })
-    _ c.self.view_is c.in_ok-may_write.ensures.may
+    _ (seen c.self.view_is) c.in_ok-may_write.ensures.may
+
+pub returns-clause-places : goal.returns-clause-places
+returns-clause-places c =
+    places-kept c.self.inside _ c.self.view_is c.self.inside.queues c.self.inside.grants c.self.inside.blocks c.enter.new.audit _ refl refl refl refl c.enter.ensures

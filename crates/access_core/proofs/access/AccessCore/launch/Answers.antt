@@ -2,6 +2,7 @@
 use Rattle.std.proofs.Common.{◌≡◌, ◌∙◌, ap, refl, sym, subst, true, Some, [], map, option_map}
 use Rattle.core_model.specs.Holds.{arguments_of}
 use Rattle.packet_processor.specs.Holding.{as_rights}
+use Rattle.access_core.proofs.Seen.{seen}
 use Rattle.access_core.proofs.HeldMore.{held-launched}
 use Rattle.core_model.proofs.Launches.{IsNext-from_owed}
 use Rattle.access_core.specs.inner.Deciding.{opening_of}
@@ -17,28 +18,28 @@ pub hold_reserved-requires-clause-in_force : goal.hold_reserved-requires-clause-
 hold_reserved-requires-clause-in_force c =
     launch-in_force c.self.inside c.self.invariant _ c.args.launching.client _ (rights_at_launch (start_of c.self.inside) c.self.inside.audit.items (opening_of c.args.launching) c.args.launching.packet)
     c.in_ok-reserve.ensures.same
-    (c.as_slice-2.ensures ∙ c.in_ok-rights.ensures ∙ ap (λ (h : History). map as_rights (rights_at_launch h.start h.entries (opening_of c.args.launching) c.args.launching.packet)) (sym c.self.view_is))
-    (subst (λ h. MayHold h (opening_of c.args.launching) c.args.launching.packet) (sym c.self.view_is) c.requires.5)
+    (c.as_slice-2.ensures ∙ c.in_ok-rights.ensures ∙ ap (λ (h : History). map as_rights (rights_at_launch h.start h.entries (opening_of c.args.launching) c.args.launching.packet)) (sym (seen c.self.view_is)))
+    (subst (λ h. MayHold h (opening_of c.args.launching) c.args.launching.packet) (sym (seen c.self.view_is)) c.requires.5)
 
 pub place_next-requires : goal.place_next-requires
 place_next-requires c =
     let a = c.self.inside in
-    let can = can-take a c.self.invariant c.args.queue (subst (λ h. TakesNext h c.args.queue) (sym c.self.view_is) c.requires.3) in
+    let can = can-take a c.self.invariant c.args.queue (subst (λ h. TakesNext h c.args.queue) (sym (seen c.self.view_is)) c.requires.3) in
     (can.opened.q, can.opened.found, can.few, can.opened.small)
 
 pub argument_block-requires : goal.argument_block-requires
-argument_block-requires c = block-placed c.args.self.now c.args.queue c.args.packet c.args.bytes.now c.args.launching.packet c.requires.0 c.requires.1
+argument_block-requires c = block-placed c.args.self.now.history c.args.queue c.args.packet c.args.bytes.now c.args.launching.packet c.requires.0 c.requires.1
 
 pub invariant_of-self-2 : goal.invariant_of-self-2
 invariant_of-self-2 c =
     let a = c.self.inside in
     let p = c.args.launching.packet in
-    let can = can-take a c.self.invariant c.args.queue (subst (λ h. TakesNext h c.args.queue) (sym c.self.view_is) c.requires.3) in
-    let owing = owed-inside a c.self.invariant _ c.self.view_is _ _ _ c.requires.0 in
+    let can = can-take a c.self.invariant c.args.queue (subst (λ h. TakesNext h c.args.queue) (sym (seen c.self.view_is)) c.requires.3) in
+    let owing = owed-inside a c.self.invariant _ (seen c.self.view_is) _ _ _ c.requires.0 in
     let next = IsNext-from_owed (start_of a) a.audit.items c.args.queue c.args.packet c.args.bytes.now _ _ owing in
-    let owned : owner (start_of a) a.audit.items c.args.queue ≡ Some (opening_of c.args.launching) = subst (λ h. owner h.start h.entries c.args.queue ≡ Some (opening_of c.args.launching)) (sym c.self.view_is) c.requires.4 in
+    let owned : owner (start_of a) a.audit.items c.args.queue ≡ Some (opening_of c.args.launching) = subst (λ h. owner h.start h.entries c.args.queue ≡ Some (opening_of c.args.launching)) (sym (seen c.self.view_is)) c.requires.4 in
     let launches : launched_by (Take c.args.queue c.args.packet c.args.bytes.now) (outcome.Taken Launched) ≡ Some (record { queue = c.args.queue; id = c.args.packet; packet = p }) = ap (option_map (λ (x : Packet). record { queue = c.args.queue; id = c.args.packet; packet = x })) c.requires.1 in
-    let within : lies_in_regions (region_lengths (start_of a)) p ≡ true = subst (λ h. lies_in_regions (region_lengths h.start) p ≡ true) (sym c.self.view_is) c.requires.2 in
+    let within : lies_in_regions (region_lengths (start_of a)) p ≡ true = subst (λ h. lies_in_regions (region_lengths h.start) p ≡ true) (sym (seen c.self.view_is)) c.requires.2 in
     IsCached-more a _ (Take c.args.queue c.args.packet c.args.bytes.now) (outcome.Taken Launched) [] c.self.invariant
     (record {
       same = ((refl, refl, refl), refl);
@@ -47,13 +48,13 @@ invariant_of-self-2 c =
           (rights_at_launch (start_of a) a.audit.items (opening_of c.args.launching) p) _ launches
           (flight-launched (start_of a) a.audit.items c.args.queue c.args.packet c.args.bytes.now p c.requires.1)
           c.in_ok-reserve.ensures.same
-          (c.as_slice-2.ensures ∙ c.in_ok-rights.ensures ∙ ap (λ (h : History). map as_rights (rights_at_launch h.start h.entries (opening_of c.args.launching) p)) (sym c.self.view_is))
+          (c.as_slice-2.ensures ∙ c.in_ok-rights.ensures ∙ ap (λ (h : History). map as_rights (rights_at_launch h.start h.entries (opening_of c.args.launching) p)) (sym (seen c.self.view_is)))
           (held-launched (start_of a) a.audit.items (entry_of (Take c.args.queue c.args.packet c.args.bytes.now) (outcome.Taken Launched) []) c.self.invariant.legal owing
           (record { queue = c.args.queue; id = c.args.packet; packet = p }) (opening_of c.args.launching) launches owned)
           owned c.hold_reserved.ensures.holds
-          (c.in_ok-block.ensures ∙ ap (λ (h : History). arguments_of h.start h.entries p) (sym c.self.view_is)) c.in_ok-push.ensures.ok;
+          (c.in_ok-block.ensures ∙ ap (λ (h : History). arguments_of h.start h.entries p) (sym (seen c.self.view_is))) c.in_ok-push.ensures.ok;
       memory = memory-still a.memory _ (λ x byte. refl);
       values = refl;
       queues = rw c.place_next.ensures (queues-launched a c.self.invariant c.args.queue c.args.packet c.args.bytes.now can p c.requires.1 next.id_is within);
     })
-    _ c.self.view_is c.requires.0
+    _ (seen c.self.view_is) c.requires.0

@@ -2,6 +2,7 @@
 use Rattle.std.proofs.Common.{rules, ◌∙◌, sym}
 use Rattle.core_model.specs.Owed.{owed}
 use Rattle.core_model.proofs.Meeting.{refuse_unless-holds, refuse_unless-fails}
+use Rattle.access_core.proofs.Seen.{seen}
 use Rattle.access_core.proofs.Calls.{due-as}
 use Rattle.access_core.proofs.WorkLemmas.{finish-releases, owed-in_place, release-due}
 use Rattle.access_core.proofs.Terms.{Finish, owed_finish, refuses, signals}
@@ -11,19 +12,19 @@ use Rattle.access_core.proofs.access.AccessCore.may_finish.Goals as goal
 pub returns-in_err-place-clause-why : goal.returns-in_err-place-clause-why
 unfolding owed
 returns-in_err-place-clause-why c =
-    let why = c.in_err-place.ensures.why (owed_finish (signals c.args.self.now.start c.args.self.now.entries) c.args.queue c.args.packet) in
+    let why = c.in_err-place.ensures.why (owed_finish (signals c.args.self.now.history.start c.args.self.now.history.entries) c.args.queue c.args.packet) in
     search rules
 
 pub returns-then-not-is_finished-clause-why : goal.returns-then-not-is_finished-clause-why
 unfolding owed
 returns-then-not-is_finished-clause-why c =
-    due-as c.args.self.now (Finish c.args.queue c.args.packet) (refuses refusal.NotFinished)
-    (owed-in_place c.args.self.now c.args.queue c.args.packet c.in_ok-place.place c.in_ok-place.ensures.found (owed_finish (signals c.args.self.now.start c.args.self.now.entries) c.args.queue c.args.packet)
+    due-as c.args.self.now.history (Finish c.args.queue c.args.packet) (refuses refusal.NotFinished)
+    (owed-in_place c.args.self.now.history c.args.queue c.args.packet c.in_ok-place.place c.in_ok-place.ensures.found (owed_finish (signals c.args.self.now.history.start c.args.self.now.history.entries) c.args.queue c.args.packet)
     ∙ refuse_unless-fails _ _ _ (sym c.is_finished.ensures ∙ c.if-not-is_finished.true))
 
 pub returns-clause-may : goal.returns-clause-may
 unfolding owed
 returns-clause-may c =
-    release-due c.self.inside c.self.invariant _ c.self.view_is c.args.queue c.args.packet c.in_ok-place.place c.in_ok-place.ensures.found _ _ _ (finish-releases _ _ _ c.in_ok-place.place.packet)
-    (owed-in_place c.args.self.now c.args.queue c.args.packet c.in_ok-place.place c.in_ok-place.ensures.found (owed_finish (signals c.args.self.now.start c.args.self.now.entries) c.args.queue c.args.packet)
+    release-due c.self.inside c.self.invariant _ (seen c.self.view_is) c.args.queue c.args.packet c.in_ok-place.place c.in_ok-place.ensures.found _ _ _ (finish-releases _ _ _ c.in_ok-place.place.packet)
+    (owed-in_place c.args.self.now.history c.args.queue c.args.packet c.in_ok-place.place c.in_ok-place.ensures.found (owed_finish (signals c.args.self.now.history.start c.args.self.now.history.entries) c.args.queue c.args.packet)
     ∙ refuse_unless-holds _ _ _ (sym c.is_finished.ensures ∙ c.if-not-is_finished.false))

@@ -1,5 +1,6 @@
 -- What the stop is due, by what is cached.
 use Rattle.std.proofs.Common.{◌≡◌, ◌∙◌, refl, sym, true, false, Some, None}
+use Rattle.access_core.proofs.Seen.{seen}
 use Rattle.access_core.proofs.Calls.{due-by}
 use Rattle.access_core.proofs.StopLemmas.{may-stop, stop-full, stop-known, stop-unknown}
 use Rattle.access_core.proofs.access.AccessCore.may_stop.Goals.{else-is_none-via-then-is_none+else-is_full, else-is_none-via-else-is_none}
@@ -10,17 +11,17 @@ use Rattle.access_core.proofs.access.AccessCore.may_stop.Goals as goal
 pub returns-in-None-clause-why : goal.returns-in-None-clause-why
 returns-in-None-clause-why c =
     let none : numbered c.self.inside.queues.items c.args.queue.0 ≡ None = cc c.in-None.ensures in
-    due-by c.self.inside _ c.self.view_is _ _ (stop-unknown c.self.inside c.self.invariant c.args.queue none)
+    due-by c.self.inside _ (seen c.self.view_is) _ _ (stop-unknown c.self.inside c.self.invariant c.args.queue none)
 
 pub returns-then-kept-clause-why : goal.returns-then-kept-clause-why
 returns-then-kept-clause-why c =
     let some : numbered c.self.inside.queues.items c.args.queue.0 ≡ Some c.in-Some.kept.now = cc c.in-Some.ensures in
-    due-by c.self.inside _ c.self.view_is (Stop c.args.queue) (refuses refusal.QueueDown) (stop-known c.self.inside c.self.invariant c.args.queue _ some ∙ (rw c.if-kept.true refl))
+    due-by c.self.inside _ (seen c.self.view_is) (Stop c.args.queue) (refuses refusal.QueueDown) (stop-known c.self.inside c.self.invariant c.args.queue _ some ∙ (rw c.if-kept.true refl))
 
 pub returns-then-is_full-clause-why : goal.returns-then-is_full-clause-why
 returns-then-is_full-clause-why c =
     let some : numbered c.self.inside.queues.items c.args.queue.0 ≡ Some c.in-Some.kept.now = cc c.in-Some.ensures in
-    stop-full c.self.inside c.self.invariant c.args.queue _ _ _ c.self.view_is some c.if-kept.false c.barrier-barrier.ensures
+    stop-full c.self.inside c.self.invariant c.args.queue _ _ _ (seen c.self.view_is) some c.if-kept.false c.barrier-barrier.ensures
     (rw c.if-is_none.true at c.is_none.ensures) (sym c.is_full.ensures ∙ c.if-is_full.true)
 
 pub returns-clause-may : goal.returns-clause-may
@@ -28,9 +29,9 @@ returns-clause-may c =
     let some : numbered c.self.inside.queues.items c.args.queue.0 ≡ Some c.in-Some.kept.now = cc c.in-Some.ensures in
     elim c.else-is_none.branch [
       | else-is_none-via-then-is_none+else-is_full w ↦
-          may-stop c.self.inside c.self.invariant c.args.queue _ _ true _ c.self.view_is some c.if-kept.false c.barrier-barrier.ensures
+          may-stop c.self.inside c.self.invariant c.args.queue _ _ true _ (seen c.self.view_is) some c.if-kept.false c.barrier-barrier.ensures
           (rw w.if-is_none.true at c.is_none.ensures) (λ e. sym w.is_full.ensures ∙ w.if-is_full.false)
       | else-is_none-via-else-is_none w ↦
-          may-stop c.self.inside c.self.invariant c.args.queue _ _ false _ c.self.view_is some c.if-kept.false c.barrier-barrier.ensures
+          may-stop c.self.inside c.self.invariant c.args.queue _ _ false _ (seen c.self.view_is) some c.if-kept.false c.barrier-barrier.ensures
           (rw w.if-is_none.false at c.is_none.ensures) (λ e. cc)
     ]

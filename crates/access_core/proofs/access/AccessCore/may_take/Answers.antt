@@ -1,6 +1,7 @@
 -- What is decided is what is due, by what is cached.
 use Rattle.std.proofs.Common.{◌≡◌, refl, ◌∙◌, true, false, Some, None, [], length, rules, ap, subst, nat_lt, ◌||◌, ◌==◌, map, option_map}
 use Rattle.packet_processor.proofs.QueueingLemmas.{launching-waits, launching-goes}
+use Rattle.access_core.proofs.Seen.{seen}
 use Rattle.access_core.proofs.Calls.{due-by}
 use Rattle.access_core.proofs.TakeLemmas.{judged-inside, owner-kept, room-launched, may-hold, take-unknown, take-known, within-launched, takes-next}
 use Rattle.access_core.proofs.Terms.{Denied, History, Launched, MayHold, Place, Take, TakesNext, Waiting, answers, barrier_bit, cached_opening, enters}
@@ -12,20 +13,20 @@ use Rattle.access_core.proofs.access.AccessCore.may_take.Goals as goal
 pub returns-in-None-clause-why : goal.returns-in-None-clause-why
 returns-in-None-clause-why c =
     let none : numbered c.self.inside.queues.items c.args.queue.0 ≡ None = cc c.in-None.ensures in
-    due-by c.self.inside _ c.self.view_is _ _ (take-unknown c.self.inside c.self.invariant _ _ _ none)
+    due-by c.self.inside _ (seen c.self.view_is) _ _ (take-unknown c.self.inside c.self.invariant _ _ _ none)
 
 pub returns-then-is_down-clause-why : goal.returns-then-is_down-clause-why
 returns-then-is_down-clause-why c =
     let some : numbered c.self.inside.queues.items c.args.queue.0 ≡ Some c.in-Some.kept.now = cc c.in-Some.ensures in
     let down : (nat_lt 0 (length c.in-Some.kept.now.errors.items) || c.in-Some.kept.now.stopped) ≡ true = cc in
-    due-by c.self.inside _ c.self.view_is (Take c.args.queue c.args.packet c.args.bytes.now) (refuses refusal.QueueDown) (take-known c.self.inside c.self.invariant _ _ _ _ some ∙ (rw down refl))
+    due-by c.self.inside _ (seen c.self.view_is) (Take c.args.queue c.args.packet c.args.bytes.now) (refuses refusal.QueueDown) (take-known c.self.inside c.self.invariant _ _ _ _ some ∙ (rw down refl))
 
 pub returns-then-packet-kept-clause-why : goal.returns-then-packet-kept-clause-why
 returns-then-packet-kept-clause-why c =
     let some : numbered c.self.inside.queues.items c.args.queue.0 ≡ Some c.in-Some.kept.now = cc c.in-Some.ensures in
     let down : (nat_lt 0 (length c.in-Some.kept.now.errors.items) || c.in-Some.kept.now.stopped) ≡ false = cc in
     let other : (c.args.packet.0 == c.in-Some.kept.now.next) ≡ false = search rules in
-    due-by c.self.inside _ c.self.view_is (Take c.args.queue c.args.packet c.args.bytes.now) (refuses (refusal.OutOfStep c.in-Some.kept.now.next)) (take-known c.self.inside c.self.invariant _ _ _ _ some ∙ (rw (down, other) refl))
+    due-by c.self.inside _ (seen c.self.view_is) (Take c.args.queue c.args.packet c.args.bytes.now) (refuses (refusal.OutOfStep c.in-Some.kept.now.next)) (take-known c.self.inside c.self.invariant _ _ _ _ some ∙ (rw (down, other) refl))
 
 pub returns-in-Waiting-clause-may : goal.returns-in-Waiting-clause-may
 returns-in-Waiting-clause-may c =
@@ -34,7 +35,7 @@ returns-in-Waiting-clause-may c =
     let next : (c.args.packet.0 == c.in-Some.kept.now.next) ≡ true = search rules in
     let told : cause_to_wait (map (λ (p : Place). p.packet) c.as_slice-2.result.now) c.header.result.barrier ≡ Some c.in-Waiting.cause = launching-waits _ c.in-Waiting.cause c.in-Waiting.ensures in
     let waits : cause_to_wait (map (λ (p : Place). p.packet) c.in-Some.kept.now.places) (barrier_bit c.args.bytes.now) ≡ Some c.in-Waiting.cause = cc (told, c.as_slice-2.ensures, c.header.ensures) in
-    due-by c.self.inside _ c.self.view_is (Take c.args.queue c.args.packet c.args.bytes.now) (answers (outcome.Taken (Waiting c.in-Waiting.cause))) (take-known c.self.inside c.self.invariant _ _ _ _ some ∙ (rw (down, next, waits) refl))
+    due-by c.self.inside _ (seen c.self.view_is) (Take c.args.queue c.args.packet c.args.bytes.now) (answers (outcome.Taken (Waiting c.in-Waiting.cause))) (take-known c.self.inside c.self.invariant _ _ _ _ some ∙ (rw (down, next, waits) refl))
 
 pub returns-then-is_full_for_launch-clause-why : goal.returns-then-is_full_for_launch-clause-why
 returns-then-is_full_for_launch-clause-why c =
@@ -42,7 +43,7 @@ returns-then-is_full_for_launch-clause-why c =
     let down : (nat_lt 0 (length c.in-Some.kept.now.errors.items) || c.in-Some.kept.now.stopped) ≡ false = cc in
     let next : (c.args.packet.0 == c.in-Some.kept.now.next) ≡ true = search rules in
     let waits : cause_to_wait (map (λ (p : Place). p.packet) c.in-Some.kept.now.places) (barrier_bit c.args.bytes.now) ≡ None = cc (launching-goes _ c.in-Go.ensures, c.as_slice-2.ensures, c.header.ensures) in
-    due-by c.self.inside _ c.self.view_is (Take c.args.queue c.args.packet c.args.bytes.now) (enters (outcome.Taken Launched) []) (take-known c.self.inside c.self.invariant _ _ _ _ some ∙ (rw (down, next, waits, judged-inside c.self.inside _ c.self.view_is c.in-Some.kept.now c.args.bytes.now None c.in-Launch.ensures.1) refl)) ∙ (rw (room-launched _ c.args.queue c.args.packet _ _ c.in-Launch.ensures.0, ← c.is_full_for_launch.ensures, c.if-is_full_for_launch.true) refl)
+    due-by c.self.inside _ (seen c.self.view_is) (Take c.args.queue c.args.packet c.args.bytes.now) (enters (outcome.Taken Launched) []) (take-known c.self.inside c.self.invariant _ _ _ _ some ∙ (rw (down, next, waits, judged-inside c.self.inside _ (seen c.self.view_is) c.in-Some.kept.now c.args.bytes.now None c.in-Launch.ensures.1) refl)) ∙ (rw (room-launched _ c.args.queue c.args.packet _ _ c.in-Launch.ensures.0, ← c.is_full_for_launch.ensures, c.if-is_full_for_launch.true) refl)
 
 pub returns-then-is_full-clause-why : goal.returns-then-is_full-clause-why
 returns-then-is_full-clause-why c =
@@ -50,7 +51,7 @@ returns-then-is_full-clause-why c =
     let down : (nat_lt 0 (length c.in-Some.kept.now.errors.items) || c.in-Some.kept.now.stopped) ≡ false = cc in
     let next : (c.args.packet.0 == c.in-Some.kept.now.next) ≡ true = search rules in
     let waits : cause_to_wait (map (λ (p : Place). p.packet) c.in-Some.kept.now.places) (barrier_bit c.args.bytes.now) ≡ None = cc (launching-goes _ c.in-Go.ensures, c.as_slice-2.ensures, c.header.ensures) in
-    due-by c.self.inside _ c.self.view_is (Take c.args.queue c.args.packet c.args.bytes.now) (enters (outcome.Taken (Denied (error_without_place c.args.queue c.args.packet.0 c.in-Deny.rule))) []) (take-known c.self.inside c.self.invariant _ _ _ _ some ∙ (rw (down, next, waits, judged-inside c.self.inside _ c.self.view_is c.in-Some.kept.now c.args.bytes.now (Some c.in-Deny.rule) c.in-Deny.ensures) refl)) ∙ (rw (← c.is_full.ensures, c.if-is_full.true) refl)
+    due-by c.self.inside _ (seen c.self.view_is) (Take c.args.queue c.args.packet c.args.bytes.now) (enters (outcome.Taken (Denied (error_without_place c.args.queue c.args.packet.0 c.in-Deny.rule))) []) (take-known c.self.inside c.self.invariant _ _ _ _ some ∙ (rw (down, next, waits, judged-inside c.self.inside _ (seen c.self.view_is) c.in-Some.kept.now c.args.bytes.now (Some c.in-Deny.rule) c.in-Deny.ensures) refl)) ∙ (rw (← c.is_full.ensures, c.if-is_full.true) refl)
 
 pub returns-else-is_full_for_launch-clause-may : goal.returns-else-is_full_for_launch-clause-may
 returns-else-is_full_for_launch-clause-may c =
@@ -58,12 +59,12 @@ returns-else-is_full_for_launch-clause-may c =
     let down : (nat_lt 0 (length c.in-Some.kept.now.errors.items) || c.in-Some.kept.now.stopped) ≡ false = cc in
     let next : (c.args.packet.0 == c.in-Some.kept.now.next) ≡ true = search rules in
     let waits : cause_to_wait (map (λ (p : Place). p.packet) c.in-Some.kept.now.places) (barrier_bit c.args.bytes.now) ≡ None = cc (launching-goes _ c.in-Go.ensures, c.as_slice-2.ensures, c.header.ensures) in (
-      due-by c.self.inside _ c.self.view_is (Take c.args.queue c.args.packet c.args.bytes.now) (enters (outcome.Taken Launched) []) (take-known c.self.inside c.self.invariant _ _ _ _ some ∙ (rw (down, next, waits, judged-inside c.self.inside _ c.self.view_is c.in-Some.kept.now c.args.bytes.now None c.in-Launch.ensures.1) refl)) ∙ (rw (room-launched _ c.args.queue c.args.packet _ _ c.in-Launch.ensures.0, ← c.is_full_for_launch.ensures, c.if-is_full_for_launch.false) refl),
+      due-by c.self.inside _ (seen c.self.view_is) (Take c.args.queue c.args.packet c.args.bytes.now) (enters (outcome.Taken Launched) []) (take-known c.self.inside c.self.invariant _ _ _ _ some ∙ (rw (down, next, waits, judged-inside c.self.inside _ (seen c.self.view_is) c.in-Some.kept.now c.args.bytes.now None c.in-Launch.ensures.1) refl)) ∙ (rw (room-launched _ c.args.queue c.args.packet _ _ c.in-Launch.ensures.0, ← c.is_full_for_launch.ensures, c.if-is_full_for_launch.false) refl),
       c.in-Launch.ensures.0,
-      subst (λ (h : History). lies_in_regions (region_lengths h.start) c.in-Launch.packet ≡ true) c.self.view_is (within-launched (start_of c.self.inside) c.self.inside.audit.items (cached_opening c.in-Some.kept.now) c.args.bytes.now c.in-Launch.packet c.in-Launch.ensures.0 (judged-inside c.self.inside _ c.self.view_is c.in-Some.kept.now c.args.bytes.now None c.in-Launch.ensures.1)),
-      subst (λ (h : History). TakesNext h c.args.queue) c.self.view_is (takes-next c.self.inside c.self.invariant _ _ _ some down waits),
-      subst (λ (h : History). owner h.start h.entries c.args.queue ≡ Some (cached_opening c.in-Some.kept.now)) c.self.view_is (owner-kept c.self.inside c.args.queue c.self.invariant ∙ ap (option_map cached_opening) some),
-      subst (λ (h : History). MayHold h (cached_opening c.in-Some.kept.now) c.in-Launch.packet) c.self.view_is (may-hold (start_of c.self.inside) c.self.inside.audit.items (entry_of (Take c.args.queue c.args.packet c.args.bytes.now) (outcome.Taken Launched) []) (cached_opening c.in-Some.kept.now) c.args.bytes.now c.in-Launch.packet c.in-Launch.ensures.0 (judged-inside c.self.inside _ c.self.view_is c.in-Some.kept.now c.args.bytes.now None c.in-Launch.ensures.1)),
+      subst (λ (h : History). lies_in_regions (region_lengths h.start) c.in-Launch.packet ≡ true) (seen c.self.view_is) (within-launched (start_of c.self.inside) c.self.inside.audit.items (cached_opening c.in-Some.kept.now) c.args.bytes.now c.in-Launch.packet c.in-Launch.ensures.0 (judged-inside c.self.inside _ (seen c.self.view_is) c.in-Some.kept.now c.args.bytes.now None c.in-Launch.ensures.1)),
+      subst (λ (h : History). TakesNext h c.args.queue) (seen c.self.view_is) (takes-next c.self.inside c.self.invariant _ _ _ some down waits),
+      subst (λ (h : History). owner h.start h.entries c.args.queue ≡ Some (cached_opening c.in-Some.kept.now)) (seen c.self.view_is) (owner-kept c.self.inside c.args.queue c.self.invariant ∙ ap (option_map cached_opening) some),
+      subst (λ (h : History). MayHold h (cached_opening c.in-Some.kept.now) c.in-Launch.packet) (seen c.self.view_is) (may-hold (start_of c.self.inside) c.self.inside.audit.items (entry_of (Take c.args.queue c.args.packet c.args.bytes.now) (outcome.Taken Launched) []) (cached_opening c.in-Some.kept.now) c.args.bytes.now c.in-Launch.packet c.in-Launch.ensures.0 (judged-inside c.self.inside _ (seen c.self.view_is) c.in-Some.kept.now c.args.bytes.now None c.in-Launch.ensures.1)),
     )
 
 pub returns-else-is_full-clause-may : goal.returns-else-is_full-clause-may
@@ -72,6 +73,6 @@ returns-else-is_full-clause-may c =
     let down : (nat_lt 0 (length c.in-Some.kept.now.errors.items) || c.in-Some.kept.now.stopped) ≡ false = cc in
     let next : (c.args.packet.0 == c.in-Some.kept.now.next) ≡ true = search rules in
     let waits : cause_to_wait (map (λ (p : Place). p.packet) c.in-Some.kept.now.places) (barrier_bit c.args.bytes.now) ≡ None = cc (launching-goes _ c.in-Go.ensures, c.as_slice-2.ensures, c.header.ensures) in (
-      due-by c.self.inside _ c.self.view_is (Take c.args.queue c.args.packet c.args.bytes.now) (enters (outcome.Taken (Denied (error_without_place c.args.queue c.args.packet.0 c.in-Deny.rule))) []) (take-known c.self.inside c.self.invariant _ _ _ _ some ∙ (rw (down, next, waits, judged-inside c.self.inside _ c.self.view_is c.in-Some.kept.now c.args.bytes.now (Some c.in-Deny.rule) c.in-Deny.ensures) refl)) ∙ (rw (← c.is_full.ensures, c.if-is_full.false) refl),
-      subst (λ (h : History). TakesNext h c.args.queue) c.self.view_is (takes-next c.self.inside c.self.invariant _ _ _ some down waits),
+      due-by c.self.inside _ (seen c.self.view_is) (Take c.args.queue c.args.packet c.args.bytes.now) (enters (outcome.Taken (Denied (error_without_place c.args.queue c.args.packet.0 c.in-Deny.rule))) []) (take-known c.self.inside c.self.invariant _ _ _ _ some ∙ (rw (down, next, waits, judged-inside c.self.inside _ (seen c.self.view_is) c.in-Some.kept.now c.args.bytes.now (Some c.in-Deny.rule) c.in-Deny.ensures) refl)) ∙ (rw (← c.is_full.ensures, c.if-is_full.false) refl),
+      subst (λ (h : History). TakesNext h c.args.queue) (seen c.self.view_is) (takes-next c.self.inside c.self.invariant _ _ _ some down waits),
     )

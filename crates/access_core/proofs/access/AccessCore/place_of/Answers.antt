@@ -1,5 +1,6 @@
 -- A packet that is found is in flight, and reaches only what lies whole in a region.
 use Rattle.std.proofs.Common.{◌≡◌, Some, None, subst, true, find}
+use Rattle.access_core.proofs.Seen.{seen}
 use Rattle.access_core.proofs.WorkLemmas.{in-place, none-in-place, reaches-in_place}
 use Rattle.access_core.specs.inner.InPlace.{IsSized}
 use Rattle.access_core.proofs.GroupLemmas.{sized}
@@ -12,7 +13,7 @@ returns-in-Some-get-clause-found c =
     let a = c.self.inside in
     let some : numbered a.queues.items c.args.queue.0 ≡ Some c.in-Some.kept.now = cc c.in-Some.ensures in
     let found : find (is_at c.args.packet) c.in-Some.kept.now.places ≡ Some c.in-Some-get.place.now = cc c.in-Some-get.ensures in
-    subst (λ h. IsInPlace h c.args.queue c.args.packet c.in-Some-get.place.now) c.self.view_is
+    subst (λ h. IsInPlace h c.args.queue c.args.packet c.in-Some-get.place.now) (seen c.self.view_is)
     (in-place a c.self.invariant c.args.queue c.args.packet c.in-Some.kept.now some c.in-Some-get.place.now found)
 
 pub returns-in-Some-get-clause-within : goal.returns-in-Some-get-clause-within
@@ -20,7 +21,7 @@ returns-in-Some-get-clause-within c =
     let a = c.self.inside in
     let some : numbered a.queues.items c.args.queue.0 ≡ Some c.in-Some.kept.now = cc c.in-Some.ensures in
     let found : find (is_at c.args.packet) c.in-Some.kept.now.places ≡ Some c.in-Some-get.place.now = cc c.in-Some-get.ensures in
-    subst (λ h. lies_in_regions (region_lengths h.start) c.in-Some-get.place.now.packet ≡ true) c.self.view_is
+    subst (λ h. lies_in_regions (region_lengths h.start) c.in-Some-get.place.now.packet ≡ true) (seen c.self.view_is)
     (reaches-in_place a c.self.invariant c.args.queue c.args.packet c.in-Some-get.place.now (in-place a c.self.invariant c.args.queue c.args.packet c.in-Some.kept.now some c.in-Some-get.place.now found))
 
 pub returns-in-Some-get-clause-sized : goal.returns-in-Some-get-clause-sized
@@ -36,5 +37,5 @@ returns-in-None-clause-why c =
     let a = c.self.inside in
     let some : numbered a.queues.items c.args.queue.0 ≡ Some c.in-Some.kept.now = cc c.in-Some.ensures in
     let none : find (is_at c.args.packet) c.in-Some.kept.now.places ≡ None = cc c.in-None.ensures in
-    subst (λ h. RefusedAt h c.args.queue c.args.packet refusal.NotInFlight) c.self.view_is
+    subst (λ h. RefusedAt h c.args.queue c.args.packet refusal.NotInFlight) (seen c.self.view_is)
     (none-in-place a c.self.invariant c.args.queue c.args.packet c.in-Some.kept.now some none)

@@ -3,6 +3,10 @@ use Rattle.std.proofs.Common.{◌≡◌, ◌∙◌, refl, sym, ap, subst, List, 
 use Rattle.core_model.specs.declared.outcome.Worked.TheVariants.{Ran}
 use Rattle.core_model.specs.Work.{write_of_run}
 use Rattle.executor.specs.declared.run.Run.{Run}
+use Rattle.access_core.specs.inner.Cached.{error_places}
+use Rattle.access_core.proofs.Places.{places-kept}
+use Rattle.access_core.proofs.ChangedQueue.{errors-changed}
+use Rattle.access_core.proofs.Seen.{seen}
 use Rattle.access_core.proofs.Calls.{met-entry, met-refusal}
 use Rattle.access_core.proofs.HeldAfter.{grants-still}
 use Rattle.access_core.proofs.CachedMore.{IsCached-more}
@@ -12,44 +16,44 @@ use Rattle.access_core.proofs.QueueAt.{flight-advanced}
 use Rattle.access_core.proofs.RunLemmas.{one_group}
 use Rattle.access_core.proofs.TakeLemmas.{is-open, open-of}
 use Rattle.access_core.proofs.WorkLemmas.{place-inside, queues-advanced}
-use Rattle.access_core.proofs.Terms.{Effect, History, IsChanged, RunNext, is_within, region_lengths, start_of}
+use Rattle.access_core.proofs.Terms.{Effect, History, IsChanged, RunNext, is_within, region_lengths, start_of, with_advance}
 use Rattle.core_model.specs.declared.outcome.Outcome.TheVariants as outcome
 use Rattle.core_model.specs.declared.refusal.Refusal.TheVariants as refusal
 use Rattle.access_core.proofs.access.AccessCore.ran.Goals as goal
 
-pub returns-in_err-changes : goal.returns-in_err-changes
-returns-in_err-changes c =
+pub returns-in_err-changes-clause-met : goal.returns-in_err-changes-clause-met
+returns-in_err-changes-clause-met c =
     inr (record {
-      may = group-may_lack c.args.self.now c.args.queue c.args.packet c.args.place.progress.groups_run c.args.left c.args.runs c.requires.owed;
+      may = group-may_lack c.args.self.now.history c.args.queue c.args.packet c.args.place.progress.groups_run c.args.left c.args.runs c.requires.owed;
       reply_is = search rules;
       history_is = refl;
     })
 
-pub returns-then-is_full : goal.returns-then-is_full
-returns-then-is_full c =
-    inl (met-refusal (RunNext c.args.queue c.args.packet) c.args.self.now refusal.AuditFull
-    (group-due c.args.self.now c.args.queue c.args.packet c.args.place.progress.groups_run c.args.left c.args.runs c.requires.owed true (sym c.is_full.ensures ∙ c.if-is_full.true)))
+pub returns-then-is_full-clause-met : goal.returns-then-is_full-clause-met
+returns-then-is_full-clause-met c =
+    inl (met-refusal (RunNext c.args.queue c.args.packet) c.args.self.now.history refusal.AuditFull
+    (group-due c.args.self.now.history c.args.queue c.args.packet c.args.place.progress.groups_run c.args.left c.args.runs c.requires.owed true (sym c.is_full.ensures ∙ c.if-is_full.true)))
 
 pub lay_changes-requires : goal.lay_changes-requires
 lay_changes-requires c =
     let a = c.self.inside in
     rw (c.as_slice.ensures.value ∙ c.in_ok-changes.ensures, c.self.invariant.lengths)
     (runs-within (region_lengths (start_of a)) c.args.runs
-    (subst (λ (h : History). All (λ (run : Run). is_within (region_lengths h.start) run.address (length run.bytes) ≡ true) c.args.runs) (sym c.self.view_is) c.requires.written))
+    (subst (λ (h : History). All (λ (run : Run). is_within (region_lengths h.start) run.address (length run.bytes) ≡ true) c.args.runs) (sym (seen c.self.view_is)) c.requires.written))
 
 pub advance-requires : goal.advance-requires
 advance-requires c =
-    let at = open-of c.self.inside c.self.invariant _ c.self.view_is c.args.queue c.args.packet c.args.place c.requires.found in
+    let at = open-of c.self.inside c.self.invariant _ (seen c.self.view_is) c.args.queue c.args.packet c.args.place c.requires.found in
     (at.q, at.found)
 
 pub invariant_of-self : goal.invariant_of-self
 invariant_of-self c =
     let a = c.self.inside in
     let group = c.args.place.progress.groups_run in
-    let found = place-inside a _ c.self.view_is c.args.queue c.args.packet c.args.place c.requires.found in
+    let found = place-inside a _ (seen c.self.view_is) c.args.queue c.args.packet c.args.place c.requires.found in
     let at = is-open a c.self.invariant c.args.queue found.opening found.owner_is in
     let is = kernel-advances c.args.queue c.args.packet group c.args.left c.args.runs in
-    let owing = group-due c.args.self.now c.args.queue c.args.packet group c.args.left c.args.runs c.requires.owed false (sym c.is_full.ensures ∙ c.if-is_full.false) in
+    let owing = group-due c.args.self.now.history c.args.queue c.args.packet group c.args.left c.args.runs c.requires.owed false (sym c.is_full.ensures ∙ c.if-is_full.false) in
     IsCached-more a _ (RunNext c.args.queue c.args.packet) (outcome.Worked (Ran group c.args.left)) (map write_of_run c.args.runs) c.self.invariant
     (record {
       same = ((refl, refl, refl), refl);
@@ -60,13 +64,21 @@ invariant_of-self c =
         memory = subst (λ (effects : List Effect). IsChanged a.memory effects c.lay_changes.new.memory) (c.as_slice.ensures.value ∙ c.in_ok-changes.ensures) c.lay_changes.ensures.changed;
       };
       values = sym ((runs-write c.args.runs).signals a.signals);
-      queues = rw c.advance.ensures (queues-advanced a c.self.invariant c.args.queue at c.args.packet one_group _ _ _ is refl _ (c.one_more.ensures ∙ ap one_group (sym found.progress_is)));
+      queues = rw c.advance.ensures.queues (queues-advanced a c.self.invariant c.args.queue at c.args.packet one_group _ _ _ is refl _ (c.one_more.ensures ∙ ap one_group (sym found.progress_is)));
     })
-    _ c.self.view_is owing
+    _ (seen c.self.view_is) owing
 
-pub returns : goal.returns
-returns c =
+pub returns-clause-met : goal.returns-clause-met
+returns-clause-met c =
     let group = c.args.place.progress.groups_run in
-    let owing = group-due c.args.self.now c.args.queue c.args.packet group c.args.left c.args.runs c.requires.owed false (sym c.is_full.ensures ∙ c.if-is_full.false) in
-    inl (met-entry c.self.inside _ c.self.view_is (RunNext c.args.queue c.args.packet) (outcome.Worked (Ran group c.args.left)) (map write_of_run c.args.runs) _ owing
+    let owing = group-due c.args.self.now.history c.args.queue c.args.packet group c.args.left c.args.runs c.requires.owed false (sym c.is_full.ensures ∙ c.if-is_full.false) in
+    inl (met-entry c.self.inside _ (seen c.self.view_is) (RunNext c.args.queue c.args.packet) (outcome.Worked (Ran group c.args.left)) (map write_of_run c.args.runs) _ owing
     (rw (c.many-effects.ensures ∙ c.in_ok-changes.ensures) at c.enter.ensures.items))
+
+pub returns-clause-places : goal.returns-clause-places
+returns-clause-places c =
+    let a = c.self.inside in
+    let at = open-of a c.self.invariant _ (seen c.self.view_is) c.args.queue c.args.packet c.args.place c.requires.found in
+    places-kept a _ c.self.view_is c.advance.new.queues c.self.inside.grants c.self.inside.blocks c.enter.new.audit _ c.advance.ensures.capacity
+    (ap (map error_places) c.advance.ensures.queues ∙ errors-changed a.queues.items c.args.queue (with_advance c.args.packet _) at.q at.found refl)
+    refl refl c.enter.ensures

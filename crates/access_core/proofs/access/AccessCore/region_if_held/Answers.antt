@@ -4,6 +4,7 @@ use Rattle.std.specs.Option.{unwrap_or}
 use Rattle.regions.proofs.Lookups.{unwrap_or-length_of_region}
 use Rattle.regions.specs.Memory.{region_length}
 use Rattle.core_model.specs.Holds.{packet_rights}
+use Rattle.access_core.proofs.Seen.{seen}
 use Rattle.access_core.proofs.LendingLemmas.{lent-held, whole-within}
 use Rattle.access_core.proofs.Terms.{History, lengths_of, memory_from, region_lengths}
 use Rattle.access_core.proofs.WorkReadLemmas.{read-inside}
@@ -12,9 +13,9 @@ use Rattle.access_core.proofs.access.AccessCore.region_if_held.Goals as goal
 pub returns : goal.returns
 returns c =
     let a = c.self.inside in
-    let h = c.args.self.now in
+    let h = c.args.self.now.history in
     let number = c.args.region.0 in
-    let lengths = c.self.invariant.lengths ∙ ap (λ (h : History). region_lengths h.start) c.self.view_is in
+    let lengths = c.self.invariant.lengths ∙ ap (λ (h : History). region_lengths h.start) (seen c.self.view_is) in
     let size : c.unwrap_or-length.result ≡ region_length (region_lengths h.start) number =
     c.unwrap_or-length.ensures ∙ ap (λ (o : Option ℕ). unwrap_or o 0) c.length.ensures.length
     ∙ unwrap_or-length_of_region (lengths_of a.memory) number ∙ ap (λ (ls : List ℕ). region_length ls number) lengths in
@@ -22,5 +23,5 @@ returns c =
     lent-held h.start h.entries (packet_rights h.start h.entries c.args.queue c.args.packet) number c.rights_on-rights.result c.bytes.result.now
     c.rights_on-rights.ensures some
     (c.bytes.ensures.bytes
-    ∙ read-inside a c.self.invariant _ c.self.view_is c.bytes.ensures.memory (number * 2 ^ 32) c.unwrap_or-length.result (whole-within (region_lengths h.start) number _ size c.requires.there)
+    ∙ read-inside a c.self.invariant _ (seen c.self.view_is) c.bytes.ensures.memory (number * 2 ^ 32) c.unwrap_or-length.result (whole-within (region_lengths h.start) number _ size c.requires.there)
     ∙ ap (memory_from h.start h.entries (number * 2 ^ 32)) size)

@@ -1,5 +1,7 @@
 -- What is cached follows the revocation, which is entered where there is room.
 use Rattle.std.proofs.Common.{refl, sym, ◌∙◌, subst, true, false, []}
+use Rattle.access_core.proofs.Places.{places-kept}
+use Rattle.access_core.proofs.Seen.{seen}
 use Rattle.access_core.proofs.CachedMore.{IsCached-more, has_place, memory-still, queues-still}
 use Rattle.access_core.proofs.QueueAt.{IsQuiet, flight-quiet}
 use Rattle.access_core.proofs.Calls.{due-by, met-refusal, met-entry}
@@ -12,17 +14,17 @@ use Rattle.access_core.proofs.access.AccessCore.revoke.Goals as goal
 quiet : (client : ClientId) (on : Object) (rights : Rights) → IsQuiet (Revoke client on rights) outcome.Accepted []
 quiet client on rights = record { launches = refl; progress = λ queue id p. refl; releases = λ fs. refl; views = λ m v. refl }
 
-pub returns-in-Err : goal.returns-in-Err
-returns-in-Err c =
-    rw c.refusal_of.ensures (met-refusal (Revoke c.args.client c.args.object c.args.rights) _ _ (due-by c.self.inside _ c.self.view_is _ _ (revoke-refused c.self.inside c.self.invariant c.args.client c.args.object c.args.rights c.in-Err.why (subst (RevokeAnswers c.self.inside.grants c.args.client c.args.object c.args.rights) c.in-Err.is c.may_revoke.ensures))))
+pub returns-in-Err-clause-met : goal.returns-in-Err-clause-met
+returns-in-Err-clause-met c =
+    rw c.refusal_of.ensures (met-refusal (Revoke c.args.client c.args.object c.args.rights) _ _ (due-by c.self.inside _ (seen c.self.view_is) _ _ (revoke-refused c.self.inside c.self.invariant c.args.client c.args.object c.args.rights c.in-Err.why (subst (RevokeAnswers c.self.inside.grants c.args.client c.args.object c.args.rights) c.in-Err.is c.may_revoke.ensures))))
 
-pub returns-then-is_full : goal.returns-then-is_full
-returns-then-is_full c =
-    met-refusal _ _ _ (revoke-due c.self.inside c.self.invariant c.args.client c.args.object c.args.rights _ c.self.view_is (subst (RevokeAnswers c.self.inside.grants c.args.client c.args.object c.args.rights) c.in_default.is c.may_revoke.ensures) true (sym c.is_full.ensures ∙ c.if-is_full.true))
+pub returns-then-is_full-clause-met : goal.returns-then-is_full-clause-met
+returns-then-is_full-clause-met c =
+    met-refusal _ _ _ (revoke-due c.self.inside c.self.invariant c.args.client c.args.object c.args.rights _ (seen c.self.view_is) (subst (RevokeAnswers c.self.inside.grants c.args.client c.args.object c.args.rights) c.in_default.is c.may_revoke.ensures) true (sym c.is_full.ensures ∙ c.if-is_full.true))
 
 pub enter-requires : goal.enter-requires
 enter-requires c =
-    has_place c.self.inside c.self.invariant _ c.self.view_is _ _ _ (revoke-due c.self.inside c.self.invariant c.args.client c.args.object c.args.rights _ c.self.view_is (subst (RevokeAnswers c.self.inside.grants c.args.client c.args.object c.args.rights) c.in_default.is c.may_revoke.ensures) false (sym c.is_full.ensures ∙ c.if-is_full.false))
+    has_place c.self.inside c.self.invariant _ (seen c.self.view_is) _ _ _ (revoke-due c.self.inside c.self.invariant c.args.client c.args.object c.args.rights _ (seen c.self.view_is) (subst (RevokeAnswers c.self.inside.grants c.args.client c.args.object c.args.rights) c.in_default.is c.may_revoke.ensures) false (sym c.is_full.ensures ∙ c.if-is_full.false))
 
 pub invariant_of-self : goal.invariant_of-self
 invariant_of-self c =
@@ -44,9 +46,13 @@ invariant_of-self c =
       values = refl;
       queues = queues-still a c.self.invariant _ _ _ calm refl;
     })
-    _ c.self.view_is (revoke-due a c.self.invariant c.args.client c.args.object c.args.rights _ c.self.view_is (subst (RevokeAnswers c.self.inside.grants c.args.client c.args.object c.args.rights) c.in_default.is c.may_revoke.ensures) false (sym c.is_full.ensures ∙ c.if-is_full.false))
+    _ (seen c.self.view_is) (revoke-due a c.self.invariant c.args.client c.args.object c.args.rights _ (seen c.self.view_is) (subst (RevokeAnswers c.self.inside.grants c.args.client c.args.object c.args.rights) c.in_default.is c.may_revoke.ensures) false (sym c.is_full.ensures ∙ c.if-is_full.false))
 
-pub returns : goal.returns
-returns c =
-    met-entry c.self.inside _ c.self.view_is (Revoke c.args.client c.args.object c.args.rights) outcome.Accepted [] _
-    (revoke-due c.self.inside c.self.invariant c.args.client c.args.object c.args.rights _ c.self.view_is (subst (RevokeAnswers c.self.inside.grants c.args.client c.args.object c.args.rights) c.in_default.is c.may_revoke.ensures) false (sym c.is_full.ensures ∙ c.if-is_full.false)) (rw c.none.ensures at c.enter.ensures.items)
+pub returns-clause-met : goal.returns-clause-met
+returns-clause-met c =
+    met-entry c.self.inside _ (seen c.self.view_is) (Revoke c.args.client c.args.object c.args.rights) outcome.Accepted [] _
+    (revoke-due c.self.inside c.self.invariant c.args.client c.args.object c.args.rights _ (seen c.self.view_is) (subst (RevokeAnswers c.self.inside.grants c.args.client c.args.object c.args.rights) c.in_default.is c.may_revoke.ensures) false (sym c.is_full.ensures ∙ c.if-is_full.false)) (rw c.none.ensures at c.enter.ensures.items)
+
+pub returns-clause-places : goal.returns-clause-places
+returns-clause-places c =
+    places-kept c.self.inside _ c.self.view_is c.self.inside.queues c.take_out_of_force.new.self c.self.inside.blocks c.enter.new.audit _ refl refl c.take_out_of_force.ensures.same_places refl c.enter.ensures

@@ -8,14 +8,14 @@ use Rattle.access_core.proofs.access.AccessCore.rights_at_launch.Goals as goal
 
 pub returns-in_default : goal.returns-in_default
 returns-in_default c =
-    let h = c.args.self.now in
+    let h = c.args.self.now.history in
     let launching = c.args.launching.now in
     only-needs h.start h.entries (opening_of launching) launching.packet _ (c.in_ok-rights.ensures launching.client)
     (needs-alone h.start h.entries launching.client launching.packet c.in_default.not-Kernel)
 
 pub returns-in_default-kernel : goal.returns-in_default-kernel
 returns-in_default-kernel c =
-    let h = c.args.self.now in
+    let h = c.args.self.now.history in
     let launching = c.args.launching.now in
     let none : numbered h.start.kernels c.in-Kernel.dispatch.kernel_object.0 ≡ None = cc c.in_default-kernel.ensures in
     only-needs h.start h.entries (opening_of launching) launching.packet _ (c.in_ok-rights.ensures launching.client)
@@ -23,7 +23,7 @@ returns-in_default-kernel c =
 
 pub held_by_arguments-requires : goal.held_by_arguments-requires
 held_by_arguments-requires c =
-    let h = c.args.self.now in
+    let h = c.args.self.now.history in
     let launching = c.args.launching.now in
     let found : numbered h.start.kernels c.in-Kernel.dispatch.kernel_object.0 ≡ Some c.in-Some.program.now = cc c.in-Some.ensures in
     let long = block-long h.start h.entries launching.packet c.in-Kernel.dispatch c.in-Kernel.is c.in-Some.program.now found c.args.block.now c.requires in
@@ -32,7 +32,7 @@ held_by_arguments-requires c =
 
 pub returns : goal.returns
 returns c =
-    let h = c.args.self.now in
+    let h = c.args.self.now.history in
     let launching = c.args.launching.now in
     let found : numbered h.start.kernels c.in-Kernel.dispatch.kernel_object.0 ≡ Some c.in-Some.program.now = cc c.in-Some.ensures in
     both-held h.start h.entries (opening_of launching) launching.packet _ _ _ (c.in_ok-rights.ensures launching.client)

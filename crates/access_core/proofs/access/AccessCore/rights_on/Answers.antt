@@ -4,6 +4,7 @@ use Rattle.core_model.specs.Holds.{packet_rights}
 use Rattle.core_model.specs.View.{rights_held}
 use Rattle.policy.specs.declared.object.Object.TheVariants as object
 use Rattle.grants.specs.Ledger as ledger
+use Rattle.access_core.proofs.Seen.{seen}
 use Rattle.access_core.specs.inner.Running.{IsHolder}
 use Rattle.access_core.proofs.HeldOn.{rights-are}
 use Rattle.access_core.proofs.Terms.{ClientId, History, rights_that}
@@ -13,8 +14,8 @@ pub returns : goal.returns
 returns c =
     let a = c.self.inside in
     let on = object.Region c.args.region in
-    let holder = subst (λ (h : History). IsHolder h c.args.queue c.args.packet c.args.client) (sym c.self.view_is) c.requires in
+    let holder = subst (λ (h : History). IsHolder h c.args.queue c.args.packet c.args.client) (sym (seen c.self.view_is)) c.requires in
     c.rights_held.ensures
     ∙ ap (λ (client : ClientId). rights_that (ledger.holds a.grants c.args.queue c.args.packet client on)) (sym holder.client_is)
     ∙ rights-are a c.self.invariant c.args.queue c.args.packet holder.opening holder.flying holder.owner_is holder.found on
-    ∙ ap (λ (h : History). rights_held (packet_rights h.start h.entries c.args.queue c.args.packet) on) c.self.view_is
+    ∙ ap (λ (h : History). rights_held (packet_rights h.start h.entries c.args.queue c.args.packet) on) (seen c.self.view_is)

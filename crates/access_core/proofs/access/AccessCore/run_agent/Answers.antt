@@ -1,6 +1,10 @@
 -- What is kept moves along with the group that ran, which is entered where there is room.
-use Rattle.std.proofs.Common.{◌≡◌, ◌∙◌, refl, sym, ap, subst, List, true, false, rules, nat_le, inl, inr}
+use Rattle.std.proofs.Common.{◌≡◌, ◌∙◌, refl, sym, ap, map, subst, List, true, false, rules, nat_le, inl, inr}
 use Rattle.core_model.specs.declared.outcome.Worked.TheVariants.{Ran}
+use Rattle.access_core.specs.inner.Cached.{error_places}
+use Rattle.access_core.proofs.Places.{places-kept}
+use Rattle.access_core.proofs.ChangedQueue.{errors-changed}
+use Rattle.access_core.proofs.Seen.{seen}
 use Rattle.access_core.proofs.Calls.{met-entry, met-refusal}
 use Rattle.access_core.proofs.HeldAfter.{grants-still}
 use Rattle.access_core.proofs.CachedMore.{IsCached-more}
@@ -8,34 +12,34 @@ use Rattle.access_core.proofs.QueueAt.{flight-advanced}
 use Rattle.access_core.proofs.RunLemmas.{agent-done, agent-due, agent-writes, one_group, pieces-inside, run-advances}
 use Rattle.access_core.proofs.TakeLemmas.{is-open, open-of}
 use Rattle.access_core.proofs.WorkLemmas.{place-inside, queues-advanced}
-use Rattle.access_core.proofs.Terms.{Effect, History, IsChanged, RunNext, agent_writes, due, enters, lies_in_regions, region_lengths, start_of}
+use Rattle.access_core.proofs.Terms.{Effect, History, IsChanged, RunNext, agent_writes, due, enters, lies_in_regions, region_lengths, start_of, with_advance}
 use Rattle.core_model.specs.declared.outcome.Outcome.TheVariants as outcome
 use Rattle.core_model.specs.declared.refusal.Refusal.TheVariants as refusal
 use Rattle.access_core.proofs.access.AccessCore.run_agent.Goals as goal
 
 pub function_piece-requires : goal.function_piece-requires
-function_piece-requires c = ap (lies_in_regions (region_lengths c.args.self.now.start)) (sym c.requires.packet_is) ∙ c.requires.within
+function_piece-requires c = ap (lies_in_regions (region_lengths c.args.self.now.history.start)) (sym c.requires.packet_is) ∙ c.requires.within
 
 pub result_piece-requires : goal.result_piece-requires
-result_piece-requires c = ap (lies_in_regions (region_lengths c.args.self.now.start)) (sym c.requires.packet_is) ∙ c.requires.within
+result_piece-requires c = ap (lies_in_regions (region_lengths c.args.self.now.history.start)) (sym c.requires.packet_is) ∙ c.requires.within
 
 pub advance-requires : goal.advance-requires
 advance-requires c =
     let a = c.self.inside in
-    let at = open-of a c.self.invariant _ c.self.view_is c.args.queue c.args.packet c.args.place c.requires.found in
+    let at = open-of a c.self.invariant _ (seen c.self.view_is) c.args.queue c.args.packet c.args.place c.requires.found in
     (at.q, at.found)
 
 pub invariant_of-self : goal.invariant_of-self
 invariant_of-self c =
     let a = c.self.inside in
-    let found = place-inside a _ c.self.view_is c.args.queue c.args.packet c.args.place c.requires.found in
+    let found = place-inside a _ (seen c.self.view_is) c.args.queue c.args.packet c.args.place c.requires.found in
     let at = is-open a c.self.invariant c.args.queue found.opening found.owner_is in
     let is = run-advances c.args.queue c.args.packet (start_of a) a.audit.items c.args.dispatch in
-    let pieces = pieces-inside a _ c.self.view_is c.args.dispatch _ _ _ _ c.in_ok-target.ensures.written c.in_ok-result.ensures.written in
+    let pieces = pieces-inside a _ (seen c.self.view_is) c.args.dispatch _ _ _ _ c.in_ok-target.ensures.written c.in_ok-result.ensures.written in
     let ran : nat_le 1 c.args.place.progress.groups_run ≡ false = search rules in
-    let owing : due c.args.self.now (RunNext c.args.queue c.args.packet) ≡ enters (outcome.Worked (Ran 0 0)) (agent_writes (start_of a) a.audit.items c.args.dispatch) =
-    agent-due c.args.self.now c.args.queue c.args.packet c.args.place c.requires.found c.args.dispatch c.requires.packet_is ran false (sym c.is_full.ensures ∙ c.if-is_full.false)
-    ∙ ap (λ (h : History). enters (outcome.Worked (Ran 0 0)) (agent_writes h.start h.entries c.args.dispatch)) (sym c.self.view_is) in
+    let owing : due c.args.self.now.history (RunNext c.args.queue c.args.packet) ≡ enters (outcome.Worked (Ran 0 0)) (agent_writes (start_of a) a.audit.items c.args.dispatch) =
+    agent-due c.args.self.now.history c.args.queue c.args.packet c.args.place c.requires.found c.args.dispatch c.requires.packet_is ran false (sym c.is_full.ensures ∙ c.if-is_full.false)
+    ∙ ap (λ (h : History). enters (outcome.Worked (Ran 0 0)) (agent_writes h.start h.entries c.args.dispatch)) (sym (seen c.self.view_is)) in
     IsCached-more a _ (RunNext c.args.queue c.args.packet) (outcome.Worked (Ran 0 0)) (agent_writes (start_of a) a.audit.items c.args.dispatch) c.self.invariant
     (record {
       same = ((refl, refl, refl), refl);
@@ -46,41 +50,49 @@ invariant_of-self c =
         memory = subst (λ (effects : List Effect). IsChanged a.memory effects c.lay_both-effects.new.memory) pieces c.lay_both-effects.ensures.changed;
       };
       values = sym ((agent-writes (start_of a) a.audit.items c.args.dispatch).signals a.signals);
-      queues = rw c.advance.ensures (queues-advanced a c.self.invariant c.args.queue at c.args.packet one_group _ _ _ is refl _ (c.one_more.ensures ∙ ap one_group (sym found.progress_is)));
+      queues = rw c.advance.ensures.queues (queues-advanced a c.self.invariant c.args.queue at c.args.packet one_group _ _ _ is refl _ (c.one_more.ensures ∙ ap one_group (sym found.progress_is)));
     })
-    _ c.self.view_is owing
+    _ (seen c.self.view_is) owing
 
-pub returns-then-place-ge1 : goal.returns-then-place-ge1
-returns-then-place-ge1 c =
+pub returns-then-place-ge1-clause-met : goal.returns-then-place-ge1-clause-met
+returns-then-place-ge1-clause-met c =
     let ran : nat_le 1 c.args.place.progress.groups_run ≡ true = search rules in
-    let is = agent-done c.args.self.now c.args.queue c.args.packet c.args.place c.requires.found c.args.dispatch c.requires.packet_is ran in
+    let is = agent-done c.args.self.now.history c.args.queue c.args.packet c.args.place c.requires.found c.args.dispatch c.requires.packet_is ran in
     inl (record { reply_is = rw is refl; history_is = rw is refl })
 
-pub returns-then-is_full : goal.returns-then-is_full
-returns-then-is_full c =
+pub returns-then-is_full-clause-met : goal.returns-then-is_full-clause-met
+returns-then-is_full-clause-met c =
     let ran : nat_le 1 c.args.place.progress.groups_run ≡ false = search rules in
-    inl (met-refusal (RunNext c.args.queue c.args.packet) c.args.self.now refusal.AuditFull
-    (agent-due c.args.self.now c.args.queue c.args.packet c.args.place c.requires.found c.args.dispatch c.requires.packet_is ran true (sym c.is_full.ensures ∙ c.if-is_full.true)))
+    inl (met-refusal (RunNext c.args.queue c.args.packet) c.args.self.now.history refusal.AuditFull
+    (agent-due c.args.self.now.history c.args.queue c.args.packet c.args.place c.requires.found c.args.dispatch c.requires.packet_is ran true (sym c.is_full.ensures ∙ c.if-is_full.true)))
 
-pub returns-in_err-target : goal.returns-in_err-target
-returns-in_err-target c =
+pub returns-in_err-target-clause-met : goal.returns-in_err-target-clause-met
+returns-in_err-target-clause-met c =
     let ran : nat_le 1 c.args.place.progress.groups_run ≡ false = search rules in
-    let is = agent-due c.args.self.now c.args.queue c.args.packet c.args.place c.requires.found c.args.dispatch c.requires.packet_is ran false (sym c.is_full.ensures ∙ c.if-is_full.false) in
+    let is = agent-due c.args.self.now.history c.args.queue c.args.packet c.args.place c.requires.found c.args.dispatch c.requires.packet_is ran false (sym c.is_full.ensures ∙ c.if-is_full.false) in
     inr (record { may = rw is refl; reply_is = search rules; history_is = refl })
 
-pub returns-in_err-result : goal.returns-in_err-result
-returns-in_err-result c =
+pub returns-in_err-result-clause-met : goal.returns-in_err-result-clause-met
+returns-in_err-result-clause-met c =
     let ran : nat_le 1 c.args.place.progress.groups_run ≡ false = search rules in
-    let is = agent-due c.args.self.now c.args.queue c.args.packet c.args.place c.requires.found c.args.dispatch c.requires.packet_is ran false (sym c.is_full.ensures ∙ c.if-is_full.false) in
+    let is = agent-due c.args.self.now.history c.args.queue c.args.packet c.args.place c.requires.found c.args.dispatch c.requires.packet_is ran false (sym c.is_full.ensures ∙ c.if-is_full.false) in
     inr (record { may = rw is refl; reply_is = search rules; history_is = refl })
 
-pub returns : goal.returns
-returns c =
+pub returns-clause-met : goal.returns-clause-met
+returns-clause-met c =
     let a = c.self.inside in
     let ran : nat_le 1 c.args.place.progress.groups_run ≡ false = search rules in
-    let pieces = pieces-inside a _ c.self.view_is c.args.dispatch _ _ _ _ c.in_ok-target.ensures.written c.in_ok-result.ensures.written in
-    let owing : due c.args.self.now (RunNext c.args.queue c.args.packet) ≡ enters (outcome.Worked (Ran 0 0)) (agent_writes (start_of a) a.audit.items c.args.dispatch) =
-    agent-due c.args.self.now c.args.queue c.args.packet c.args.place c.requires.found c.args.dispatch c.requires.packet_is ran false (sym c.is_full.ensures ∙ c.if-is_full.false)
-    ∙ ap (λ (h : History). enters (outcome.Worked (Ran 0 0)) (agent_writes h.start h.entries c.args.dispatch)) (sym c.self.view_is) in
-    inl (met-entry a _ c.self.view_is (RunNext c.args.queue c.args.packet) (outcome.Worked (Ran 0 0)) (agent_writes (start_of a) a.audit.items c.args.dispatch) _ owing
+    let pieces = pieces-inside a _ (seen c.self.view_is) c.args.dispatch _ _ _ _ c.in_ok-target.ensures.written c.in_ok-result.ensures.written in
+    let owing : due c.args.self.now.history (RunNext c.args.queue c.args.packet) ≡ enters (outcome.Worked (Ran 0 0)) (agent_writes (start_of a) a.audit.items c.args.dispatch) =
+    agent-due c.args.self.now.history c.args.queue c.args.packet c.args.place c.requires.found c.args.dispatch c.requires.packet_is ran false (sym c.is_full.ensures ∙ c.if-is_full.false)
+    ∙ ap (λ (h : History). enters (outcome.Worked (Ran 0 0)) (agent_writes h.start h.entries c.args.dispatch)) (sym (seen c.self.view_is)) in
+    inl (met-entry a _ (seen c.self.view_is) (RunNext c.args.queue c.args.packet) (outcome.Worked (Ran 0 0)) (agent_writes (start_of a) a.audit.items c.args.dispatch) _ owing
     (rw (c.lay_both-effects.ensures.effects ∙ pieces) at c.enter.ensures.items))
+
+pub returns-clause-places : goal.returns-clause-places
+returns-clause-places c =
+    let a = c.self.inside in
+    let at = open-of a c.self.invariant _ (seen c.self.view_is) c.args.queue c.args.packet c.args.place c.requires.found in
+    places-kept a _ c.self.view_is c.advance.new.queues c.self.inside.grants c.self.inside.blocks c.enter.new.audit _ c.advance.ensures.capacity
+    (ap (map error_places) c.advance.ensures.queues ∙ errors-changed a.queues.items c.args.queue (with_advance c.args.packet _) at.q at.found refl)
+    refl refl c.enter.ensures

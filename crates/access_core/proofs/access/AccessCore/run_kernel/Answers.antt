@@ -13,9 +13,9 @@ use Rattle.access_core.proofs.Terms.{RunNext, answers, due, enters}
 use Rattle.core_model.specs.declared.outcome.Outcome.TheVariants as outcome
 use Rattle.access_core.proofs.access.AccessCore.run_kernel.Goals as goal
 
-pub returns-then-group-count : goal.returns-then-group-count
-returns-then-group-count c =
-    let h = c.args.self.now in
+pub returns-then-group-count-clause-met : goal.returns-then-group-count-clause-met
+returns-then-group-count-clause-met c =
+    let h = c.args.self.now.history in
     let reached : nat_le c.group_count-count.result c.args.place.progress.groups_run ≡ true = search rules in
     let ran : nat_le (groups_of (packet.Kernel c.args.dispatch)) c.args.place.progress.groups_run ≡ true = rw (← c.group_count-count.ensures) reached in
     let is : due h (RunNext c.args.queue c.args.packet) ≡ answers (outcome.Worked Done) =
@@ -24,7 +24,7 @@ returns-then-group-count c =
 
 pub ran-requires-clause-owed : goal.ran-requires-clause-owed
 ran-requires-clause-owed c =
-    let h = c.args.self.now in
+    let h = c.args.self.now.history in
     let d = c.args.dispatch in
     let group = c.args.place.progress.groups_run in
     let left : nat_le c.group_count-count.result group ≡ false = search rules in
@@ -35,7 +35,7 @@ ran-requires-clause-owed c =
 
 pub fault-requires-clause-owed : goal.fault-requires-clause-owed
 fault-requires-clause-owed c =
-    let h = c.args.self.now in
+    let h = c.args.self.now.history in
     let d = c.args.dispatch in
     let group = c.args.place.progress.groups_run in
     let left : nat_le c.group_count-count.result group ≡ false = search rules in
@@ -46,9 +46,9 @@ fault-requires-clause-owed c =
     ∙ ap (group_owed c.args.queue c.args.packet d group) came
     ∙ ap (λ (f : ItemFault). fault_owed (group_error c.args.queue c.args.packet group f.item f.line f.rule)) (sym c.in-Err-Fault.fault-is)
 
-pub returns-in-Err-OutOfMemory : goal.returns-in-Err-OutOfMemory
-returns-in-Err-OutOfMemory c =
-    let h = c.args.self.now in
+pub returns-in-Err-OutOfMemory-clause-met : goal.returns-in-Err-OutOfMemory-clause-met
+returns-in-Err-OutOfMemory-clause-met c =
+    let h = c.args.self.now.history in
     let d = c.args.dispatch in
     let group = c.args.place.progress.groups_run in
     let left : nat_le c.group_count-count.result group ≡ false = search rules in

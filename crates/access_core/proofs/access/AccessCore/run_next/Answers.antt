@@ -7,23 +7,23 @@ use Rattle.access_core.proofs.Terms.{RunNext}
 use Rattle.core_model.specs.declared.refusal.Refusal.TheVariants as refusal
 use Rattle.access_core.proofs.access.AccessCore.run_next.Goals as goal
 
-pub returns-in_err-place : goal.returns-in_err-place
-returns-in_err-place c =
-    let h = c.args.self.now in
+pub returns-in_err-place-clause-met : goal.returns-in_err-place-clause-met
+returns-in_err-place-clause-met c =
+    let h = c.args.self.now.history in
     let is = run-refused h c.args.queue c.args.packet _ c.in_err-place.ensures.why in
     let reply : c.from_residual.result ≡ Err c.in_err-place.field-0.0 = search rules in
     inl (record { reply_is = rw (is, reply) refl; history_is = rw is refl })
 
-pub returns-in-BarrierAnd : goal.returns-in-BarrierAnd
-returns-in-BarrierAnd c =
-    let h = c.args.self.now in
+pub returns-in-BarrierAnd-clause-met : goal.returns-in-BarrierAnd-clause-met
+returns-in-BarrierAnd-clause-met c =
+    let h = c.args.self.now.history in
     let place = c.in_ok-place.place in
     inl (met-refusal (RunNext c.args.queue c.args.packet) h refusal.NotInFlight
     (no-groups h c.args.queue c.args.packet place c.in_ok-place.ensures.found (λ own. ap (λ p. owed_group h.start h.entries c.args.queue c.args.packet own p place.progress) c.in-BarrierAnd.is)))
 
-pub returns-in-BarrierOr : goal.returns-in-BarrierOr
-returns-in-BarrierOr c =
-    let h = c.args.self.now in
+pub returns-in-BarrierOr-clause-met : goal.returns-in-BarrierOr-clause-met
+returns-in-BarrierOr-clause-met c =
+    let h = c.args.self.now.history in
     let place = c.in_ok-place.place in
     inl (met-refusal (RunNext c.args.queue c.args.packet) h refusal.NotInFlight
     (no-groups h c.args.queue c.args.packet place c.in_ok-place.ensures.found (λ own. ap (λ p. owed_group h.start h.entries c.args.queue c.args.packet own p place.progress) c.in-BarrierOr.is)))

@@ -1,26 +1,30 @@
 -- What is kept moves along with what is seen, which is entered where there is room.
-use Rattle.std.proofs.Common.{◌∙◌, refl, sym, ap, []}
+use Rattle.std.proofs.Common.{◌∙◌, refl, sym, ap, map, []}
+use Rattle.access_core.specs.inner.Cached.{error_places}
+use Rattle.access_core.proofs.Places.{places-kept}
+use Rattle.access_core.proofs.ChangedQueue.{errors-changed}
+use Rattle.access_core.proofs.Seen.{seen}
 use Rattle.access_core.proofs.HeldAfter.{grants-still}
 use Rattle.access_core.proofs.CachedMore.{IsCached-more, memory-still}
 use Rattle.access_core.proofs.PollLemmas.{seen_further, sight-advances}
 use Rattle.access_core.proofs.QueueAt.{flight-advanced}
 use Rattle.access_core.proofs.TakeLemmas.{is-open, open-of}
 use Rattle.access_core.proofs.WorkLemmas.{place-inside, queues-advanced}
-use Rattle.access_core.proofs.Terms.{Poll, sight, start_of}
+use Rattle.access_core.proofs.Terms.{Poll, sight, start_of, with_advance}
 use Rattle.core_model.specs.declared.outcome.Outcome.TheVariants as outcome
 use Rattle.access_core.proofs.access.AccessCore.see.Goals as goal
 
 pub advance-requires : goal.advance-requires
 advance-requires c =
     let a = c.self.inside in
-    let at = open-of a c.self.invariant _ c.self.view_is c.args.queue c.args.packet c.args.place c.requires.found in
+    let at = open-of a c.self.invariant _ (seen c.self.view_is) c.args.queue c.args.packet c.args.place c.requires.found in
     (at.q, at.found)
 
 pub invariant_of-self : goal.invariant_of-self
 invariant_of-self c =
     let a = c.self.inside in
     let is = sight-advances c.args.queue c.args.packet c.args.ready c.args.new in
-    let found = place-inside a _ c.self.view_is c.args.queue c.args.packet c.args.place c.requires.found in
+    let found = place-inside a _ (seen c.self.view_is) c.args.queue c.args.packet c.args.place c.requires.found in
     let at = is-open a c.self.invariant c.args.queue found.opening found.owner_is in
     IsCached-more a _ (Poll c.args.queue c.args.packet) (outcome.Polled (sight c.args.ready c.args.new)) [] c.self.invariant
     (record {
@@ -29,7 +33,15 @@ invariant_of-self c =
       grants = grants-still a c.self.invariant _ _ _ refl refl (λ client on right b. refl) (flight-advanced (start_of a) a.audit.items _ _ _ c.args.queue c.args.packet _ is);
       memory = memory-still a.memory _ (λ x byte. refl);
       values = refl;
-      queues = rw c.advance.ensures (queues-advanced a c.self.invariant c.args.queue at c.args.packet (seen_further c.args.new) _ _ _ is refl _
+      queues = rw c.advance.ensures.queues (queues-advanced a c.self.invariant c.args.queue at c.args.packet (seen_further c.args.new) _ _ _ is refl _
           ((λ i. record { groups_run = c.args.place.progress.groups_run; satisfied = c.seen_by_either.ensures i }) ∙ ap (seen_further c.args.new) (sym found.progress_is)));
     })
-    _ c.self.view_is c.requires.may
+    _ (seen c.self.view_is) c.requires.may
+
+pub returns-clause-places : goal.returns-clause-places
+returns-clause-places c =
+    let a = c.self.inside in
+    let at = open-of a c.self.invariant _ (seen c.self.view_is) c.args.queue c.args.packet c.args.place c.requires.found in
+    places-kept a _ c.self.view_is c.advance.new.queues c.self.inside.grants c.self.inside.blocks c.enter.new.audit _ c.advance.ensures.capacity
+    (ap (map error_places) c.advance.ensures.queues ∙ errors-changed a.queues.items c.args.queue (with_advance c.args.packet _) at.q at.found refl)
+    refl refl c.enter.ensures

@@ -5,4 +5,4 @@ use Rattle.access_core.proofs.access.AccessCore.serve_each.Given as goal
 
 abbrev pub invariant-loop-request : goal.invariant-loop-request
 invariant-loop-request l =
-    AreReplies l.initial.self l.yielded l.replies.items l.self × (length l.fn.requests.items ≤ length l.yielded + l.replies.room)
+    AreReplies l.initial.self.history l.yielded l.replies.items l.self.history × (length l.fn.requests.items ≤ length l.yielded + l.replies.room)

@@ -2,6 +2,8 @@
 use Rattle.std.proofs.Common.{refl, [], ◌∷◌, w64, to_z-of_z, SFits, rules, ℤ}
 use Rattle.aql_packet.specs.declared.ids.SignalHandle.{SignalHandle}
 use Rattle.signals.specs.declared.operation.SignalOp.{SignalOp}
+use Rattle.access_core.proofs.Places.{places-kept}
+use Rattle.access_core.proofs.Seen.{seen}
 use Rattle.access_core.proofs.HeldAfter.{grants-still}
 use Rattle.access_core.proofs.CachedMore.{IsCached-more, memory-still, queues-still}
 use Rattle.access_core.proofs.QueueAt.{IsQuiet, flight-quiet}
@@ -33,4 +35,8 @@ invariant_of-self c =
       values = values;
       queues = queues-still c.self.inside c.self.invariant _ _ _ calm refl;
     })
-    _ c.self.view_is c.in_ok-old.ensures.may
+    _ (seen c.self.view_is) c.in_ok-old.ensures.may
+
+pub returns-clause-places : goal.returns-clause-places
+returns-clause-places c =
+    places-kept c.self.inside _ c.self.view_is c.self.inside.queues c.self.inside.grants c.self.inside.blocks c.enter.new.audit _ refl refl refl refl c.enter.ensures

@@ -1,30 +1,34 @@
 -- What is cached follows the stop.
-use Rattle.std.proofs.Common.{refl, sym}
+use Rattle.std.proofs.Common.{refl, sym, ap, map, ◌∙◌}
+use Rattle.access_core.specs.inner.Cached.{error_places}
+use Rattle.access_core.proofs.Places.{places-kept}
+use Rattle.access_core.proofs.ChangedQueue.{errors-changed}
+use Rattle.access_core.proofs.Seen.{seen}
 use Rattle.access_core.proofs.CachedMore.{IsCached-more, has_place, memory-still, owed-inside}
 use Rattle.access_core.proofs.StopLemmas.{freed-stopped, grants-stopped, memory-released, queues-stopped, stop-open, values-released}
-use Rattle.access_core.proofs.Terms.{Stop, release_of}
+use Rattle.access_core.proofs.Terms.{Stop, release_of, with_stop}
 use Rattle.core_model.specs.declared.outcome.Outcome.TheVariants as outcome
 use Rattle.access_core.proofs.access.AccessCore.stop.Goals as goal
 
 pub halt-requires : goal.halt-requires
 halt-requires c =
-    let at = stop-open c.self.inside c.self.invariant c.args.queue _ _ (owed-inside _ c.self.invariant _ c.self.view_is _ _ _ c.in_ok-barrier.ensures.may) in
+    let at = stop-open c.self.inside c.self.invariant c.args.queue _ _ (owed-inside _ c.self.invariant _ (seen c.self.view_is) _ _ _ c.in_ok-barrier.ensures.may) in
     (at.q, at.found)
 
 pub overflow_sub-self : goal.overflow_sub-self
 overflow_sub-self c =
     let a = c.self.inside in
-    let at = stop-open a c.self.invariant c.args.queue _ _ (owed-inside a c.self.invariant _ c.self.view_is _ _ _ c.in_ok-barrier.ensures.may) in
+    let at = stop-open a c.self.invariant c.args.queue _ _ (owed-inside a c.self.invariant _ (seen c.self.view_is) _ _ _ c.in_ok-barrier.ensures.may) in
     rw c.halt.ensures.freed (freed-stopped a c.self.invariant c.args.queue at c.in_ok-barrier.barrier)
 
 pub enter-requires : goal.enter-requires
-enter-requires c = has_place c.self.inside c.self.invariant _ c.self.view_is _ _ _ c.in_ok-barrier.ensures.may
+enter-requires c = has_place c.self.inside c.self.invariant _ (seen c.self.view_is) _ _ _ c.in_ok-barrier.ensures.may
 
 pub invariant_of-self : goal.invariant_of-self
 invariant_of-self c =
     let a = c.self.inside in
     let barrier = c.in_ok-barrier.barrier in
-    let at = stop-open a c.self.invariant c.args.queue _ _ (owed-inside a c.self.invariant _ c.self.view_is _ _ _ c.in_ok-barrier.ensures.may) in
+    let at = stop-open a c.self.invariant c.args.queue _ _ (owed-inside a c.self.invariant _ (seen c.self.view_is) _ _ _ c.in_ok-barrier.ensures.may) in
     IsCached-more a _ (Stop c.args.queue) outcome.Accepted (release_of c.args.queue barrier) c.self.invariant
     (record {
       same = ((refl, refl, refl), refl);
@@ -34,4 +38,13 @@ invariant_of-self c =
       values = sym (values-released c.args.queue barrier a.signals);
       queues = rw (c.halt.ensures.queues, c.halt.ensures.freed) (queues-stopped a c.self.invariant c.args.queue at barrier);
     })
-    _ c.self.view_is c.in_ok-barrier.ensures.may
+    _ (seen c.self.view_is) c.in_ok-barrier.ensures.may
+
+pub returns-clause-places : goal.returns-clause-places
+returns-clause-places c =
+    let a = c.self.inside in
+    let barrier = c.in_ok-barrier.barrier in
+    let at = stop-open a c.self.invariant c.args.queue _ _ (owed-inside a c.self.invariant _ (seen c.self.view_is) _ _ _ c.in_ok-barrier.ensures.may) in
+    places-kept a _ c.self.view_is c.halt.new.queues c.let_go-effects.new.grants c.let_go-effects.new.blocks c.enter.new.audit _ c.halt.ensures.capacity
+    (ap (map error_places) c.halt.ensures.queues ∙ errors-changed a.queues.items c.args.queue (with_stop barrier) at.q at.found refl)
+    c.let_go-effects.ensures.places c.let_go-effects.ensures.block_places c.enter.ensures

@@ -13,7 +13,7 @@ use Rattle.access_core.proofs.access.AccessCore.view.Goals.{in-Some+in_ok-put, i
 
 number-is : (c : goal.After-view-1) → c.in-Some.held.handle.0 ≡ c.loop-before.before + 1
 number-is c =
-    let h = c.args.self.now in
+    let h = c.args.self.now.history in
     lent-number h.start h.entries (packet_rights h.start h.entries c.args.queue c.args.packet) (c.loop-before.before + 1) c.in-Some.held
     (ap (option_map lent_region) (sym c.in-Some.is) ∙ c.region_if_held.ensures)
 
@@ -22,7 +22,7 @@ put-requires-clause-begins c = omega (arith, number-is c)
 
 pub put-requires-clause-ends : goal.put-requires-clause-ends
 put-requires-clause-ends c =
-    let h = c.args.self.now in
+    let h = c.args.self.now.history in
     let fit : are_region_lengths (region_lengths h.start) ≡ true = ap (λ (p : Declared). are_region_lengths (declared_lengths p)) (sym c.policy.ensures) ∙ c.object_count-before-end.ensures.limits.regions in
     let few = few-regions (region_lengths h.start) fit in
     let declared = ap (λ (p : Declared). length p.regions) c.policy.ensures in
@@ -31,13 +31,13 @@ put-requires-clause-ends c =
 
 pub put-requires-clause-behind : goal.put-requires-clause-behind
 put-requires-clause-behind c =
-    let h = c.args.self.now in
+    let h = c.args.self.now.history in
     subst (λ (n : ℕ). All (λ region. region.handle.0 < n) c.loop-before.view) (sym (number-is c))
     (lent-below h.start h.entries (packet_rights h.start h.entries c.args.queue c.args.packet) c.loop-before.before c.loop-before.view c.loop-before.invariant)
 
 pub loop-before-preserved : goal.loop-before-preserved
 loop-before-preserved c =
-    let h = c.args.self.now in
+    let h = c.args.self.now.history in
     let before = c.loop-before.view in
     lent-behind h.start h.entries (packet_rights h.start h.entries c.args.queue c.args.packet) c.loop-before.before before _ c.region_if_held.result c.loop-before.invariant c.region_if_held.ensures
     (elim c.match-region_if_held.branch [
@@ -47,7 +47,7 @@ loop-before-preserved c =
 
 pub returns : goal.returns
 returns c =
-    let h = c.args.self.now in
+    let h = c.args.self.now.history in
     let declared = ap (λ (p : Declared). length p.regions) c.policy.ensures in
     let long = length-map h.start.policy.regions (λ row. row.1) in
     let end : c.loop-before.before ≡ length (region_lengths h.start) =

@@ -7,4 +7,4 @@ use Rattle.access_core.proofs.access.AccessCore.view.Given as goal
 
 abbrev pub invariant-loop-before : goal.invariant-loop-before
 invariant-loop-before l =
-    map lent_region l.view ≡ lent_so_far l.self.start l.self.entries (packet_rights l.self.start l.self.entries l.queue l.packet) l.before
+    map lent_region l.view ≡ lent_so_far l.self.history.start l.self.history.entries (packet_rights l.self.history.start l.self.history.entries l.queue l.packet) l.before

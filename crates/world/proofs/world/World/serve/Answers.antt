@@ -9,17 +9,17 @@ use Rattle.world.proofs.world.World.serve.Goals as goal
 
 pub invariant_of-self : goal.invariant_of-self
 invariant_of-self c = (
-  served_kept (World c.self.inside.core c.self.inside.rings.items) c.self.invariant.0 c.args.request c.obey.result (World c.obey.new.core c.obey.new.rings.items)
-      (obeyed_served c.self.inside.core c.obey.new.core c.self.inside.rings.items c.obey.new.rings.items c.self.invariant.1 c.obey.result c.args.request c.obey.ensures),
-  obeyed_decided c.self.inside.core c.obey.new.core c.self.inside.rings.items c.obey.new.rings.items c.self.invariant.0 c.self.invariant.1 c.obey.result c.args.request c.obey.ensures,
+  served_kept (World c.self.inside.core.history c.self.inside.rings.items) c.self.invariant.0 c.args.request c.obey.result (World c.obey.new.core.history c.obey.new.rings.items)
+      (obeyed_served c.self.inside.core.history c.obey.new.core.history c.self.inside.rings.items c.obey.new.rings.items c.self.invariant.1 c.obey.result c.args.request c.obey.ensures),
+  obeyed_decided c.self.inside.core.history c.obey.new.core.history c.self.inside.rings.items c.obey.new.rings.items c.self.invariant.0 c.self.invariant.1 c.obey.result c.args.request c.obey.ensures,
 )
 
 pub returns-clause-served : goal.returns-clause-served
 returns-clause-served c =
-    subst (λ (w : Joined). IsServed w c.args.request c.obey.result (World c.obey.new.core c.obey.new.rings.items)) c.self.view_is
-    (obeyed_served c.self.inside.core c.obey.new.core c.self.inside.rings.items c.obey.new.rings.items c.self.invariant.1 c.obey.result c.args.request c.obey.ensures)
+    subst (λ (w : Joined). IsServed w c.args.request c.obey.result (World c.obey.new.core.history c.obey.new.rings.items)) c.self.view_is
+    (obeyed_served c.self.inside.core.history c.obey.new.core.history c.self.inside.rings.items c.obey.new.rings.items c.self.invariant.1 c.obey.result c.args.request c.obey.ensures)
 
 pub returns-clause-joined : goal.returns-clause-joined
 returns-clause-joined c =
-    served_kept (World c.self.inside.core c.self.inside.rings.items) c.self.invariant.0 c.args.request c.obey.result (World c.obey.new.core c.obey.new.rings.items)
-    (obeyed_served c.self.inside.core c.obey.new.core c.self.inside.rings.items c.obey.new.rings.items c.self.invariant.1 c.obey.result c.args.request c.obey.ensures)
+    served_kept (World c.self.inside.core.history c.self.inside.rings.items) c.self.invariant.0 c.args.request c.obey.result (World c.obey.new.core.history c.obey.new.rings.items)
+    (obeyed_served c.self.inside.core.history c.obey.new.core.history c.self.inside.rings.items c.obey.new.rings.items c.self.invariant.1 c.obey.result c.args.request c.obey.ensures)
