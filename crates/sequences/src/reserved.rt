@@ -1,6 +1,6 @@
 //! A list whose room is got before it is needed.
 
-ghost use Rattle.std.specs.Prelude.{◌≡◌, ◌≤◌, ◌<◌, ◌+◌, ◌-◌, ◌++◌, ◌∷◌, [], OnOk, IfOk, length, slice_get};
+ghost use Rattle.std.specs.Prelude.{◌≡◌, ◌≤◌, ◌<◌, ◌+◌, ◌-◌, ◌++◌, ◌∷◌, [], OnOk, OnErr, IfOk, length, slice_get};
 ghost use Rattle.std.specs.Option.{option_copied};
 
 use std::alloc::{AllocError, Global};
@@ -25,7 +25,8 @@ impl<T> Model for Reserved<T> {
 impl<T> Reserved<T> {
     /// The empty list. It takes no memory.
     pub fn new(alloc: Global) -> Reserved<T>
-        ensures { result.items ≡ [] }
+        ensures items { result.items ≡ [] }
+        ensures room { result.room ≡ 0 }
     {
         Reserved {
             items: Vec::new(alloc),
@@ -42,11 +43,13 @@ impl<T> Reserved<T> {
         })
     }
 
-    /// Gets room for this many further items. The items stay, and room is never lost.
+    /// Gets room for this many further items. The items stay, and room is never lost. It is refused
+    /// only where less room was left, and then nothing changes.
     pub fn reserve(&mut self, further: usize) -> Result<(), AllocError>
         ensures items { self.new.items ≡ self.old.items }
         ensures room { OnOk result (further ≤ self.new.room) }
         ensures kept { self.old.room ≤ self.new.room }
+        ensures refused { OnErr result ((self.old.room < further) × (self.new ≡ self.old)) }
     {
         self.items.reserve(further)
     }
