@@ -10,7 +10,7 @@ use Rattle.std.proofs.lemmas.Option.{slice_get-get_or}
 use Rattle.std.proofs.Math.Seq.{get_or-append_seam}
 use Rattle.executor.specs.Accesses.{covers_address, region_of}
 use Rattle.executor.specs.Items.{lent_region}
-use Rattle.executor.specs.Views.{Finds, at_place, if_long}
+use Rattle.executor.specs.Views.{Finds, at_place, has_byte_at, if_long}
 use Rattle.executor.specs.declared.view.HeldRegion.{HeldRegion}
 use Rattle.executor.proofs.Maps.{get_append_left}
 
@@ -27,23 +27,23 @@ found_lent (r ∷ rs) address = by_test (covers_address (lent_region r) address)
 -- ---- the table by which a region is found
 
 module _ (places : List ℕ) (regions : List HeldRegion) (finds : Finds places regions) (address : ℕ) where
-  found_by : (place : ℕ) → get_or places (address / 2 ^ 32) 0 ≡ place → if_long (address % 2 ^ 32) (at_place regions place) ≡ find (λ region. covers_address (lent_region region) address) regions
+  found_by : (place : ℕ) → get_or places (address / 2 ^ 32) 0 ≡ place → if_long (address % 2 ^ 32) (at_place regions place) ≡ find (λ region. has_byte_at region address) regions
   found_by place is = ap (λ (k : ℕ). if_long (address % 2 ^ 32) (at_place regions k)) (sym is) ∙ finds.exact address
 
   -- no region is found where the table has no place
-  pub found_none : get_or places (address / 2 ^ 32) 0 ≡ 0 → None ≡ find (λ region. covers_address (lent_region region) address) regions
+  pub found_none : get_or places (address / 2 ^ 32) 0 ≡ 0 → None ≡ find (λ region. has_byte_at region address) regions
   found_none is = found_by 0 is
 
   -- nor is one behind its end
-  pub found_past : 65 ≤ address / 2 ^ 32 → None ≡ find (λ region. covers_address (lent_region region) address) regions
+  pub found_past : 65 ≤ address / 2 ^ 32 → None ≡ find (λ region. has_byte_at region address) regions
   found_past past = found_none (get_or_past places (address / 2 ^ 32) 0 (omega (arith, past, finds.size)))
 
   -- the region at the table's place, if it is as long
   module _ (region d : HeldRegion) (some : get_or places (address / 2 ^ 32) 0 ≢ 0) (is : region ≡ get_or regions (get_or places (address / 2 ^ 32) 0 - 1) d) where
-    found_there : if_long (address % 2 ^ 32) (Some region) ≡ find (λ r. covers_address (lent_region r) address) regions
+    found_there : if_long (address % 2 ^ 32) (Some region) ≡ find (λ r. has_byte_at r address) regions
     found_there = by_place (get_or places (address / 2 ^ 32) 0) refl
       where
-        by_place : (k : ℕ) → get_or places (address / 2 ^ 32) 0 ≡ k → if_long (address % 2 ^ 32) (Some region) ≡ find (λ r. covers_address (lent_region r) address) regions
+        by_place : (k : ℕ) → get_or places (address / 2 ^ 32) 0 ≡ k → if_long (address % 2 ^ 32) (Some region) ≡ find (λ r. has_byte_at r address) regions
         by_place zero none = absurd (some none)
         by_place (suc k) at =
             let inside : k < length regions = omega (arith, at, finds.within (address / 2 ^ 32)) in
@@ -51,10 +51,10 @@ module _ (places : List ℕ) (regions : List HeldRegion) (finds : Finds places r
             ap (if_long (address % 2 ^ 32)) (ap (λ (r : HeldRegion). Some r) (is ∙ ap (λ n. get_or regions n d) before) ∙ sym (slice_get-get_or regions k d inside))
             ∙ found_by (suc k) at
 
-    pub found_long : address % 2 ^ 32 < length region.bytes.now → Some region ≡ find (λ r. covers_address (lent_region r) address) regions
+    pub found_long : address % 2 ^ 32 < length region.bytes.now → Some region ≡ find (λ r. has_byte_at r address) regions
     found_long long = sym (cond-true _ _ _ (lt-ltb _ _ long)) ∙ found_there
 
-    pub found_short : length region.bytes.now ≤ address % 2 ^ 32 → None ≡ find (λ r. covers_address (lent_region r) address) regions
+    pub found_short : length region.bytes.now ≤ address % 2 ^ 32 → None ≡ find (λ r. has_byte_at r address) regions
     found_short short = sym (cond-false _ _ _ (le-ltb _ _ short)) ∙ found_there
 
 -- no region is found in none
@@ -76,7 +76,7 @@ finds_none places regions empty none = rw (empty, none) (record {
     zeros (suc count) (suc k) = zeros count k
 
 -- no region is found at addresses of a number that is above all of theirs
-none_at : (regions : List HeldRegion) (address : ℕ) → All (λ region. region.handle.0 < address / 2 ^ 32) regions → find (λ region. covers_address (lent_region region) address) regions ≡ None
+none_at : (regions : List HeldRegion) (address : ℕ) → All (λ region. region.handle.0 < address / 2 ^ 32) regions → find (λ region. has_byte_at region address) regions ≡ None
 none_at [] address below = refl
 none_at (r ∷ rs) address below =
     let less : r.handle.0 < address / 2 ^ 32 = below 0 r (omega arith) in
@@ -106,30 +106,30 @@ module _ (places : List ℕ) (regions : List HeldRegion) (region : HeldRegion) (
 
   -- an address of its number
   at_own : (address : ℕ) → address / 2 ^ 32 ≡ region.handle.0
-      → if_long (address % 2 ^ 32) (at_place (regions ++ region ∷ []) (get_or after (address / 2 ^ 32) 0)) ≡ find (λ r. covers_address (lent_region r) address) (regions ++ region ∷ [])
+      → if_long (address % 2 ^ 32) (at_place (regions ++ region ∷ []) (get_or after (address / 2 ^ 32) 0)) ≡ find (λ r. has_byte_at r address) (regions ++ region ∷ [])
   at_own address own =
       let place : get_or after (address / 2 ^ 32) 0 ≡ suc (length regions) = ap (λ n. get_or after n 0) own ∙ get_or-set_same places region.handle.0 (suc (length regions)) 0 in_table in
-      let first : find (λ r. covers_address (lent_region r) address) regions ≡ None = none_at regions address (subst (λ n. All (λ before. before.handle.0 < n) regions) (sym own) above) in
+      let first : find (λ r. has_byte_at r address) regions ≡ None = none_at regions address (subst (λ n. All (λ before. before.handle.0 < n) regions) (sym own) above) in
       let same : (region.handle.0 == address / 2 ^ 32) ≡ true = grind (arith, nat_tests, own) in
       ap (λ k. if_long (address % 2 ^ 32) (at_place (regions ++ region ∷ []) k)) place
       ∙ ap (if_long (address % 2 ^ 32)) (last_place regions region)
       ∙ (rw same refl)
-      ∙ sym (ap (λ o. option_or o (find (λ r. covers_address (lent_region r) address) (region ∷ []))) first)
-      ∙ sym (find-append (λ r. covers_address (lent_region r) address) regions (region ∷ []))
+      ∙ sym (ap (λ o. option_or o (find (λ r. has_byte_at r address) (region ∷ []))) first)
+      ∙ sym (find-append (λ r. has_byte_at r address) regions (region ∷ []))
 
   -- an address of another
   at_other : (address : ℕ) → (address / 2 ^ 32 ≢ region.handle.0)
-      → if_long (address % 2 ^ 32) (at_place (regions ++ region ∷ []) (get_or after (address / 2 ^ 32) 0)) ≡ find (λ r. covers_address (lent_region r) address) (regions ++ region ∷ [])
+      → if_long (address % 2 ^ 32) (at_place (regions ++ region ∷ []) (get_or after (address / 2 ^ 32) 0)) ≡ find (λ r. has_byte_at r address) (regions ++ region ∷ [])
   at_other address other =
       let place : get_or after (address / 2 ^ 32) 0 ≡ get_or places (address / 2 ^ 32) 0 = get_or-set_other places region.handle.0 (address / 2 ^ 32) (suc (length regions)) 0 other in
       let apart : (region.handle.0 == address / 2 ^ 32) ≡ false = grind (arith, nat_tests, other) in
-      let last : find (λ r. covers_address (lent_region r) address) (region ∷ []) ≡ None = rw apart refl in
+      let last : find (λ r. has_byte_at r address) (region ∷ []) ≡ None = rw apart refl in
       ap (λ k. if_long (address % 2 ^ 32) (at_place (regions ++ region ∷ []) k)) place
       ∙ ap (if_long (address % 2 ^ 32)) (same_place regions region (get_or places (address / 2 ^ 32) 0) (finds.within (address / 2 ^ 32)))
       ∙ finds.exact address
-      ∙ sym (or_none (find (λ r. covers_address (lent_region r) address) regions))
-      ∙ sym (ap (option_or (find (λ r. covers_address (lent_region r) address) regions)) last)
-      ∙ sym (find-append (λ r. covers_address (lent_region r) address) regions (region ∷ []))
+      ∙ sym (or_none (find (λ r. has_byte_at r address) regions))
+      ∙ sym (ap (option_or (find (λ r. has_byte_at r address) regions)) last)
+      ∙ sym (find-append (λ r. has_byte_at r address) regions (region ∷ []))
     where
       or_none : (o : Option HeldRegion) → option_or o None ≡ o
       or_none None = refl

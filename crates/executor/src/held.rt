@@ -1,8 +1,7 @@
 //! The regions that a packet holds, and how the one that an address lies in is found.
 ghost use Rattle.std.specs.Prelude.{◌≡◌, ◌<◌, ◌≤◌, ◌++◌, ◌∷◌, [], All, OnErr, OnOk, find};
 ghost use Rattle.std.specs.Option.{option_copied};
-ghost use Rattle.executor.specs.Accesses.{covers_address};
-ghost use Rattle.executor.specs.Items.{lent_region};
+ghost use Rattle.executor.specs.Views.{has_byte_at};
 
 use crate::view::HeldRegion;
 use aql_packet::MOST_REGIONS;
@@ -57,7 +56,7 @@ impl<'a> View<'a> {
     /// The region that an address lies in.
     #[inline(always)]
     pub fn find(&self, address: u64) -> Option<&HeldRegion<'a>>
-        ensures { option_copied result ≡ find (λ region. covers_address (lent_region region) address) self.now }
+        ensures { option_copied result ≡ find (λ region. has_byte_at region address) self.now }
     {
         let places = &self.places;
         let number = (address >> 32) as usize;
