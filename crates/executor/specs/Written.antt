@@ -1,6 +1,6 @@
 -- The bytes that a work-group has written: a finite map from address to byte, over memory that stays
 -- as it is. All of it is this project's own.
-use Rattle.std.specs.Prelude.{◌≡◌, ℕ, ◌+◌, ◌-◌, ◌/◌, ◌%◌, ◌^◌, ◌<◌, ◌==◌, if◌then◌else◌, List, [], ◌∷◌, length, slice_get, Option, None, All}
+use Rattle.std.specs.Prelude.{◌≡◌, ℕ, ◌+◌, ◌-◌, ◌/◌, ◌%◌, ◌^◌, ◌<◌, ◌==◌, ◌⊎◌, if◌then◌else◌, List, [], ◌∷◌, length, take, slice_get, Option, None, All}
 use Rattle.std.specs.List.{AllPairs}
 use Rattle.std.specs.Option.{unwrap_or, option_and_then}
 use Rattle.std.specs.Int.{bit_at}
@@ -18,6 +18,12 @@ laid at address bytes x = if covers address (length bytes) x then slice_get byte
 abbrev pub seen : (ℕ → Option ℕ) → ℕ → List ℕ → List ℕ
 seen at address [] = []
 seen at address (below ∷ rest) = unwrap_or (at address) below ∷ seen at (address + 1) rest
+
+-- how a store breaks off for want of memory: all is as before, or, where its bytes go on into the next page of 64, those
+-- before that page are laid
+abbrev pub BreaksOff : (ℕ → Option ℕ) → (ℕ → Option ℕ) → ℕ → List ℕ → Type 0
+BreaksOff before after address bytes =
+    (after ≡ before) ⊎ ((64 < address % 64 + length bytes) × (after ≡ laid before address (take (64 - address % 64) bytes)))
 
 -- the map that has nothing
 abbrev pub nothing : ℕ → Option ℕ

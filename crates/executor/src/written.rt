@@ -1,7 +1,6 @@
 //! What a work-group has written.
-ghost use Rattle.std.specs.Prelude.{◌≡◌, ◌+◌, ◌%◌, ◌^◌, ◌<◌, ◌≤◌, ℕ, List, false, None, OnOk, OnErr, IfOk, length, max};
-ghost use Rattle.aql_packet.specs.Memory.{covers};
-ghost use Rattle.executor.specs.Written.{byte_at, laid, seen, AreRuns};
+ghost use Rattle.std.specs.Prelude.{◌≡◌, ◌+◌, ◌%◌, ◌^◌, ◌<◌, ◌≤◌, ℕ, List, None, OnOk, OnErr, IfOk, length, max};
+ghost use Rattle.executor.specs.Written.{byte_at, laid, seen, AreRuns, BreaksOff};
 ghost use Rattle.executor.specs.Told.{runs_of};
 
 use crate::region::WrittenRegion;
@@ -45,16 +44,14 @@ impl WrittenBytes {
         }
     }
 
-    /// Writes the bytes of one access from an address on. Without memory every byte outside the access
-    /// is as before, and where the access lies in one page of 64 bytes all is as before; of one that
-    /// crosses into the next page the first part may then be written.
+    /// Writes the bytes of one access from an address on. Without memory all is as before; but of an
+    /// access that crosses into the next page of 64 bytes the part before that page may then be written.
     #[inline]
     pub fn store(&mut self, alloc: Global, address: u64, bytes: &[u8]) -> Result<(), AllocError>
         requires few { length bytes.now ≤ 64 }
         requires end { address + length bytes.now ≤ 2 ^ 64 }
         ensures ok { OnOk result ((x : ℕ) → byte_at self.new x ≡ laid (byte_at self.old) address bytes.now x) }
-        ensures err { OnErr result (address % 64 + length bytes.now ≤ 64 → (x : ℕ) → byte_at self.new x ≡ byte_at self.old x) }
-        ensures outside { OnErr result ((x : ℕ) → covers address (length bytes.now) x ≡ false → byte_at self.new x ≡ byte_at self.old x) }
+        ensures err { OnErr result (BreaksOff (byte_at self.old) (byte_at self.new) address bytes.now) }
     {
         let room = PAGE - (address % PAGE as u64) as usize;
         if bytes.len() <= room {
