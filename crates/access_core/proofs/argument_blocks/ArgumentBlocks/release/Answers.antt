@@ -17,5 +17,5 @@ pub returns-clause-places : goal.returns-clause-places
 returns-clause-places c =
     let same = c.retain.ensures.capacity in
     let kept : places_of (record { items = c.retain.new.self.items; room = vec_capacity c.retain.new.self - vec_len c.retain.new.self })
-        ≡ places_of (record { items = c.self.inside.blocks.items; room = vec_capacity c.self.inside.blocks - vec_len c.self.inside.blocks }) = omega (arith, same, c.self.inside.blocks.ok, c.retain.new.self.ok) in
+    ≡ places_of (record { items = c.self.inside.blocks.items; room = vec_capacity c.self.inside.blocks - vec_len c.self.inside.blocks }) = omega (arith, same, c.self.inside.blocks.ok, c.retain.new.self.ok) in
     kept ∙ ap (λ (list : Roomy ArgumentBlock). places_of list) c.self.view_is
