@@ -39,8 +39,14 @@ module _ (a : Inside) (kept : IsCached a) (client : ClientId) (on : Object) (rig
 
   grant-owed : Ok tt ≡ grant_due a.grants client on rights → owed (start_of a) a.audit.items (Grant client on rights) ≡ enters outcome.Accepted []
   unfolding owed
-  grant-owed due =
-      let is : Ok tt ≡ due_of (declares_client a.policy client) (declares a.policy on) (allows a.policy client on rights) = due ∙ due-is in grind arith
+  grant-owed due = by_tests (declares_client a.policy client) (declares a.policy on) (allows a.policy client on rights) (due ∙ due-is)
+    where
+      by_tests : (c o s : Bool) → Ok tt ≡ due_of c o s
+          → refuse_unless c refusal.UnknownClient (refuse_unless o refusal.UnknownObject (refuse_unless s refusal.NotAllowed (enters outcome.Accepted []))) ≡ enters outcome.Accepted []
+      by_tests false o s e = absurd cc
+      by_tests true false s e = absurd cc
+      by_tests true true false e = absurd cc
+      by_tests true true true e = refl
 
   -- so it is due its entry, where there is room
   pub grant-due : (old : History) → history_of a ≡ old → Ok tt ≡ grant_due a.grants client on rights → (full : Bool) → is_full old ≡ full → due old (Grant client on rights) ≡ (if full then refuses refusal.AuditFull else enters outcome.Accepted [])
