@@ -1,6 +1,7 @@
 //! What each seat of a ring knows: the parts that the steps of its own seat alone change.
 
 ghost use Rattle.std.specs.Prelude.{◌≡◌, OnOk, OnErr};
+ghost use Rattle.ring_core.specs.declared.access.Access.{Access};
 ghost use Rattle.ring_core.specs.Parts.{producer_may, processor_may, may_make, part_after, new_producer, new_processor, after_producing, after_processing, passes, collected_packet, Suits, SuitsPart};
 ghost use Rattle.ring_core.specs.Words.{has_body};
 ghost use Rattle.ring_core.specs.Tickets.{shows_room};
@@ -64,12 +65,13 @@ impl ProducerPart {
         }
     }
 
-    /// Notes an access that the producer made and the word that it found. Without memory for it
-    /// nothing changes.
+    /// Notes an access that the producer made and the word that it found. Only a reservation wants
+    /// memory, and without it nothing changes.
     pub(crate) fn record(&mut self, access: Access, old: u64) -> Result<(), AllocError>
         requires { Suits access old self.old.tickets }
         ensures ok { OnOk result (self.new ≡ after_producing self.old access old) }
         ensures err { OnErr result (self.new ≡ self.old) }
+        ensures due { OnErr result (access ≡ Access.Reserve) }
     {
         match access {
             Access::Reserve => {
@@ -188,12 +190,13 @@ impl Part {
         }
     }
 
-    /// Notes an access that the seat made and the word that it found. Without memory for it nothing
-    /// changes.
+    /// Notes an access that the seat made and the word that it found. Only a reservation wants memory,
+    /// and without it nothing changes.
     pub(crate) fn record(&mut self, access: Access, old: u64) -> Result<(), AllocError>
         requires { SuitsPart self.old access old }
         ensures ok { OnOk result (self.new ≡ part_after self.old access old) }
         ensures err { OnErr result (self.new ≡ self.old) }
+        ensures due { OnErr result (access ≡ Access.Reserve) }
     {
         match self {
             Part::Processor(part) => {

@@ -2,6 +2,7 @@
 
 ghost use Rattle.std.specs.Prelude.{◌≡◌, ◌≤◌, ◌↔◌, IfOk, IfErr, OnErr, Err, true, false};
 ghost use Rattle.aql_packet.specs.Ring.{is_ring_size};
+ghost use Rattle.ring_core.specs.declared.access.Access.{Access};
 ghost use Rattle.ring_core.specs.Machine.{Makes, is_allowed, opened, Replays, is_producer_count, producers_of, write_index, read_index};
 ghost use Rattle.ring_core.specs.Rule.{IsRule, processor_of};
 ghost use Rattle.ring_core.specs.Faults.{IsReplayFault, fault_at};
@@ -131,11 +132,13 @@ impl RingState {
         }
     }
 
-    /// Makes a step, and tells what it read. A step that is not allowed is NotAStep.
+    /// Makes a step, and tells what it read. A step that is not allowed is NotAStep. Only a reservation
+    /// wants memory.
     pub fn step(&mut self, step: Step) -> Result<Seen, StepFault>
         ensures made { IfOk result (λ seen. Makes self.old step seen self.new) }
         ensures exact { result ≡ Err StepFault.NotAStep ↔ is_allowed self.old step ≡ false }
         ensures err { OnErr result (self.new ≡ self.old) }
+        ensures due { IfErr result (λ fault. fault ≡ StepFault.OutOfMemory → step.access ≡ Access.Reserve) }
     {
         if !self.allows(step) {
             return Err(StepFault::NotAStep);

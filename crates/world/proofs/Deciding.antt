@@ -111,7 +111,7 @@ module _ (core : History) (rings : List QueueRing) (h : IsJoined (World core rin
       let free = unhindered r.decided r.ring step is in
       let s = stands queue r found in
       subst (λ (x : QueueRing). x.decided ≡ is_decided core queue x.ring) (sym same) (made_decided core queue r step s.1 (d queue r found) (index_moves (producers_of r.ring) r.ring step s.0.rule free.0))
-  after_step queue step r after reply found None is (inr (told, same)) = subst (λ (x : QueueRing). x.decided ≡ is_decided core queue x.ring) (sym same) (d queue r found)
+  after_step queue step r after reply found None is (inr (may, told, same)) = subst (λ (x : QueueRing). x.decided ≡ is_decided core queue x.ring) (sym same) (d queue r found)
 
   step_decided : (queue : QueueId) (step : Step) (reply : Reply) (new : List QueueRing) (o : Option QueueRing) → numbered rings queue.0 ≡ o → MakesAt o queue step rings reply new → AreDecided core new
   step_decided queue step reply new None found (told, is) = subst (AreDecided core) (sym is) d

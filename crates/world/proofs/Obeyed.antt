@@ -53,9 +53,9 @@ module _ (core core' : History) (old new : List QueueRing) (decided : AreDecided
       by_hindrance r after None _ (inl (told, is)) put found =
           let kept : rings_of new ≡ slice_set (rings_of old) (queue.0 - 1) (made r.ring step) = ap rings_of put ∙ map_set (λ (x : QueueRing). x.ring) old (queue.0 - 1) after ∙ ap (λ (x : QueueRing). slice_set (rings_of old) (queue.0 - 1) x.ring) is in
           inl (told, λ i. joined (same i) (kept i))
-      by_hindrance r after None _ (inr (told, is)) put found =
+      by_hindrance r after None _ (inr (may, told, is)) put found =
           let kept : rings_of new ≡ rings_of old = ap rings_of put ∙ map_same (λ (x : QueueRing). x.ring) old (queue.0 - 1) r after (numbered_place old queue.0 r found).1 (ap (λ x. x.ring) is) in
-          inr (refl, told, λ i. joined (same i) (kept i))
+          inr (may, told, λ i. joined (same i) (kept i))
 
       by_ring : (o : Option QueueRing) → numbered old queue.0 ≡ o → MakesAt o queue step old reply new → Meets (World core old) (owed_to (World core old) (request.Step queue step)) reply (World core' new)
       by_ring None found (told, is) =

@@ -85,7 +85,7 @@ due_where world queue ring step (Some why) = refused world why
 due_where world queue ring step None = record {
   reply = Ok (answer_to step.access (read_index ring) (found ring step));
   after = with_ring world queue (made ring step);
-  may_lack = true;
+  may_lack = reserves step.access;
 }
 
 -- a step on the ring of a queue, if it was opened

@@ -1,5 +1,5 @@
 -- The steps on a queue's ring, as the code takes them.
-use Rattle.std.specs.Prelude.{◌≡◌, ◌-◌, ◌⊎◌, Bool, false, List, slice_set, Option, Some, None, Ok, Err, map}
+use Rattle.std.specs.Prelude.{◌≡◌, ◌-◌, ◌⊎◌, Bool, true, false, List, slice_set, Option, Some, None, Ok, Err, map}
 use Rattle.aql_packet.specs.declared.ids.QueueId.{QueueId}
 use Rattle.core_model.specs.declared.refusal.Refusal.TheVariants as why
 use Rattle.core_model.specs.History.{History}
@@ -11,7 +11,7 @@ use Rattle.ring_core.specs.Machine.{Machine, found, made, read_index}
 use Rattle.world.specs.declared.queue_ring.QueueRing.{QueueRing}
 use Rattle.world.specs.declared.reply.Refusal.{Refusal}
 use Rattle.world.specs.declared.reply.Refusal.TheVariants as refusal
-use Rattle.world.specs.Dues.{Reply, answer_to, hindrance, is_decided}
+use Rattle.world.specs.Dues.{Reply, answer_to, hindrance, is_decided, reserves}
 
 -- the rings alone
 abbrev pub rings_of : List QueueRing → List Machine
@@ -34,12 +34,12 @@ ring_made old step = record { ring = made old.ring step; decided = decided_after
 abbrev pub with_queue_ring : List QueueRing → QueueId → QueueRing → List QueueRing
 with_queue_ring rings queue ring = slice_set rings (queue.0 - 1) ring
 
--- a step was made on a ring, or refused, or memory was wanted
+-- a step was made on a ring, or refused, or memory was wanted for the id that it reserves
 abbrev pub MakesWhere : Option Refusal → QueueRing → Step → Reply → QueueRing → Type 0
 MakesWhere (Some why) old step reply new = (reply ≡ Err why) × (new ≡ old)
 MakesWhere None old step reply new =
     ((reply ≡ Ok (answer_to step.access (read_index old.ring) (found old.ring step))) × (new ≡ ring_made old step))
-    ⊎ ((reply ≡ Err (refusal.Core why.OutOfMemory)) × (new ≡ old))
+    ⊎ ((reserves step.access ≡ true) × (reply ≡ Err (refusal.Core why.OutOfMemory)) × (new ≡ old))
 
 abbrev pub MakesOn : QueueRing → Step → Reply → QueueRing → Type 0
 MakesOn old step reply new = MakesWhere (hindrance old.decided old.ring step) old step reply new
