@@ -1,8 +1,8 @@
 -- A call that takes no memory leaves the places of the tables as they are.
-use Rattle.std.proofs.Common.{◌≡◌, ℕ, ◌+◌, ◌<◌, ◌∷◌, [], List, length, length-append, map, ap, ◌∙◌, arith, vec_capacity}
+use Rattle.std.proofs.Common.{◌≡◌, ◌+◌, ◌<◌, ◌∷◌, [], length, length-append, map, ap, ◌∙◌, arith, vec_capacity}
 use Rattle.std.specs.Global.{Vec}
 use Rattle.sequences.specs.Room.{Roomy}
-use Rattle.access_core.specs.Cores.{Core, TablePlaces, places_of}
+use Rattle.access_core.specs.Cores.{Core, places_of}
 use Rattle.access_core.specs.declared.argument_blocks.ArgumentBlock.{ArgumentBlock}
 use Rattle.access_core.specs.inner.Cached.{core_of, error_places, table_places}
 use Rattle.access_core.proofs.Terms.{Entry, Inside, IsEntered, Ledger, PacketId, Queue, QueueError, with_failure}
