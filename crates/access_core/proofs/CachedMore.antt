@@ -8,7 +8,7 @@ use Rattle.core_model.proofs.Meeting.{entered-owed}
 use Rattle.core_model.proofs.Flying.{all-after}
 use Rattle.core_model.proofs.Legality.{IsLegal-more}
 use Rattle.core_model.specs.Holds.{arguments, arguments_if, packet_rights, is_launch}
-use Rattle.access_core.specs.ArgumentBlocks.{AreBlocksOf, block_of}
+use Rattle.access_core.specs.inner.ArgumentBlocks.{AreBlocksOf, block_of}
 use Rattle.access_core.specs.declared.argument_blocks.ArgumentBlock.{ArgumentBlock}
 use Rattle.access_core.proofs.HeldMore.{arguments-more}
 use Rattle.access_core.proofs.QueueAt.{IsQuiet, flight-quiet, queue_at-quiet}
@@ -45,7 +45,7 @@ pub record QueuesAfter (a : Inside) (new : List Queue) (count : ℕ) (event : Ev
   pub sound : All IsSound new
   pub few_queues : length new ≤ QUEUES
   pub flying : count ≡ length (flight (start_of a) (with_entry a.audit.items event outcome effects))
-  pub within : (f : InFlight) → launched_by event outcome ≡ Some f → lies_in_regions (region_lengths (start_of a)) f.packet ≡ true
+  pub within : (f : InFlight) → launched_by event outcome ≡ Some f → lies_in_regions (region_lengths a.policy) f.packet ≡ true
 
 -- The audit has one entry more, and the other fields follow.
 pub record FieldsAfter (a b : Inside) (event : Event) (outcome : Outcome) (effects : List Effect) : Type 0 where
@@ -85,9 +85,9 @@ module _ (a b : Inside) (event : Event) (outcome : Outcome) (effects : List Effe
       rw (after.same.0.0, after.same.0.1, after.audit.items, in_force-more)
       (subst (λ before. ledger.in_force b.grants client on right ≡ in_force_after client on right before event) (was.granted client on right) (after.grants.granted client on right))
 
-  memory-after : (x : ℕ) → lies_in_region (region_lengths (start_of b)) x ≡ true → byte_at b.memory x ≡ Some (memory_at (start_of b) b.audit.items x)
+  memory-after : (x : ℕ) → lies_in_region (region_lengths b.policy) x ≡ true → byte_at b.memory x ≡ Some (memory_at (start_of b) b.audit.items x)
   memory-after x lies =
-      let inside : lies_in_region (region_lengths (start_of a)) x ≡ true = rw (← after.same.0.0) lies in
+      let inside : lies_in_region (region_lengths a.policy) x ≡ true = rw (← after.same.0.0) lies in
       rw (after.same.0.0, after.same.0.1, after.audit.items, memory_at-more) (after.memory.memory x (memory_at (start_of a) a.audit.items x) (was.memory x inside))
 
   -- the argument blocks of packets in flight are those of their launches
@@ -139,7 +139,7 @@ module _ (a b : Inside) (event : Event) (outcome : Outcome) (effects : List Effe
         sound = after.queues.sound;
         few_queues = after.queues.few_queues;
         flying = rw (after.same.0.0, after.same.0.1, after.audit.items) after.queues.flying;
-        within = rw (after.same.0.0, after.same.0.1, after.audit.items, flight-more) (all-after (λ f. lies_in_regions (region_lengths (start_of a)) f.packet ≡ true) (entry_of event outcome effects) (flight (start_of a) a.audit.items) after.queues.within was.within);
+        within = rw (after.same.0.0, after.same.0.1, after.audit.items, flight-more) (all-after (λ f. lies_in_regions (region_lengths a.policy) f.packet ≡ true) (entry_of event outcome effects) (flight (start_of a) a.audit.items) after.queues.within was.within);
         room = omega (arith, longer, room, after.queues.flying, after.same.1);
         places = omega (arith, longer, after.audit.room, after.same.1, was.places);
         few = omega (arith, after.same.1, was.few);
@@ -149,7 +149,7 @@ module _ (a b : Inside) (event : Event) (outcome : Outcome) (effects : List Effe
 -- ---- what an entry leaves as it is
 
 -- an entry that launches nothing launches nothing past a region
-pub none-launched : (event : Event) (outcome : Outcome) → launched_by event outcome ≡ None → (start : Start) (f : InFlight) → launched_by event outcome ≡ Some f → lies_in_regions (region_lengths start) f.packet ≡ true
+pub none-launched : (event : Event) (outcome : Outcome) → launched_by event outcome ≡ None → (start : Start) (f : InFlight) → launched_by event outcome ≡ Some f → lies_in_regions (region_lengths start.policy) f.packet ≡ true
 none-launched event outcome none start f is = absurd (cc (none, is))
 
 pub memory-still : (memory : List (List ℕ)) (effects : List Effect) → ((x byte : ℕ) → fold (byte_after x) byte effects ≡ byte) → MemoryAfter memory memory effects

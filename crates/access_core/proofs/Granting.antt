@@ -6,7 +6,7 @@ use Rattle.access_core.proofs.Calls.{due-by}
 use Rattle.access_core.proofs.HeldRights.{is_holder-history}
 use Rattle.access_core.proofs.Least.{passes, least-none, least-first}
 use Rattle.access_core.proofs.Terms.{ClientId, Grant, History, InFlight, Inside, IsCached, IsFirstTo, Object, PacketId, QueueId, Revoke, RevokeAnswers, Rights}
-use Rattle.access_core.proofs.Terms.{Rules, allows, declares, declares_client, due, enters, flight, grant_due, history_of, holder, holds_one_of, is_full}
+use Rattle.access_core.proofs.Terms.{Rules, allows, due, enters, flight, grant_due, history_of, holder, holds_one_of, is_full}
 use Rattle.access_core.proofs.Terms.{is_holder, is_queue_of, knows, knows_client, refusal_of, refuse_unless, refuses, rules_in, rules_of, start_of}
 use Rattle.policy.specs.Rules as rules_kept
 use Rattle.grants.specs.declared.refusal.Refusal.TheVariants as why
@@ -22,16 +22,16 @@ module _ (a : Inside) (kept : IsCached a) (client : ClientId) (on : Object) (rig
   rules_is : rules_in a.grants ≡ rules_of a.policy
   rules_is = kept.rules
 
-  due-is : grant_due a.grants client on rights ≡ due_of (declares_client a.policy client) (declares a.policy on) (allows a.policy client on rights)
+  due-is : grant_due a.grants client on rights ≡ due_of (knows_client (rules_of a.policy) client) (knows (rules_of a.policy) on) (allows (rules_of a.policy) client on rights)
   due-is = ap (λ (rules : Rules). due_of (knows_client rules client) (knows rules on) (rules_kept.allows rules client on rights)) rules_is
 
   -- what grants say is due is what is owed
   pub grant-refused : (r : Why) → Err r ≡ grant_due a.grants client on rights → owed (start_of a) a.audit.items (Grant client on rights) ≡ refuses (refusal_of r)
   unfolding owed
-  grant-refused r due = by_tests (declares_client a.policy client) (declares a.policy on) (allows a.policy client on rights) (due ∙ due-is)
+  grant-refused r due = by_tests (knows_client (rules_of a.policy) client) (knows (rules_of a.policy) on) (allows (rules_of a.policy) client on rights) (due ∙ due-is)
     where
       by_tests : (c o s : Bool) → Err r ≡ due_of c o s
-          → refuse_unless c refusal.UnknownClient (refuse_unless o refusal.UnknownObject (refuse_unless s refusal.NotAllowed (enters outcome.Accepted []))) ≡ refuses (refusal_of r)
+          → refuse_unless c (refuses refusal.UnknownClient) (refuse_unless o (refuses refusal.UnknownObject) (refuse_unless s (refuses refusal.NotAllowed) (enters outcome.Accepted []))) ≡ refuses (refusal_of r)
       by_tests false o s e = let is : r ≡ why.UnknownClient = cc in rw is refl
       by_tests true false s e = let is : r ≡ why.UnknownObject = cc in rw is refl
       by_tests true true false e = let is : r ≡ why.NotAllowed = cc in rw is refl
@@ -39,10 +39,10 @@ module _ (a : Inside) (kept : IsCached a) (client : ClientId) (on : Object) (rig
 
   grant-owed : Ok tt ≡ grant_due a.grants client on rights → owed (start_of a) a.audit.items (Grant client on rights) ≡ enters outcome.Accepted []
   unfolding owed
-  grant-owed due = by_tests (declares_client a.policy client) (declares a.policy on) (allows a.policy client on rights) (due ∙ due-is)
+  grant-owed due = by_tests (knows_client (rules_of a.policy) client) (knows (rules_of a.policy) on) (allows (rules_of a.policy) client on rights) (due ∙ due-is)
     where
       by_tests : (c o s : Bool) → Ok tt ≡ due_of c o s
-          → refuse_unless c refusal.UnknownClient (refuse_unless o refusal.UnknownObject (refuse_unless s refusal.NotAllowed (enters outcome.Accepted []))) ≡ enters outcome.Accepted []
+          → refuse_unless c (refuses refusal.UnknownClient) (refuse_unless o (refuses refusal.UnknownObject) (refuse_unless s (refuses refusal.NotAllowed) (enters outcome.Accepted []))) ≡ enters outcome.Accepted []
       by_tests false o s e = absurd cc
       by_tests true false s e = absurd cc
       by_tests true true false e = absurd cc
@@ -68,8 +68,8 @@ module _ (a : Inside) (kept : IsCached a) (client : ClientId) (on : Object) (rig
   revoke-owed : RevokeAnswers a.grants client on rights (Ok tt) → owed (start_of a) a.audit.items (Revoke client on rights) ≡ enters outcome.Accepted []
   unfolding owed
   revoke-owed answers =
-      let known : declares_client a.policy client ≡ true = sym (ap (λ (rules : Rules). knows_client rules client) rules_is) ∙ answers.0 in
-      let there : declares a.policy on ≡ true = sym (ap (λ (rules : Rules). knows rules on) rules_is) ∙ answers.1 in
+      let known : knows_client (rules_of a.policy) client ≡ true = sym (ap (λ (rules : Rules). knows_client rules client) rules_is) ∙ answers.0 in
+      let there : knows (rules_of a.policy) on ≡ true = sym (ap (λ (rules : Rules). knows rules on) rules_is) ∙ answers.1 in
       let none : holder (start_of a) a.audit.items client on rights ≡ None = least-none holding (flight (start_of a) a.audit.items) (first-test None answers.2) in
       rw (known, there, none) refl
 
@@ -80,16 +80,16 @@ module _ (a : Inside) (kept : IsCached a) (client : ClientId) (on : Object) (rig
   pub revoke-refused : (r : Why) → RevokeAnswers a.grants client on rights (Err r) → owed (start_of a) a.audit.items (Revoke client on rights) ≡ refuses (refusal_of r)
   unfolding owed
   revoke-refused why.UnknownClient answers =
-      let known : declares_client a.policy client ≡ false = sym (ap (λ (rules : Rules). knows_client rules client) rules_is) ∙ answers in
+      let known : knows_client (rules_of a.policy) client ≡ false = sym (ap (λ (rules : Rules). knows_client rules client) rules_is) ∙ answers in
       rw known refl
   revoke-refused why.UnknownObject answers =
-      let known : declares_client a.policy client ≡ true = sym (ap (λ (rules : Rules). knows_client rules client) rules_is) ∙ answers.0 in
-      let there : declares a.policy on ≡ false = sym (ap (λ (rules : Rules). knows rules on) rules_is) ∙ answers.1 in
+      let known : knows_client (rules_of a.policy) client ≡ true = sym (ap (λ (rules : Rules). knows_client rules client) rules_is) ∙ answers.0 in
+      let there : knows (rules_of a.policy) on ≡ false = sym (ap (λ (rules : Rules). knows rules on) rules_is) ∙ answers.1 in
       rw (known, there) refl
   revoke-refused why.NotAllowed answers = absurd answers
   revoke-refused (why.Busy queue id) answers =
-      let known : declares_client a.policy client ≡ true = sym (ap (λ (rules : Rules). knows_client rules client) rules_is) ∙ answers.0 in
-      let there : declares a.policy on ≡ true = sym (ap (λ (rules : Rules). knows rules on) rules_is) ∙ answers.1 in
+      let known : knows_client (rules_of a.policy) client ≡ true = sym (ap (λ (rules : Rules). knows_client rules client) rules_is) ∙ answers.0 in
+      let there : knows (rules_of a.policy) on ≡ true = sym (ap (λ (rules : Rules). knows rules on) rules_is) ∙ answers.1 in
       let first = least-first holding (flight (start_of a) a.audit.items) queue id (first-test (Some (queue, id)) answers.2) in
       let found : holder (start_of a) a.audit.items client on rights ≡ Some first.one = first.is in
       rw (known, there, found) (ap (λ (q : QueueId). refuses (refusal.Busy q first.one.id)) first.queue_is ∙ ap (λ (i : PacketId). refuses (refusal.Busy queue i)) first.id_is)

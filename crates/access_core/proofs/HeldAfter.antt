@@ -19,7 +19,7 @@ use Rattle.core_model.proofs.Holding.{holding-legal}
 use Rattle.core_model.proofs.Lists.{filter-passes}
 use Rattle.core_model.specs.Headline.{HoldsInForce}
 use Rattle.core_model.specs.Holds.{arguments_of, packet_rights}
-use Rattle.access_core.specs.ArgumentBlocks.{AreBlocksOf, block_behind, block_of, is_block, name_of, packet_of}
+use Rattle.access_core.specs.inner.ArgumentBlocks.{AreBlocksOf, block_behind, block_of, is_block, name_of, packet_of}
 use Rattle.access_core.specs.declared.argument_blocks.ArgumentBlock.{ArgumentBlock}
 use Rattle.access_core.proofs.CachedMore.{arguments_behind}
 use Rattle.access_core.proofs.HeldMore.{held-kept, held-unlaunched}

@@ -93,14 +93,14 @@ module _ (start : Start) (es : List Entry) (all : List ObjectRight) where
       one (Some r) = refl
 
   -- all regions are those that the history tells
-  pub lent-all : lent_so_far (length (region_lengths start)) ≡ view_whole start es all
+  pub lent-all : lent_so_far (length (region_lengths start.policy)) ≡ view_whole start es all
   lent-all =
       ap (λ (regions : List HeldRegion). map (lent_whole start es) (filter (λ region. not (region.rights.0 == 0)) regions))
-      (sym (rows-are (held_region all) (0 ∷ []) (region_lengths start) 1 refl))
+      (sym (rows-are (held_region all) (0 ∷ []) (region_lengths start.policy) 1 refl))
 
   -- a region that is held, with its bytes, is lent so
   pub lent-held : (number : ℕ) (rights : Rights) (bytes : List ℕ) → rights ≡ rights_held all (object.Region (record { 0 = number })) → (rights.0 == 0) ≡ false
-      → bytes ≡ memory_from start es (number * 2 ^ 32) (region_length (region_lengths start) number) → Some (record { number = number; rights = rights; bytes = bytes }) ≡ lent_if_held start es (region_numbered start all number)
+      → bytes ≡ memory_from start es (number * 2 ^ 32) (region_length (region_lengths start.policy) number) → Some (record { number = number; rights = rights; bytes = bytes }) ≡ lent_if_held start es (region_numbered start all number)
   lent-held number rights bytes are some is =
       let known : ((rights_held all (object.Region (record { 0 = number }))).0 == 0) ≡ false = ap (λ (r : Rights). r.0 == 0) (sym are) ∙ some in
       let there : Some (record { number = number; rights = rights; bytes = bytes }) ≡ Some (lent_whole start es (region_numbered start all number)) = λ i. Some (record { number = number; rights = are i; bytes = is i }) in

@@ -5,7 +5,7 @@ use Rattle.std.proofs.lemmas.Bool.{le-ltb}
 use Rattle.core_model.specs.Owed.{owed}
 use Rattle.access_core.proofs.Calls.{due-by}
 use Rattle.access_core.proofs.HeldAfter.{grants-released, grants-still}
-use Rattle.access_core.specs.ArgumentBlocks.{is_block}
+use Rattle.access_core.specs.inner.ArgumentBlocks.{is_block}
 use Rattle.access_core.specs.declared.argument_blocks.ArgumentBlock.{ArgumentBlock}
 use Rattle.access_core.proofs.CachedMore.{GrantsAfter, QueuesAfter, none-launched}
 use Rattle.access_core.proofs.QueueAt.{IsRelease, flight-released, flight-unlaunched, queue_at-more}
@@ -14,7 +14,7 @@ use Rattle.access_core.proofs.TakeLemmas.{IsOpen, is-open, owner-kept, queues-af
 use Rattle.access_core.proofs.WorkLemmas.{freed-below, in-place, queues-released, release-room, sound-released}
 use Rattle.access_core.proofs.Terms.{Effect, History, InFlight, Inside, IsCached, IsSound, Ledger, Outcome, PacketId, Place, Queue, QueueId, QueueView}
 use Rattle.access_core.proofs.Terms.{Releases, Stop, byte_after, cached_opening, due, enters, entry_of, flight_of, freed_by, history_of, is_at, is_barrier}
-use Rattle.access_core.proofs.Terms.{is_full, is_stopped, lacks_room, numbered, place_of, queue_at, refuse_if, refuses, release_of, signals_after, start_of}
+use Rattle.access_core.proofs.Terms.{is_full, is_stopped, lacks_room, numbered, place_of, queue_at, refuses, release_of, signals_after, start_of}
 use Rattle.access_core.proofs.Terms.{with_queue, with_stop, without_one}
 use Rattle.core_model.specs.declared.entry.Effect.TheVariants as effect
 use Rattle.core_model.specs.declared.outcome.Outcome.TheVariants as outcome
@@ -74,7 +74,7 @@ module _ (a : Inside) (kept : IsCached a) (queue : QueueId) where
 
   -- the queue is kept
   pub stop-known : (q : Queue) → numbered a.queues.items queue.0 ≡ Some q →
-      owed (start_of a) a.audit.items (Stop queue) ≡ refuse_if q.stopped refusal.QueueDown (enters outcome.Accepted (release_of queue (option_map (λ (p : Place). p.id) (find (λ (p : Place). is_barrier p.packet) q.places))))
+      owed (start_of a) a.audit.items (Stop queue) ≡ (if q.stopped then refuses refusal.QueueDown else enters outcome.Accepted (release_of queue (option_map (λ (p : Place). p.id) (find (λ (p : Place). is_barrier p.packet) q.places))))
   unfolding owed
   stop-known q some =
       let stops : is_stopped (start_of a) a.audit.items queue ≡ q.stopped = ap (λ (v : QueueView). v.stopped) (sym (view-kept a queue q kept some)) in

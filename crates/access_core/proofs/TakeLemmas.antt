@@ -36,7 +36,7 @@ use Rattle.access_core.proofs.Terms.{Launched, Opening, Outcome, Packet, PacketI
 use Rattle.access_core.proofs.Terms.{TakesNext, right_needed, as_launched, barrier_bit, cached, cached_opening, owed_verdict, decoded, entry_of, error_without_place, errors}
 use Rattle.access_core.proofs.Terms.{facts_of, first_failing_rule, flight, flight_of, hands_over_packet_of, rights_at_launch, history_of, need_is_met, is_stopped, lacks_room}
 use Rattle.access_core.proofs.Terms.{launched_by, lies_in_regions, lies_whole, memory_needs, needs, numbered, numbered-map, owner, place_of, queue_at}
-use Rattle.access_core.proofs.Terms.{refuse_if, refuse_unless, refuses, region_lengths, start_of, with_denied, with_entry, with_queue, with_some}
+use Rattle.access_core.proofs.Terms.{refuse_unless, refuses, region_lengths, start_of, with_denied, with_entry, with_queue, with_some}
 use Rattle.queue_error.specs.declared.rule.Rule.TheVariants as rule
 use Rattle.core_model.specs.declared.refusal.Refusal.TheVariants as refusal
 use Rattle.core_model.specs.declared.outcome.Outcome.TheVariants as outcome
@@ -69,8 +69,8 @@ module _ (a : Inside) (kept : IsCached a) (queue : QueueId) (id : PacketId) (byt
   -- the queue is kept
   pub take-known : (q : Queue) → numbered a.queues.items queue.0 ≡ Some q →
       owed (start_of a) a.audit.items (Take queue id bytes) ≡
-      refuse_if (nat_lt 0 (length q.errors.items) || q.stopped) refusal.QueueDown
-      (refuse_unless (id.0 == q.next) (refusal.OutOfStep q.next)
+      (if nat_lt 0 (length q.errors.items) || q.stopped then refuses refusal.QueueDown
+      else refuse_unless (id.0 == q.next) (refuses (refusal.OutOfStep q.next))
       (owed_verdict queue id.0 (cause_to_wait (map (λ (p : Place). p.packet) q.places) (barrier_bit bytes)) (first_failing_rule (facts_of (start_of a) a.audit.items (cached_opening q)) bytes)))
   unfolding owed
   take-known q some =
@@ -133,7 +133,7 @@ lies-met facts (need ∷ all) met =
     rw (lies.0, lies-met facts all both.1) refl
 
 -- a packet that is launched has all its ranges within regions
-pub within-launched : (start : Start) (es : List Entry) (opening : Opening) (bytes : List ℕ) (p : Packet) → decoded bytes ≡ Some p → first_failing_rule (facts_of start es opening) bytes ≡ None → lies_in_regions (region_lengths start) p ≡ true
+pub within-launched : (start : Start) (es : List Entry) (opening : Opening) (bytes : List ℕ) (p : Packet) → decoded bytes ≡ Some p → first_failing_rule (facts_of start es opening) bytes ≡ None → lies_in_regions (region_lengths start.policy) p ≡ true
 within-launched start es opening bytes p found none =
     lies-met (facts_of start es opening) (memory_needs p) (passed-rights (facts_of start es opening) p (sym (first_failing-decoded _ bytes p found) ∙ none)).memory
 
@@ -160,7 +160,7 @@ placed-block h client (packet.Kernel d) all = reached (All-head (MayReachRange h
     size : ℕ
     size = (kernel_of h.start d).argument_bytes
 
-    reached : (size ≡ 0) ⊎ MayReach h.start h.entries client Read d.kernarg_address.0 size → is_placed (region_lengths h.start) d.kernarg_address.0 size ≡ true
+    reached : (size ≡ 0) ⊎ MayReach h.start h.entries client Read d.kernarg_address.0 size → is_placed (region_lengths h.start.policy) d.kernarg_address.0 size ≡ true
     reached (inl empty) = rw empty refl
     reached (inr reach) = or_right (size == 0) _ reach.lies_whole
 placed-block h client (packet.Agent _) all = tt
@@ -248,7 +248,7 @@ can-take a kept queue takes =
 pub queues-after : (a : Inside) (kept : IsCached a) (queue : QueueId) (at : IsOpen a queue) (change : Queue → Queue) (view : QueueView → QueueView) (count : ℕ) (event : Event) (told : Outcome) (effects : List Effect)
     → opening_of event ≡ None → cached_opening (change at.q) ≡ cached_opening at.q → IsSound (change at.q) → cached (Some (change at.q)) ≡ view (cached (Some at.q))
     → ((m : QueueId) → queue_at (start_of a) (with_entry a.audit.items event told effects) m ≡ (if queue.0 == m.0 then view (queue_at (start_of a) a.audit.items m) else queue_at (start_of a) a.audit.items m))
-    → count ≡ length (flight (start_of a) (with_entry a.audit.items event told effects)) → ((f : InFlight) → launched_by event told ≡ Some f → lies_in_regions (region_lengths (start_of a)) f.packet ≡ true)
+    → count ≡ length (flight (start_of a) (with_entry a.audit.items event told effects)) → ((f : InFlight) → launched_by event told ≡ Some f → lies_in_regions (region_lengths a.policy) f.packet ≡ true)
     → QueuesAfter a (with_queue a.queues.items queue change) count event told effects
 queues-after a kept queue at change view count event told effects none same sound alike now flying within = record {
   openings = openings-changed a.queues.items queue change at.q at.found same ∙ sym (ap (with_some (map cached_opening a.queues.items)) none);
@@ -315,13 +315,13 @@ module _ (a : Inside) (kept : IsCached a) (queue : QueueId) (id : PacketId) (byt
         let now = ap length (flight-launched (start_of a) a.audit.items queue id bytes p reads) in
         omega (arith, longer, now, kept.flying)
 
-    pub queues-launched : lies_in_regions (region_lengths (start_of a)) p ≡ true → QueuesAfter a (with_queue a.queues.items queue (with_launched id p)) (a.flying + 1) (Take queue id bytes) (outcome.Taken Launched) []
+    pub queues-launched : lies_in_regions (region_lengths a.policy) p ≡ true → QueuesAfter a (with_queue a.queues.items queue (with_launched id p)) (a.flying + 1) (Take queue id bytes) (outcome.Taken Launched) []
     queues-launched within =
         queues-after a kept queue can.opened (with_launched id p) (launched id p) (a.flying + 1) _ _ _ refl refl sound-launched refl
         (λ m. queue_at-launched (start_of a) a.audit.items queue id bytes p reads below-id m) flying-launched packet-within
       where
-        packet-within : (f : InFlight) → launched_by (Take queue id bytes) (outcome.Taken Launched) ≡ Some f → lies_in_regions (region_lengths (start_of a)) f.packet ≡ true
+        packet-within : (f : InFlight) → launched_by (Take queue id bytes) (outcome.Taken Launched) ≡ Some f → lies_in_regions (region_lengths a.policy) f.packet ≡ true
         packet-within f is =
             let made : Some (record { queue = queue; id = id; packet = p }) ≡ Some f = ap (option_map (λ (x : Packet). record { queue = queue; id = id; packet = x })) (sym reads) ∙ is in
             let same : record { queue = queue; id = id; packet = p } ≡ f = cc in
-            subst (λ (x : Packet). lies_in_regions (region_lengths (start_of a)) x ≡ true) (ap (λ (g : InFlight). g.packet) same) within
+            subst (λ (x : Packet). lies_in_regions (region_lengths a.policy) x ≡ true) (ap (λ (g : InFlight). g.packet) same) within

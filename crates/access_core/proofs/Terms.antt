@@ -27,10 +27,11 @@ pub use Rattle.core_model.specs.LaunchRules.{Facts, first_failing_rule, is_barri
 pub use Rattle.core_model.specs.Legal.{AreReplies, IsLegal, IsServed, Meets, MeetsOrLacks, RepliesOrLacks, as_reply, due, entry_of, lacks_room}
 pub use Rattle.core_model.specs.inner.Entries.{with_entry}
 pub use Rattle.core_model.specs.Legal.{within_room}
-pub use Rattle.core_model.specs.Memory.{byte_after, memory_at, memory_from, region_lengths, signals, signals_after}
+pub use Rattle.core_model.specs.Memory.{byte_after, memory_at, memory_from, signals, signals_after}
 pub use Rattle.core_model.specs.Needs.{completion_signal, function_of, memory_needs, needs}
 pub use Rattle.core_model.specs.Owed.{Owed, answers, completion_of, signal_decrement, owed_verdict, enters, error_without_place, facts_of, for_packet, old_if_asked, owed, owed_finish, owed_group}
-pub use Rattle.core_model.specs.Owed.{owed_poll, refuse_if, refuse_unless, refuses, release_of}
+pub use Rattle.core_model.specs.Owed.{owed_poll, refuses, release_of}
+pub use Rattle.core_model.specs.Refusals.{for_some, refuse_unless}
 pub use Rattle.core_model.specs.Queries.{AnswerOrRefusal, listing}
 pub use Rattle.core_model.specs.Queues.{Opening, error_of, errors, hands_over_packet_of, is_stopped, next_id, openings, owner, stops_queue}
 pub use Rattle.core_model.specs.Work.{agent_writes, function_result, function_writes, number_in_memory, result_writes, write_of}
@@ -49,8 +50,8 @@ pub use Rattle.grants.specs.Ledger.{Holds, IsNew, Ledger, Releases, RevokeAnswer
 pub use Rattle.packet_processor.specs.Queueing.{as_launched, is_at, with_progress, without}
 pub use Rattle.packet_processor.specs.declared.places.Place.{Place}
 pub use Rattle.policy.proofs.NameLemmas.{numbered-map, numbered-next}
-pub use Rattle.policy.specs.Policy.{Name, allows, count_of, declares, declares_client, numbered, row_of, rules_of}
-pub use Rattle.policy.specs.Rules.{Rules, knows, knows_client}
+pub use Rattle.policy.specs.Policy.{Name, numbered, region_lengths, row_of, rules_of}
+pub use Rattle.policy.specs.Rules.{Rules, knows, knows_client, allows, count}
 pub use Rattle.policy.specs.Listing.{all_objects, listing_by}
 pub use Rattle.policy.specs.Rights.{all_rights, bit_of, each_right, has, rights_that}
 pub use Rattle.policy.specs.declared.object.Object.{Object}

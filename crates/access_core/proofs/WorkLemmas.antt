@@ -165,10 +165,10 @@ module _ (a : Inside) (kept : IsCached a) (queue : QueueId) (id : PacketId) (q :
       either (Some f) found e = absurd cc
 
 -- a packet in its place reaches only what lies whole in a region
-pub reaches-in_place : (a : Inside) (kept : IsCached a) (queue : QueueId) (id : PacketId) (place : Place) → IsInPlace (history_of a) queue id place → lies_in_regions (region_lengths (start_of a)) place.packet ≡ true
+pub reaches-in_place : (a : Inside) (kept : IsCached a) (queue : QueueId) (id : PacketId) (place : Place) → IsInPlace (history_of a) queue id place → lies_in_regions (region_lengths a.policy) place.packet ≡ true
 reaches-in_place a kept queue id place found =
-    ap (lies_in_regions (region_lengths (start_of a))) (sym found.packet_is)
-    ∙ found-all (λ (f : InFlight). lies_in_regions (region_lengths (start_of a)) f.packet ≡ true) (is_packet queue id) (flight (start_of a) a.audit.items) found.flying kept.within found.found
+    ap (lies_in_regions (region_lengths a.policy)) (sym found.packet_is)
+    ∙ found-all (λ (f : InFlight). lies_in_regions (region_lengths a.policy) f.packet ≡ true) (is_packet queue id) (flight (start_of a) a.audit.items) found.flying kept.within found.found
 
 -- ---- a packet fails
 

@@ -24,21 +24,21 @@ lies-within regions address size k memory within below =
     lt-ltb _ _ (omega (arith, e, same, offset, ends, below))
 
 -- what is read is what the history has there
-read-kept : (a : Inside) (kept : IsCached a) → IsMemory a.memory → (address size : ℕ) → is_within (region_lengths (start_of a)) address size ≡ true → bytes_from a.memory address size ≡ memory_from (start_of a) a.audit.items address size
+read-kept : (a : Inside) (kept : IsCached a) → IsMemory a.memory → (address size : ℕ) → is_within (region_lengths a.policy) address size ≡ true → bytes_from a.memory address size ≡ memory_from (start_of a) a.audit.items address size
 read-kept a kept memory address size test =
     let within : IsWithin a.memory address size = IsWithin-from_test a.memory address size (rw kept.lengths test) in
     let long : length (bytes_from a.memory address size) ≡ size = length-bytes_from a.memory address size within in
     same_lists (bytes_from a.memory address size) (memory_from (start_of a) a.audit.items address size) (long ∙ sym (length-map-range_with_len (memory_at (start_of a) a.audit.items) address size))
     (λ k d h.
     let below : k < size = omega (arith, h, long) in
-    let lies : lies_in_region (region_lengths (start_of a)) (address + k) ≡ true = rw kept.lengths at (lies-within a.memory address size k memory within below) in
+    let lies : lies_in_region (region_lengths a.policy) (address + k) ≡ true = rw kept.lengths at (lies-within a.memory address size k memory within below) in
     get_or_from_slice_get (bytes_from a.memory address size) k (memory_at (start_of a) a.audit.items (address + k)) d
     (slice_get-bytes_from a.memory address size k memory within below ∙ kept.memory (address + k) lies)
     ∙ sym (get_or-map-range_with_len (memory_at (start_of a) a.audit.items) address size k (address + k) d below refl))
 
-pub read-inside : (a : Inside) (kept : IsCached a) (old : History) (seen_as : history_of a ≡ old) → IsMemory a.memory → (address size : ℕ) → is_within (region_lengths old.start) address size ≡ true → bytes_from a.memory address size ≡ memory_from old.start old.entries address size
+pub read-inside : (a : Inside) (kept : IsCached a) (old : History) (seen_as : history_of a ≡ old) → IsMemory a.memory → (address size : ℕ) → is_within (region_lengths old.start.policy) address size ≡ true → bytes_from a.memory address size ≡ memory_from old.start old.entries address size
 read-inside a kept old seen_as memory address size =
-    subst (λ h. is_within (region_lengths h.start) address size ≡ true → bytes_from a.memory address size ≡ memory_from h.start h.entries address size) seen_as (read-kept a kept memory address size)
+    subst (λ h. is_within (region_lengths h.start.policy) address size ≡ true → bytes_from a.memory address size ≡ memory_from h.start h.entries address size) seen_as (read-kept a kept memory address size)
 
 -- bytes that have their place, and are some, lie whole in a region
 pub placed-within : (lengths : List ℕ) (address size : ℕ) → is_placed lengths address size ≡ true → (size ≢ 0) → is_within lengths address size ≡ true

@@ -1,4 +1,3 @@
-pub mod ArgumentBlocks
 pub mod Cores
 pub mod Keeping
 pub mod Opening

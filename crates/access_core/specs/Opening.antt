@@ -1,15 +1,12 @@
--- When a core is opened, and what it begins with.
-use Rattle.std.specs.Prelude.{ℕ, ◌+◌, ◌==◌, ◌≡◌, ◌&&◌, Bool, not, nat_le, nat_lt, List, [], length, map, position, slice_get, Option, Some, None, Result, Ok, Err, if◌then◌else◌}
+-- When a core is opened.
+use Rattle.std.specs.Prelude.{ℕ, ◌+◌, ◌==◌, ◌≡◌, ◌&&◌, Bool, not, nat_le, nat_lt, List, length, map, position, slice_get, Option, Some, None, Result, Ok, Err, if◌then◌else◌}
 use Rattle.std.specs.Option.{unwrap_or}
 use Rattle.kernel_check.specs.Programs.{Program}
-use Rattle.policy.specs.Policy.{Declared, initial_values, numbered, region_lengths, rules_of}
+use Rattle.policy.specs.Policy.{Declared, numbered}
 use Rattle.core_model.specs.declared.limits.TheConstants.{MOST_ENTRIES}
-use Rattle.core_model.specs.Kernels.{no_kernel, segments_of}
+use Rattle.core_model.specs.Kernels.{no_kernel}
 use Rattle.core_model.specs.Legal.{empty_history}
-use Rattle.regions.specs.Memory.{zeros}
-use Rattle.grants.specs.Ledger.{IsNew, rules_in}
 use Rattle.access_core.specs.Cores.{Core}
-use Rattle.access_core.specs.declared.access.opening.Parts.{Parts}
 use Rattle.access_core.specs.declared.access.OpenFault.{OpenFault}
 use Rattle.access_core.specs.declared.access.OpenFault.TheVariants as fault
 use Rattle.access_core.specs.declared.kernel.Kernel.{Kernel}
@@ -51,14 +48,3 @@ Opens policy kernels capacity (Ok core) =
     (open_fault policy kernels capacity ≡ None) × (core.history ≡ empty_history policy (map program_of kernels) capacity)
 Opens policy kernels capacity (Err fault.OutOfMemory) = open_fault policy kernels capacity ≡ None
 Opens policy kernels capacity (Err why) = open_fault policy kernels capacity ≡ Some why
-
--- what a core begins with: no right in force or held, memory of zeros, the policy's signal values, the kernels' segments, and an empty
--- audit with room for its entries
-pub record IsUntouched (policy : Declared) (kernels : List Kernel) (capacity : ℕ) (parts : Parts) : Type 0 where
-  pub rules : rules_in parts.grants ≡ rules_of policy
-  pub grants : IsNew parts.grants
-  pub memory : parts.memory ≡ zeros (region_lengths policy)
-  pub signals : parts.signals ≡ initial_values policy
-  pub segments : parts.segments ≡ map segments_of (map program_of kernels)
-  pub empty : parts.audit.items ≡ []
-  pub places : parts.audit.room ≡ capacity

@@ -1,4 +1,5 @@
 -- What private clauses speak of: what is cached beside the history, how it changes, and what is decided by it.
+pub mod ArgumentBlocks
 pub mod CachedQueue
 pub mod QueueChanges
 pub mod LiesInRegions
@@ -9,3 +10,4 @@ pub mod Polling
 pub mod Running
 pub mod Laying
 pub mod Held
+pub mod Untouched

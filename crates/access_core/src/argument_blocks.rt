@@ -1,7 +1,7 @@
 //! The argument blocks of packets in flight, as they were at their launches.
 
 ghost use Rattle.std.specs.Prelude.{◌≡◌, ◌++◌, ◌∷◌, [], OnErr, OnOk, filter, length, not};
-ghost use Rattle.access_core.specs.ArgumentBlocks.{block_of, is_block};
+ghost use Rattle.access_core.specs.inner.ArgumentBlocks.{block_of, is_block};
 ghost use Rattle.access_core.specs.Cores.{places_of};
 
 use aql_packet::{PacketId, QueueId};

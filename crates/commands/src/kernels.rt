@@ -1,7 +1,7 @@
 //! The kernels of a policy are read and checked.
 
 ghost use Rattle.std.specs.Prelude.{◌≡◌, ◌+◌, ◌<◌, ◌++◌, ◌∷◌, [], IfOk, IfErr, OnOk, Some, length};
-ghost use Rattle.policy.specs.Policy.{source_of};
+ghost use Rattle.policy.specs.Policy.{row_of};
 ghost use Rattle.kernel_check.specs.Checks.{checking};
 ghost use Rattle.commands.specs.Kernels.{AreLaunchable, AreRefused, ChecksSource, ChecksText, checked_or_cause, checked_text, entry_in, JudgesKernel};
 
@@ -131,7 +131,7 @@ fn check_source(alloc: Global, number: u32, source: &KernelSource) -> Result<Ker
 fn source_behind(policy: &Policy, before: usize) -> &KernelSource
     requires there { before < length policy.now.kernels }
     requires small { before < 1024 }
-    ensures { source_of policy.now (before + 1) ≡ Some result.now }
+    ensures { row_of policy.now.kernels (before + 1) ≡ Some result.now }
 {
     policy
         .kernel_source(KernelObject(before as u64 + 1))

@@ -45,7 +45,8 @@ use Rattle.core_model.specs.declared.need.Range.{Range}
 use Rattle.core_model.specs.declared.need.TheConstants.{FILL, COPY, ADD64}
 use Rattle.core_model.specs.History.{Start}
 use Rattle.core_model.specs.Grants.{in_force}
-use Rattle.core_model.specs.Memory.{memory_at, memory_from, region_lengths, signals}
+use Rattle.policy.specs.Policy.{region_lengths}
+use Rattle.core_model.specs.Memory.{memory_at, memory_from, signals}
 use Rattle.core_model.specs.Queues.{error_of}
 use Rattle.core_model.specs.Flight.{flight, flight_of, in_flight, is_packet, progress}
 use Rattle.core_model.specs.Needs.{argument, range_at, completion_signal, function_of, result_range}
@@ -277,7 +278,7 @@ module _ (start : Start) (es : List Entry) (legal : IsLegal start es) where
       reached target bytes long some (inr reach) = rw long reach
 
   -- a kernel's group writes where its packet holds WRITE, which was in force at its launch
-  kernel-writes : are_region_lengths (region_lengths start) ≡ true → (queue : QueueId) (id : PacketId) (s : InFlightSince start es queue id) →
+  kernel-writes : are_region_lengths (region_lengths start.policy) ≡ true → (queue : QueueId) (id : PacketId) (s : InFlightSince start es queue id) →
       All (λ h. in_force start s.launch.before s.launch.opening.client h.0 h.1 ≡ true) (packet_rights start es queue id) → (d : KernelDispatch) → (progress start es queue id).groups_run < groups_of s.flying.packet → (runs : List Run) →
       group_result (group_input start es (given start es queue id) d (progress start es queue id).groups_run) ≡ wrote runs → All (WriteIsGranted start es (RunNext queue id)) (map write_of_run runs)
   kernel-writes fit queue id s granted d left runs is =
@@ -286,7 +287,7 @@ module _ (start : Start) (es : List Entry) (legal : IsLegal start es) where
       (λ run may. (may.0, inr (record { queue = queue; id = id; event_is = refl; packet = s; is_left = left; allowed = may.1 })))
       runs (runs-granted start es s.launch.before s.launch.opening.client (given start es queue id) d (progress start es queue id).groups_run fit granted runs is))
 
-  pub write-granted : are_region_lengths (region_lengths start) ≡ true → (event : Event) (told : Outcome) (effects : List Effect) → owed start es event ≡ enters told effects → All (WriteIsGranted start es event) effects
+  pub write-granted : are_region_lengths (region_lengths start.policy) ≡ true → (event : Event) (told : Outcome) (effects : List Effect) → owed start es event ≡ enters told effects → All (WriteIsGranted start es event) effects
   write-granted fit = each-change (λ event told. WriteIsGranted start es event) (λ told. group-writes) (λ told queue id s granted d is left runs wrote_so. kernel-writes fit queue id s granted d left runs wrote_so) (λ told queue id s v null is. tt) (λ event told queue id due. tt)
       (λ told client address bytes some reach. (some, inl (record { client = client; event_is = refl; allowed = reach }))) (λ told client signal operation old was granted. tt)
 

@@ -5,7 +5,8 @@ use Rattle.aql_packet.specs.declared.ids.Address.{Address}
 use Rattle.aql_packet.specs.declared.ids.AgentHandle.{AgentHandle}
 use Rattle.aql_packet.specs.declared.ids.ClientId.{ClientId}
 use Rattle.aql_packet.specs.declared.ids.SignalHandle.{SignalHandle}
-use Rattle.policy.specs.Policy.{declares_client}
+use Rattle.policy.specs.Rules.{knows_client}
+use Rattle.policy.specs.Policy.{region_lengths, rules_of}
 use Rattle.policy.specs.declared.object.Object.TheVariants as object
 use Rattle.policy.specs.declared.rights.Right.{Right}
 use Rattle.policy.specs.declared.rights.Right.TheVariants as right
@@ -18,18 +19,17 @@ use Rattle.core_model.specs.declared.event.Query.TheVariants as query
 use Rattle.core_model.specs.declared.refusal.Refusal.TheVariants as refusal
 use Rattle.core_model.specs.History.{Start}
 use Rattle.core_model.specs.Grants.{in_force}
-use Rattle.core_model.specs.Memory.{region_lengths}
 use Rattle.core_model.specs.Owed.{is_host_size, owed, refuses}
 use Rattle.core_model.specs.Queries.{query_answer}
 use Rattle.core_model.specs.Headline.{MayReach}
 
-module _ (start : Start) (es : List Entry) (client : ClientId) (known : declares_client start.policy client ≡ true) where
+module _ (start : Start) (es : List Entry) (client : ClientId) (known : knows_client (rules_of start.policy) client ≡ true) where
   -- a range that the client may not reach
   out-of-reach : (one : Right) (address size : ℕ) → (MayReach start es client one address size → ⊥) →
-      (is_within (region_lengths start) address size && in_force start es client (object.Region (record { 0 = region_of address })) one) ≡ false
-  out-of-reach one address size none = by_tests (is_within (region_lengths start) address size) (in_force start es client (object.Region (record { 0 = region_of address })) one) refl refl
+      (is_within (region_lengths start.policy) address size && in_force start es client (object.Region (record { 0 = region_of address })) one) ≡ false
+  out-of-reach one address size none = by_tests (is_within (region_lengths start.policy) address size) (in_force start es client (object.Region (record { 0 = region_of address })) one) refl refl
     where
-      by_tests : (whole granted : Bool) → is_within (region_lengths start) address size ≡ whole → in_force start es client (object.Region (record { 0 = region_of address })) one ≡ granted → (whole && granted) ≡ false
+      by_tests : (whole granted : Bool) → is_within (region_lengths start.policy) address size ≡ whole → in_force start es client (object.Region (record { 0 = region_of address })) one ≡ granted → (whole && granted) ≡ false
       by_tests true true lies has = absurd (none (record { lies_whole = lies; granted = has }))
       by_tests true false lies has = refl
       by_tests false granted lies has = refl

@@ -17,7 +17,8 @@ use Rattle.aql_packet.specs.declared.packet.Packet.TheVariants as packet
 use Rattle.aql_packet.specs.Reading.{barrier_bit}
 use Rattle.executor.specs.Results.{GroupResult, broke_rule, group_result, wrote}
 use Rattle.executor.specs.declared.run.Run.{Run}
-use Rattle.policy.specs.Policy.{declares_client, declares, allows}
+use Rattle.policy.specs.Rules.{knows_client, knows, allows}
+use Rattle.policy.specs.Policy.{region_lengths, rules_of}
 use Rattle.policy.specs.declared.object.Object.{Object}
 use Rattle.policy.specs.declared.object.Object.TheVariants as object
 use Rattle.policy.specs.declared.rights.Right.TheVariants as right
@@ -44,7 +45,7 @@ use Rattle.core_model.specs.declared.flight.InFlight.{InFlight}
 use Rattle.core_model.specs.declared.flight.Progress.{Progress}
 use Rattle.core_model.specs.History.{Start}
 use Rattle.core_model.specs.Grants.{in_force}
-use Rattle.core_model.specs.Memory.{region_lengths, signals}
+use Rattle.core_model.specs.Memory.{signals}
 use Rattle.core_model.specs.Queues.{error_of, Opening, owner, openings, next_id, is_down, is_stopped}
 use Rattle.core_model.specs.declared.outcome.TheConstants.{NONE_SEEN}
 use Rattle.core_model.specs.Flight.{flight, flight_of, in_flight, is_packet, progress, seen_by_either}
@@ -54,7 +55,7 @@ use Rattle.core_model.specs.Needs.{completion_signal}
 use Rattle.core_model.specs.LaunchRules.{first_failing_rule, cause_to_wait, is_barrier}
 use Rattle.core_model.specs.View.{Given, given, group_input}
 use Rattle.core_model.specs.Work.{groups_of, write_of_run, agent_writes, is_ready, is_negative, seen_dependencies, newly_seen_positions}
-use Rattle.core_model.specs.Owed.{refuse_if, refuses, Owed, owed, answers, enters, owed_verdict, for_packet, error_without_place, facts_of, is_host_size, is_finished, signal_decrement, owed_take, group_error, group_owed, owed_group, owed_poll, owed_finish, owed_sight, barrier_in, release_of, old_if_asked}
+use Rattle.core_model.specs.Owed.{refuses, Owed, owed, answers, enters, owed_verdict, for_packet, error_without_place, facts_of, is_host_size, is_finished, signal_decrement, owed_take, group_error, group_owed, owed_group, owed_poll, owed_finish, owed_sight, barrier_in, release_of, old_if_asked}
 use Rattle.core_model.proofs.Lists.{found-passes}
 use Rattle.core_model.proofs.Launches.{refuse_if-passed, refuse_unless-passed, for_some-found}
 
@@ -65,7 +66,7 @@ named-found start es queue id f found =
     (ap (λ n. record { 0 = n }) (eqb-true _ _ both.0), ap (λ n. record { 0 = n }) (eqb-true _ _ both.1))
 
 -- a test that refuses didn't
-refused-not : (test : Bool) (why : Refusal) (rest : Owed) (told : Outcome) (effects : List Effect) → refuse_if test why rest ≡ enters told effects → (test ≡ false) × (rest ≡ enters told effects)
+refused-not : (test : Bool) (why : Refusal) (rest : Owed) (told : Outcome) (effects : List Effect) → (if test then refuses why else rest) ≡ enters told effects → (test ≡ false) × (rest ≡ enters told effects)
 refused-not true why rest told effects same = absurd cc
 refused-not false why rest told effects same = (refl, same)
 
@@ -82,12 +83,12 @@ module _ (start : Start) (es : List Entry) (told : Outcome) (effects : List Effe
 
   -- ---- a grant, a revocation, an opening change nothing
 
-  pub grant-effects : (client : ClientId) (on : Object) (rights : Rights) → owed start es (Grant client on rights) ≡ enters told effects → IsQuiet × (allows start.policy client on rights ≡ true)
+  pub grant-effects : (client : ClientId) (on : Object) (rights : Rights) → owed start es (Grant client on rights) ≡ enters told effects → IsQuiet × (allows (rules_of start.policy) client on rights ≡ true)
   unfolding owed
   grant-effects client on rights owing =
-      let one = refuse_unless-passed (declares_client start.policy client) _ _ told effects owing in
-      let two = refuse_unless-passed (declares start.policy on) _ _ told effects one.rest_is in
-      let three = refuse_unless-passed (allows start.policy client on rights) _ _ told effects two.rest_is in
+      let one = refuse_unless-passed (knows_client (rules_of start.policy) client) _ _ told effects owing in
+      let two = refuse_unless-passed (knows (rules_of start.policy) on) _ _ told effects one.rest_is in
+      let three = refuse_unless-passed (allows (rules_of start.policy) client on rights) _ _ told effects two.rest_is in
       (quiet outcome.Accepted refl three.rest_is, three.test_is)
 
   -- no packet in flight holds what is revoked
@@ -102,8 +103,8 @@ module _ (start : Start) (es : List Entry) (told : Outcome) (effects : List Effe
   pub revoke-effects : (client : ClientId) (on : Object) (rights : Rights) → owed start es (Revoke client on rights) ≡ enters told effects → Revoked client on rights
   unfolding owed
   revoke-effects client on rights owing =
-      let one = refuse_unless-passed (declares_client start.policy client) _ _ told effects owing in
-      let two = refuse_unless-passed (declares start.policy on) _ _ told effects one.rest_is in
+      let one = refuse_unless-passed (knows_client (rules_of start.policy) client) _ _ told effects owing in
+      let two = refuse_unless-passed (knows (rules_of start.policy) on) _ _ told effects one.rest_is in
       let three = unheld-passed (holder start es client on rights) _ two.rest_is in
       record { is_quiet = quiet outcome.Accepted refl three.1; unheld = three.0 }
 
@@ -116,7 +117,7 @@ module _ (start : Start) (es : List Entry) (told : Outcome) (effects : List Effe
   pub open-effects : (client : ClientId) (agent : AgentHandle) (size : ℕ) → owed start es (OpenQueue client agent size) ≡ enters told effects → HasOpened client agent
   unfolding owed
   open-effects client agent size owing =
-      let one = refuse_unless-passed (declares_client start.policy client) _ _ told effects owing in
+      let one = refuse_unless-passed (knows_client (rules_of start.policy) client) _ _ told effects owing in
       let two = refuse_unless-passed (in_force start es client (object.Agent agent) right.Use) _ _ told effects one.rest_is in
       let three = refuse_unless-passed (is_ring_size size) _ _ told effects two.rest_is in
       let last = refuse_if-passed (nat_le QUEUES (length (openings start es))) _ _ told effects three.rest_is in
@@ -336,16 +337,16 @@ module _ (start : Start) (es : List Entry) (told : Outcome) (effects : List Effe
     pub no_error : error_of told ≡ None
     pub effects_are : effects ≡ effect.Write address bytes ∷ []
     pub some : 0 < length bytes
-    pub whole : is_within (region_lengths start) address.0 (length bytes) ≡ true
+    pub whole : is_within (region_lengths start.policy) address.0 (length bytes) ≡ true
     pub granted : in_force start es client (object.Region (record { 0 = region_of address.0 })) right.Write ≡ true
 
   pub write-entered : (client : ClientId) (address : Address) (bytes : List ℕ) → owed start es (HostWrite client address bytes) ≡ enters told effects → HostWrote client address bytes
   unfolding owed
   write-entered client address bytes owing =
-      let one = refuse_unless-passed (declares_client start.policy client) _ _ told effects owing in
+      let one = refuse_unless-passed (knows_client (rules_of start.policy) client) _ _ told effects owing in
       let two = refuse_unless-passed (is_host_size (length bytes)) _ _ told effects one.rest_is in
-      let three = refuse_unless-passed (is_within (region_lengths start) address.0 (length bytes) && in_force start es client (object.Region (record { 0 = region_of address.0 })) right.Write) _ _ told effects two.rest_is in
-      let both = and_parts (is_within (region_lengths start) address.0 (length bytes)) _ three.test_is in
+      let three = refuse_unless-passed (is_within (region_lengths start.policy) address.0 (length bytes) && in_force start es client (object.Region (record { 0 = region_of address.0 })) right.Write) _ _ told effects two.rest_is in
+      let both = and_parts (is_within (region_lengths start.policy) address.0 (length bytes)) _ three.test_is in
       let last = three.rest_is in
       let is : outcome.Accepted ≡ told = cc in
       record { outcome_is = sym is; no_error = ap error_of (sym is); effects_are = cc; some = leb-true 1 (length bytes) (and_parts (nat_le 1 (length bytes)) _ two.test_is).0; whole = both.0; granted = both.1 }
@@ -361,7 +362,7 @@ module _ (start : Start) (es : List Entry) (told : Outcome) (effects : List Effe
   pub change-entered : (client : ClientId) (signal : SignalHandle) (operation : SignalOp) → owed start es (ChangeSignal client signal operation) ≡ enters told effects → ClientChanged client signal operation
   unfolding owed
   change-entered client signal operation owing =
-      let one = refuse_unless-passed (declares_client start.policy client) _ _ told effects owing in
+      let one = refuse_unless-passed (knows_client (rules_of start.policy) client) _ _ told effects owing in
       let two = refuse_unless-passed (in_force start es client (object.Signal signal) right.Change) _ _ told effects one.rest_is in
       let three = for_some-found (value_of (signals start es) signal.0) _ _ told effects two.rest_is in
       let last = three.rest_is in

@@ -12,7 +12,7 @@ use Rattle.aql_packet.specs.declared.packet.Packet.{Packet}
 use Rattle.aql_packet.specs.declared.packet.Packet.TheVariants as packet
 use Rattle.regions.specs.Memory.{lies_in_region, region_of}
 use Rattle.aql_packet.specs.Reading.{decoded}
-use Rattle.policy.specs.Policy.{numbered}
+use Rattle.policy.specs.Policy.{numbered, region_lengths}
 use Rattle.policy.specs.declared.object.Object.{Object}
 use Rattle.policy.specs.declared.object.Object.TheVariants as object
 use Rattle.policy.specs.declared.rights.Right.{Right}
@@ -36,7 +36,6 @@ use Rattle.core_model.specs.Flight.{flight, in_flight, is_packet, launched_by}
 use Rattle.core_model.specs.Needs.{needs, object_of}
 use Rattle.core_model.specs.LaunchRules.{Facts, holds_rule, need_is_met, launch_rules, lies_whole}
 use Rattle.core_model.specs.Kernels.{argument_block, kernel_of, wide_arguments}
-use Rattle.core_model.specs.Memory.{region_lengths}
 use Rattle.core_model.specs.Holds.{ObjectRight, all_in_force, arguments, arguments_if, arguments_of, right_needed, from_launch, packet_rights, rights_at_launch, held_by_arguments, held_by_needs, held_by_pointer, rights_of_launch, is_launch, holds_one_of, is_queue_of, is_up_to, least_in_flight}
 use Rattle.core_model.specs.Owed.{owed, enters, facts_of}
 use Rattle.core_model.specs.Legal.{IsLegal, entry_of}
@@ -313,14 +312,14 @@ module _ (start : Start) (es : List Entry) (e : Entry) where
   object-met : (client : ClientId) (on : Object) → All (λ h. in_force start es client h.0 h.1 ≡ true) (all_in_force (in_force start es client) on)
   object-met client on = All-map (λ h. in_force start es client h.0 h.1 ≡ true) (λ right. (on, right)) _ (filter-passes (in_force start es client on) all_rights)
 
-  pointer-met : (client : ClientId) (address : ℕ) → All (λ h. in_force start es client h.0 h.1 ≡ true) (held_by_pointer (in_force start es client) (region_lengths start) address)
-  pointer-met client address = by_test (lies_in_region (region_lengths start) address)
+  pointer-met : (client : ClientId) (address : ℕ) → All (λ h. in_force start es client h.0 h.1 ≡ true) (held_by_pointer (in_force start es client) (region_lengths start.policy) address)
+  pointer-met client address = by_test (lies_in_region (region_lengths start.policy) address)
     where
       by_test : (b : Bool) → All (λ h. in_force start es client h.0 h.1 ≡ true) (if b then all_in_force (in_force start es client) (object.Region (record { 0 = region_of address })) else [])
       by_test true = object-met client (object.Region (record { 0 = region_of address }))
       by_test false = All-nil _
 
-  pointers-met : (client : ClientId) (addresses : List ℕ) → All (λ h. in_force start es client h.0 h.1 ≡ true) (flat_map (held_by_pointer (in_force start es client) (region_lengths start)) addresses)
+  pointers-met : (client : ClientId) (addresses : List ℕ) → All (λ h. in_force start es client h.0 h.1 ≡ true) (flat_map (held_by_pointer (in_force start es client) (region_lengths start.policy)) addresses)
   pointers-met client [] = All-nil _
   pointers-met client (x ∷ xs) = All-append (λ h. in_force start es client h.0 h.1 ≡ true) _ _ (pointer-met client x) (pointers-met client xs)
 

@@ -23,13 +23,14 @@ use Rattle.core_model.specs.declared.flight.InFlight.{InFlight}
 use Rattle.core_model.specs.Flight.{is_packet, launched_by}
 use Rattle.core_model.specs.Holds.{is_launch}
 use Rattle.std.proofs.Math.Bool.{or-false}
-use Rattle.core_model.specs.Owed.{Owed, owed, enters, refuse_if, refuse_unless, for_some, owed_take}
+use Rattle.core_model.specs.Owed.{Owed, owed, enters, refuses, owed_take}
+use Rattle.core_model.specs.Refusals.{for_some, refuse_unless}
 use Rattle.core_model.specs.Legal.{IsLegal, IsLegalAfter}
 use Rattle.core_model.proofs.More.{next_id-more}
 
 -- ---- what an owed entry tells of the tests before it
 
-pub refuse_if-passed : (test : Bool) (why : Refusal) (rest : Owed) (outcome : Outcome) (effects : List Effect) → refuse_if test why rest ≡ enters outcome effects → rest ≡ enters outcome effects
+pub refuse_if-passed : (test : Bool) (why : Refusal) (rest : Owed) (outcome : Outcome) (effects : List Effect) → (if test then refuses why else rest) ≡ enters outcome effects → rest ≡ enters outcome effects
 refuse_if-passed true why rest outcome effects e = absurd (cc)
 refuse_if-passed false why rest outcome effects e = e
 
@@ -38,7 +39,7 @@ pub record Passed (test : Bool) (rest : Owed) (outcome : Outcome) (effects : Lis
   pub test_is : test ≡ true
   pub rest_is : rest ≡ enters outcome effects
 
-pub refuse_unless-passed : (test : Bool) (why : Refusal) (rest : Owed) (outcome : Outcome) (effects : List Effect) → refuse_unless test why rest ≡ enters outcome effects → Passed test rest outcome effects
+pub refuse_unless-passed : (test : Bool) (why : Refusal) (rest : Owed) (outcome : Outcome) (effects : List Effect) → refuse_unless test (refuses why) rest ≡ enters outcome effects → Passed test rest outcome effects
 refuse_unless-passed true why rest outcome effects e = record { test_is = refl; rest_is = e }
 refuse_unless-passed false why rest outcome effects e = absurd (cc)
 
@@ -48,7 +49,7 @@ pub record Found {X : Type 0} (o : Option X) (rest : X → Owed) (outcome : Outc
   pub is : o ≡ Some found
   pub rest_is : rest found ≡ enters outcome effects
 
-pub for_some-found : {X : Type 0} (o : Option X) (why : Refusal) (rest : X → Owed) (outcome : Outcome) (effects : List Effect) → for_some o why rest ≡ enters outcome effects → Found o rest outcome effects
+pub for_some-found : {X : Type 0} (o : Option X) (why : Refusal) (rest : X → Owed) (outcome : Outcome) (effects : List Effect) → for_some o (refuses why) rest ≡ enters outcome effects → Found o rest outcome effects
 for_some-found None why rest outcome effects e = absurd (cc)
 for_some-found (Some x) why rest outcome effects e = record { found = x; is = refl; rest_is = e }
 

@@ -16,7 +16,7 @@ use Rattle.aql_packet.specs.Reading.{packet_at, packet_type, refusal, decoded}
 use Rattle.aql_packet.proofs.ReadingLemmas.{decoded_is, decoded_is_laid}
 use Rattle.kernel_check.specs.Programs.{Program}
 use Rattle.policy.proofs.NameLemmas.{numbered-map}
-use Rattle.policy.specs.Policy.{numbered}
+use Rattle.policy.specs.Policy.{numbered, region_lengths}
 use Rattle.policy.specs.declared.object.Object.TheVariants as object
 use Rattle.policy.specs.declared.rights.Right.{Right}
 use Rattle.policy.specs.declared.rights.Right.TheVariants as right
@@ -35,7 +35,6 @@ use Rattle.core_model.specs.declared.need.Range.{Range}
 use Rattle.core_model.specs.declared.need.Subject.TheVariants as subject
 use Rattle.core_model.specs.History.{Start}
 use Rattle.core_model.specs.Grants.{in_force}
-use Rattle.core_model.specs.Memory.{region_lengths}
 use Rattle.core_model.specs.Queues.{Opening}
 use Rattle.core_model.specs.Needs.{needs, function_of, function_needs, range_need, signal_need, result_range, range_at, completion_signal, dependencies, kernel_needs, memory_needs}
 use Rattle.core_model.specs.Kernels.{kernel_of, no_kernel, segments_of}
@@ -124,7 +123,7 @@ module _ (start : Start) (es : List Entry) (opening : Opening) where
       by_test true is met = inl (eqb-true _ _ is)
       by_test false is met =
           let need = and_parts (need_is_met facts (record { subject = subject.Range range; right = right })) true met in
-          let both = and_parts (is_within (region_lengths start) range.address.0 range.size) _ need.0 in
+          let both = and_parts (is_within (region_lengths start.policy) range.address.0 range.size) _ need.0 in
           inr (record { lies_whole = both.0; granted = both.1 })
 
   one-met : (right : Right) (range : Range) → list_all (need_is_met facts) (range_need right range) ≡ true → All (MayReachRange start es opening.client right) (range ∷ [])

@@ -7,14 +7,15 @@ use Rattle.core_model.specs.declared.outcome.Outcome.{Outcome}
 use Rattle.core_model.specs.declared.refusal.Refusal.{Refusal}
 use Rattle.core_model.specs.declared.refusal.Refusal.TheVariants as refusal
 use Rattle.core_model.specs.History.{History}
-use Rattle.core_model.specs.Owed.{Owed, refuses, answers, enters, owed, refuse_unless}
+use Rattle.core_model.specs.Owed.{Owed, refuses, answers, enters, owed}
+use Rattle.core_model.specs.Refusals.{refuse_unless}
 use Rattle.core_model.specs.Legal.{due, entry_of, lacks_room, within_room}
 
 -- a test that holds lets the rest be, and one that fails refuses
-pub refuse_unless-holds : (test : Bool) (why : Refusal) (rest : Owed) → test ≡ true → refuse_unless test why rest ≡ rest
+pub refuse_unless-holds : (test : Bool) (why : Refusal) (rest : Owed) → test ≡ true → refuse_unless test (refuses why) rest ≡ rest
 refuse_unless-holds test why rest holds = rw holds refl
 
-pub refuse_unless-fails : (test : Bool) (why : Refusal) (rest : Owed) → test ≡ false → refuse_unless test why rest ≡ refuses why
+pub refuse_unless-fails : (test : Bool) (why : Refusal) (rest : Owed) → test ≡ false → refuse_unless test (refuses why) rest ≡ refuses why
 refuse_unless-fails test why rest fails = rw fails refl
 
 -- an event that is due an entry is owed it, and the audit has room for it

@@ -8,7 +8,8 @@ use Rattle.aql_packet.specs.declared.ids.Address.{Address}
 use Rattle.aql_packet.specs.declared.ids.SignalHandle.{SignalHandle}
 use Rattle.aql_packet.specs.declared.ids.ClientId.{ClientId}
 use Rattle.signals.specs.declared.operation.Condition.{Condition}
-use Rattle.policy.specs.Policy.{declares_client}
+use Rattle.policy.specs.Rules.{knows_client}
+use Rattle.policy.specs.Policy.{region_lengths, rules_of}
 use Rattle.policy.specs.declared.rights.Rights.{Rights}
 use Rattle.aql_packet.specs.declared.ids.QueueId.{QueueId}
 use Rattle.aql_packet.specs.declared.ids.PacketId.{PacketId}
@@ -50,14 +51,15 @@ use Rattle.core_model.specs.declared.need.AgentFunction.TheVariants.{Fill, Copy,
 use Rattle.core_model.specs.declared.need.Range.{Range}
 use Rattle.core_model.specs.History.{Start}
 use Rattle.core_model.specs.Grants.{in_force}
-use Rattle.core_model.specs.Memory.{memory_from, region_lengths, signals}
+use Rattle.core_model.specs.Memory.{memory_from, signals}
 use Rattle.core_model.specs.Queues.{Opening, owner, is_down, next_id}
 use Rattle.core_model.specs.Needs.{function_of}
 use Rattle.core_model.specs.LaunchRules.{Facts, first_failing_rule, holds_rule, launch_rules, cause_to_wait}
 use Rattle.core_model.specs.Work.{groups_of, number_in_memory, write_of, function_writes, function_result, agent_writes}
 use Rattle.core_model.specs.Owed.{owed, answers, enters, error_without_place, facts_of, is_host_size, group_owed, owed_group}
 use Rattle.core_model.specs.Legal.{IsLegal}
-use Rattle.core_model.specs.Queries.{AnswerOrRefusal, refused_unless, answer_some, query_answer, has_some_right, listing}
+use Rattle.core_model.specs.Refusals.{for_some, refuse_unless}
+use Rattle.core_model.specs.Queries.{AnswerOrRefusal, query_answer, has_some_right, listing}
 use Rattle.policy.specs.Listing.{all_objects, listing_by}
 use Rattle.policy.specs.Policy.{count_of}
 use Rattle.core_model.specs.Headline.{InFlightSince, IsDenied, IsListed, MayReach, MayReachRange, range_of, ranges_read, ranges_seen, reads_of}
@@ -202,11 +204,11 @@ module _ (start : Start) (one other : List Entry) where
 
 -- ---- what clients are told
 
-if-told : (test : Bool) (why : Refusal) (rest : AnswerOrRefusal) (told : Answer) → refused_unless test why rest ≡ Ok told → (test ≡ true) × (rest ≡ Ok told)
+if-told : (test : Bool) (why : Refusal) (rest : AnswerOrRefusal) (told : Answer) → refuse_unless test (Err why) rest ≡ Ok told → (test ≡ true) × (rest ≡ Ok told)
 if-told true why rest told same = (refl, same)
 if-told false why rest told same = absurd cc
 
-some-told : {X : Type 0} (o : Option X) (why : Refusal) (rest : X → AnswerOrRefusal) (told : Answer) → answer_some o why rest ≡ Ok told → (x : X) × (o ≡ Some x) × (rest x ≡ Ok told)
+some-told : {X : Type 0} (o : Option X) (why : Refusal) (rest : X → AnswerOrRefusal) (told : Answer) → for_some o (Err why) rest ≡ Ok told → (x : X) × (o ≡ Some x) × (rest x ≡ Ok told)
 some-told None why rest told same = absurd cc
 some-told (Some x) why rest told same = (x, refl, same)
 
@@ -215,10 +217,10 @@ module _ (start : Start) (es : List Entry) (client : ClientId) (told : Answer) w
       MayReach start es client right.Read address.0 size × (told ≡ answer.Bytes (memory_from start es address.0 size))
   unfolding query_answer
   read-told address size same =
-      let one = if-told (declares_client start.policy client) _ _ told same in
+      let one = if-told (knows_client (rules_of start.policy) client) _ _ told same in
       let two = if-told (is_host_size size) _ _ told one.1 in
-      let three = if-told (is_within (region_lengths start) address.0 size && in_force start es client (object.Region (record { 0 = region_of address.0 })) right.Read) _ _ told two.1 in
-      let both = and_parts (is_within (region_lengths start) address.0 size) _ three.0 in
+      let three = if-told (is_within (region_lengths start.policy) address.0 size && in_force start es client (object.Region (record { 0 = region_of address.0 })) right.Read) _ _ told two.1 in
+      let both = and_parts (is_within (region_lengths start.policy) address.0 size) _ three.0 in
       let last = three.1 in
       (record { lies_whole = both.0; granted = both.1 }, cc)
 
@@ -226,7 +228,7 @@ module _ (start : Start) (es : List Entry) (client : ClientId) (told : Answer) w
       (in_force start es client (object.Signal signal) right.Wait ≡ true) × (v : ℤ) × (value_of (signals start es) signal.0 ≡ Some v) × (told ≡ answer.Value v)
   unfolding query_answer
   load-told signal same =
-      let one = if-told (declares_client start.policy client) _ _ told same in
+      let one = if-told (knows_client (rules_of start.policy) client) _ _ told same in
       let two = if-told (in_force start es client (object.Signal signal) right.Wait) _ _ told one.1 in
       let three = some-told (value_of (signals start es) signal.0) _ _ told two.1 in
       let last = three.2 in
@@ -236,7 +238,7 @@ module _ (start : Start) (es : List Entry) (client : ClientId) (told : Answer) w
       (in_force start es client (object.Signal signal) right.Wait ≡ true) × (v : ℤ) × (value_of (signals start es) signal.0 ≡ Some v) × (told ≡ answer.Test (meets condition v value))
   unfolding query_answer
   test-told signal condition value same =
-      let one = if-told (declares_client start.policy client) _ _ told same in
+      let one = if-told (knows_client (rules_of start.policy) client) _ _ told same in
       let two = if-told (in_force start es client (object.Signal signal) right.Wait) _ _ told one.1 in
       let three = some-told (value_of (signals start es) signal.0) _ _ told two.1 in
       let last = three.2 in
@@ -255,7 +257,7 @@ module _ (start : Start) (es : List Entry) (client : ClientId) (told : Answer) w
   pub listing-told : query_answer start es (query.List client) ≡ Ok told → (rows : List (Object × Rights)) × (told ≡ answer.Listing rows) × All (IsListed start es client) rows
   unfolding query_answer listing_by
   listing-told same =
-      let one = if-told (declares_client start.policy client) _ _ told same in
+      let one = if-told (knows_client (rules_of start.policy) client) _ _ told same in
       let last = one.1 in
       let is : told ≡ answer.Listing (listing start es client) = cc in
-      (listing start es client, is, listed (all_objects (count_of start.policy)))
+      (listing start es client, is, listed (all_objects (count (rules_of start.policy))))

@@ -28,7 +28,8 @@ use Rattle.core_model.specs.declared.entry.Entry.{Entry}
 use Rattle.core_model.specs.declared.need.Range.{Range}
 use Rattle.core_model.specs.History.{Start}
 use Rattle.core_model.specs.Grants.{in_force}
-use Rattle.core_model.specs.Memory.{memory_at, memory_from, region_lengths}
+use Rattle.policy.specs.Policy.{region_lengths}
+use Rattle.core_model.specs.Memory.{memory_at, memory_from}
 use Rattle.core_model.specs.Holds.{ObjectRight}
 use Rattle.core_model.specs.View.{Given, HeldRegion, first_address, group_input, held_region, held_regions, lent, rights_held, view}
 use Rattle.core_model.specs.Headline.{MayReach, MayReachRange, range_of}
@@ -99,16 +100,16 @@ small-region lengths fit (suc k) = small-at lengths (and_parts (nat_le (length l
 module _ (start : Start) (before : List Entry) (client : ClientId) (hs : List ObjectRight) (granted : All (Granted start before client) hs) where
   -- what is known of a region that is held
   pub record IsKnown (region : HeldRegion) : Type 0 where
-    pub size_is : region_length (region_lengths start) region.number ≡ region.size
+    pub size_is : region_length (region_lengths start.policy) region.number ≡ region.size
     pub granted_so : (one : Right) → has region.rights one ≡ true → in_force start before client (object.Region (record { 0 = region.number })) one ≡ true
 
   pub all-known : All IsKnown (held_regions start hs)
   all-known =
-      All-filter (λ region. not (region.rights.0 == 0)) IsKnown (map (held_region hs) (zip (range_with_len 1 (length (region_lengths start))) (region_lengths start)))
-      (All-map IsKnown (held_region hs) (zip (range_with_len 1 (length (region_lengths start))) (region_lengths start))
-      (All-weaker (λ (row : ℕ × ℕ). slice_index (0 ∷ region_lengths start) row.0 ≡ row.1) (λ row. IsKnown (held_region hs row))
+      All-filter (λ region. not (region.rights.0 == 0)) IsKnown (map (held_region hs) (zip (range_with_len 1 (length (region_lengths start.policy))) (region_lengths start.policy)))
+      (All-map IsKnown (held_region hs) (zip (range_with_len 1 (length (region_lengths start.policy))) (region_lengths start.policy))
+      (All-weaker (λ (row : ℕ × ℕ). slice_index (0 ∷ region_lengths start.policy) row.0 ≡ row.1) (λ row. IsKnown (held_region hs row))
       (λ row is. record { size_is = is; granted_so = λ one has_it. right-granted start before client hs (object.Region (record { 0 = row.0 })) one granted has_it })
-      (zip (range_with_len 1 (length (region_lengths start))) (region_lengths start)) (rows-at (0 ∷ []) (region_lengths start) 1 refl)))
+      (zip (range_with_len 1 (length (region_lengths start.policy))) (region_lengths start.policy)) (rows-at (0 ∷ []) (region_lengths start.policy) 1 refl)))
 
   -- a region that is held with READ may be read
   pub may-read : (region : HeldRegion) → IsKnown region → has region.rights right.Read ≡ true → MayReachRange start before client right.Read (range_of region)
@@ -117,10 +118,10 @@ module _ (start : Start) (before : List Entry) (client : ClientId) (hs : List Ob
       number : region_of (region.number * 2 ^ 32) ≡ region.number
       number = omega arith
 
-      whole : (size : ℕ) → region_length (region_lengths start) region.number ≡ size → (size == 0) ≡ false → is_within (region_lengths start) (region.number * 2 ^ 32) size ≡ true
+      whole : (size : ℕ) → region_length (region_lengths start.policy) region.number ≡ size → (size == 0) ≡ false → is_within (region_lengths start.policy) (region.number * 2 ^ 32) size ≡ true
       whole size is some =
           let first : (region.number * 2 ^ 32) % 2 ^ 32 ≡ 0 = omega arith in
-          let at : region_length (region_lengths start) (region_of (region.number * 2 ^ 32)) ≡ size = ap (region_length (region_lengths start)) number ∙ is in
+          let at : region_length (region_lengths start.policy) (region_of (region.number * 2 ^ 32)) ≡ size = ap (region_length (region_lengths start.policy)) number ∙ is in
           let holds : (nat_lt 0 size && nat_le (0 + size) size) ≡ true = grind (arith, nat_tests) in
           rw (at, first) holds
 
@@ -133,7 +134,7 @@ module _ (start : Start) (before : List Entry) (client : ClientId) (hs : List Ob
 
   -- ---- what is written
 
-  module _ (es : List Entry) (fit : are_region_lengths (region_lengths start) ≡ true) where
+  module _ (es : List Entry) (fit : are_region_lengths (region_lengths start.policy) ≡ true) where
     lent-long : (region : HeldRegion) → length (lent start es region).bytes ≡ region.size
     lent-long region = by_test (has region.rights right.Read)
       where
@@ -143,7 +144,7 @@ module _ (start : Start) (before : List Entry) (client : ClientId) (hs : List Ob
 
     -- what is known of a region as it is lent
     record IsKnownLent (r : LentRegion) : Type 0 where
-      size_is : region_length (region_lengths start) r.number ≡ length r.bytes
+      size_is : region_length (region_lengths start.policy) r.number ≡ length r.bytes
       granted_so : has r.rights right.Write ≡ true → in_force start before client (object.Region (record { 0 = r.number })) right.Write ≡ true
 
     all-lent : All IsKnownLent (view start es hs)
@@ -156,12 +157,12 @@ module _ (start : Start) (before : List Entry) (client : ClientId) (hs : List Ob
     all-short : AreShort (view start es hs)
     all-short =
         All-weaker IsKnownLent (λ (r : LentRegion). length r.bytes ≤ 2 ^ 32)
-        (λ r known. let small = small-region (region_lengths start) fit r.number in let is = known.size_is in omega arith)
+        (λ r known. let small = small-region (region_lengths start.policy) fit r.number in let is = known.size_is in omega arith)
         (view start es hs) all-lent
 
     -- an address that a group may write
     record MayWriteAt (x : ℕ) : Type 0 where
-      lies : x % 2 ^ 32 < region_length (region_lengths start) (x / 2 ^ 32)
+      lies : x % 2 ^ 32 < region_length (region_lengths start.policy) (x / 2 ^ 32)
       granted_so : in_force start before client (object.Region (record { 0 = x / 2 ^ 32 })) right.Write ≡ true
 
     may-write : (x : ℕ) → IsHeldAt (view start es hs) right.Write x → MayWriteAt x
@@ -172,7 +173,7 @@ module _ (start : Start) (before : List Entry) (client : ClientId) (hs : List Ob
         let number : r.number ≡ x / 2 ^ 32 = eqb-true _ _ both.0 in
         let inside : x % 2 ^ 32 < length r.bytes = ltb-true _ _ both.1 in
         record {
-          lies = subst (λ n. x % 2 ^ 32 < region_length (region_lengths start) n) number (subst (λ n. x % 2 ^ 32 < n) (sym known.size_is) inside);
+          lies = subst (λ n. x % 2 ^ 32 < region_length (region_lengths start.policy) n) number (subst (λ n. x % 2 ^ 32 < n) (sym known.size_is) inside);
           granted_so = subst (λ n. in_force start before client (object.Region (record { 0 = n })) right.Write ≡ true) number (known.granted_so held_at.has_right);
         }
 
@@ -182,7 +183,7 @@ module _ (start : Start) (before : List Entry) (client : ClientId) (hs : List Ob
       one-region zero below = let e : address + 0 ≡ address = omega arith in ap (λ x. x / 2 ^ 32) e
       one-region (suc j) below =
           let rest = one-region j (omega arith) in
-          let small = small-region (region_lengths start) fit ((address + j) / 2 ^ 32) in
+          let small = small-region (region_lengths start.policy) fit ((address + j) / 2 ^ 32) in
           let lies = (each (address + j) (omega arith) (omega arith)).lies in
           let next : address + suc j ≡ (address + j) + 1 = omega arith in
           omega arith
@@ -192,8 +193,8 @@ module _ (start : Start) (before : List Entry) (client : ClientId) (hs : List Ob
           let last : ℕ = size - 1 in
           let there = one-region last (omega arith) in
           let begins = (each address (omega arith) (omega arith)).lies in
-          let lies = subst (λ n. (address + last) % 2 ^ 32 < region_length (region_lengths start) n) there (each (address + last) (omega arith) (omega arith)).lies in
-          let ends : address % 2 ^ 32 + size ≤ region_length (region_lengths start) (address / 2 ^ 32) = omega arith in
+          let lies = subst (λ n. (address + last) % 2 ^ 32 < region_length (region_lengths start.policy) n) there (each (address + last) (omega arith) (omega arith)).lies in
+          let ends : address % 2 ^ 32 + size ≤ region_length (region_lengths start.policy) (address / 2 ^ 32) = omega arith in
           record {
             lies_whole = grind (arith, nat_tests);
             granted = (each address (omega arith) (omega arith)).granted_so;
@@ -205,7 +206,7 @@ pub record IsWithinGrant (start : Start) (before : List Entry) (client : ClientI
   pub 1 : MayReach start before client right.Write run.address (length run.bytes)
 
 -- so each run that a group writes does
-pub runs-granted : (start : Start) (es before : List Entry) (client : ClientId) (own : Given) (d : KernelDispatch) (group : ℕ) → are_region_lengths (region_lengths start) ≡ true →
+pub runs-granted : (start : Start) (es before : List Entry) (client : ClientId) (own : Given) (d : KernelDispatch) (group : ℕ) → are_region_lengths (region_lengths start.policy) ≡ true →
     All (λ h. in_force start before client h.0 h.1 ≡ true) own.rights → (runs : List Run) → group_result (group_input start es own d group) ≡ wrote runs → All (IsWithinGrant start before client) runs
 runs-granted start es before client own d group fit granted runs is =
     All-weaker (IsHeldRun (view start es own.rights) right.Write) (IsWithinGrant start before client)

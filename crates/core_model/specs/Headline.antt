@@ -42,7 +42,8 @@ use Rattle.core_model.specs.declared.need.AgentFunction.TheVariants.{Fill, Copy,
 use Rattle.core_model.specs.declared.need.Range.{Range}
 use Rattle.core_model.specs.History.{Start, History}
 use Rattle.core_model.specs.Grants.{in_force}
-use Rattle.core_model.specs.Memory.{region_lengths, signals}
+use Rattle.policy.specs.Policy.{region_lengths}
+use Rattle.core_model.specs.Memory.{signals}
 use Rattle.core_model.specs.Queues.{Opening, owner, is_down, next_id}
 use Rattle.core_model.specs.Flight.{flight, flight_of, in_flight, progress, seen_by_either}
 use Rattle.core_model.specs.Kernels.{kernel_of}
@@ -64,7 +65,7 @@ pub record IsEntryBehind (entries before : List Entry) (entry : Entry) : Type 0 
 
 -- a client may reach a range: it lies whole in one region, on which this right is in force (own)
 pub record MayReach (start : Start) (entries : List Entry) (client : ClientId) (right : Right) (address size : ℕ) : Type 0 where
-  pub lies_whole : is_within (region_lengths start) address size ≡ true
+  pub lies_whole : is_within (region_lengths start.policy) address size ≡ true
   pub granted : in_force start entries client (object.Region (record { 0 = region_of address })) right ≡ true
 
 -- a range is empty, or a client may reach it (own)

@@ -17,7 +17,7 @@ use Rattle.core_model.specs.declared.entry.Entry.{Entry}
 use Rattle.core_model.specs.declared.flight.InFlight.{InFlight}
 use Rattle.core_model.specs.History.{Start}
 use Rattle.core_model.specs.Grants.{in_force}
-use Rattle.core_model.specs.Memory.{region_lengths}
+use Rattle.policy.specs.Policy.{region_lengths}
 use Rattle.core_model.specs.Kernels.{argument_block, kernel_of, wide_arguments}
 use Rattle.core_model.specs.Queues.{Opening, owner}
 use Rattle.core_model.specs.Flight.{flight, is_packet, launched_by}
@@ -50,7 +50,7 @@ held_by_pointer in_force lengths address =
 -- bits points (own)
 abbrev pub held_by_arguments : Start → List Entry → ClientId → Packet → List ObjectRight
 held_by_arguments start entries client (packet.Kernel d) =
-    flat_map (held_by_pointer (in_force start entries client) (region_lengths start)) (wide_arguments (kernel_of start d).wide (argument_block start entries d))
+    flat_map (held_by_pointer (in_force start entries client) (region_lengths start.policy)) (wide_arguments (kernel_of start d).wide (argument_block start entries d))
 held_by_arguments start entries client _ = []
 
 -- what a packet holds from its launch behind these entries on: all that it needs for its agent, and what its arguments have it hold (own)

@@ -15,6 +15,7 @@ use Rattle.core_model.specs.declared.refusal.Refusal.{Refusal}
 use Rattle.core_model.specs.declared.refusal.Refusal.TheVariants as refusal
 use Rattle.kernel_check.specs.Programs.{Program}
 use Rattle.policy.specs.Policy.{Declared}
+use Rattle.policy.specs.Results.{map_ok}
 use Rattle.core_model.specs.History.{Start, History}
 use Rattle.core_model.specs.Flight.{flight, flight_after}
 use Rattle.core_model.specs.Owed.{Owed, refuses, answers, enters, owed}
@@ -71,14 +72,9 @@ entries_after entries event (enters outcome effects) = entries ++ entry_of event
 abbrev pub history_after : History → Event → Owed → History
 history_after history event owing = record history { entries = entries_after history.entries event owing }
 
--- what a call answers by itself, said as a variant of what all calls answer; a refusal stays (own)
-abbrev pub as_variant : {X Y : Type 0} → (X → Y) → Result X Refusal → Result Y Refusal
-as_variant say (Ok x) = Ok (say x)
-as_variant say (Err why) = Err why
-
 -- a call that answers nothing more than that it was made (own)
 abbrev pub as_accepted : Result (Unit {0}) Refusal → Result Outcome Refusal
-as_accepted made = as_variant (λ done. outcomes.Accepted) made
+as_accepted made = map_ok (λ done. outcomes.Accepted) made
 
 -- an event got what was due, and left what was due (own)
 pub record Meets (event : Event) (old new : History) (reply : Result Outcome Refusal) : Type 0 where
@@ -115,7 +111,7 @@ query_may_lack (Ok _) = true
 
 -- an event's reply as a reply to a request (own)
 abbrev pub as_reply : Result Outcome Refusal → AnswerOrRefusal
-as_reply made = as_variant answer.Outcome made
+as_reply made = map_ok answer.Outcome made
 
 -- a query got its answer, or its refusal, and changed nothing (own)
 abbrev pub Replies : Query → History → AnswerOrRefusal → Type 0

@@ -1,3 +1,4 @@
+pub mod Refusals
 pub mod History
 pub mod Grants
 pub mod Memory
@@ -13,5 +14,4 @@ pub mod Owed
 pub mod Queries
 pub mod Legal
 pub mod Headline
-pub mod Refusals
 pub mod inner

@@ -1,7 +1,6 @@
 -- The byte at each address, and the value of each signal: where they begin, with all changes laid over in order.
 use Rattle.std.specs.Prelude.{ℕ, ℤ, ◌+◌, ◌-◌, List, fold, map, length, slice_index, slice_set, ◌&&◌, nat_le, nat_lt, if◌then◌else◌}
 use Rattle.std.specs.List.{range_with_len}
-use Rattle.policy.specs.Policy as policies
 use Rattle.policy.specs.Policy.{initial_values}
 use Rattle.core_model.specs.declared.entry.Entry.{Entry}
 use Rattle.core_model.specs.declared.entry.Effect.{Effect}
@@ -21,10 +20,6 @@ memory_at start entries x = fold (byte_after x) 0 (effects_of entries)
 -- `size` bytes of memory from an address on (own)
 abbrev pub memory_from : Start → List Entry → ℕ → ℕ → List ℕ
 memory_from start entries address size = map (memory_at start entries) (range_with_len address size)
-
--- the lengths of all regions, in order (own)
-abbrev pub region_lengths : Start → List ℕ
-region_lengths start = policies.region_lengths start.policy
 
 -- the values of the signals after a change, by those before it (own)
 abbrev pub signals_after : List ℤ → Effect → List ℤ

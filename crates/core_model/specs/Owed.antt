@@ -18,7 +18,8 @@ use Rattle.signals.specs.declared.operation.SignalOp.TheVariants as op
 use Rattle.policy.specs.declared.object.Object.TheVariants as object
 use Rattle.policy.specs.declared.rights.Right.TheVariants as right
 use Rattle.policy.specs.declared.row.TheConstants.{TAKES_NOTHING}
-use Rattle.policy.specs.Policy.{declares_client, declares, allows, takes_of}
+use Rattle.policy.specs.Rules.{knows_client, knows, allows}
+use Rattle.policy.specs.Policy.{region_lengths, row_of, rules_of}
 use Rattle.queue_error.specs.declared.rule.Rule.{Rule}
 use Rattle.queue_error.specs.declared.rule.Rule.TheVariants.{B1}
 use Rattle.queue_error.specs.declared.error.QueueError.{QueueError}
@@ -38,9 +39,10 @@ use Rattle.core_model.specs.declared.outcome.Worked.TheVariants.{Ran, Faulted, D
 use Rattle.core_model.specs.declared.outcome.Polled.TheVariants.{Pending, Ready, Failed}
 use Rattle.core_model.specs.declared.refusal.Refusal.{Refusal}
 use Rattle.core_model.specs.declared.refusal.Refusal.TheVariants as refusal
+use Rattle.core_model.specs.Refusals.{for_some, refuse_unless}
 use Rattle.core_model.specs.History.{Start}
 use Rattle.core_model.specs.Grants.{in_force}
-use Rattle.core_model.specs.Memory.{region_lengths, signals}
+use Rattle.core_model.specs.Memory.{signals}
 use Rattle.core_model.specs.Queues.{Opening, openings, owner, next_id, is_stopped, is_down}
 use Rattle.core_model.specs.declared.outcome.TheConstants.{NONE_SEEN}
 use Rattle.core_model.specs.Flight.{flight_of, in_flight, progress, seen_by_either}
@@ -61,19 +63,6 @@ pub data Owed : Type 0 where
   -- an outcome with an entry, and the changes that the entry tells
   enters : Outcome → List Effect → Owed
 
--- a refusal where the test holds, else the rest (own)
-abbrev pub refuse_if : Bool → Refusal → Owed → Owed
-refuse_if test why rest = if test then refuses why else rest
-
--- the rest where the test holds, else a refusal (own)
-abbrev pub refuse_unless : Bool → Refusal → Owed → Owed
-refuse_unless test why rest = if test then rest else refuses why
-
--- a refusal where there is nothing, else the rest for what there is (own)
-abbrev pub for_some : {X : Type 0} → Option X → Refusal → (X → Owed) → Owed
-for_some None why rest = refuses why
-for_some (Some x) why rest = rest x
-
 -- how many bytes a client may read or write in one call: at least 1 (own)
 abbrev pub is_host_size : ℕ → Bool
 is_host_size size = nat_le 1 size && nat_le size MOST_HOST_BYTES
@@ -82,9 +71,9 @@ is_host_size size = nat_le 1 size && nat_le size MOST_HOST_BYTES
 abbrev pub facts_of : Start → List Entry → Opening → Facts
 facts_of start entries opening = record {
   agent = opening.agent;
-  takes = unwrap_or (takes_of start.policy opening.agent.0) TAKES_NOTHING;
+  takes = unwrap_or (row_of start.policy.agents opening.agent.0) TAKES_NOTHING;
   in_force = in_force start entries opening.client;
-  lengths = region_lengths start;
+  lengths = region_lengths start.policy;
   kernels = map segments_of start.kernels;
 }
 
@@ -101,16 +90,16 @@ owed_verdict queue id None (Some rule) = enters (outcome.Taken (Denied (error_wi
 -- a packet that is handed over to an open queue (PSA, User Mode Queuing: packets are processed in order; the refusals are own)
 abbrev pub owed_take : Start → List Entry → QueueId → PacketId → List ℕ → Opening → Owed
 owed_take start entries queue id bytes opening =
-    refuse_if (is_down start entries queue) refusal.QueueDown
-    (refuse_unless (id.0 == next_id start entries queue) (refusal.OutOfStep (next_id start entries queue))
-    (owed_verdict queue id.0 (cause_to_wait (map (λ f. f.packet) (flight_of start entries queue)) (barrier_bit bytes)) (first_failing_rule (facts_of start entries opening) bytes)))
+    if is_down start entries queue then refuses refusal.QueueDown
+    else refuse_unless (id.0 == next_id start entries queue) (refuses (refusal.OutOfStep (next_id start entries queue)))
+    (owed_verdict queue id.0 (cause_to_wait (map (λ f. f.packet) (flight_of start entries queue)) (barrier_bit bytes)) (first_failing_rule (facts_of start entries opening) bytes))
 
 -- what a call about a packet in flight is owed: a refusal where there is no such queue or packet, else what is owed by the packet
 -- and by how far it has come (own)
 abbrev pub for_packet : Start → List Entry → QueueId → PacketId → (Packet → Progress → Owed) → Owed
 for_packet start entries queue id rest =
-    for_some (owner start entries queue) refusal.UnknownQueue (λ opening.
-    for_some (in_flight start entries queue id) refusal.NotInFlight (λ f. rest f.packet (progress start entries queue id)))
+    for_some (owner start entries queue) (refuses refusal.UnknownQueue) (λ opening.
+    for_some (in_flight start entries queue id) (refuses refusal.NotInFlight) (λ f. rest f.packet (progress start entries queue id)))
 
 -- the error of a packet whose group broke a rule: it names the group, the item and the line
 abbrev pub group_error : QueueId → PacketId → ℕ → ℕ → ℕ → Rule → QueueError
@@ -150,7 +139,7 @@ owed_sight p seen new =
 -- (PSA, Architected Queuing Language: barrier packets; that a negative dependency fails the packet is own)
 abbrev pub owed_poll : List ℤ → QueueId → PacketId → Packet → Progress → Owed
 owed_poll values queue id p so_far =
-    refuse_unless (is_barrier p) refusal.NotInFlight
+    refuse_unless (is_barrier p) (refuses refusal.NotInFlight)
     (if is_ready p so_far.satisfied then answers (outcome.Polled (Ready NONE_SEEN))
     else if list_any (is_negative values) (seen_dependencies p so_far.satisfied)
     then enters (outcome.Polled (Failed (error_without_place queue id.0 B1))) (effect.Release queue id ∷ [])
@@ -171,7 +160,7 @@ completion_of values queue id p = signal_decrement values (completion_signal p) 
 -- the completion of a packet in flight (PSA, Signals: the completion signal is decremented; the refusal is own)
 abbrev pub owed_finish : List ℤ → QueueId → PacketId → Packet → Progress → Owed
 owed_finish values queue id p so_far =
-    refuse_unless (is_finished p so_far) refusal.NotFinished
+    refuse_unless (is_finished p so_far) (refuses refusal.NotFinished)
     (enters outcome.Accepted (completion_of values queue id p))
 
 -- the release of a packet, if there is one (own)
@@ -192,37 +181,37 @@ old_if_asked _ old = pos 0
 -- what an event is owed after these entries, whatever room the audit has: its refusals in order, then its outcome (own)
 unfoldable pub owed : Start → List Entry → Event → Owed
 owed start entries (Grant client on rights) =
-    refuse_unless (declares_client start.policy client) refusal.UnknownClient
-    (refuse_unless (declares start.policy on) refusal.UnknownObject
-    (refuse_unless (allows start.policy client on rights) refusal.NotAllowed
+    refuse_unless (knows_client (rules_of start.policy) client) (refuses refusal.UnknownClient)
+    (refuse_unless (knows (rules_of start.policy) on) (refuses refusal.UnknownObject)
+    (refuse_unless (allows (rules_of start.policy) client on rights) (refuses refusal.NotAllowed)
     (enters outcome.Accepted [])))
 owed start entries (Revoke client on rights) =
-    refuse_unless (declares_client start.policy client) refusal.UnknownClient
-    (refuse_unless (declares start.policy on) refusal.UnknownObject
+    refuse_unless (knows_client (rules_of start.policy) client) (refuses refusal.UnknownClient)
+    (refuse_unless (knows (rules_of start.policy) on) (refuses refusal.UnknownObject)
     (elim (holder start entries client on rights) [ None ↦ enters outcome.Accepted [] | Some f ↦ refuses (refusal.Busy f.queue f.id) ]))
 owed start entries (OpenQueue client agent size) =
-    refuse_unless (declares_client start.policy client) refusal.UnknownClient
-    (refuse_unless (in_force start entries client (object.Agent agent) right.Use) (refusal.Denied right.Use)
-    (refuse_unless (is_ring_size size) refusal.BadSize
-    (refuse_if (nat_le QUEUES (length (openings start entries))) refusal.TooMany
-    (enters (outcome.Opened (record { 0 = length (openings start entries) + 1 })) []))))
+    refuse_unless (knows_client (rules_of start.policy) client) (refuses refusal.UnknownClient)
+    (refuse_unless (in_force start entries client (object.Agent agent) right.Use) (refuses (refusal.Denied right.Use))
+    (refuse_unless (is_ring_size size) (refuses refusal.BadSize)
+    (if nat_le QUEUES (length (openings start entries)) then refuses refusal.TooMany
+    else enters (outcome.Opened (record { 0 = length (openings start entries) + 1 })) [])))
 owed start entries (Stop queue) =
-    for_some (owner start entries queue) refusal.UnknownQueue (λ opening.
-    refuse_if (is_stopped start entries queue) refusal.QueueDown
-    (enters outcome.Accepted (release_of queue (barrier_in (flight_of start entries queue)))))
+    for_some (owner start entries queue) (refuses refusal.UnknownQueue) (λ opening.
+    if is_stopped start entries queue then refuses refusal.QueueDown
+    else enters outcome.Accepted (release_of queue (barrier_in (flight_of start entries queue))))
 owed start entries (Take queue id bytes) =
-    for_some (owner start entries queue) refusal.UnknownQueue (owed_take start entries queue id bytes)
+    for_some (owner start entries queue) (refuses refusal.UnknownQueue) (owed_take start entries queue id bytes)
 owed start entries (RunNext queue id) = for_packet start entries queue id (owed_group start entries queue id (given start entries queue id))
 owed start entries (Poll queue id) = for_packet start entries queue id (owed_poll (signals start entries) queue id)
 owed start entries (Finish queue id) = for_packet start entries queue id (owed_finish (signals start entries) queue id)
 owed start entries (HostWrite client address bytes) =
-    refuse_unless (declares_client start.policy client) refusal.UnknownClient
-    (refuse_unless (is_host_size (length bytes)) refusal.BadSize
-    (refuse_unless (is_within (region_lengths start) address.0 (length bytes) && in_force start entries client (object.Region (record { 0 = region_of address.0 })) right.Write)
-    (refusal.Denied right.Write)
+    refuse_unless (knows_client (rules_of start.policy) client) (refuses refusal.UnknownClient)
+    (refuse_unless (is_host_size (length bytes)) (refuses refusal.BadSize)
+    (refuse_unless (is_within (region_lengths start.policy) address.0 (length bytes) && in_force start entries client (object.Region (record { 0 = region_of address.0 })) right.Write)
+    (refuses (refusal.Denied right.Write))
     (enters outcome.Accepted (effect.Write address bytes ∷ []))))
 owed start entries (ChangeSignal client signal operation) =
-    refuse_unless (declares_client start.policy client) refusal.UnknownClient
-    (refuse_unless (in_force start entries client (object.Signal signal) right.Change) (refusal.Denied right.Change)
-    (for_some (value_of (signals start entries) signal.0) (refusal.Denied right.Change) (λ old.
+    refuse_unless (knows_client (rules_of start.policy) client) (refuses refusal.UnknownClient)
+    (refuse_unless (in_force start entries client (object.Signal signal) right.Change) (refuses (refusal.Denied right.Change))
+    (for_some (value_of (signals start entries) signal.0) (refuses (refusal.Denied right.Change)) (λ old.
     enters (outcome.Changed (old_if_asked operation old)) (effect.Signal signal old (applied operation old) ∷ []))))

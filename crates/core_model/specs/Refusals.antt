@@ -1,7 +1,16 @@
--- Refusals by number (own).
-use Rattle.std.specs.Prelude.{ℕ}
+-- Refusals: where a call is refused, and the number of each refusal (own).
+use Rattle.std.specs.Prelude.{ℕ, Bool, Option, Some, None, if◌then◌else◌}
 use Rattle.core_model.specs.declared.refusal.Refusal.{Refusal}
 use Rattle.core_model.specs.declared.refusal.Refusal.TheVariants as refusal
+
+-- the rest where the test holds, else what is given before it: why the call is refused
+abbrev pub refuse_unless : {R : Type 0} → Bool → R → R → R
+refuse_unless test why rest = if test then rest else why
+
+-- the rest for what there is, and where there is nothing why the call is refused
+abbrev pub for_some : {X R : Type 0} → Option X → R → (X → R) → R
+for_some None why rest = why
+for_some (Some x) why rest = rest x
 
 -- a refusal's number; 14 and 15 are those of the world around the core
 abbrev pub number_of : Refusal → ℕ

@@ -15,7 +15,8 @@ use Rattle.policy.specs.Object.{same_object}
 use Rattle.policy.specs.Rights.{bit_of, has, rights_that}
 use Rattle.core_model.specs.declared.entry.Entry.{Entry}
 use Rattle.core_model.specs.History.{Start}
-use Rattle.core_model.specs.Memory.{memory_from, region_lengths}
+use Rattle.policy.specs.Policy.{region_lengths}
+use Rattle.core_model.specs.Memory.{memory_from}
 use Rattle.core_model.specs.Kernels.{grid_size, group_size, kernel_of}
 use Rattle.core_model.specs.Holds.{ObjectRight, arguments, packet_rights}
 
@@ -45,7 +46,7 @@ held_region all row = record { number = row.0; size = row.1; rights = rights_hel
 abbrev pub held_regions : Start → List ObjectRight → List HeldRegion
 held_regions start all =
     filter (λ region. not (region.rights.0 == 0))
-    (map (held_region all) (zip (range_with_len 1 (length (region_lengths start))) (region_lengths start)))
+    (map (held_region all) (zip (range_with_len 1 (length (region_lengths start.policy))) (region_lengths start.policy)))
 
 -- the first address of a region (own)
 abbrev pub first_address : HeldRegion → ℕ

@@ -14,7 +14,8 @@ ghost use Rattle.aql_packet.specs.declared.packet.Packet.TheVariants as packet;
 ghost use Rattle.signals.specs.Values.{applied, meets, value_of};
 ghost use Rattle.signals.specs.declared.operation.Condition.{Condition};
 ghost use Rattle.signals.specs.declared.operation.SignalOp.{SignalOp};
-ghost use Rattle.policy.specs.Policy.{allowed, allows, declares_client};
+ghost use Rattle.policy.specs.Rules.{allowed, allows, knows_client};
+ghost use Rattle.policy.specs.Policy.{region_lengths, rules_of};
 ghost use Rattle.policy.specs.declared.object.Object.{Object};
 ghost use Rattle.policy.specs.declared.object.Object.TheVariants as object;
 ghost use Rattle.policy.specs.declared.rights.Right.{Right};
@@ -42,7 +43,7 @@ ghost use Rattle.core_model.specs.declared.refusal.Refusal.{Refusal};
 ghost use Rattle.core_model.specs.declared.refusal.Refusal.TheVariants as refusal;
 ghost use Rattle.core_model.specs.History.{Start, History};
 ghost use Rattle.core_model.specs.Grants.{in_force};
-ghost use Rattle.core_model.specs.Memory.{memory_from, region_lengths, signals};
+ghost use Rattle.core_model.specs.Memory.{memory_from, signals};
 ghost use Rattle.aql_packet.specs.Memory.{are_region_lengths};
 ghost use Rattle.core_model.specs.Holds.{packet_rights};
 ghost use Rattle.core_model.specs.View.{Given, given};
@@ -86,7 +87,7 @@ pub fn denials_name_the_first_rule()
 /// whole; or a group's, of a packet in flight that was launched with WRITE in force there for the
 /// owner of its queue. The regions are as many and as long as there may be.
 pub fn each_write_was_granted()
-    ensures { (start : Start) (entries before : List Entry) (entry : Entry) → are_region_lengths (region_lengths start) ≡ true →
+    ensures { (start : Start) (entries before : List Entry) (entry : Entry) → are_region_lengths (region_lengths start.policy) ≡ true →
         IsLegal start entries → IsEntryBehind entries before entry → All (WriteIsGranted start before entry.event) entry.effects }
 {}
 
@@ -167,7 +168,7 @@ pub fn held_rights_are_in_force()
 pub fn each_grant_is_allowed()
     ensures { (start : Start) (entries before : List Entry) (client : ClientId) (on : Object) (rights : Rights) (told : Outcome) (effects : List Effect) →
         IsLegal start entries → IsEntryBehind entries before (entry_of (Grant client on rights) told effects) →
-        (allows start.policy client on rights ≡ true) × (effects ≡ []) }
+        (allows (rules_of start.policy) client on rights ≡ true) × (effects ≡ []) }
 {}
 
 /// A queue is opened for a client that may use the agent, and is a new one, which is the client's from
@@ -220,29 +221,29 @@ pub fn each_listed_right_is_in_force()
 /// Each right in force is one that the policy allows the client.
 pub fn each_right_in_force_is_allowed()
     ensures { (start : Start) (entries : List Entry) (client : ClientId) (on : Object) (right : Right) →
-        IsLegal start entries → in_force start entries client on right ≡ true → allowed start.policy client on right ≡ true }
+        IsLegal start entries → in_force start entries client on right ≡ true → allowed (rules_of start.policy) client on right ≡ true }
 {}
 
 /// A known client's own call is denied where the right that it needs is not in force: a write or a read of
 /// a good size, a change of a signal or a look at it, and the opening of a queue.
 pub fn calls_without_their_right_are_denied()
     ensures write { (start : Start) (entries : List Entry) (client : ClientId) (address : Address) (bytes : List ℕ) →
-        declares_client start.policy client ≡ true → is_host_size (length bytes) ≡ true → (MayReach start entries client right.Write address.0 (length bytes) → ⊥) →
+        knows_client (rules_of start.policy) client ≡ true → is_host_size (length bytes) ≡ true → (MayReach start entries client right.Write address.0 (length bytes) → ⊥) →
         owed start entries (HostWrite client address bytes) ≡ refuses (refusal.Denied right.Write) }
     ensures change { (start : Start) (entries : List Entry) (client : ClientId) (signal : SignalHandle) (operation : SignalOp) →
-        declares_client start.policy client ≡ true → in_force start entries client (object.Signal signal) right.Change ≡ false →
+        knows_client (rules_of start.policy) client ≡ true → in_force start entries client (object.Signal signal) right.Change ≡ false →
         owed start entries (ChangeSignal client signal operation) ≡ refuses (refusal.Denied right.Change) }
     ensures opening { (start : Start) (entries : List Entry) (client : ClientId) (agent : AgentHandle) (size : ℕ) →
-        declares_client start.policy client ≡ true → in_force start entries client (object.Agent agent) right.Use ≡ false →
+        knows_client (rules_of start.policy) client ≡ true → in_force start entries client (object.Agent agent) right.Use ≡ false →
         owed start entries (OpenQueue client agent size) ≡ refuses (refusal.Denied right.Use) }
     ensures read { (start : Start) (entries : List Entry) (client : ClientId) (address : Address) (size : ℕ) →
-        declares_client start.policy client ≡ true → is_host_size size ≡ true → (MayReach start entries client right.Read address.0 size → ⊥) →
+        knows_client (rules_of start.policy) client ≡ true → is_host_size size ≡ true → (MayReach start entries client right.Read address.0 size → ⊥) →
         query_answer start entries (query.HostRead client address size) ≡ Err (refusal.Denied right.Read) }
     ensures load { (start : Start) (entries : List Entry) (client : ClientId) (signal : SignalHandle) →
-        declares_client start.policy client ≡ true → in_force start entries client (object.Signal signal) right.Wait ≡ false →
+        knows_client (rules_of start.policy) client ≡ true → in_force start entries client (object.Signal signal) right.Wait ≡ false →
         query_answer start entries (query.LoadSignal client signal) ≡ Err (refusal.Denied right.Wait) }
     ensures test { (start : Start) (entries : List Entry) (client : ClientId) (signal : SignalHandle) (condition : Condition) (value : ℤ) →
-        declares_client start.policy client ≡ true → in_force start entries client (object.Signal signal) right.Wait ≡ false →
+        knows_client (rules_of start.policy) client ≡ true → in_force start entries client (object.Signal signal) right.Wait ≡ false →
         query_answer start entries (query.TestSignal client signal condition value) ≡ Err (refusal.Denied right.Wait) }
 {}
 

@@ -9,6 +9,7 @@ pub mod Table
 pub mod Kernel
 pub mod Rules
 pub mod Policy
+pub mod Results
 pub mod Reading
 pub mod Limits
 pub mod Inside

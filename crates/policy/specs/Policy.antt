@@ -52,22 +52,6 @@ name_in policy object = numbered (names_of policy (kind_of object)) (number_of o
 abbrev pub row_of : {X : Type 0} → List (Name × X) → ℕ → Option X
 row_of rows n = option_map (λ row. row.1) (numbered rows n)
 
--- which dispatches the agent with a number takes
-abbrev pub takes_of : Declared → ℕ → Option Takes
-takes_of policy n = row_of policy.agents n
-
--- the length of the region with a number
-abbrev pub length_of : Declared → ℕ → Option ℕ
-length_of policy n = row_of policy.regions n
-
--- the value with which the signal with a number begins
-abbrev pub initial_of : Declared → ℕ → Option ℤ
-initial_of policy n = row_of policy.signals n
-
--- the source of the kernel with a number
-abbrev pub source_of : Declared → ℕ → Option Source
-source_of policy n = row_of policy.kernels n
-
 -- ---- what is allowed
 
 -- the rules of a policy
@@ -80,23 +64,3 @@ rules_of policy = record {
   kernels = length policy.kernels;
   allows = policy.allows;
 }
-
--- how many objects of a kind there are
-abbrev pub count_of : Declared → Kind → ℕ
-count_of policy = count (rules_of policy)
-
--- the policy declares the client
-abbrev pub declares_client : Declared → ClientId → Bool
-declares_client policy = knows_client (rules_of policy)
-
--- the policy declares the object
-abbrev pub declares : Declared → Object → Bool
-declares policy = knows (rules_of policy)
-
--- some row covers the client, the object and the right
-abbrev pub allowed : Declared → ClientId → Object → Right → Bool
-allowed policy = by_rules.allowed (rules_of policy)
-
--- each right of the set is allowed
-abbrev pub allows : Declared → ClientId → Object → Rights → Bool
-allows policy = by_rules.allows (rules_of policy)

@@ -24,11 +24,6 @@ abbrev pub unless : {E : Type 0} → Bool → E → Result (Unit {0}) E
 unless true e = Ok tt
 unless false e = Err e
 
--- a reading, with its result seen by another view
-abbrev pub map_ok : {A B E : Type 0} → (A → B) → Result A E → Result B E
-map_ok f (Ok x) = Ok (f x)
-map_ok f (Err e) = Err e
-
 -- a fault before the arrays, and one in a row of an array
 abbrev pub fault_of_file : Cause → PolicyFault
 fault_of_file cause = record { cause = cause; kind = None; row = 0 }

@@ -6,7 +6,8 @@ ghost use Rattle.policy.specs.declared.limits.TheConstants.{MOST_ALLOW_ROWS, MOS
 ghost use Rattle.policy.specs.Object.{kind_of, number_of};
 ghost use Rattle.policy.specs.Limits.{IsWithinLimits};
 ghost use Rattle.policy.specs.Names.{AreDistinct};
-ghost use Rattle.policy.specs.Policy.{names, numbered, number_in, names_of, name_in, count_of, takes_of, length_of, initial_of, source_of, declares_client, declares, allows};
+ghost use Rattle.policy.specs.Policy.{names, numbered, number_in, names_of, name_in, row_of, rules_of};
+ghost use Rattle.policy.specs.Rules.{allows, count, knows, knows_client};
 
 use crate::coverage::rows_allow;
 use crate::kernel_source::KernelSource;
@@ -113,7 +114,7 @@ impl Policy {
 
     /// How many objects of a kind there are.
     pub fn object_count(&self, kind: Kind) -> usize
-        ensures count { result ≡ count_of self.now kind }
+        ensures count { result ≡ count (rules_of self.now) kind }
         ensures bound { result ≤ MOST_SIGNALS }
         ensures limits { IsWithinLimits self.now }
     {
@@ -127,14 +128,14 @@ impl Policy {
 
     /// Whether a client is one of the policy's.
     pub fn declares_client(&self, client: ClientId) -> bool
-        ensures { result ≡ declares_client self.now client }
+        ensures { result ≡ knows_client (rules_of self.now) client }
     {
         1 <= client.0 && client.0 as usize <= self.client_count()
     }
 
     /// Whether an object is one of the policy's.
     pub fn declares(&self, object: Object) -> bool
-        ensures { result ≡ declares self.now object }
+        ensures { result ≡ knows (rules_of self.now) object }
     {
         1 <= object.number() && object.number() <= self.object_count(object.kind()) as u64
     }
@@ -184,28 +185,28 @@ impl Policy {
 
     /// Which dispatches an agent takes, if it is one of the policy's.
     pub fn takes(&self, agent: AgentHandle) -> Option<Takes>
-        ensures { result ≡ takes_of self.now agent.0 }
+        ensures { result ≡ row_of self.now.agents agent.0 }
     {
         self.agents.get(agent.0 as u64).copied()
     }
 
     /// The length of a region in bytes, if it is one of the policy's.
     pub fn region_length(&self, region: RegionHandle) -> Option<u32>
-        ensures { result ≡ length_of self.now region.0 }
+        ensures { result ≡ row_of self.now.regions region.0 }
     {
         self.regions.get(region.0 as u64).copied()
     }
 
     /// The value with which a signal begins, if it is one of the policy's.
     pub fn signal_initial(&self, signal: SignalHandle) -> Option<i64>
-        ensures { result ≡ initial_of self.now signal.0 }
+        ensures { result ≡ row_of self.now.signals signal.0 }
     {
         self.signals.get(signal.0).copied()
     }
 
     /// The source of a kernel, if it is one of the policy's.
     pub fn kernel_source(&self, kernel: KernelObject) -> Option<&KernelSource>
-        ensures { option_copied result ≡ source_of self.now kernel.0 }
+        ensures { option_copied result ≡ row_of self.now.kernels kernel.0 }
     {
         self.kernels.get(kernel.0)
     }
@@ -235,7 +236,7 @@ impl Policy {
     /// Whether the policy allows each of some rights to a client on an object: for each of them
     /// some allow row covers the client, the object and the right.
     pub fn allows(&self, client: ClientId, object: Object, rights: Rights) -> bool
-        ensures { result ≡ allows self.now client object rights }
+        ensures { result ≡ allows (rules_of self.now) client object rights }
     {
         rows_allow(self.allow_rows(), client, object, rights)
     }

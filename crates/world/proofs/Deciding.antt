@@ -26,9 +26,11 @@ use Rattle.core_model.specs.History.{Start, History}
 use Rattle.core_model.specs.Flight.{flight_of}
 use Rattle.core_model.specs.LaunchRules.{first_failing_rule, cause_to_wait}
 use Rattle.core_model.specs.Queues.{Opening, is_down, next_id, owner}
-use Rattle.core_model.specs.Owed.{Owed, owed, refuses, answers, enters, owed_verdict, error_without_place, facts_of, for_some, owed_take, refuse_if, refuse_unless}
+use Rattle.core_model.specs.Owed.{Owed, owed, refuses, answers, enters, owed_verdict, error_without_place, facts_of, owed_take}
+use Rattle.core_model.specs.Refusals.{for_some, refuse_unless}
 use Rattle.core_model.specs.Legal as cores_law
-use Rattle.core_model.specs.Legal.{MeetsOrLacks, due, entry_of, history_after, reply_of, as_variant}
+use Rattle.policy.specs.Results.{map_ok}
+use Rattle.core_model.specs.Legal.{MeetsOrLacks, due, entry_of, history_after, reply_of}
 use Rattle.core_model.proofs.More.{next_id-more}
 use Rattle.core_model.proofs.Entered.{take-decided}
 use Rattle.ring_core.specs.declared.access.Access.{Access}
@@ -121,11 +123,11 @@ module _ (core : History) (rings : List QueueRing) (h : IsJoined (World core rin
 
 -- ---- takes
 
-through_unless : (b : Bool) (why : cores.Refusal) (rest : Owed) (told : Outcome) → refuse_unless b why rest ≡ answers told → rest ≡ answers told
+through_unless : (b : Bool) (why : cores.Refusal) (rest : Owed) (told : Outcome) → refuse_unless b (refuses why) rest ≡ answers told → rest ≡ answers told
 through_unless true why rest told is = is
 through_unless false why rest told is = absurd (cc)
 
-through_if : (b : Bool) (why : cores.Refusal) (rest : Owed) (told : Outcome) → refuse_if b why rest ≡ answers told → rest ≡ answers told
+through_if : (b : Bool) (why : cores.Refusal) (rest : Owed) (told : Outcome) → (if b then refuses why else rest) ≡ answers told → rest ≡ answers told
 through_if true why rest told is = absurd (cc)
 through_if false why rest told is = is
 
@@ -139,7 +141,7 @@ take_waits : (start : Start) (es : List Entry) (queue : QueueId) (id : PacketId)
 unfolding owed
 take_waits start es queue id bytes told = by_owner (owner start es queue)
   where
-    by_owner : (o : Option Opening) → for_some o refusal.UnknownQueue (owed_take start es queue id bytes) ≡ answers told → (c : Cause) × (told ≡ outcome.Taken (taken.Waiting c))
+    by_owner : (o : Option Opening) → for_some o (refuses refusal.UnknownQueue) (owed_take start es queue id bytes) ≡ answers told → (c : Cause) × (told ≡ outcome.Taken (taken.Waiting c))
     by_owner None is = absurd (cc)
     by_owner (Some opening) is =
         let one = through_if (is_down start es queue) refusal.QueueDown _ told is in
@@ -148,7 +150,7 @@ take_waits start es queue id bytes told = by_owner (owner start es queue)
 
 -- a hand-over that leaves an entry decides
 decides : (queue : QueueId) (id : ℕ) (verdict : Option Rule) (became : Result Taken cores.Refusal) (told : Outcome)
-    → told ≡ elim verdict [ None ↦ outcome.Taken taken.Launched | Some rule ↦ outcome.Taken (taken.Denied (error_without_place queue id rule)) ] → as_variant outcome.Taken became ≡ Ok told
+    → told ≡ elim verdict [ None ↦ outcome.Taken taken.Launched | Some rule ↦ outcome.Taken (taken.Denied (error_without_place queue id rule)) ] → map_ok outcome.Taken became ≡ Ok told
     → (r : QueueRing) → (ring_taken r became ≡ record { ring = r.ring; decided = true })
 decides queue id None (Ok taken.Launched) told is made r = refl
 decides queue id None (Ok (taken.Denied error)) told is made r = refl
@@ -159,13 +161,13 @@ decides queue id (Some rule) (Ok (taken.Denied error)) told is made r = refl
 decides queue id (Some rule) (Ok (taken.Waiting cause)) told is made r = absurd (cc)
 decides queue id (Some rule) (Err why) told is made r = absurd (cc)
 
-waits_stay : (r : QueueRing) (became : Result Taken cores.Refusal) (c : Cause) → as_variant outcome.Taken became ≡ Ok (outcome.Taken (taken.Waiting c)) → ring_taken r became ≡ r
+waits_stay : (r : QueueRing) (became : Result Taken cores.Refusal) (c : Cause) → map_ok outcome.Taken became ≡ Ok (outcome.Taken (taken.Waiting c)) → ring_taken r became ≡ r
 waits_stay r (Ok taken.Launched) c is = absurd (cc)
 waits_stay r (Ok (taken.Denied error)) c is = absurd (cc)
 waits_stay r (Ok (taken.Waiting cause)) c is = refl
 waits_stay r (Err why) c is = absurd (cc)
 
-refused_stays : (r : QueueRing) (became : Result Taken cores.Refusal) (why : cores.Refusal) → as_variant outcome.Taken became ≡ Err why → ring_taken r became ≡ r
+refused_stays : (r : QueueRing) (became : Result Taken cores.Refusal) (why : cores.Refusal) → map_ok outcome.Taken became ≡ Err why → ring_taken r became ≡ r
 refused_stays r (Ok became) why is = absurd (cc)
 refused_stays r (Err other) why is = refl
 
@@ -178,7 +180,7 @@ module _ (core : History) (rings : List QueueRing) (h : IsJoined (World core rin
   unmoved became is =
       decided_put core core rings queue r (ring_taken r became) found (subst (λ (x : QueueRing). x.decided ≡ is_decided core queue x.ring) (sym is) (d queue r found)) (λ other apart. refl) d
 
-  by_owing : (became : Result Taken cores.Refusal) (owing : Owed) → due core Taking ≡ owing → as_variant outcome.Taken became ≡ reply_of owing → AreDecided (history_after core Taking owing) (with_queue_ring rings queue (ring_taken r became))
+  by_owing : (became : Result Taken cores.Refusal) (owing : Owed) → due core Taking ≡ owing → map_ok outcome.Taken became ≡ reply_of owing → AreDecided (history_after core Taking owing) (with_queue_ring rings queue (ring_taken r became))
   by_owing became (refuses why) is made = unmoved became (refused_stays r became why made)
   by_owing became (answers told) is made =
       let waits = take_waits core.start core.entries queue (record { 0 = read_index r.ring }) (bytes_of words) told (due_answers core Taking told is) in
@@ -200,7 +202,7 @@ module _ (core : History) (rings : List QueueRing) (h : IsJoined (World core rin
       next_id-more core.start core.entries entry other ∙ ap (λ b. if b then next_id core.start core.entries other + 1 else next_id core.start core.entries other) differs)
       d
 
-  handed_decided : (core' : History) (became : Result Taken cores.Refusal) → MeetsOrLacks Taking core core' (as_variant outcome.Taken became) → AreDecided core' (with_queue_ring rings queue (ring_taken r became))
+  handed_decided : (core' : History) (became : Result Taken cores.Refusal) → MeetsOrLacks Taking core core' (map_ok outcome.Taken became) → AreDecided core' (with_queue_ring rings queue (ring_taken r became))
   handed_decided core' became (inl m) =
       subst (λ (x : History). AreDecided x (with_queue_ring rings queue (ring_taken r became))) (sym m.history_is) (by_owing became (due core Taking) refl m.reply_is)
   handed_decided core' became (inr l) =
@@ -256,7 +258,7 @@ module _ (core core' : History) (rings new : List QueueRing) (h : IsJoined (Worl
   opening_decided : (client : ClientId) (agent : AgentHandle) (size producers : ℕ) → Opens client agent size producers core rings reply core' new → AreDecided core' new
   opening_decided client agent size producers (made, meets, told, put) = subst (AreDecided core') (sym put) (opened_decided size producers made (by_due meets))
     where
-      by_due : MeetsOrLacks (OpenQueue client agent (asked_size size producers)) core core' (as_variant outcome.Opened made) → (queue : QueueId) → next_id core'.start core'.entries queue ≡ next_id core.start core.entries queue
+      by_due : MeetsOrLacks (OpenQueue client agent (asked_size size producers)) core core' (map_ok outcome.Opened made) → (queue : QueueId) → next_id core'.start core'.entries queue ≡ next_id core.start core.entries queue
       by_due (inl m) queue = ap (λ (x : History). next_id x.start x.entries queue) m.history_is ∙ opening_next core client agent (asked_size size producers) (due core (OpenQueue client agent (asked_size size producers))) queue
       by_due (inr l) queue = ap (λ (x : History). next_id x.start x.entries queue) l.history_is
 

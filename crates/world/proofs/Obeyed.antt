@@ -14,7 +14,8 @@ use Rattle.core_model.specs.declared.outcome.Taken.TheVariants as taken
 use Rattle.core_model.specs.declared.refusal.Refusal as cores
 use Rattle.core_model.specs.History.{History}
 use Rattle.core_model.specs.Legal as cores_law
-use Rattle.core_model.specs.Legal.{MeetsOrLacks, as_reply, due, reply_of, as_variant}
+use Rattle.policy.specs.Results.{map_ok}
+use Rattle.core_model.specs.Legal.{MeetsOrLacks, as_reply, due, reply_of}
 use Rattle.ring_core.specs.declared.access.Step.{Step}
 use Rattle.ring_core.specs.Parts.{collected_packet}
 use Rattle.ring_core.specs.Machine.{made, read_index}
@@ -71,7 +72,7 @@ module _ (core core' : History) (old new : List QueueRing) (decided : AreDecided
 
   -- ---- takes
 
-  told_as : (id : ℕ) (became : Result Taken cores.Refusal) → told_taken id became ≡ taken_reply id (as_variant outcome.Taken became)
+  told_as : (id : ℕ) (became : Result Taken cores.Refusal) → told_taken id became ≡ taken_reply id (map_ok outcome.Taken became)
   told_as id (Ok became) = refl
   told_as id (Err why) = refl
 
@@ -92,7 +93,7 @@ module _ (core core' : History) (old new : List QueueRing) (decided : AreDecided
           kept : rings_of new ≡ rings_of old
           kept = ap rings_of put ∙ map_same (λ (x : QueueRing). x.ring) old (queue.0 - 1) r (ring_taken r became) (numbered_place old queue.0 r found).1 (same_ring r became)
 
-          by_due : MeetsOrLacks (taking queue (read_index r.ring) words) core core' (as_variant outcome.Taken became)
+          by_due : MeetsOrLacks (taking queue (read_index r.ring) words) core core' (map_ok outcome.Taken became)
               → Meets (World core old) (due_collected (World core old) queue (read_index r.ring) (Some words)) reply (World core' new)
           by_due (inl m) = inl (told ∙ told_as (read_index r.ring) became ∙ ap (taken_reply (read_index r.ring)) m.reply_is, λ i. joined (m.history_is i) (kept i))
           by_due (inr l) = inr (l.may, told ∙ told_as (read_index r.ring) became ∙ ap (taken_reply (read_index r.ring)) l.reply_is, λ i. joined (l.history_is i) (kept i))
@@ -107,11 +108,11 @@ module _ (core core' : History) (old new : List QueueRing) (decided : AreDecided
 
   -- ---- openings
 
-  opened_as : (made : Result QueueId cores.Refusal) → told_opened made ≡ of_core (as_reply (as_variant outcome.Opened made))
+  opened_as : (made : Result QueueId cores.Refusal) → told_opened made ≡ of_core (as_reply (map_ok outcome.Opened made))
   opened_as (Ok queue) = refl
   opened_as (Err why) = refl
 
-  rings_as : (size producers : ℕ) (made : Result QueueId cores.Refusal) → rings_of (rings_opened old size producers made) ≡ rings_after (rings_of old) size producers (as_variant outcome.Opened made)
+  rings_as : (size producers : ℕ) (made : Result QueueId cores.Refusal) → rings_of (rings_opened old size producers made) ≡ rings_after (rings_of old) size producers (map_ok outcome.Opened made)
   rings_as size producers (Ok queue) = map_more (λ (r : QueueRing). r.ring) old (new_ring size producers)
   rings_as size producers (Err why) = refl
 
@@ -119,7 +120,7 @@ module _ (core core' : History) (old new : List QueueRing) (decided : AreDecided
       → IsServed (World core old) (request.OpenQueue client agent size producers) reply (World core' new)
   opening_served client agent size producers (made, meets, told, put) = by_due meets
     where
-      by_due : MeetsOrLacks (OpenQueue client agent (asked_size size producers)) core core' (as_variant outcome.Opened made)
+      by_due : MeetsOrLacks (OpenQueue client agent (asked_size size producers)) core core' (map_ok outcome.Opened made)
           → IsServed (World core old) (request.OpenQueue client agent size producers) reply (World core' new)
       by_due (inl m) =
           let rings : rings_of new ≡ rings_after (rings_of old) size producers (reply_of (due core (OpenQueue client agent (asked_size size producers)))) =

@@ -7,7 +7,8 @@ use Rattle.aql_packet.specs.declared.ids.ClientId.{ClientId}
 use Rattle.aql_packet.specs.declared.ids.QueueId.{QueueId}
 use Rattle.policy.specs.declared.object.Object.TheVariants as object
 use Rattle.policy.specs.declared.rights.Right.TheVariants as right
-use Rattle.policy.specs.Policy.{declares_client, numbered}
+use Rattle.policy.specs.Rules.{knows_client}
+use Rattle.policy.specs.Policy.{numbered, rules_of}
 use Rattle.core_model.specs.declared.event.Event.{Event}
 use Rattle.core_model.specs.declared.event.Event.TheVariants.{OpenQueue}
 use Rattle.core_model.specs.declared.entry.Entry.{Entry}
@@ -19,7 +20,8 @@ use Rattle.core_model.specs.declared.refusal.Refusal.{Refusal}
 use Rattle.core_model.specs.History.{Start, History}
 use Rattle.core_model.specs.Grants.{in_force}
 use Rattle.core_model.specs.Queues.{openings}
-use Rattle.core_model.specs.Owed.{Owed, owed, refuses, answers, enters, refuse_if, refuse_unless}
+use Rattle.core_model.specs.Owed.{Owed, owed, refuses, answers, enters}
+use Rattle.core_model.specs.Refusals.{refuse_unless}
 use Rattle.core_model.specs.Legal.{IsLegal, due, entry_of, history_after, reply_of}
 use Rattle.core_model.proofs.More.{next_id-more, openings-more}
 use Rattle.ring_core.specs.Machine as machine
@@ -38,11 +40,11 @@ use Rattle.world.proofs.Joining.{stands_along}
 
 -- ---- what an opening is owed
 
-through_unless : (b : Bool) (why : Refusal) (rest owing : Owed) → ((w : Refusal) → owing ≢ refuses w) → refuse_unless b why rest ≡ owing → (b ≡ true) × (rest ≡ owing)
+through_unless : (b : Bool) (why : Refusal) (rest owing : Owed) → ((w : Refusal) → owing ≢ refuses w) → refuse_unless b (refuses why) rest ≡ owing → (b ≡ true) × (rest ≡ owing)
 through_unless true why rest owing some is = (refl, is)
 through_unless false why rest owing some is = absurd (some why (sym is))
 
-through_if : (b : Bool) (why : Refusal) (rest owing : Owed) → ((w : Refusal) → owing ≢ refuses w) → refuse_if b why rest ≡ owing → rest ≡ owing
+through_if : (b : Bool) (why : Refusal) (rest owing : Owed) → ((w : Refusal) → owing ≢ refuses w) → (if b then refuses why else rest) ≡ owing → rest ≡ owing
 through_if true why rest owing some is = absurd (some why (sym is))
 through_if false why rest owing some is = is
 
@@ -51,7 +53,7 @@ pub opening_owed : (start : Start) (es : List Entry) (client : ClientId) (agent 
     → (is_ring_size size ≡ true) × (enters (outcome.Opened (record { 0 = length (openings start es) + 1 })) [] ≡ owing)
 unfolding owed
 opening_owed start es client agent size owing some is =
-    let one = through_unless (declares_client start.policy client) _ _ owing some is in
+    let one = through_unless (knows_client (rules_of start.policy) client) _ _ owing some is in
     let two = through_unless (in_force start es client (object.Agent agent) right.Use) _ _ owing some one.1 in
     let three = through_unless (is_ring_size size) _ _ owing some two.1 in
     (three.0, through_if (nat_le QUEUES (length (openings start es))) _ _ owing some three.1)

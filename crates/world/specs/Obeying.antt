@@ -14,7 +14,8 @@ use Rattle.core_model.specs.declared.outcome.Taken.TheVariants as taken
 use Rattle.core_model.specs.declared.refusal.Refusal as cores
 use Rattle.core_model.specs.declared.refusal.Refusal.TheVariants as why
 use Rattle.core_model.specs.History.{History}
-use Rattle.core_model.specs.Legal.{MeetsOrLacks, due, may_lack, as_variant}
+use Rattle.policy.specs.Results.{map_ok}
+use Rattle.core_model.specs.Legal.{MeetsOrLacks, due, may_lack}
 use Rattle.core_model.specs.Queries.{AnswerOrRefusal}
 use Rattle.core_model.specs.Legal as cores_law
 use Rattle.ring_core.specs.Parts.{collected_packet}
@@ -69,7 +70,7 @@ RingFollows (Some r) queue became old new = new ≡ with_queue_ring old queue (d
 abbrev pub HandsOver : Option (List ℕ) → QueueRing → QueueId → History → List QueueRing → Reply → History → List QueueRing → Type 0
 HandsOver None r queue core old reply core' new = (reply ≡ Err refusal.NotAStep) × (core' ≡ core) × (new ≡ old)
 HandsOver (Some words) r queue core old reply core' new =
-    (became : Result Taken cores.Refusal) × MeetsOrLacks (taking queue (read_index r.ring) words) core core' (as_variant outcome.Taken became)
+    (became : Result Taken cores.Refusal) × MeetsOrLacks (taking queue (read_index r.ring) words) core core' (map_ok outcome.Taken became)
     × (reply ≡ told_taken (read_index r.ring) became) × (new ≡ with_queue_ring old queue (ring_taken r became))
 
 abbrev pub TakesAt : Option QueueRing → QueueId → History → List QueueRing → Reply → History → List QueueRing → Type 0
@@ -97,7 +98,7 @@ MayOpen core client agent size producers =
 -- a queue was opened with its ring, or refused by the core
 abbrev pub Opens : ClientId → AgentHandle → ℕ → ℕ → History → List QueueRing → Reply → History → List QueueRing → Type 0
 Opens client agent size producers core old reply core' new =
-    (made : Result QueueId cores.Refusal) × MeetsOrLacks (OpenQueue client agent (asked_size size producers)) core core' (as_variant outcome.Opened made)
+    (made : Result QueueId cores.Refusal) × MeetsOrLacks (OpenQueue client agent (asked_size size producers)) core core' (map_ok outcome.Opened made)
     × (reply ≡ told_opened made) × (new ≡ rings_opened old size producers made)
 
 -- the core served a request, and told this

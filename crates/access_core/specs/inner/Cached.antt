@@ -6,14 +6,14 @@ use Rattle.aql_packet.specs.declared.ids.QueueId.{QueueId}
 use Rattle.aql_packet.specs.declared.ids.PacketId.{PacketId}
 use Rattle.policy.specs.declared.object.Object.{Object}
 use Rattle.policy.specs.declared.rights.Right.{Right}
-use Rattle.policy.specs.Policy.{numbered, rules_of}
+use Rattle.policy.specs.Policy.{numbered, rules_of, region_lengths}
 use Rattle.regions.specs.Memory.{byte_at, lengths_of, lies_in_region}
 use Rattle.sequences.specs.Room.{Roomy}
 use Rattle.core_model.specs.declared.entry.Entry.{Entry}
 use Rattle.core_model.specs.declared.limits.TheConstants.{MOST_ENTRIES, QUEUES}
 use Rattle.core_model.specs.History.{Start, History}
 use Rattle.core_model.specs.Grants.{in_force}
-use Rattle.core_model.specs.Memory.{memory_at, signals, region_lengths}
+use Rattle.core_model.specs.Memory.{memory_at, signals}
 use Rattle.core_model.specs.Queues.{openings, owner}
 use Rattle.core_model.specs.Flight.{flight}
 use Rattle.core_model.specs.Holds.{arguments, packet_rights}
@@ -22,7 +22,7 @@ use Rattle.core_model.specs.Legal.{IsLegal}
 use Rattle.access_core.specs.declared.access.AccessCore.TheInside.{Inside}
 use Rattle.grants.specs.Ledger as ledger
 use Rattle.grants.specs.Ledger.{Ledger}
-use Rattle.access_core.specs.ArgumentBlocks.{AreBlocksOf, block_of}
+use Rattle.access_core.specs.inner.ArgumentBlocks.{AreBlocksOf, block_of}
 use Rattle.access_core.specs.Cores.{Core, TablePlaces, places_of}
 use Rattle.access_core.specs.declared.argument_blocks.ArgumentBlock.{ArgumentBlock}
 use Rattle.access_core.specs.declared.queue.Queue.{Queue}
@@ -82,8 +82,8 @@ pub record IsCached (a : Inside) : Type 0 where
   pub entries : All (λ kernel. has_entry kernel ≡ true) a.kernels.items
   pub segments : a.segments ≡ map segments_of (map program_of a.kernels.items)
   -- the regions' lengths, and each byte in them
-  pub lengths : lengths_of a.memory ≡ region_lengths (start_of a)
-  pub memory : (x : ℕ) → lies_in_region (region_lengths (start_of a)) x ≡ true → byte_at a.memory x ≡ Some (memory_at (start_of a) a.audit.items x)
+  pub lengths : lengths_of a.memory ≡ region_lengths a.policy
+  pub memory : (x : ℕ) → lies_in_region (region_lengths a.policy) x ≡ true → byte_at a.memory x ≡ Some (memory_at (start_of a) a.audit.items x)
   -- the signals' values
   pub values : a.signals ≡ signals (start_of a) a.audit.items
   -- the queues
@@ -93,7 +93,7 @@ pub record IsCached (a : Inside) : Type 0 where
   pub few_queues : length a.queues.items ≤ QUEUES
   -- how many packets are in flight, each with all its ranges within regions
   pub flying : a.flying ≡ length (flight (start_of a) a.audit.items)
-  pub within : All (λ f. lies_in_regions (region_lengths (start_of a)) f.packet ≡ true) (flight (start_of a) a.audit.items)
+  pub within : All (λ f. lies_in_regions (region_lengths a.policy) f.packet ≡ true) (flight (start_of a) a.audit.items)
   -- room for an entry of each packet in flight, and memory for as many entries as there may be
   pub room : length a.audit.items + a.flying ≤ a.capacity
   pub places : a.capacity ≡ length a.audit.items + a.audit.room

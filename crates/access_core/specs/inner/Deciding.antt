@@ -7,7 +7,7 @@ use Rattle.core_model.specs.declared.event.Event.TheVariants.{Take}
 use Rattle.core_model.specs.declared.outcome.Outcome.TheVariants as outcome
 use Rattle.core_model.specs.declared.outcome.Taken.TheVariants.{Launched, Denied, Waiting}
 use Rattle.core_model.specs.History.{History}
-use Rattle.core_model.specs.Memory.{region_lengths}
+use Rattle.policy.specs.Policy.{region_lengths}
 use Rattle.core_model.specs.Queues.{Opening, owner, is_down}
 use Rattle.core_model.specs.Flight.{flight_of}
 use Rattle.core_model.specs.Owed.{answers, enters, error_without_place}
@@ -58,7 +58,7 @@ Decides history queue id bytes (Deny rule) =
     × TakesNext history queue
 Decides history queue id bytes (Launch launching) =
     (due history (Take queue id bytes) ≡ enters (outcome.Taken Launched) [])
-    × (decoded bytes ≡ Some launching.packet) × (lies_in_regions (region_lengths history.start) launching.packet ≡ true) × TakesNext history queue
+    × (decoded bytes ≡ Some launching.packet) × (lies_in_regions (region_lengths history.start.policy) launching.packet ≡ true) × TakesNext history queue
     × (owner history.start history.entries queue ≡ Some (opening_of launching)) × MayHold history (opening_of launching) launching.packet
 
 -- the core's refusal where a change of grants is refused

@@ -14,7 +14,8 @@ use Rattle.aql_packet.specs.declared.packet.Packet.TheVariants as packet
 use Rattle.core_model.specs.LaunchRules.{has_sizes}
 use Rattle.core_model.specs.Queues.{Opening, owner}
 use Rattle.core_model.specs.Flight.{in_flight, progress}
-use Rattle.core_model.specs.Memory.{byte_after, region_lengths, signals}
+use Rattle.policy.specs.Policy.{region_lengths}
+use Rattle.core_model.specs.Memory.{byte_after, signals}
 use Rattle.core_model.specs.Owed.{Owed, refuses, enters, completion_of, for_packet}
 use Rattle.packet_processor.specs.declared.places.Place.{Place}
 
@@ -46,7 +47,7 @@ is_placed lengths address size = size == 0 || is_within lengths address size
 
 -- bytes have their place in the memory of a history
 abbrev pub IsPlaced : History → ℕ → ℕ → Type 0
-IsPlaced history address size = is_placed (region_lengths history.start) address size ≡ true
+IsPlaced history address size = is_placed (region_lengths history.start.policy) address size ≡ true
 
 -- the new memory is the old one with these changes laid over in order
 abbrev pub IsChanged : List (List ℕ) → List Effect → List (List ℕ) → Type 0

@@ -7,7 +7,8 @@ use Rattle.core_model.specs.declared.flight.InFlight.{InFlight}
 use Rattle.core_model.specs.Flight.{in_flight}
 use Rattle.core_model.specs.History.{History, Start}
 use Rattle.core_model.specs.Holds.{ObjectRight}
-use Rattle.core_model.specs.Memory.{memory_from, region_lengths}
+use Rattle.policy.specs.Policy.{region_lengths}
+use Rattle.core_model.specs.Memory.{memory_from}
 use Rattle.core_model.specs.View.{HeldRegion, first_address, given, group_input, held_region, held_regions}
 use Rattle.core_model.specs.declared.entry.Entry.{Entry}
 use Rattle.aql_packet.specs.declared.packet.KernelDispatch.{KernelDispatch}
@@ -42,7 +43,7 @@ view_whole start entries all = map (lent_whole start entries) (held_regions star
 
 -- the region of a number, which counts from 1, with the rights that are held on it
 abbrev pub region_numbered : Start → List ObjectRight → ℕ → HeldRegion
-region_numbered start all number = held_region all (number, region_length (region_lengths start) number)
+region_numbered start all number = held_region all (number, region_length (region_lengths start.policy) number)
 
 -- a region as it is lent, if a right is held on it
 abbrev pub lent_if_held : Start → List Entry → HeldRegion → Option LentRegion

@@ -4,8 +4,10 @@ ghost use Rattle.std.specs.Prelude.{◌≡◌, ◌-◌, ◌∷◌, [], OnOk, IfO
 ghost use Rattle.regions.specs.Memory.{is_within};
 ghost use Rattle.signals.specs.Values.{applied, value_of};
 ghost use Rattle.core_model.specs.Owed.{enters, old_if_asked, refuses};
-ghost use Rattle.core_model.specs.Legal.{Meets, MeetsOrLacks, as_accepted, due, as_variant};
-ghost use Rattle.core_model.specs.Memory.{region_lengths, signals};
+ghost use Rattle.policy.specs.Results.{map_ok};
+ghost use Rattle.core_model.specs.Legal.{Meets, MeetsOrLacks, as_accepted, due};
+ghost use Rattle.policy.specs.Policy.{region_lengths};
+ghost use Rattle.core_model.specs.Memory.{signals};
 
 use crate::access::{AccessCore, enter};
 use aql_packet::{Address, ClientId, SignalHandle};
@@ -25,7 +27,7 @@ impl AccessCore {
         signal: SignalHandle,
         operation: SignalOp,
     ) -> Result<i64, Refusal>
-        ensures met { Meets (Event.ChangeSignal client signal operation) self.old.history self.new.history (as_variant Outcome.Changed result) }
+        ensures met { Meets (Event.ChangeSignal client signal operation) self.old.history self.new.history (map_ok Outcome.Changed result) }
         ensures places { self.new.places ≡ self.old.places }
     {
         let old = self.may_change(client, signal, operation)?;
@@ -77,7 +79,7 @@ impl AccessCore {
         address: Address,
         bytes: &Sequence<u8>,
     ) -> Result<(), Refusal>
-        ensures within { OnOk result (is_within (region_lengths self.now.history.start) address.0 (length bytes.now) ≡ true) }
+        ensures within { OnOk result (is_within (region_lengths self.now.history.start.policy) address.0 (length bytes.now) ≡ true) }
         ensures may { OnOk result (due self.now.history (Event.HostWrite client address bytes.now)
             ≡ enters Outcome.Accepted (Effect.Write address bytes.now ∷ [])) }
         ensures why { IfErr result (λ why. due self.now.history (Event.HostWrite client address bytes.now) ≡ refuses why) }
@@ -102,7 +104,7 @@ impl AccessCore {
 
     // Whether a range of addresses lies whole in one region.
     pub(crate) fn lies_within(&self, address: Address, size: u64) -> bool
-        ensures { result ≡ is_within (region_lengths self.now.history.start) address.0 size }
+        ensures { result ≡ is_within (region_lengths self.now.history.start.policy) address.0 size }
     {
         self.memory.contains(address, size)
     }

@@ -7,8 +7,9 @@ ghost use Rattle.executor.specs.Results.{wrote};
 ghost use Rattle.regions.specs.Memory.{is_within};
 ghost use Rattle.core_model.specs.Kernels.{grid_size, group_size};
 ghost use Rattle.core_model.specs.LaunchRules.{has_sizes};
-ghost use Rattle.core_model.specs.Legal.{Meets, MeetsOrLacks, as_variant};
-ghost use Rattle.core_model.specs.Memory.{region_lengths};
+ghost use Rattle.policy.specs.Results.{map_ok};
+ghost use Rattle.core_model.specs.Legal.{Meets, MeetsOrLacks};
+ghost use Rattle.policy.specs.Policy.{region_lengths};
 ghost use Rattle.core_model.specs.Owed.{group_error, owed};
 ghost use Rattle.core_model.specs.Work.{groups_of};
 ghost use Rattle.access_core.specs.inner.InPlace.{IsInPlace};
@@ -38,7 +39,7 @@ impl AccessCore {
         requires found { IsInPlace self.old.history queue packet place }
         requires sized { has_sizes dispatch ≡ true }
         requires packet_is { place.packet ≡ kind.Kernel dispatch }
-        ensures met { MeetsOrLacks (Event.RunNext queue packet) self.old.history self.new.history (as_variant Outcome.Worked result) }
+        ensures met { MeetsOrLacks (Event.RunNext queue packet) self.old.history self.new.history (map_ok Outcome.Worked result) }
         ensures places { self.new.places ≡ self.old.places }
     {
         let count = group_count(&dispatch);
@@ -67,7 +68,7 @@ impl AccessCore {
         requires left { place.progress.groups_run < groups_of (kind.Kernel dispatch) }
         ensures ok { IfOk result (λ runs. next_result self.now.history queue packet place dispatch ≡ wrote runs) }
         ensures fault { IfErr result (FaultsAs (next_result self.now.history queue packet place dispatch)) }
-        ensures written { IfOk result (λ runs. All (λ run. is_within (region_lengths self.now.history.start) run.address (length run.bytes) ≡ true) runs) }
+        ensures written { IfOk result (λ runs. All (λ run. is_within (region_lengths self.now.history.start.policy) run.address (length run.bytes) ≡ true) runs) }
     {
         groups_read_where_they_may();
         self.regions_fit();

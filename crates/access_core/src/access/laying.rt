@@ -2,8 +2,9 @@
 
 ghost use Rattle.std.specs.Prelude.{◌≡◌, ◌∷◌, ◌-◌, ◌<◌, ◌^◌, All, IfOk, [], length, map, true};
 ghost use Rattle.regions.specs.Memory.{is_within, lengths_of};
-ghost use Rattle.core_model.specs.Legal.{MeetsOrLacks, as_variant};
-ghost use Rattle.core_model.specs.Memory.{region_lengths};
+ghost use Rattle.policy.specs.Results.{map_ok};
+ghost use Rattle.core_model.specs.Legal.{MeetsOrLacks};
+ghost use Rattle.policy.specs.Policy.{region_lengths};
 ghost use Rattle.core_model.specs.Owed.{enters, owed};
 ghost use Rattle.core_model.specs.Work.{write_of_run};
 ghost use Rattle.access_core.specs.inner.InPlace.{IsChanged, IsInPlace};
@@ -34,9 +35,9 @@ impl AccessCore {
         requires found { IsInPlace self.old.history queue packet place }
         requires owed { owed self.old.history.start self.old.history.entries (Event.RunNext queue packet)
             ≡ enters (Outcome.Worked (Worked.Ran place.progress.groups_run left)) (map write_of_run runs) }
-        requires written { All (λ run. is_within (region_lengths self.old.history.start) run.address (length run.bytes) ≡ true) runs }
+        requires written { All (λ run. is_within (region_lengths self.old.history.start.policy) run.address (length run.bytes) ≡ true) runs }
         requires room { place.progress.groups_run < 2 ^ 32 - 1 }
-        ensures met { MeetsOrLacks (Event.RunNext queue packet) self.old.history self.new.history (as_variant Outcome.Worked result) }
+        ensures met { MeetsOrLacks (Event.RunNext queue packet) self.old.history self.new.history (map_ok Outcome.Worked result) }
         ensures places { self.new.places ≡ self.old.places }
     {
         let changes = changes_of(alloc, runs)?;

@@ -1,12 +1,13 @@
 //! A core is opened.
 
 ghost use Rattle.std.specs.Prelude.{◌≡◌, ◌+◌, ◌<◌, All, IfOk, IfSome, IsTrue, Some, length, map, true};
-ghost use Rattle.policy.specs.Policy.{initial_of, initial_values, length_of, region_lengths};
+ghost use Rattle.policy.specs.Policy.{initial_values, region_lengths, row_of};
 ghost use Rattle.aql_packet.specs.Memory.{are_region_lengths};
 ghost use Rattle.regions.specs.Memory.{zeros};
 ghost use Rattle.core_model.specs.Kernels.{segments_of};
 ghost use Rattle.core_model.specs.Legal.{empty_history};
-ghost use Rattle.access_core.specs.Opening.{first_missing, has_entry, is_capacity, IsUntouched, open_fault, Opens, program_of};
+ghost use Rattle.access_core.specs.inner.Untouched.{IsUntouched};
+ghost use Rattle.access_core.specs.Opening.{first_missing, has_entry, is_capacity, open_fault, Opens, program_of};
 
 use crate::access::{AccessCore, OpenFault};
 use crate::argument_blocks::ArgumentBlocks;
@@ -158,7 +159,7 @@ fn region_lengths(alloc: Global, policy: &Policy) -> Result<Sequence<u32>, Alloc
 fn length_behind(policy: &Policy, before: usize) -> u32
     requires there { before < length policy.now.regions }
     requires small { before < 1024 }
-    ensures { length_of policy.now (before + 1) ≡ Some result }
+    ensures { row_of policy.now.regions (before + 1) ≡ Some result }
 {
     policy
         .region_length(RegionHandle(before as u32 + 1))
@@ -190,7 +191,7 @@ fn signal_values(alloc: Global, policy: &Policy) -> Result<Sequence<i64>, AllocE
 fn value_behind(policy: &Policy, before: usize) -> i64
     requires there { before < length policy.now.signals }
     requires small { before < 1024 }
-    ensures { initial_of policy.now (before + 1) ≡ Some result }
+    ensures { row_of policy.now.signals (before + 1) ≡ Some result }
 {
     policy
         .signal_initial(SignalHandle(before as u64 + 1))

@@ -8,7 +8,8 @@ ghost use Rattle.core_model.specs.LaunchRules.{is_barrier};
 ghost use Rattle.core_model.specs.Needs.{dependencies};
 ghost use Rattle.core_model.specs.Work.{is_negative, is_zero, signal_value};
 ghost use Rattle.core_model.specs.Owed.{owed_poll, refuses};
-ghost use Rattle.core_model.specs.Legal.{Meets, due, as_variant};
+ghost use Rattle.policy.specs.Results.{map_ok};
+ghost use Rattle.core_model.specs.Legal.{Meets, due};
 ghost use Rattle.access_core.specs.inner.QueueChanges.{CanFail, freed_by, with_failure, with_queue};
 ghost use Rattle.access_core.specs.inner.Polling.{look_owed, sight};
 ghost use Rattle.access_core.specs.inner.InPlace.{IsInPlace};
@@ -40,7 +41,7 @@ impl AccessCore {
     /// then on, whatever becomes of it (PSA, Architected Queuing Language: barrier packets). It takes
     /// no memory.
     pub fn poll(&mut self, queue: QueueId, packet: PacketId) -> Result<Polled, Refusal>
-        ensures met { Meets (Event.Poll queue packet) self.old.history self.new.history (as_variant Outcome.Polled result) }
+        ensures met { Meets (Event.Poll queue packet) self.old.history self.new.history (map_ok Outcome.Polled result) }
         ensures places { self.new.places ≡ self.old.places }
     {
         let (place, look) = self.may_poll(queue, packet)?;

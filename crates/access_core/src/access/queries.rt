@@ -2,7 +2,8 @@
 
 ghost use Rattle.std.specs.Prelude.{◌≡◌};
 ghost use Rattle.core_model.specs.declared.answer.Answer.TheVariants as answer;
-ghost use Rattle.core_model.specs.Legal.{IsLegal, Replies, RepliesOrLacks, as_variant};
+ghost use Rattle.policy.specs.Results.{map_ok};
+ghost use Rattle.core_model.specs.Legal.{IsLegal, Replies, RepliesOrLacks};
 ghost use Rattle.access_core.specs.Tables.{table_sizes};
 
 use crate::access::AccessCore;
@@ -56,7 +57,7 @@ impl AccessCore {
         length: u64,
     ) -> Result<Sequence<u8>, Refusal>
         ensures { RepliesOrLacks
-            (Query.HostRead client address length) self.now.history (as_variant answer.Bytes result) }
+            (Query.HostRead client address length) self.now.history (map_ok answer.Bytes result) }
     {
         if !self.policy().declares_client(client) {
             return Err(Refusal::UnknownClient);
@@ -79,7 +80,7 @@ impl AccessCore {
     /// wait on the signal isn't in force.
     #[tactic(auto, unfolding(core_model::specs::Queries::query_answer))]
     pub fn signal_load(&self, client: ClientId, signal: SignalHandle) -> Result<i64, Refusal>
-        ensures { Replies (Query.LoadSignal client signal) self.now.history (as_variant answer.Value result) }
+        ensures { Replies (Query.LoadSignal client signal) self.now.history (map_ok answer.Value result) }
     {
         if !self.policy().declares_client(client) {
             return Err(Refusal::UnknownClient);
@@ -103,7 +104,7 @@ impl AccessCore {
         value: i64,
     ) -> Result<bool, Refusal>
         ensures { Replies
-            (Query.TestSignal client signal condition value) self.now.history (as_variant answer.Test result) }
+            (Query.TestSignal client signal condition value) self.now.history (map_ok answer.Test result) }
     {
         let current = self.signal_load(client, signal)?;
         Ok(condition.is_met(current, value))
@@ -117,7 +118,7 @@ impl AccessCore {
         alloc: Global,
         client: ClientId,
     ) -> Result<Sequence<(Object, Rights)>, Refusal>
-        ensures { RepliesOrLacks (Query.List client) self.now.history (as_variant answer.Listing result) }
+        ensures { RepliesOrLacks (Query.List client) self.now.history (map_ok answer.Listing result) }
     {
         if !self.policy().declares_client(client) {
             return Err(Refusal::UnknownClient);
@@ -128,7 +129,7 @@ impl AccessCore {
     /// The errors of a queue, in order. Refused where no queue has the number.
     #[tactic(auto, unfolding(core_model::specs::Queries::query_answer))]
     pub fn errors(&self, alloc: Global, queue: QueueId) -> Result<Sequence<QueueError>, Refusal>
-        ensures { RepliesOrLacks (Query.Errors queue) self.now.history (as_variant answer.Errors result) }
+        ensures { RepliesOrLacks (Query.Errors queue) self.now.history (map_ok answer.Errors result) }
     {
         let Some(kept) = self.queue(queue) else {
             return Err(Refusal::UnknownQueue);

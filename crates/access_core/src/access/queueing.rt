@@ -4,7 +4,8 @@ ghost use Rattle.std.specs.Prelude.{◌≡◌, ◌<◌, [], OnOk, IfErr, IfOk, l
 ghost use Rattle.core_model.specs.declared.limits.TheConstants.{QUEUES};
 ghost use Rattle.core_model.specs.Queues.{openings};
 ghost use Rattle.core_model.specs.Owed.{enters, refuses};
-ghost use Rattle.core_model.specs.Legal.{MeetsOrLacks, due, as_variant};
+ghost use Rattle.policy.specs.Results.{map_ok};
+ghost use Rattle.core_model.specs.Legal.{MeetsOrLacks, due};
 
 use crate::access::{AccessCore, enter};
 use crate::queue::Queue;
@@ -24,7 +25,7 @@ impl AccessCore {
         agent: AgentHandle,
         size: u64,
     ) -> Result<QueueId, Refusal>
-        ensures { MeetsOrLacks (Event.OpenQueue client agent size) self.old.history self.new.history (as_variant Outcome.Opened result) }
+        ensures { MeetsOrLacks (Event.OpenQueue client agent size) self.old.history self.new.history (map_ok Outcome.Opened result) }
     {
         let queue = self.may_open(client, agent, size)?;
         let errors = Reserved::with_room(alloc, SLOTS)?;

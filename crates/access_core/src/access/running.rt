@@ -4,10 +4,12 @@ ghost use Rattle.std.specs.Prelude.{◌≡◌, ◌++◌, ◌+◌, ◌-◌, ◌<�
 ghost use Rattle.std.specs.Int.{w64, to_le_bytes};
 ghost use Rattle.aql_packet.specs.declared.packet.Packet.TheVariants as kind;
 ghost use Rattle.regions.specs.Memory.{is_within, lengths_of};
-ghost use Rattle.core_model.specs.Memory.{memory_from, region_lengths};
+ghost use Rattle.policy.specs.Policy.{region_lengths};
+ghost use Rattle.core_model.specs.Memory.{memory_from};
 ghost use Rattle.core_model.specs.Needs.{function_of};
 ghost use Rattle.core_model.specs.Work.{function_result, function_writes, number_in_memory, result_writes, write_of};
-ghost use Rattle.core_model.specs.Legal.{MeetsOrLacks, as_variant};
+ghost use Rattle.policy.specs.Results.{map_ok};
+ghost use Rattle.core_model.specs.Legal.{MeetsOrLacks};
 ghost use Rattle.access_core.specs.inner.QueueChanges.{IsThere, with_advance, with_queue};
 ghost use Rattle.access_core.specs.inner.LiesInRegions.{lies_in_regions};
 ghost use Rattle.access_core.specs.inner.InPlace.{IsChanged, IsInPlace, IsPlaced, is_placed};
@@ -41,7 +43,7 @@ impl AccessCore {
         queue: QueueId,
         packet: PacketId,
     ) -> Result<Worked, Refusal>
-        ensures met { MeetsOrLacks (Event.RunNext queue packet) self.old.history self.new.history (as_variant Outcome.Worked result) }
+        ensures met { MeetsOrLacks (Event.RunNext queue packet) self.old.history self.new.history (map_ok Outcome.Worked result) }
         ensures places { self.new.places ≡ self.old.places }
     {
         let place = self.place_of(queue, packet)?;
@@ -63,9 +65,9 @@ impl AccessCore {
         dispatch: AgentDispatch,
     ) -> Result<Worked, Refusal>
         requires found { IsInPlace self.old.history queue packet place }
-        requires within { lies_in_regions (region_lengths self.old.history.start) place.packet ≡ true }
+        requires within { lies_in_regions (region_lengths self.old.history.start.policy) place.packet ≡ true }
         requires packet_is { place.packet ≡ kind.Agent dispatch }
-        ensures met { MeetsOrLacks (Event.RunNext queue packet) self.old.history self.new.history (as_variant Outcome.Worked result) }
+        ensures met { MeetsOrLacks (Event.RunNext queue packet) self.old.history self.new.history (map_ok Outcome.Worked result) }
         ensures places { self.new.places ≡ self.old.places }
     {
         if place.progress.groups_run >= 1 {
@@ -86,7 +88,7 @@ impl AccessCore {
 
     // What an agent's function writes, and where.
     fn function_piece(&self, alloc: Global, dispatch: &AgentDispatch) -> Result<Piece, AllocError>
-        requires { lies_in_regions (region_lengths self.now.history.start) (kind.Agent dispatch.now) ≡ true }
+        requires { lies_in_regions (region_lengths self.now.history.start.policy) (kind.Agent dispatch.now) ≡ true }
         ensures written { IfOk result (λ piece. write_of piece.address.0 piece.bytes
             ≡ function_writes self.now.history.start self.now.history.entries (function_of dispatch.now)) }
         ensures placed { IfOk result (λ piece. IsPlaced self.now.history piece.address.0 (length piece.bytes)) }
@@ -113,7 +115,7 @@ impl AccessCore {
 
     // What an agent's function leaves at its return address.
     fn result_piece(&self, alloc: Global, dispatch: &AgentDispatch) -> Result<Piece, AllocError>
-        requires { lies_in_regions (region_lengths self.now.history.start) (kind.Agent dispatch.now) ≡ true }
+        requires { lies_in_regions (region_lengths self.now.history.start.policy) (kind.Agent dispatch.now) ≡ true }
         ensures written { IfOk result (λ piece.
             write_of piece.address.0 piece.bytes ≡ result_writes self.now.history.start self.now.history.entries dispatch.now) }
         ensures placed { IfOk result (λ piece. IsPlaced self.now.history piece.address.0 (length piece.bytes)) }
@@ -133,7 +135,7 @@ impl AccessCore {
 
     // The result of an agent's function: the old number of an addition, else 0.
     fn result_number(&self, dispatch: &AgentDispatch) -> u64
-        requires { lies_in_regions (region_lengths self.now.history.start) (kind.Agent dispatch.now) ≡ true }
+        requires { lies_in_regions (region_lengths self.now.history.start.policy) (kind.Agent dispatch.now) ≡ true }
         ensures { result ≡ function_result self.now.history.start self.now.history.entries (function_of dispatch.now) }
     {
         match function_of(dispatch) {
@@ -157,7 +159,7 @@ impl AccessCore {
 
     // The 64-bit number at an address.
     fn number(&self, address: Address) -> u64
-        requires { is_within (region_lengths self.now.history.start) address.0 8 ≡ true }
+        requires { is_within (region_lengths self.now.history.start.policy) address.0 8 ≡ true }
         ensures { result ≡ number_in_memory self.now.history.start self.now.history.entries address.0 }
     {
         let mut number = [0; 8];

@@ -1,7 +1,7 @@
 //! Queues are stopped.
 
 ghost use Rattle.std.specs.Prelude.{◌≡◌, IfErr, IfNone, IfOk, IfSome, filter, not, vec_capacity};
-ghost use Rattle.access_core.specs.ArgumentBlocks.{is_block};
+ghost use Rattle.access_core.specs.inner.ArgumentBlocks.{is_block};
 ghost use Rattle.access_core.specs.Cores.{places_of};
 ghost use Rattle.grants.specs.Ledger.{Releases, places};
 ghost use Rattle.core_model.specs.Owed.{enters, refuses, release_of};

@@ -9,7 +9,8 @@ ghost use Rattle.packet_processor.specs.Judged.{facts_seen, Judges};
 ghost use Rattle.access_core.specs.Keeping.{TakenInPlace};
 ghost use Rattle.access_core.specs.inner.Deciding.{Decides, IsBlockPlaced, opening_of};
 ghost use Rattle.access_core.specs.inner.QueueChanges.{CanFail, CanLaunch, with_denied, with_launched, with_queue};
-ghost use Rattle.core_model.specs.Legal.{Meets, MeetsOrLacks, due, as_variant};
+ghost use Rattle.policy.specs.Results.{map_ok};
+ghost use Rattle.core_model.specs.Legal.{Meets, MeetsOrLacks, due};
 
 use crate::access::lookups::queue_of;
 use crate::access::{AccessCore, enter};
@@ -163,7 +164,7 @@ impl AccessCore {
         packet: PacketId,
         bytes: &[u8; 64],
     ) -> Result<Taken, Refusal>
-        ensures met { MeetsOrLacks (Event.Take queue packet bytes.now) self.old.history self.new.history (as_variant Outcome.Taken result) }
+        ensures met { MeetsOrLacks (Event.Take queue packet bytes.now) self.old.history self.new.history (map_ok Outcome.Taken result) }
         ensures places { IfOk result (λ became. TakenInPlace became self.old.places self.new.places) }
     {
         match self.may_take(queue, packet, bytes)? {
@@ -255,7 +256,7 @@ impl AccessCore {
         launching: Launching,
     ) -> Result<Taken, Refusal>
         requires { Decides self.old.history queue packet bytes.now (Decision.Launch launching) }
-        ensures met { MeetsOrLacks (Event.Take queue packet bytes.now) self.old.history self.new.history (as_variant Outcome.Taken result) }
+        ensures met { MeetsOrLacks (Event.Take queue packet bytes.now) self.old.history self.new.history (map_ok Outcome.Taken result) }
         ensures places { IfOk result (λ became. TakenInPlace became self.old.places self.new.places) }
     {
         let block = self.argument_block(alloc, &launching.packet)?;

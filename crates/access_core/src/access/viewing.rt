@@ -6,7 +6,7 @@ ghost use Rattle.regions.specs.Memory.{region_length};
 ghost use Rattle.executor.specs.Items.{lent_region};
 ghost use Rattle.policy.specs.declared.object.Object.TheVariants as object;
 ghost use Rattle.core_model.specs.Holds.{packet_rights};
-ghost use Rattle.core_model.specs.Memory.{region_lengths};
+ghost use Rattle.policy.specs.Policy.{region_lengths};
 ghost use Rattle.core_model.specs.View.{rights_held};
 ghost use Rattle.access_core.specs.inner.InPlace.{IsInPlace};
 ghost use Rattle.access_core.specs.inner.Running.{IsHolder, lent_if_held, region_numbered, view_whole};
@@ -29,7 +29,7 @@ impl AccessCore {
 
     // Memory takes the lengths of the regions: each policy is within its limits.
     pub(crate) fn regions_fit(&self)
-        ensures { are_region_lengths (region_lengths self.now.history.start) ≡ true }
+        ensures { are_region_lengths (region_lengths self.now.history.start.policy) ≡ true }
     {
         self.policy().object_count(Kind::Region);
     }
@@ -66,7 +66,7 @@ impl AccessCore {
         region: RegionHandle,
     ) -> Option<HeldRegion<'_>>
         requires holder { IsHolder self.now.history queue packet client }
-        requires there { 0 < region_length (region_lengths self.now.history.start) region.0 }
+        requires there { 0 < region_length (region_lengths self.now.history.start.policy) region.0 }
         ensures { option_map lent_region result ≡ lent_if_held self.now.history.start self.now.history.entries
             (region_numbered self.now.history.start (packet_rights self.now.history.start self.now.history.entries queue packet) region.0) }
     {

@@ -2,7 +2,8 @@
 
 ghost use Rattle.std.specs.Prelude.{◌≡◌, ◌-◌, Some, IfErr, IfOk, fold, true, vec_capacity};
 ghost use Rattle.core_model.specs.declared.entry.Effect.TheVariants as effect;
-ghost use Rattle.core_model.specs.Memory.{region_lengths, signals_after};
+ghost use Rattle.policy.specs.Policy.{region_lengths};
+ghost use Rattle.core_model.specs.Memory.{signals_after};
 ghost use Rattle.core_model.specs.Needs.{completion_signal};
 ghost use Rattle.core_model.specs.Owed.{completion_of, refuses, is_finished};
 ghost use Rattle.core_model.specs.Legal.{Meets, as_accepted, due};
@@ -57,7 +58,7 @@ impl AccessCore {
     pub(crate) fn place_of(&self, queue: QueueId, packet: PacketId) -> Result<Place, Refusal>
         ensures found { IfOk result (λ place. IsInPlace self.now.history queue packet place) }
         ensures why { IfErr result (λ why. RefusedAt self.now.history queue packet why) }
-        ensures within { IfOk result (λ place. lies_in_regions (region_lengths self.now.history.start) place.packet ≡ true) }
+        ensures within { IfOk result (λ place. lies_in_regions (region_lengths self.now.history.start.policy) place.packet ≡ true) }
         ensures sized { IfOk result (λ place. IsSized place.packet) }
     {
         let Some(kept) = queue_of(self.queues.as_slice(), queue) else {

@@ -9,7 +9,8 @@ ghost use Rattle.policy.specs.declared.fault.Section.TheVariants.{Allow};
 ghost use Rattle.policy.specs.declared.limits.TheConstants.{MOST_ALLOW_ROWS, MOST_SIGNALS};
 ghost use Rattle.policy.specs.Table.{named};
 ghost use Rattle.policy.specs.SectionNames.{name_of_section};
-ghost use Rattle.policy.specs.Reading.{or_fault, map_ok, placed, RowGives, FileGives};
+ghost use Rattle.policy.specs.Results.{map_ok};
+ghost use Rattle.policy.specs.Reading.{or_fault, placed, RowGives, FileGives};
 ghost use Rattle.policy.specs.Format.{is_table, rows_in, tables_in, of_table, named_row, allow_row, array_of};
 
 use crate::fault::{Cause, PolicyFault, ReadPolicyError, RowError, Section};

@@ -12,7 +12,8 @@ ghost use Rattle.policy.specs.Names.{Name};
 ghost use Rattle.policy.specs.Choice.{chosen};
 ghost use Rattle.policy.specs.Policy.{names_of};
 ghost use Rattle.policy.specs.Table.{named};
-ghost use Rattle.policy.specs.Reading.{or_fault, map_ok, RowGives};
+ghost use Rattle.policy.specs.Results.{map_ok};
+ghost use Rattle.policy.specs.Reading.{or_fault, RowGives};
 ghost use Rattle.policy.specs.Format.{keys_in, only, key, named_row, a_name, an_entry, a_text, a_length, a_number, some_dispatches, client_keys, agent_keys, region_keys, signal_keys, kernel_keys, no_more_keys, takes, region_length, initial_value, kernel_source, a_choice, a_kind, some_rights, subject_of, target_of, allow_row, allow_keys};
 
 use crate::fault::{Cause, RowError};

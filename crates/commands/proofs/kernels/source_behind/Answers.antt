@@ -1,11 +1,11 @@
 -- There is a next kernel.
 use Rattle.std.proofs.Common.{◌+◌}
-use Rattle.policy.specs.Policy.{source_of}
+use Rattle.policy.specs.Policy.{row_of}
 use Rattle.access_core.proofs.PolicyRows.{rows_none}
 use Rattle.commands.proofs.Rows.{copied-some}
 use Rattle.commands.proofs.kernels.source_behind.Goals as goal
 
 pub unwrap-requires : goal.unwrap-requires
 unwrap-requires c =
-    copied-some c.kernel_source.result (source_of c.args.policy.now (c.args.before + 1)) c.kernel_source.ensures
+    copied-some c.kernel_source.result (row_of c.args.policy.now.kernels (c.args.before + 1)) c.kernel_source.ensures
     (λ none. rows_none c.args.policy.now.kernels c.args.before none c.requires.there)

@@ -1,7 +1,7 @@
 -- The laws of legal histories, for the history that the requests left.
 use Rattle.std.proofs.Common.{◌≡◌, true, ap, inl, inr, subst, ◌∙◌}
 use Rattle.aql_packet.specs.Memory.{are_region_lengths}
-use Rattle.core_model.specs.Memory.{region_lengths}
+use Rattle.policy.specs.Policy.{region_lengths}
 use Rattle.core_model.specs.Queues.{error_of}
 use Rattle.world.specs.InStep.{IsJoined, Stands}
 use Rattle.world.specs.Headline.{begun}
@@ -12,8 +12,8 @@ pub returns : goal.returns
 returns c = λ kernels capacity requests replies world are.
     let begin = begun c.args.policy.now kernels capacity in
     let h : IsJoined world = replies_kept begin world requests replies (begins c.args.policy.now kernels capacity) are in
-    let lengths : are_region_lengths (region_lengths world.core.start) ≡ true =
-    ap (λ start. are_region_lengths (region_lengths start)) (replies_start begin world requests replies are) ∙ c.object_count.ensures.limits.regions in
+    let lengths : are_region_lengths (region_lengths world.core.start.policy) ≡ true =
+    ap (λ start. are_region_lengths (region_lengths start.policy)) (replies_start begin world requests replies are) ∙ c.object_count.ensures.limits.regions in
     record {
       legal = h.legal;
       launches = λ before queue id bytes effects place. c.each_launch_was_granted.ensures world.core.start world.core.entries before queue id bytes effects h.legal place;

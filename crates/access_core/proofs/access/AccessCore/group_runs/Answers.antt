@@ -79,7 +79,7 @@ returns-clause-fault c =
 
 pub returns-clause-written : goal.returns-clause-written
 returns-clause-written c =
-    IfOk-weaker c.run_group.result (FinishesAs (input c)) (λ (runs : List Run). All (λ (run : Run). is_within (region_lengths c.args.self.now.history.start) run.address (length run.bytes) ≡ true) runs)
+    IfOk-weaker c.run_group.result (FinishesAs (input c)) (λ (runs : List Run). All (λ (run : Run). is_within (region_lengths c.args.self.now.history.start.policy) run.address (length run.bytes) ≡ true) runs)
     (λ runs ends. runs-within c.self.inside c.self.invariant _ (seen c.self.view_is) c.args.queue c.args.packet c.args.place c.requires.found c.args.dispatch c.requires.packet_is
     c.regions_fit.ensures c.args.place.progress.groups_run runs (same c ∙ ends.1))
     (c.run_group.ensures.ok (program_at c.kernel_at-kernel.result.now) (here c))

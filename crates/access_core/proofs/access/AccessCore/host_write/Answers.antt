@@ -18,7 +18,7 @@ quiet client address bytes = record { launches = refl; progress = λ queue id p.
 pub lay-requires : goal.lay-requires
 lay-requires c =
     rw (c.as_slice.ensures, c.self.invariant.lengths)
-    (subst (λ h. is_within (region_lengths h.start) c.args.address.0 (length c.args.bytes) ≡ true) (sym (seen c.self.view_is)) c.in_ok-may_write.ensures.within)
+    (subst (λ h. is_within (region_lengths h.start.policy) c.args.address.0 (length c.args.bytes) ≡ true) (sym (seen c.self.view_is)) c.in_ok-may_write.ensures.within)
 
 pub invariant_of-self : goal.invariant_of-self
 invariant_of-self c =

@@ -61,7 +61,7 @@ returns-else-is_full_for_launch-clause-may c =
     let waits : cause_to_wait (map (λ (p : Place). p.packet) c.in-Some.kept.now.places) (barrier_bit c.args.bytes.now) ≡ None = cc (launching-goes _ c.in-Go.ensures, c.as_slice-2.ensures, c.header.ensures) in (
       due-by c.self.inside _ (seen c.self.view_is) (Take c.args.queue c.args.packet c.args.bytes.now) (enters (outcome.Taken Launched) []) (take-known c.self.inside c.self.invariant _ _ _ _ some ∙ (rw (down, next, waits, judged-inside c.self.inside _ (seen c.self.view_is) c.in-Some.kept.now c.args.bytes.now None c.in-Launch.ensures.1) refl)) ∙ (rw (room-launched _ c.args.queue c.args.packet _ _ c.in-Launch.ensures.0, ← c.is_full_for_launch.ensures, c.if-is_full_for_launch.false) refl),
       c.in-Launch.ensures.0,
-      subst (λ (h : History). lies_in_regions (region_lengths h.start) c.in-Launch.packet ≡ true) (seen c.self.view_is) (within-launched (start_of c.self.inside) c.self.inside.audit.items (cached_opening c.in-Some.kept.now) c.args.bytes.now c.in-Launch.packet c.in-Launch.ensures.0 (judged-inside c.self.inside _ (seen c.self.view_is) c.in-Some.kept.now c.args.bytes.now None c.in-Launch.ensures.1)),
+      subst (λ (h : History). lies_in_regions (region_lengths h.start.policy) c.in-Launch.packet ≡ true) (seen c.self.view_is) (within-launched (start_of c.self.inside) c.self.inside.audit.items (cached_opening c.in-Some.kept.now) c.args.bytes.now c.in-Launch.packet c.in-Launch.ensures.0 (judged-inside c.self.inside _ (seen c.self.view_is) c.in-Some.kept.now c.args.bytes.now None c.in-Launch.ensures.1)),
       subst (λ (h : History). TakesNext h c.args.queue) (seen c.self.view_is) (takes-next c.self.inside c.self.invariant _ _ _ some down waits),
       subst (λ (h : History). owner h.start h.entries c.args.queue ≡ Some (cached_opening c.in-Some.kept.now)) (seen c.self.view_is) (owner-kept c.self.inside c.args.queue c.self.invariant ∙ ap (option_map cached_opening) some),
       subst (λ (h : History). MayHold h (cached_opening c.in-Some.kept.now) c.in-Launch.packet) (seen c.self.view_is) (may-hold (start_of c.self.inside) c.self.inside.audit.items (entry_of (Take c.args.queue c.args.packet c.args.bytes.now) (outcome.Taken Launched) []) (cached_opening c.in-Some.kept.now) c.args.bytes.now c.in-Launch.packet c.in-Launch.ensures.0 (judged-inside c.self.inside _ (seen c.self.view_is) c.in-Some.kept.now c.args.bytes.now None c.in-Launch.ensures.1)),

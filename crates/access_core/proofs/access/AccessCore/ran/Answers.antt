@@ -38,8 +38,8 @@ pub lay_changes-requires : goal.lay_changes-requires
 lay_changes-requires c =
     let a = c.self.inside in
     rw (c.as_slice.ensures.value ∙ c.in_ok-changes.ensures, c.self.invariant.lengths)
-    (runs-within (region_lengths (start_of a)) c.args.runs
-    (subst (λ (h : History). All (λ (run : Run). is_within (region_lengths h.start) run.address (length run.bytes) ≡ true) c.args.runs) (sym (seen c.self.view_is)) c.requires.written))
+    (runs-within (region_lengths a.policy) c.args.runs
+    (subst (λ (h : History). All (λ (run : Run). is_within (region_lengths h.start.policy) run.address (length run.bytes) ≡ true) c.args.runs) (sym (seen c.self.view_is)) c.requires.written))
 
 pub advance-requires : goal.advance-requires
 advance-requires c =

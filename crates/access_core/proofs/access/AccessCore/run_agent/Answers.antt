@@ -18,10 +18,10 @@ use Rattle.core_model.specs.declared.refusal.Refusal.TheVariants as refusal
 use Rattle.access_core.proofs.access.AccessCore.run_agent.Goals as goal
 
 pub function_piece-requires : goal.function_piece-requires
-function_piece-requires c = ap (lies_in_regions (region_lengths c.args.self.now.history.start)) (sym c.requires.packet_is) ∙ c.requires.within
+function_piece-requires c = ap (lies_in_regions (region_lengths c.args.self.now.history.start.policy)) (sym c.requires.packet_is) ∙ c.requires.within
 
 pub result_piece-requires : goal.result_piece-requires
-result_piece-requires c = ap (lies_in_regions (region_lengths c.args.self.now.history.start)) (sym c.requires.packet_is) ∙ c.requires.within
+result_piece-requires c = ap (lies_in_regions (region_lengths c.args.self.now.history.start.policy)) (sym c.requires.packet_is) ∙ c.requires.within
 
 pub advance-requires : goal.advance-requires
 advance-requires c =

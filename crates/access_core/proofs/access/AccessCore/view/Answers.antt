@@ -23,8 +23,8 @@ put-requires-clause-begins c = omega (arith, number-is c)
 pub put-requires-clause-ends : goal.put-requires-clause-ends
 put-requires-clause-ends c =
     let h = c.args.self.now.history in
-    let fit : are_region_lengths (region_lengths h.start) ≡ true = ap (λ (p : Declared). are_region_lengths (declared_lengths p)) (sym c.policy.ensures) ∙ c.object_count-before-end.ensures.limits.regions in
-    let few = few-regions (region_lengths h.start) fit in
+    let fit : are_region_lengths (region_lengths h.start.policy) ≡ true = ap (λ (p : Declared). are_region_lengths (declared_lengths p)) (sym c.policy.ensures) ∙ c.object_count-before-end.ensures.limits.regions in
+    let few = few-regions (region_lengths h.start.policy) fit in
     let declared = ap (λ (p : Declared). length p.regions) c.policy.ensures in
     let long = length-map h.start.policy.regions (λ row. row.1) in
     omega (arith, number-is c, c.loop-before-test.true, c.loop-before.auto.before-end, c.object_count-before-end.ensures.count, declared, long, few)
@@ -50,7 +50,7 @@ returns c =
     let h = c.args.self.now.history in
     let declared = ap (λ (p : Declared). length p.regions) c.policy.ensures in
     let long = length-map h.start.policy.regions (λ row. row.1) in
-    let end : c.loop-before.before ≡ length (region_lengths h.start) =
+    let end : c.loop-before.before ≡ length (region_lengths h.start.policy) =
     omega (arith, c.loop-before-test.false, c.loop-before.auto.before-end, c.object_count-before-end.ensures.count, declared, long) in
     c.loop-before.invariant
     ∙ ap (lent_so_far h.start h.entries (packet_rights h.start h.entries c.args.queue c.args.packet)) end

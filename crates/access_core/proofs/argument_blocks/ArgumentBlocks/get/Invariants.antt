@@ -1,6 +1,6 @@
 -- the block by those that were looked at
 use Rattle.std.proofs.Common.{◌≡◌, take}
-use Rattle.access_core.specs.ArgumentBlocks.{block_of}
+use Rattle.access_core.specs.inner.ArgumentBlocks.{block_of}
 use Rattle.access_core.proofs.argument_blocks.ArgumentBlocks.get.Given as goal
 
 abbrev pub invariant-loop-block : goal.invariant-loop-block

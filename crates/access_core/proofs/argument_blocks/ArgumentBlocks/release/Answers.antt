@@ -4,7 +4,7 @@ use Rattle.sequences.specs.Room.{Roomy}
 use Rattle.access_core.specs.Cores.{places_of}
 use Rattle.std.specs.Prelude.{filter, not}
 use Rattle.std.proofs.lemmas.Fn.{filter_same}
-use Rattle.access_core.specs.ArgumentBlocks.{is_block}
+use Rattle.access_core.specs.inner.ArgumentBlocks.{is_block}
 use Rattle.access_core.specs.declared.argument_blocks.ArgumentBlock.{ArgumentBlock}
 use Rattle.access_core.proofs.argument_blocks.ArgumentBlocks.release.Goals as goal
 

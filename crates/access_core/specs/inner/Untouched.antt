@@ -1,0 +1,20 @@
+-- The parts that a core is made of, as they begin.
+use Rattle.std.specs.Prelude.{ℕ, ◌≡◌, List, [], map}
+use Rattle.policy.specs.Policy.{Declared, initial_values, region_lengths, rules_of}
+use Rattle.core_model.specs.Kernels.{segments_of}
+use Rattle.regions.specs.Memory.{zeros}
+use Rattle.grants.specs.Ledger.{IsNew, rules_in}
+use Rattle.access_core.specs.Opening.{program_of}
+use Rattle.access_core.specs.declared.access.opening.Parts.{Parts}
+use Rattle.access_core.specs.declared.kernel.Kernel.{Kernel}
+
+-- what a core begins with: no right in force or held, memory of zeros, the policy's signal values, the kernels' segments, and an empty
+-- audit with room for its entries
+pub record IsUntouched (policy : Declared) (kernels : List Kernel) (capacity : ℕ) (parts : Parts) : Type 0 where
+  pub rules : rules_in parts.grants ≡ rules_of policy
+  pub grants : IsNew parts.grants
+  pub memory : parts.memory ≡ zeros (region_lengths policy)
+  pub signals : parts.signals ≡ initial_values policy
+  pub segments : parts.segments ≡ map segments_of (map program_of kernels)
+  pub empty : parts.audit.items ≡ []
+  pub places : parts.audit.room ≡ capacity
