@@ -1,5 +1,5 @@
 -- What a grant and a revocation are owed, by the grants that are cached.
-use Rattle.std.proofs.Common.{arith, ◌≡◌, refl, sym, ◌∙◌, ap, Bool, true, false, Option, Some, None, Ok, Err, ◌&&◌, [], Result, if◌then◌else◌, not}
+use Rattle.std.proofs.Common.{◌≡◌, refl, sym, ◌∙◌, ap, Bool, true, false, Option, Some, None, Ok, Err, ◌&&◌, [], Result, if◌then◌else◌, not}
 use Rattle.grants.specs.declared.refusal.Refusal.{Refusal as Why}
 use Rattle.core_model.specs.Owed.{owed}
 use Rattle.access_core.proofs.Calls.{due-by}

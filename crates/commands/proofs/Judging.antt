@@ -1,5 +1,5 @@
 -- A policy that is judged.
-use Rattle.std.proofs.Common.{◌≡◌, ℕ, List, Result, Ok, Err, sym, subst}
+use Rattle.std.proofs.Common.{ℕ, List, Result, Ok, Err, sym, subst}
 use Rattle.policy.specs.Policy.{Declared}
 use Rattle.policy.specs.Format.{Declares}
 use Rattle.commands.specs.declared.failure.Failure.{Failure}

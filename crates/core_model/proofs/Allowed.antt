@@ -5,14 +5,12 @@ use Rattle.std.proofs.lemmas.Bool.{and_parts, eqb-true}
 use Rattle.std.proofs.lemmas.List.{append-nil}
 use Rattle.aql_packet.specs.declared.ids.ClientId.{ClientId}
 use Rattle.policy.specs.declared.object.Object.{Object}
-use Rattle.policy.specs.declared.object.Object.TheVariants as object
 use Rattle.policy.specs.declared.rights.Right.{Right}
-use Rattle.policy.specs.declared.rights.Right.TheVariants as right
 use Rattle.policy.specs.declared.rights.Rights.{Rights}
 use Rattle.policy.specs.Object.{same_object}
 use Rattle.policy.specs.Rules.{allowed, allows}
 use Rattle.policy.specs.Policy.{rules_of}
-use Rattle.policy.specs.Rights.{each_right, has}
+use Rattle.policy.specs.Rights.{has}
 use Rattle.core_model.specs.declared.event.Event.{Event}
 use Rattle.core_model.specs.declared.event.Event.TheVariants.{Grant, Revoke, OpenQueue, Stop, Take, RunNext, Poll, Finish, HostWrite, ChangeSignal}
 use Rattle.core_model.specs.declared.outcome.Outcome.{Outcome}

@@ -1,5 +1,5 @@
 -- What clients are told and what groups read, with the grants that allow it; and why a packet is denied.
-use Rattle.std.proofs.Common.{◌≡◌, ℕ, ℤ, ◌+◌, ◌^◌, List, [], ◌∷◌, ◌++◌, refl, sym, ◌∙◌, ap, subst, Bool, true, false, Option, Some, None, Ok, ◌⊎◌, inl, inr}
+use Rattle.std.proofs.Common.{◌≡◌, ℕ, ℤ, ◌+◌, ◌^◌, List, [], ◌∷◌, ◌++◌, refl, sym, ◌∙◌, ap, subst, Bool, true, false, Option, Some, None, Ok, ◌⊎◌, inl, inr, Err}
 use Rattle.std.specs.Prelude.{All, nat_le, ◌%◌, find, filter, map, not, ◌&&◌, ◌==◌, if◌then◌else◌}
 use Rattle.std.specs.Int.{w64, to_le_bytes, from_le_bytes}
 use Rattle.std.proofs.lemmas.Bool.{and_parts}
@@ -8,7 +8,7 @@ use Rattle.aql_packet.specs.declared.ids.Address.{Address}
 use Rattle.aql_packet.specs.declared.ids.SignalHandle.{SignalHandle}
 use Rattle.aql_packet.specs.declared.ids.ClientId.{ClientId}
 use Rattle.signals.specs.declared.operation.Condition.{Condition}
-use Rattle.policy.specs.Rules.{knows_client}
+use Rattle.policy.specs.Rules.{count, knows_client}
 use Rattle.policy.specs.Policy.{region_lengths, rules_of}
 use Rattle.policy.specs.declared.rights.Rights.{Rights}
 use Rattle.aql_packet.specs.declared.ids.QueueId.{QueueId}
@@ -61,7 +61,6 @@ use Rattle.core_model.specs.Legal.{IsLegal}
 use Rattle.core_model.specs.Refusals.{for_some, refuse_unless}
 use Rattle.core_model.specs.Queries.{AnswerOrRefusal, query_answer, has_some_right, listing}
 use Rattle.policy.specs.Listing.{all_objects, listing_by}
-use Rattle.policy.specs.Policy.{count_of}
 use Rattle.core_model.specs.Headline.{InFlightSince, IsDenied, IsListed, MayReach, MayReachRange, range_of, ranges_read, ranges_seen, reads_of}
 use Rattle.core_model.proofs.Entered.{GroupRan, KernelRan, take-decided, run-entered}
 use Rattle.core_model.proofs.Holding.{flying-since}

@@ -1,16 +1,12 @@
 -- What a policy declares, as plain lists, and what it allows.
-use Rattle.std.specs.Prelude.{ℕ, ℤ, Bool, List, length, map, Option, option_map}
-use Rattle.aql_packet.specs.declared.ids.ClientId.{ClientId}
+use Rattle.std.specs.Prelude.{ℕ, ℤ, List, length, map, Option, option_map}
 use Rattle.policy.specs.declared.object.Kind.{Kind}
 use Rattle.policy.specs.declared.object.Kind.TheVariants as kind
 use Rattle.policy.specs.declared.object.Object.{Object}
-use Rattle.policy.specs.declared.rights.Right.{Right}
-use Rattle.policy.specs.declared.rights.Rights.{Rights}
 use Rattle.policy.specs.declared.row.AllowRow.{AllowRow}
 use Rattle.policy.specs.declared.row.Takes.{Takes}
 use Rattle.policy.specs.Object.{kind_of, number_of}
-use Rattle.policy.specs.Rules as by_rules
-use Rattle.policy.specs.Rules.{Rules, count, knows_client, knows}
+use Rattle.policy.specs.Rules.{Rules}
 pub use Rattle.policy.specs.Names.{Name, names, numbered, number_in}
 pub use Rattle.policy.specs.Kernel.{Source}
 
