@@ -13,7 +13,7 @@ use Rattle.access_core.specs.declared.argument_blocks.ArgumentBlock.{ArgumentBlo
 use Rattle.access_core.proofs.HeldMore.{arguments-more}
 use Rattle.access_core.proofs.QueueAt.{IsQuiet, flight-quiet, queue_at-quiet}
 use Rattle.access_core.proofs.Terms.{ClientId, Effect, Event, History, InFlight, Inside, IsCached, IsEntered, IsSound, Ledger, Object, Outcome, Owed, PacketId}
-use Rattle.access_core.proofs.Terms.{QUEUES, Queue, QueueId, Right, Start, byte_after, byte_at, cached, cached_opening, due, enters, entry_of, flight}
+use Rattle.access_core.proofs.Terms.{QUEUES, Queue, QueueId, Right, Start, byte_after, byte_at, cached_view, cached_opening, due, enters, entry_of, flight}
 use Rattle.access_core.proofs.Terms.{flight-more, history_of, in_force, in_force-more, in_force_after, is_packet, lacks_room, launched_by, lengths_of, lies_in_region}
 use Rattle.access_core.proofs.Terms.{lies_in_regions, memory_at, memory_at-more, numbered, openings-more, owed, owner, packet_holds, queue_at, region_lengths}
 use Rattle.access_core.proofs.Terms.{signals-more, signals_after, start_of, with_entry, with_some}
@@ -41,7 +41,7 @@ pub record MemoryAfter (old new : List (List ℕ)) (effects : List Effect) : Typ
 -- How the queues do.
 pub record QueuesAfter (a : Inside) (new : List Queue) (count : ℕ) (event : Event) (outcome : Outcome) (effects : List Effect) : Type 0 where
   pub openings : map cached_opening new ≡ with_some (map cached_opening a.queues.items) (opening_of event)
-  pub queues : (queue : QueueId) → cached (numbered new queue.0) ≡ queue_at (start_of a) (with_entry a.audit.items event outcome effects) queue
+  pub queues : (queue : QueueId) → cached_view (numbered new queue.0) ≡ queue_at (start_of a) (with_entry a.audit.items event outcome effects) queue
   pub sound : All IsSound new
   pub few_queues : length new ≤ QUEUES
   pub flying : count ≡ length (flight (start_of a) (with_entry a.audit.items event outcome effects))

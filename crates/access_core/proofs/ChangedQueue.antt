@@ -6,7 +6,7 @@ use Rattle.std.proofs.lemmas.List.Elements.{All-set}
 use Rattle.std.proofs.lemmas.Option.{get_or_from_slice_get, slice_get-get_or, slice_get_within}
 use Rattle.std.proofs.Math.Seq.{map-set_same}
 use Rattle.access_core.specs.inner.Cached.{error_places}
-use Rattle.access_core.proofs.Terms.{Entry, IsSound, PacketId, Queue, QueueId, QueueView, Start, cached, cached_opening, freed, freed_by, numbered, queue_at}
+use Rattle.access_core.proofs.Terms.{Entry, IsSound, PacketId, Queue, QueueId, QueueView, Start, cached_view, cached_opening, places_freed, freed_by, numbered, queue_at}
 use Rattle.access_core.proofs.Terms.{with_queue}
 
 get-changed : (qs : List Queue) (i : ℕ) (q v : Queue) → slice_get qs i ≡ Some q → slice_get (slice_set qs i v) i ≡ Some v
@@ -35,8 +35,8 @@ numbered-other qs n v m above other = grind (arith, get-other qs (n - 1) v (m - 
 pub item-at : (qs : List Queue) (n : ℕ) (q x : Queue) → numbered qs n ≡ Some q → x ≡ get_or qs (n - 1) x → x ≡ q
 item-at qs n q x found is = is ∙ get_or_from_slice_get qs (n - 1) _ x (numbered-place qs n q found).1
 
-pub freed-at : (id : Option PacketId) (qs : List Queue) (n : QueueId) (q : Queue) → numbered qs n.0 ≡ Some q → freed_by id qs n ≡ freed id q.places
-freed-at id qs n q found = ap (λ (o : Option Queue). elim o [ None ↦ 0 | Some x ↦ freed id x.places ]) found
+pub freed-at : (id : Option PacketId) (qs : List Queue) (n : QueueId) (q : Queue) → numbered qs n.0 ≡ Some q → freed_by id qs n ≡ places_freed id q.places
+freed-at id qs n q found = ap (λ (o : Option Queue). elim o [ None ↦ 0 | Some x ↦ places_freed id x.places ]) found
 
 -- a kept queue is sound
 pub sound-at : (qs : List Queue) (n : ℕ) (q : Queue) → All IsSound qs → numbered qs n ≡ Some q → IsSound q
@@ -72,25 +72,25 @@ module _ (qs : List Queue) (n : QueueId) (change : Queue → Queue) (q : Queue) 
   sound-changed sound all = rw with_queue-is (All-set IsSound qs (n.0 - 1) (change q) sound all)
 
   -- the changed queue is kept at its number, the others are as they were
-  pub cached-changed : (m : QueueId) → cached (numbered (with_queue qs n change) m.0) ≡ (if n.0 == m.0 then cached (Some (change q)) else cached (numbered qs m.0))
-  cached-changed m = ap (λ (all : List Queue). cached (numbered all m.0)) with_queue-is ∙ (elim (cases_eq n.0 m.0) [
+  pub cached-changed : (m : QueueId) → cached_view (numbered (with_queue qs n change) m.0) ≡ (if n.0 == m.0 then cached_view (Some (change q)) else cached_view (numbered qs m.0))
+  cached-changed m = ap (λ (all : List Queue). cached_view (numbered all m.0)) with_queue-is ∙ (elim (cases_eq n.0 m.0) [
     | inl same ↦
         let eq : (n.0 == m.0) ≡ true = eq-eqb n.0 m.0 same in
         let now : numbered (slice_set qs (n.0 - 1) (change q)) n.0 ≡ Some (change q) = numbered-at _ n.0 (change q) place.0 (get-changed qs (n.0 - 1) q (change q) place.1) in
-        rw eq (ap (λ k. cached (numbered (slice_set qs (n.0 - 1) (change q)) k)) (sym same) ∙ ap cached now)
+        rw eq (ap (λ k. cached_view (numbered (slice_set qs (n.0 - 1) (change q)) k)) (sym same) ∙ ap cached_view now)
     | inr other ↦
         let eq : (n.0 == m.0) ≡ false = search rules in
-        rw eq (ap cached (numbered-other qs n.0 (change q) m.0 place.0 other))
+        rw eq (ap cached_view (numbered-other qs n.0 (change q) m.0 place.0 other))
   ])
 
   -- so what is kept is what the history says, where both change alike
-  pub queues-changed : (view : QueueView → QueueView) (start : Start) (old new : List Entry) → cached (Some (change q)) ≡ view (cached (Some q))
-      → ((m : QueueId) → cached (numbered qs m.0) ≡ queue_at start old m)
+  pub queues-changed : (view : QueueView → QueueView) (start : Start) (old new : List Entry) → cached_view (Some (change q)) ≡ view (cached_view (Some q))
+      → ((m : QueueId) → cached_view (numbered qs m.0) ≡ queue_at start old m)
       → ((m : QueueId) → queue_at start new m ≡ (if n.0 == m.0 then view (queue_at start old m) else queue_at start old m))
-      → (m : QueueId) → cached (numbered (with_queue qs n change) m.0) ≡ queue_at start new m
+      → (m : QueueId) → cached_view (numbered (with_queue qs n change) m.0) ≡ queue_at start new m
   queues-changed view start old new alike was now m = cached-changed m ∙ either (n.0 == m.0) refl ∙ sym (now m)
     where
-      either : (b : Bool) → (n.0 == m.0) ≡ b → (if b then cached (Some (change q)) else cached (numbered qs m.0)) ≡ (if b then view (queue_at start old m) else queue_at start old m)
+      either : (b : Bool) → (n.0 == m.0) ≡ b → (if b then cached_view (Some (change q)) else cached_view (numbered qs m.0)) ≡ (if b then view (queue_at start old m) else queue_at start old m)
       either true same =
-          alike ∙ ap view (ap cached (sym found) ∙ ap (λ k. cached (numbered qs k)) (eqb-true _ _ same) ∙ was m)
+          alike ∙ ap view (ap cached_view (sym found) ∙ ap (λ k. cached_view (numbered qs k)) (eqb-true _ _ same) ∙ was m)
       either false other = was m

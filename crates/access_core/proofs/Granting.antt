@@ -1,15 +1,15 @@
 -- What a grant and a revocation are owed, by the grants that are cached.
 use Rattle.std.proofs.Common.{◌≡◌, refl, sym, ◌∙◌, ap, Bool, true, false, Option, Some, None, Ok, Err, ◌&&◌, [], Result, if◌then◌else◌, not}
-use Rattle.grants.specs.declared.refusal.Refusal.{Refusal as Why}
+use Rattle.grants.specs.declared.refusal.GrantRefusal.{GrantRefusal as Why}
 use Rattle.core_model.specs.Owed.{owed}
 use Rattle.access_core.proofs.Calls.{due-by}
 use Rattle.access_core.proofs.HeldRights.{is_holder-history}
 use Rattle.access_core.proofs.Least.{passes, least-none, least-first}
 use Rattle.access_core.proofs.Terms.{ClientId, Grant, History, InFlight, Inside, IsCached, IsFirstTo, Object, PacketId, QueueId, Revoke, RevokeAnswers, Rights}
-use Rattle.access_core.proofs.Terms.{Rules, allows, due, enters, flight, grant_due, history_of, holder, holds_one_of, is_full}
-use Rattle.access_core.proofs.Terms.{is_holder, is_queue_of, knows, knows_client, refusal_of, refuse_unless, refuses, rules_in, rules_of, start_of}
+use Rattle.access_core.proofs.Terms.{Rules, are_allowed, due, enters, flight, grant_due, history_of, holder, holds_one_of, is_full}
+use Rattle.access_core.proofs.Terms.{is_holder, is_queue_of, knows_object, knows_client, refusal_of, refuse_unless, refuses, rules_in, rules_of, start_of}
 use Rattle.policy.specs.Rules as rules_kept
-use Rattle.grants.specs.declared.refusal.Refusal.TheVariants as why
+use Rattle.grants.specs.declared.refusal.GrantRefusal.TheVariants as why
 use Rattle.core_model.specs.declared.outcome.Outcome.TheVariants as outcome
 use Rattle.core_model.specs.declared.refusal.Refusal.TheVariants as refusal
 
@@ -22,13 +22,13 @@ module _ (a : Inside) (kept : IsCached a) (client : ClientId) (on : Object) (rig
   rules_is : rules_in a.grants ≡ rules_of a.policy
   rules_is = kept.rules
 
-  due-is : grant_due a.grants client on rights ≡ due_of (knows_client (rules_of a.policy) client) (knows (rules_of a.policy) on) (allows (rules_of a.policy) client on rights)
-  due-is = ap (λ (rules : Rules). due_of (knows_client rules client) (knows rules on) (rules_kept.allows rules client on rights)) rules_is
+  due-is : grant_due a.grants client on rights ≡ due_of (knows_client (rules_of a.policy) client) (knows_object (rules_of a.policy) on) (are_allowed (rules_of a.policy) client on rights)
+  due-is = ap (λ (rules : Rules). due_of (knows_client rules client) (knows_object rules on) (rules_kept.are_allowed rules client on rights)) rules_is
 
   -- what grants say is due is what is owed
   pub grant-refused : (r : Why) → Err r ≡ grant_due a.grants client on rights → owed (start_of a) a.audit.items (Grant client on rights) ≡ refuses (refusal_of r)
   unfolding owed
-  grant-refused r due = by_tests (knows_client (rules_of a.policy) client) (knows (rules_of a.policy) on) (allows (rules_of a.policy) client on rights) (due ∙ due-is)
+  grant-refused r due = by_tests (knows_client (rules_of a.policy) client) (knows_object (rules_of a.policy) on) (are_allowed (rules_of a.policy) client on rights) (due ∙ due-is)
     where
       by_tests : (c o s : Bool) → Err r ≡ due_of c o s
           → refuse_unless c (refuses refusal.UnknownClient) (refuse_unless o (refuses refusal.UnknownObject) (refuse_unless s (refuses refusal.NotAllowed) (enters outcome.Accepted []))) ≡ refuses (refusal_of r)
@@ -39,7 +39,7 @@ module _ (a : Inside) (kept : IsCached a) (client : ClientId) (on : Object) (rig
 
   grant-owed : Ok tt ≡ grant_due a.grants client on rights → owed (start_of a) a.audit.items (Grant client on rights) ≡ enters outcome.Accepted []
   unfolding owed
-  grant-owed due = by_tests (knows_client (rules_of a.policy) client) (knows (rules_of a.policy) on) (allows (rules_of a.policy) client on rights) (due ∙ due-is)
+  grant-owed due = by_tests (knows_client (rules_of a.policy) client) (knows_object (rules_of a.policy) on) (are_allowed (rules_of a.policy) client on rights) (due ∙ due-is)
     where
       by_tests : (c o s : Bool) → Ok tt ≡ due_of c o s
           → refuse_unless c (refuses refusal.UnknownClient) (refuse_unless o (refuses refusal.UnknownObject) (refuse_unless s (refuses refusal.NotAllowed) (enters outcome.Accepted []))) ≡ enters outcome.Accepted []
@@ -69,7 +69,7 @@ module _ (a : Inside) (kept : IsCached a) (client : ClientId) (on : Object) (rig
   unfolding owed
   revoke-owed answers =
       let known : knows_client (rules_of a.policy) client ≡ true = sym (ap (λ (rules : Rules). knows_client rules client) rules_is) ∙ answers.0 in
-      let there : knows (rules_of a.policy) on ≡ true = sym (ap (λ (rules : Rules). knows rules on) rules_is) ∙ answers.1 in
+      let there : knows_object (rules_of a.policy) on ≡ true = sym (ap (λ (rules : Rules). knows_object rules on) rules_is) ∙ answers.1 in
       let none : holder (start_of a) a.audit.items client on rights ≡ None = least-none holding (flight (start_of a) a.audit.items) (first-test None answers.2) in
       rw (known, there, none) refl
 
@@ -84,12 +84,12 @@ module _ (a : Inside) (kept : IsCached a) (client : ClientId) (on : Object) (rig
       rw known refl
   revoke-refused why.UnknownObject answers =
       let known : knows_client (rules_of a.policy) client ≡ true = sym (ap (λ (rules : Rules). knows_client rules client) rules_is) ∙ answers.0 in
-      let there : knows (rules_of a.policy) on ≡ false = sym (ap (λ (rules : Rules). knows rules on) rules_is) ∙ answers.1 in
+      let there : knows_object (rules_of a.policy) on ≡ false = sym (ap (λ (rules : Rules). knows_object rules on) rules_is) ∙ answers.1 in
       rw (known, there) refl
   revoke-refused why.NotAllowed answers = absurd answers
   revoke-refused (why.Busy queue id) answers =
       let known : knows_client (rules_of a.policy) client ≡ true = sym (ap (λ (rules : Rules). knows_client rules client) rules_is) ∙ answers.0 in
-      let there : knows (rules_of a.policy) on ≡ true = sym (ap (λ (rules : Rules). knows rules on) rules_is) ∙ answers.1 in
+      let there : knows_object (rules_of a.policy) on ≡ true = sym (ap (λ (rules : Rules). knows_object rules on) rules_is) ∙ answers.1 in
       let first = least-first holding (flight (start_of a) a.audit.items) queue id (first-test (Some (queue, id)) answers.2) in
       let found : holder (start_of a) a.audit.items client on rights ≡ Some first.one = first.is in
       rw (known, there, found) (ap (λ (q : QueueId). refuses (refusal.Busy q first.one.id)) first.queue_is ∙ ap (λ (i : PacketId). refuses (refusal.Busy queue i)) first.id_is)

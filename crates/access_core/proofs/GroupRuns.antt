@@ -22,7 +22,7 @@ use Rattle.core_model.specs.Grants.{in_force}
 use Rattle.core_model.specs.Headline.{HoldsInForce}
 use Rattle.core_model.specs.Holds.{arguments, packet_rights}
 use Rattle.core_model.specs.Kernels.{grid_size, group_size, kernel_of, no_kernel}
-use Rattle.core_model.specs.View.{given, group_input}
+use Rattle.core_model.specs.View.{given_at_launch, group_input}
 use Rattle.core_model.specs.Work.{groups_of}
 use Rattle.access_core.specs.inner.ArgumentBlocks.{block_of}
 use Rattle.access_core.specs.Opening.{IsNumber, has_entry, program_of}
@@ -131,9 +131,9 @@ module _ (a : Inside) (kept : IsCached a) (old : History) (seen_as : history_of 
 
     -- what it comes to is what the history says
     pub result-is : ReadsWhereItMay → (view : List HeldRegion) → map lent_region view ≡ view_whole old.start old.entries (packet_rights old.start old.entries queue id)
-        → group_result (group_input old.start old.entries (given old.start old.entries queue id) d group) ≡ group_result (input_of p asked group view)
+        → group_result (group_input old.start old.entries (given_at_launch old.start old.entries queue id) d group) ≡ group_result (input_of p asked group view)
     result-is law view view_is =
-        law (group_input old.start old.entries (given old.start old.entries queue id) d group) (view_whole old.start old.entries (packet_rights old.start old.entries queue id))
+        law (group_input old.start old.entries (given_at_launch old.start old.entries queue id) d group) (view_whole old.start old.entries (packet_rights old.start old.entries queue id))
         (views-alike old.start old.entries (packet_rights old.start old.entries queue id))
         ∙ (λ i. group_result (record {
           program = sym p_is i;
@@ -146,7 +146,7 @@ module _ (a : Inside) (kept : IsCached a) (old : History) (seen_as : history_of 
         }))
 
   -- each run that it writes lies whole in a region
-  pub runs-within : are_region_lengths (region_lengths old.start.policy) ≡ true → (group : ℕ) (runs : List Run) → group_result (group_input old.start old.entries (given old.start old.entries queue id) d group) ≡ wrote runs
+  pub runs-within : are_region_lengths (region_lengths old.start.policy) ≡ true → (group : ℕ) (runs : List Run) → group_result (group_input old.start old.entries (given_at_launch old.start old.entries queue id) d group) ≡ wrote runs
       → All (λ (run : Run). is_within (region_lengths old.start.policy) run.address (length run.bytes) ≡ true) runs
   runs-within fit group runs came =
       let launch : HoldsInForce old.start old.entries found.flying = launch-of old.start old.entries legal queue id found.flying found.found in
@@ -154,4 +154,4 @@ module _ (a : Inside) (kept : IsCached a) (old : History) (seen_as : history_of 
       let granted : All (λ h. in_force old.start old.entries client h.0 h.1 ≡ true) (packet_rights old.start old.entries queue id) =
       subst (λ hs. All (λ h. in_force old.start old.entries client h.0 h.1 ≡ true) hs) (λ i. packet_rights old.start old.entries (named.0 i) (named.1 i)) launch.holds in
       All-weaker (IsWithinGrant old.start old.entries client) (λ (run : Run). is_within (region_lengths old.start.policy) run.address (length run.bytes) ≡ true) (λ run within. within.1.lies_whole) runs
-      (runs-granted old.start old.entries old.entries client (given old.start old.entries queue id) d group fit granted runs came)
+      (runs-granted old.start old.entries old.entries client (given_at_launch old.start old.entries queue id) d group fit granted runs came)

@@ -7,7 +7,7 @@ use Rattle.std.proofs.lemmas.List.Elements.{All-head, All-tail}
 use Rattle.std.proofs.lemmas.List.Folds.{list_any-append}
 use Rattle.policy.specs.Object.{same_object}
 use Rattle.aql_packet.specs.Ids.{same_packet}
-use Rattle.grants.specs.Pairs.{names}
+use Rattle.grants.specs.Pairs.{is_named}
 use Rattle.core_model.specs.Queues.{opening_of}
 use Rattle.aql_packet.specs.declared.ids.AgentHandle.{AgentHandle}
 use Rattle.core_model.proofs.Holding.{owner-more}
@@ -140,7 +140,7 @@ or-false b = grind arith
 same_turned : (a b : ℕ) → (a == b) ≡ (b == a)
 same_turned a b = grind arith
 
-names-held : (client c : ClientId) (on : Object) (right : Right) (hs : List ObjectRight) → names (map as_rights hs) client c on right ≡ (client.0 == c.0 && list_any (λ h. same_object on h.0 && has (as_rights h).1 right) hs)
+names-held : (client c : ClientId) (on : Object) (right : Right) (hs : List ObjectRight) → is_named (map as_rights hs) client c on right ≡ (client.0 == c.0 && list_any (λ h. same_object on h.0 && has (as_rights h).1 right) hs)
 names-held client c on right hs =
     ap (λ b. list_any (λ (named : Object × Rights). (b && same_object on named.0) && has named.1 right) (map as_rights hs)) (same_turned c.0 client.0)
     ∙ mapped hs ∙ any-before (λ (h : ObjectRight). same_object on h.0 && has (as_rights h).1 right) (client.0 == c.0) hs
@@ -156,15 +156,15 @@ names-held client c on right hs =
 -- the packets in flight hold what they held, and the one that is launched what its launch gives it
 pub held-with : (owners : QueueId → Option Opening) (helds : QueueId → PacketId → List ObjectRight) (fs : List InFlight) (opening : Opening) (q : QueueId) (i : PacketId) (p : Packet) (hs : List ObjectRight) → owners q ≡ Some opening → helds q i ≡ hs
     → (queue : QueueId) (id : PacketId) (client : ClientId) (on : Object) (right : Right)
-    → (packet_holds owners helds fs queue id client on right || (same_packet queue id q i && names (map as_rights hs) opening.client client on right))
+    → (packet_holds owners helds fs queue id client on right || (same_packet queue id q i && is_named (map as_rights hs) opening.client client on right))
     ≡ packet_holds owners helds (fs ++ (record { queue = q; id = i; packet = p }) ∷ []) queue id client on right
 held-with owners helds fs opening q i p hs is gives queue id client on right =
     ap (λ b. packet_holds owners helds fs queue id client on right || b) (launched ∙ sym (or-false _))
     ∙ sym (list_any-append (λ (f : InFlight). is_packet queue id f && holds_by (owners f.queue) client on right (helds f.queue f.id)) fs ((record { queue = q; id = i; packet = p }) ∷ []))
   where
-    launched : (same_packet queue id q i && names (map as_rights hs) opening.client client on right) ≡ (is_packet queue id ((record { queue = q; id = i; packet = p })) && holds_by (owners q) client on right (helds q i))
+    launched : (same_packet queue id q i && is_named (map as_rights hs) opening.client client on right) ≡ (is_packet queue id ((record { queue = q; id = i; packet = p })) && holds_by (owners q) client on right (helds q i))
     launched =
-        ap (λ b. b && names (map as_rights hs) opening.client client on right) numbers
+        ap (λ b. b && is_named (map as_rights hs) opening.client client on right) numbers
         ∙ ap (λ b. is_packet queue id ((record { queue = q; id = i; packet = p })) && b)
         (names-held opening.client client on right hs ∙ (λ j. holds_by (sym is j) client on right (sym gives j)))
       where
@@ -220,9 +220,9 @@ grants-launched a kept event outcome effects none still old new blocks opening q
   rules = holds.same_rules ∙ ap ledger.rules_in same;
   held = λ queue id client on right.
       holds.held queue id client on right
-      ∙ ap (λ (g : Ledger). ledger.holds g queue id client on right || (same_packet queue id q i && names rights opening.client client on right)) same
-      ∙ ap (λ (rs : List (Object × Rights)). ledger.holds a.grants queue id client on right || (same_packet queue id q i && names rs opening.client client on right)) are
-      ∙ ap (λ b. b || (same_packet queue id q i && names (map as_rights hs) opening.client client on right))
+      ∙ ap (λ (g : Ledger). ledger.holds g queue id client on right || (same_packet queue id q i && is_named rights opening.client client on right)) same
+      ∙ ap (λ (rs : List (Object × Rights)). ledger.holds a.grants queue id client on right || (same_packet queue id q i && is_named rs opening.client client on right)) are
+      ∙ ap (λ b. b || (same_packet queue id q i && is_named (map as_rights hs) opening.client client on right))
       (kept.held queue id client on right
       ∙ held-left (start_of a) a.audit.items (entry_of event outcome effects) (owner (start_of a) a.audit.items) queue id client on right (flight (start_of a) a.audit.items) (holding-legal (start_of a) a.audit.items kept.legal))
       ∙ held-with (owner (start_of a) a.audit.items) (packet_rights (start_of a) (with_entry a.audit.items event outcome effects)) (flight (start_of a) a.audit.items) opening q i p hs is gives queue id client on right

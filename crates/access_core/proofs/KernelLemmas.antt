@@ -10,7 +10,7 @@ use Rattle.executor.specs.Results.{GroupResult, broke_rule, group_result, wrote}
 use Rattle.executor.specs.declared.run.Run.{Run}
 use Rattle.core_model.specs.declared.outcome.Worked.TheVariants.{Done, Faulted, Ran}
 use Rattle.core_model.specs.Owed.{group_owed, owed}
-use Rattle.core_model.specs.View.{HeldRegion, first_address, given, group_input, held_regions, lent, view}
+use Rattle.core_model.specs.View.{HeldRegion, first_address, given_at_launch, group_input, held_regions, as_lent, view}
 use Rattle.core_model.specs.Work.{groups_of, write_of_run}
 use Rattle.access_core.specs.inner.Running.{lent_whole, view_whole}
 use Rattle.access_core.proofs.QueueAt.{IsAdvance}
@@ -27,7 +27,7 @@ use Rattle.core_model.specs.declared.outcome.Outcome.TheVariants as outcome
 -- ---- what a group is lent
 
 module _ (start : Start) (es : List Entry) where
-  lent-alike : (region : HeldRegion) → IsLentAlike (lent start es region) (lent_whole start es region)
+  lent-alike : (region : HeldRegion) → IsLentAlike (as_lent start es region) (lent_whole start es region)
   lent-alike region = record {
     number_is = refl;
     rights_are = refl;
@@ -39,7 +39,7 @@ module _ (start : Start) (es : List Entry) where
       by_test true = refl
       by_test false = length-replicate region.size 0 ∙ sym (length-map-range_with_len (memory_at start es) (first_address region) region.size)
 
-  all-alike : (regions : List HeldRegion) → AreLentAlike (map (lent start es) regions) (map (lent_whole start es) regions)
+  all-alike : (regions : List HeldRegion) → AreLentAlike (map (as_lent start es) regions) (map (lent_whole start es) regions)
   all-alike [] = tt
   all-alike (region ∷ regions) = (lent-alike region, all-alike regions)
 
@@ -51,12 +51,12 @@ module _ (start : Start) (es : List Entry) where
 
 pub kernel-owed : (h : History) (queue : QueueId) (id : PacketId) (place : Place) → IsInPlace h queue id place → (d : KernelDispatch) → place.packet ≡ packet.Kernel d → (ran : Bool) → nat_le (groups_of (packet.Kernel d)) place.progress.groups_run ≡ ran
     → owed h.start h.entries (RunNext queue id)
-    ≡ (if ran then answers (outcome.Worked Done) else group_owed queue id d place.progress.groups_run (group_result (group_input h.start h.entries (given h.start h.entries queue id) d place.progress.groups_run)))
+    ≡ (if ran then answers (outcome.Worked Done) else group_owed queue id d place.progress.groups_run (group_result (group_input h.start h.entries (given_at_launch h.start h.entries queue id) d place.progress.groups_run)))
 unfolding owed
 kernel-owed h queue id place found d packet_is ran is =
-    owed-in_place h queue id place found (owed_group h.start h.entries queue id (given h.start h.entries queue id))
-    ∙ ap (λ p. owed_group h.start h.entries queue id (given h.start h.entries queue id) p place.progress) packet_is
-    ∙ ap (λ b. if b then answers (outcome.Worked Done) else group_owed queue id d place.progress.groups_run (group_result (group_input h.start h.entries (given h.start h.entries queue id) d place.progress.groups_run))) is
+    owed-in_place h queue id place found (owed_group h.start h.entries queue id (given_at_launch h.start h.entries queue id))
+    ∙ ap (λ p. owed_group h.start h.entries queue id (given_at_launch h.start h.entries queue id) p place.progress) packet_is
+    ∙ ap (λ b. if b then answers (outcome.Worked Done) else group_owed queue id d place.progress.groups_run (group_result (group_input h.start h.entries (given_at_launch h.start h.entries queue id) d place.progress.groups_run))) is
 
 -- a group that breaks a rule always finds room for its entry
 pub fault-due : (a : Inside) → IsCached a → (old : History) → history_of a ≡ old → (queue : QueueId) (id : PacketId) (place : Place) → IsInPlace old queue id place → (error : QueueError)

@@ -27,7 +27,7 @@ numbered-none n = either (nat_lt 0 n)
 
 -- what is kept where nothing has happened is what the empty audit says
 pub IsCached-opened : (a : Inside) → IsNew a.grants → rules_in a.grants ≡ rules_of a.policy → a.memory ≡ zeros (region_lengths a.policy) → a.signals ≡ initial_values a.policy
-    → a.blocks.items ≡ [] → a.queues.items ≡ [] → a.flying ≡ 0 → a.audit.items ≡ [] → a.audit.room ≡ a.capacity → a.capacity ≤ MOST_ENTRIES → All (λ kernel. has_entry kernel ≡ true) a.kernels.items → a.segments ≡ map segments_of (map program_of a.kernels.items) → IsCached a
+    → a.blocks.items ≡ [] → a.queues.items ≡ [] → a.flying ≡ 0 → a.audit.items ≡ [] → a.audit.room ≡ a.capacity → a.capacity ≤ MOST_ENTRIES → All (λ kernel. has_entry kernel ≡ true) a.kernels.items → a.segments.items ≡ map segments_of (map program_of a.kernels.items) → IsCached a
 unfolding in_force memory_at effects_of signals openings next_id errors is_stopped flight
 IsCached-opened a fresh ruled memory values blocks queues flying entries places few kernels segments = record {
   granted = λ client on right. fresh.none_in_force client on right ∙ (rw entries refl);

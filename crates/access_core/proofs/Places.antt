@@ -24,7 +24,7 @@ module _ (a : Inside) (core : Core) (seen_as : core_of a ≡ core) where
   -- the audit has an entry more, and each other table as many places as before
   pub places-kept : (queues : Vec Queue) (grants : Ledger) (blocks : Roomy ArgumentBlock) (audit : Roomy Entry) (entry : Entry) → vec_capacity queues ≡ vec_capacity a.queues
       → map error_places queues.items ≡ map error_places a.queues.items → ledger.places grants ≡ ledger.places a.grants → places_of blocks ≡ places_of a.blocks → IsEntered a.audit audit entry
-      → table_places queues grants blocks audit ≡ core.places
+      → table_places a.kernels a.segments queues grants blocks audit ≡ core.places
   places-kept queues grants blocks audit entry of_queues of_errors of_holds of_blocks is =
-      (λ i. record { queue_places = of_queues i; error_places = of_errors i; hold_places = of_holds i; block_places = of_blocks i; audit_places = entered-places a.audit audit entry is i })
+      (λ i. record { kernel_places = vec_capacity a.kernels; segment_places = vec_capacity a.segments; queue_places = of_queues i; error_places = of_errors i; hold_places = of_holds i; block_places = of_blocks i; audit_places = entered-places a.audit audit entry is i })
       ∙ ap (λ (c : Core). c.places) seen_as

@@ -1,6 +1,6 @@
 -- Packets in flight that are polled: the entry of what is seen.
 use Rattle.std.proofs.Common.{◌≡◌, ◌∙◌, ap, sym, refl, Bool, true, false, []}
-use Rattle.core_model.specs.declared.outcome.Seen.{Seen}
+use Rattle.core_model.specs.declared.outcome.Satisfied.{Satisfied}
 use Rattle.core_model.specs.Owed.{owed}
 use Rattle.access_core.proofs.WorkLemmas.{owed-in_place}
 use Rattle.access_core.proofs.QueueAt.{IsAdvance}
@@ -9,11 +9,11 @@ use Rattle.access_core.proofs.Terms.{sight, signals}
 use Rattle.core_model.specs.declared.outcome.Outcome.TheVariants as outcome
 
 -- how far a packet has come once it has seen this
-abbrev pub seen_further : Seen → Progress → Progress
+abbrev pub seen_further : Satisfied → Progress → Progress
 seen_further new so_far = record so_far { satisfied = seen_by_either so_far.satisfied new }
 
 -- by the entry the packet comes as far
-pub sight-advances : (queue : QueueId) (id : PacketId) (ready : Bool) (new : Seen) → IsAdvance queue id (seen_further new) (Poll queue id) (outcome.Polled (sight ready new)) []
+pub sight-advances : (queue : QueueId) (id : PacketId) (ready : Bool) (new : Satisfied) → IsAdvance queue id (seen_further new) (Poll queue id) (outcome.Polled (sight ready new)) []
 sight-advances queue id true new = record { launches = refl; progress = λ q i so_far. refl; releases = λ fs. refl; views = λ m v places. refl }
 sight-advances queue id false new = record { launches = refl; progress = λ q i so_far. refl; releases = λ fs. refl; views = λ m v places. refl }
 

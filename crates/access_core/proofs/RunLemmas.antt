@@ -9,7 +9,7 @@ use Rattle.core_model.specs.declared.need.AgentFunction.{AgentFunction}
 use Rattle.core_model.specs.declared.need.AgentFunction.TheVariants.{Fill, Copy, Add64}
 use Rattle.core_model.specs.Owed.{owed}
 use Rattle.aql_packet.specs.declared.packet.Packet.TheVariants as packet
-use Rattle.core_model.specs.View.{Given, given}
+use Rattle.core_model.specs.View.{Given, given_at_launch}
 use Rattle.access_core.proofs.Calls.{due-as}
 use Rattle.access_core.proofs.QueueAt.{IsAdvance}
 use Rattle.access_core.proofs.WorkLemmas.{owed-in_place}
@@ -84,8 +84,8 @@ module _ (h : History) (queue : QueueId) (id : PacketId) (place : Place) (found 
       ≡ (if ran then answers (outcome.Worked Done) else enters (outcome.Worked (Ran 0 0)) (agent_writes h.start h.entries d))
   unfolding owed
   agent-owed ran is =
-      owed-in_place h queue id place found (owed_group h.start h.entries queue id (given h.start h.entries queue id))
-      ∙ ap (λ p. owed_group h.start h.entries queue id (given h.start h.entries queue id) p place.progress) packet_is
+      owed-in_place h queue id place found (owed_group h.start h.entries queue id (given_at_launch h.start h.entries queue id))
+      ∙ ap (λ p. owed_group h.start h.entries queue id (given_at_launch h.start h.entries queue id) p place.progress) packet_is
       ∙ ap (λ b. if b then answers (outcome.Worked Done) else enters (outcome.Worked (Ran 0 0)) (agent_writes h.start h.entries d)) is
 
   pub agent-done : nat_le 1 place.progress.groups_run ≡ true → due h (RunNext queue id) ≡ answers (outcome.Worked Done)
@@ -105,9 +105,9 @@ pub no-groups : (h : History) (queue : QueueId) (id : PacketId) (place : Place) 
 unfolding owed
 no-groups h queue id place found is =
     due-as h (RunNext queue id) (refuses refusal.NotInFlight)
-    (owed-in_place h queue id place found (owed_group h.start h.entries queue id (given h.start h.entries queue id)) ∙ is (given h.start h.entries queue id))
+    (owed-in_place h queue id place found (owed_group h.start h.entries queue id (given_at_launch h.start h.entries queue id)) ∙ is (given_at_launch h.start h.entries queue id))
 
 -- a packet that isn't in flight is refused
 pub run-refused : (h : History) (queue : QueueId) (id : PacketId) (why : Refusal) → RefusedAt h queue id why → due h (RunNext queue id) ≡ refuses why
 unfolding owed
-run-refused h queue id why refused = due-as h (RunNext queue id) (refuses why) (refused (owed_group h.start h.entries queue id (given h.start h.entries queue id)))
+run-refused h queue id why refused = due-as h (RunNext queue id) (refuses why) (refused (owed_group h.start h.entries queue id (given_at_launch h.start h.entries queue id)))

@@ -33,7 +33,7 @@ use Rattle.access_core.proofs.QueueAt.{flight-launched, flight-unlaunched, map-m
 use Rattle.access_core.proofs.ChangedQueue.{length-changed, openings-changed, queues-changed, sound-at, sound-changed}
 use Rattle.access_core.proofs.Terms.{IsInPlace, in_force, due, enters, is_placed, CanFail, ClientId, Denied, Effect, Entry, Event, Facts, ObjectRight, History, InFlight, Inside, IsCached, IsSound}
 use Rattle.access_core.proofs.Terms.{Launched, Opening, Outcome, Packet, PacketId, Place, Queue, QueueError, QueueId, QueueView, SLOTS, Start, Take}
-use Rattle.access_core.proofs.Terms.{TakesNext, right_needed, as_launched, barrier_bit, cached, cached_opening, owed_verdict, decoded, entry_of, error_without_place, errors}
+use Rattle.access_core.proofs.Terms.{TakesNext, right_needed, as_launched, barrier_bit, cached_view, cached_opening, owed_verdict, decoded, entry_of, error_without_place, errors}
 use Rattle.access_core.proofs.Terms.{facts_of, first_failing_rule, flight, flight_of, hands_over_packet_of, rights_at_launch, history_of, need_is_met, is_stopped, lacks_room}
 use Rattle.access_core.proofs.Terms.{launched_by, lies_in_regions, lies_whole, memory_needs, needs, numbered, numbered-map, owner, place_of, queue_at}
 use Rattle.access_core.proofs.Terms.{refuse_unless, refuses, region_lengths, start_of, with_denied, with_entry, with_queue, with_some}
@@ -51,8 +51,8 @@ pub judged-inside : (a : Inside) (old : History) → history_of a ≡ old → (q
 judged-inside a old seen_as q bytes found is = subst (λ (h : History). first_failing_rule (facts_of h.start h.entries (cached_opening q)) bytes ≡ found) (sym seen_as) is
 
 -- what is kept of a queue is what the history says of it
-pub view-kept : (a : Inside) (queue : QueueId) (q : Queue) → IsCached a → numbered a.queues.items queue.0 ≡ Some q → cached (Some q) ≡ queue_at (start_of a) a.audit.items queue
-view-kept a queue q kept some = ap cached (sym some) ∙ kept.queues queue
+pub view-kept : (a : Inside) (queue : QueueId) (q : Queue) → IsCached a → numbered a.queues.items queue.0 ≡ Some q → cached_view (Some q) ≡ queue_at (start_of a) a.audit.items queue
+view-kept a queue q kept some = ap cached_view (sym some) ∙ kept.queues queue
 
 -- its packets in flight are those of the history
 pub packets-kept : (a : Inside) (queue : QueueId) (q : Queue) → IsCached a → numbered a.queues.items queue.0 ≡ Some q → map (λ (f : InFlight). f.packet) (flight_of (start_of a) a.audit.items queue) ≡ map (λ (p : Place). p.packet) q.places
@@ -211,7 +211,7 @@ no_errors (x ∷ xs) s e = let some = lt-ltb 0 (length (x ∷ xs)) (omega arith)
 pub record IsOpen (a : Inside) (queue : QueueId) : Type 0 where
   pub q : Queue
   pub found : numbered a.queues.items queue.0 ≡ Some q
-  pub view : cached (Some q) ≡ queue_at (start_of a) a.audit.items queue
+  pub view : cached_view (Some q) ≡ queue_at (start_of a) a.audit.items queue
   pub sound : IsSound q
   pub small : q.next < 2 ^ 63
 
@@ -246,7 +246,7 @@ can-take a kept queue takes =
 
 -- how the queues follow an entry that changes one of them
 pub queues-after : (a : Inside) (kept : IsCached a) (queue : QueueId) (at : IsOpen a queue) (change : Queue → Queue) (view : QueueView → QueueView) (count : ℕ) (event : Event) (told : Outcome) (effects : List Effect)
-    → opening_of event ≡ None → cached_opening (change at.q) ≡ cached_opening at.q → IsSound (change at.q) → cached (Some (change at.q)) ≡ view (cached (Some at.q))
+    → opening_of event ≡ None → cached_opening (change at.q) ≡ cached_opening at.q → IsSound (change at.q) → cached_view (Some (change at.q)) ≡ view (cached_view (Some at.q))
     → ((m : QueueId) → queue_at (start_of a) (with_entry a.audit.items event told effects) m ≡ (if queue.0 == m.0 then view (queue_at (start_of a) a.audit.items m) else queue_at (start_of a) a.audit.items m))
     → count ≡ length (flight (start_of a) (with_entry a.audit.items event told effects)) → ((f : InFlight) → launched_by event told ≡ Some f → lies_in_regions (region_lengths a.policy) f.packet ≡ true)
     → QueuesAfter a (with_queue a.queues.items queue change) count event told effects

@@ -2,13 +2,13 @@
 pub use Rattle.access_core.specs.declared.access.AccessCore.TheInside.{Inside}
 pub use Rattle.access_core.specs.declared.queue.Queue.{Queue}
 pub use Rattle.access_core.specs.inner.Cached.{IsCached, IsEntered, history_of, is_full, start_of}
-pub use Rattle.access_core.specs.inner.CachedQueue.{IsQueue, IsSound, QueueView, cached, cached_opening, place_of, queue_at}
+pub use Rattle.access_core.specs.inner.CachedQueue.{IsQueue, IsSound, QueueView, cached_view, cached_opening, place_of, queue_at}
 pub use Rattle.access_core.specs.inner.Deciding.{MayHold, TakesNext, refusal_of}
 pub use Rattle.access_core.specs.inner.Held.{holds_by, packet_holds}
 pub use Rattle.access_core.specs.inner.InPlace.{IsChanged, IsInPlace, RefusedAt, finish_owed, is_placed}
 pub use Rattle.access_core.specs.inner.LiesInRegions.{lies_in_regions}
 pub use Rattle.access_core.specs.inner.Polling.{look_owed, sight}
-pub use Rattle.access_core.specs.inner.QueueChanges.{CanFail, freed, freed_by, with_advance, with_denied, with_failure, with_queue, with_release, with_stop}
+pub use Rattle.access_core.specs.inner.QueueChanges.{CanFail, places_freed, freed_by, with_advance, with_denied, with_failure, with_queue, with_release, with_stop}
 pub use Rattle.access_core.specs.inner.QueueChanges.{without_one}
 pub use Rattle.aql_packet.specs.Reading.{barrier_bit, decoded}
 pub use Rattle.aql_packet.specs.declared.ids.ClientId.{ClientId}
@@ -51,7 +51,7 @@ pub use Rattle.packet_processor.specs.Queueing.{as_launched, is_at, with_progres
 pub use Rattle.packet_processor.specs.declared.places.Place.{Place}
 pub use Rattle.policy.proofs.NameLemmas.{numbered-map, numbered-next}
 pub use Rattle.policy.specs.Policy.{Name, numbered, region_lengths, row_of, rules_of}
-pub use Rattle.policy.specs.Rules.{Rules, knows, knows_client, allows, count}
+pub use Rattle.policy.specs.Rules.{Rules, knows_object, knows_client, are_allowed, count}
 pub use Rattle.policy.specs.Listing.{all_objects, listing_by}
 pub use Rattle.policy.specs.Rights.{all_rights, bit_of, each_right, has, rights_that}
 pub use Rattle.policy.specs.declared.object.Object.{Object}

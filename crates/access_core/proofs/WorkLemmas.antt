@@ -18,7 +18,7 @@ use Rattle.access_core.proofs.QueueAt.{flight-released, queue_at-advanced, queue
 use Rattle.access_core.proofs.ChangedQueue.{freed-at}
 use Rattle.access_core.proofs.TakeLemmas.{IsOpen, owner-kept, queues-after, view-kept}
 use Rattle.access_core.proofs.Terms.{CanFail, Effect, Event, Finish, History, InFlight, Inside, IsCached, IsInPlace, IsSound, Outcome, Owed, Packet, PacketId}
-use Rattle.access_core.proofs.Terms.{Place, Poll, Progress, RunNext, Queue, QueueError, QueueId, QueueView, RefusedAt, byte_after, cached, cached_opening}
+use Rattle.access_core.proofs.Terms.{Place, Poll, Progress, RunNext, Queue, QueueError, QueueId, QueueView, RefusedAt, byte_after, cached_view, cached_opening}
 use Rattle.access_core.proofs.Terms.{signal_decrement, completion_signal, completion_of, due, enters, entry_of, error_without_place, finish_owed, flight, flight_after}
 use Rattle.access_core.proofs.Terms.{flight_after_effect, for_packet, freed_by, history_of, in_flight, is_at, is_packet, lacks_room, lies_in_regions, numbered}
 use Rattle.access_core.proofs.Terms.{owed, owner, place_of, progress, queue_at, refuses, region_lengths, signals, start_of}
@@ -105,7 +105,7 @@ module _ (a : Inside) (kept : IsCached a) (queue : QueueId) (id : PacketId) wher
 
   -- how the queues move along with it
   pub queues-released : (event : Event) (told : Outcome) (effects : List Effect) → IsRelease queue id event told effects → opening_of event ≡ None → (at : IsOpen a queue) (change : Queue → Queue) (view : QueueView → QueueView)
-      → cached_opening (change at.q) ≡ cached_opening at.q → IsSound (change at.q) → cached (Some (change at.q)) ≡ view (cached (Some at.q))
+      → cached_opening (change at.q) ≡ cached_opening at.q → IsSound (change at.q) → cached_view (Some (change at.q)) ≡ view (cached_view (Some at.q))
       → ((m : QueueId) (v : QueueView) → after_entry m event told v (if queue.0 == m.0 then without id v.places else v.places) ≡ (if queue.0 == m.0 then view v else v))
       → QueuesAfter a (with_queue a.queues.items queue change) (a.flying - freed_by (Some id) a.queues.items queue) event told effects
   queues-released event told effects is none at change view same sound alike pick =

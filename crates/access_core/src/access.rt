@@ -29,7 +29,7 @@ use core_model::{Effects, Entry, Event, KernelSegments, Outcome};
 use grants::Grants;
 use policy::Policy;
 use regions::Regions;
-use sequences::{Reserved, Sequence};
+use sequences::Reserved;
 use signals::Signals;
 use std::alloc::AllocError;
 use std::marker::Model;
@@ -65,7 +65,7 @@ pub struct AccessCore {
     /// The kernels, in order.
     kernels: Vec<Kernel>,
     /// How large their segments are.
-    segments: Sequence<KernelSegments>,
+    segments: Vec<KernelSegments>,
     grants: Grants,
     /// The argument blocks of packets in flight.
     blocks: ArgumentBlocks,

@@ -6,9 +6,9 @@ use hsail_reader::{Comparison, Query};
 use kernel_check::{
     AnyRegister, AnySource, ArgumentStep, AtomicOperation32, AtomicOperation64, AtomicPointer,
     AtomicStep32, AtomicStep64, BranchStep, Choice1, Choice32, Choice64, ControlOperation,
-    ConvertStep, Dimension, DoubleOperation, GroupLoadStep, GroupPointer, GroupStoreStep,
-    IdentifyStep, LoadStep, NumberType, Pair1, Pair32, Pair64, Pointer, Shift64, SingleOperation,
-    Slot, Source1, Source32, Source64, Step, StoreStep, Swap32, Swap64, Triple32, Triple64,
+    ConvertStep, Dimension, DoubleOperation, GroupLoadStep, GroupPointer, GroupStoreStep, LoadStep,
+    NumberType, Pair1, Pair32, Pair64, Pointer, Shift64, SingleOperation, Slot, Source1, Source32,
+    Source64, Step, StoreStep, Swap32, Swap64, Triple32, Triple64, WorkItemQueryStep,
 };
 use std::alloc::AllocError;
 
@@ -613,7 +613,7 @@ fn dimension_name(dimension: Dimension) -> &'static str {
     }
 }
 
-fn push_query(line: &mut String, step: &IdentifyStep) -> Result<(), AllocError> {
+fn push_query(line: &mut String, step: &WorkItemQueryStep) -> Result<(), AllocError> {
     let word = query_name(step.query);
     let kind = width_name(step.target);
     write!(line, "{word}_{kind} ")?;
@@ -640,6 +640,6 @@ pub fn push_step(line: &mut String, step: &Step) -> Result<(), AllocError> {
         Step::ConditionalBranch(step) => push_conditional_branch(line, step),
         Step::Return => line.push_str("ret"),
         Step::Barrier => line.push_str("barrier"),
-        Step::Identify(step) => push_query(line, step),
+        Step::WorkItemQuery(step) => push_query(line, step),
     }
 }

@@ -8,7 +8,7 @@ use Rattle.policy.specs.declared.object.Object.{Object}
 use Rattle.policy.specs.declared.rights.Right.{Right}
 use Rattle.policy.specs.declared.rights.Rights.{Rights}
 use Rattle.policy.specs.Object.{same_object}
-use Rattle.policy.specs.Rules.{allowed, allows}
+use Rattle.policy.specs.Rules.{is_allowed, are_allowed}
 use Rattle.policy.specs.Policy.{rules_of}
 use Rattle.policy.specs.Rights.{has}
 use Rattle.core_model.specs.declared.event.Event.{Event}
@@ -27,22 +27,22 @@ use Rattle.core_model.proofs.Entered.{grant-effects}
 
 module _ (start : Start) (client : ClientId) (on : Object) (one : Right) where
   abbrev IsAllowed : List Entry → Type 0
-  IsAllowed es = in_force start es client on one ≡ true → allowed (rules_of start.policy) client on one ≡ true
+  IsAllowed es = in_force start es client on one ≡ true → is_allowed (rules_of start.policy) client on one ≡ true
 
   -- a grant that names the right was made where the policy allows it
-  named : (c : ClientId) (o : Object) (rights : Rights) → allows (rules_of start.policy) c o rights ≡ true → is_one_of client on one c o rights ≡ true → allowed (rules_of start.policy) client on one ≡ true
+  named : (c : ClientId) (o : Object) (rights : Rights) → are_allowed (rules_of start.policy) c o rights ≡ true → is_one_of client on one c o rights ≡ true → is_allowed (rules_of start.policy) client on one ≡ true
   named c o rights allows_it names_it =
       let rest = and_parts (client.0 == c.0 && same_object on o) (has rights one) names_it in
       let both = and_parts (client.0 == c.0) (same_object on o) rest.0 in
       let client_is : client ≡ c = ap (λ n. record { 0 = n }) (eqb-true _ _ both.0) in
       let object_is : on ≡ o = same_object_is on o both.1 in
-      (λ i. allowed (rules_of start.policy) (client_is i) (object_is i) one) ∙ each_right-has rights (allowed (rules_of start.policy) c o) allows_it one rest.1
+      (λ i. is_allowed (rules_of start.policy) (client_is i) (object_is i) one) ∙ each_right-has rights (is_allowed (rules_of start.policy) c o) allows_it one rest.1
 
-  either : (a b : Bool) → (a || b) ≡ true → (a ≡ true → allowed (rules_of start.policy) client on one ≡ true) → (b ≡ true → allowed (rules_of start.policy) client on one ≡ true) → allowed (rules_of start.policy) client on one ≡ true
+  either : (a b : Bool) → (a || b) ≡ true → (a ≡ true → is_allowed (rules_of start.policy) client on one ≡ true) → (b ≡ true → is_allowed (rules_of start.policy) client on one ≡ true) → is_allowed (rules_of start.policy) client on one ≡ true
   either true b is left right_so = left is
   either false b is left right_so = right_so is
 
-  after : (es : List Entry) (event : Event) (told : Outcome) (effects : List Effect) → owed start es event ≡ enters told effects → IsAllowed es → in_force_after client on one (in_force start es client on one) event ≡ true → allowed (rules_of start.policy) client on one ≡ true
+  after : (es : List Entry) (event : Event) (told : Outcome) (effects : List Effect) → owed start es event ≡ enters told effects → IsAllowed es → in_force_after client on one (in_force start es client on one) event ≡ true → is_allowed (rules_of start.policy) client on one ≡ true
   after es (Grant c o rights) told effects owing before now = either _ _ now before (named c o rights (grant-effects start es told effects c o rights owing).1)
   after es (Revoke c o rights) told effects owing before now = before (and_parts (in_force start es client on one) _ now).0
   after es (OpenQueue _ _ _) told effects owing before now = before now

@@ -53,7 +53,7 @@ use Rattle.core_model.specs.Needs.{argument, range_at, completion_signal, functi
 use Rattle.core_model.specs.LaunchRules.{is_barrier}
 use Rattle.core_model.specs.Work.{groups_of, number_in_memory, write_of, write_of_run, function_writes, function_result, result_writes, agent_writes}
 use Rattle.core_model.specs.Holds.{packet_rights}
-use Rattle.core_model.specs.View.{given, group_input}
+use Rattle.core_model.specs.View.{given_at_launch, group_input}
 use Rattle.core_model.proofs.Viewing.{IsWithinGrant, runs-granted}
 use Rattle.core_model.specs.Owed.{owed, enters, error_without_place, group_error, barrier_in, signal_decrement, release_of}
 use Rattle.core_model.specs.Legal.{IsLegal}
@@ -185,7 +185,7 @@ module _ (start : Start) (es : List Entry) (legal : IsLegal start es) where
       (ran : (told : Outcome) (queue : QueueId) (id : PacketId) (s : InFlightSince start es queue id) (d : AgentDispatch) → s.flying.packet ≡ packet.Agent d → (progress start es queue id).groups_run < groups_of s.flying.packet → All (P (RunNext queue id) told) (agent_writes start es d))
       (kernel_ran : (told : Outcome) (queue : QueueId) (id : PacketId) (s : InFlightSince start es queue id) → All (λ h. in_force start s.launch.before s.launch.opening.client h.0 h.1 ≡ true) (packet_rights start es queue id) →
       (d : KernelDispatch) → s.flying.packet ≡ packet.Kernel d → (progress start es queue id).groups_run < groups_of s.flying.packet → (runs : List Run) →
-      group_result (group_input start es (given start es queue id) d (progress start es queue id).groups_run) ≡ wrote runs → All (P (RunNext queue id) told) (map write_of_run runs))
+      group_result (group_input start es (given_at_launch start es queue id) d (progress start es queue id).groups_run) ≡ wrote runs → All (P (RunNext queue id) told) (map write_of_run runs))
       (completed_so : (told : Outcome) (queue : QueueId) (id : PacketId) (s : InFlightSince start es queue id) (v : ℤ) → ((completion_signal s.flying.packet).0 == 0) ≡ false → value_of (signals start es) (completion_signal s.flying.packet).0 ≡ Some v →
       P (Finish queue id) told (effect.Signal (completion_signal s.flying.packet) v (applied (Subtract (pos 1)) v)))
       (released : (event : Event) (told : Outcome) (queue : QueueId) (id : PacketId) → ReleaseIsDue start es event told (effect.Release queue id) → P event told (effect.Release queue id))
@@ -219,7 +219,7 @@ module _ (start : Start) (es : List Entry) (legal : IsLegal start es) where
       kernel-changes : (told : Outcome) (effects : List Effect) (queue : QueueId) (id : PacketId) (flying : InFlight) → in_flight start es queue id ≡ Some flying →
           (s : InFlightSince start es queue id) → All (λ h. in_force start s.launch.before s.launch.opening.client h.0 h.1 ≡ true) (packet_rights start es queue id) →
           (d : KernelDispatch) → s.flying.packet ≡ packet.Kernel d → (progress start es queue id).groups_run < groups_of s.flying.packet →
-          (result : GroupResult) → group_result (group_input start es (given start es queue id) d (progress start es queue id).groups_run) ≡ result →
+          (result : GroupResult) → group_result (group_input start es (given_at_launch start es queue id) d (progress start es queue id).groups_run) ≡ result →
           GroupWrote start es told effects queue id d (progress start es queue id).groups_run result ⊎ GroupFaulted start es told effects queue id d (progress start es queue id).groups_run result → All (P (RunNext queue id) told) effects
       kernel-changes told effects queue id flying found s granted d is left result is_result (inl ended) =
           subst (All (P (RunNext queue id) told)) (sym ended.effects_are) (kernel_ran told queue id s granted d is left ended.runs (is_result ∙ ended.result_is))
@@ -231,13 +231,13 @@ module _ (start : Start) (es : List Entry) (legal : IsLegal start es) where
 
       group-changes : (told : Outcome) (effects : List Effect) (queue : QueueId) (id : PacketId) (flying : InFlight) → in_flight start es queue id ≡ Some flying →
           (since : (s : InFlightSince start es queue id) × (s.flying ≡ flying) × All (λ h. in_force start s.launch.before s.launch.opening.client h.0 h.1 ≡ true) (packet_rights start es queue id)) →
-          GroupRan start es told effects flying.packet (progress start es queue id) ⊎ KernelRan start es told effects queue id (given start es queue id) flying.packet (progress start es queue id) → All (P (RunNext queue id) told) effects
+          GroupRan start es told effects flying.packet (progress start es queue id) ⊎ KernelRan start es told effects queue id (given_at_launch start es queue id) flying.packet (progress start es queue id) → All (P (RunNext queue id) told) effects
       group-changes told effects queue id flying found since (inl group) =
           subst (All (P (RunNext queue id) told)) (sym group.effects_are)
           (ran told queue id since.0 group.dispatch (ap (λ f. f.packet) since.1 ∙ group.is_agent) (subst (λ f. (progress start es queue id).groups_run < groups_of f.packet) (sym since.1) group.is_left))
       group-changes told effects queue id flying found since (inr group) =
           kernel-changes told effects queue id flying found since.0 since.2 group.dispatch (ap (λ f. f.packet) since.1 ∙ group.is_kernel) (subst (λ f. (progress start es queue id).groups_run < groups_of f.packet) (sym since.1) group.is_left)
-          (group_result (group_input start es (given start es queue id) group.dispatch (progress start es queue id).groups_run)) refl
+          (group_result (group_input start es (given_at_launch start es queue id) group.dispatch (progress start es queue id).groups_run)) refl
           (kernel-ended start es told effects queue id group.dispatch (progress start es queue id).groups_run _ group.owed_is)
 
       pub each-change : (event : Event) (told : Outcome) (effects : List Effect) → owed start es event ≡ enters told effects → All (P event told) effects
@@ -280,12 +280,12 @@ module _ (start : Start) (es : List Entry) (legal : IsLegal start es) where
   -- a kernel's group writes where its packet holds WRITE, which was in force at its launch
   kernel-writes : are_region_lengths (region_lengths start.policy) ≡ true → (queue : QueueId) (id : PacketId) (s : InFlightSince start es queue id) →
       All (λ h. in_force start s.launch.before s.launch.opening.client h.0 h.1 ≡ true) (packet_rights start es queue id) → (d : KernelDispatch) → (progress start es queue id).groups_run < groups_of s.flying.packet → (runs : List Run) →
-      group_result (group_input start es (given start es queue id) d (progress start es queue id).groups_run) ≡ wrote runs → All (WriteIsGranted start es (RunNext queue id)) (map write_of_run runs)
+      group_result (group_input start es (given_at_launch start es queue id) d (progress start es queue id).groups_run) ≡ wrote runs → All (WriteIsGranted start es (RunNext queue id)) (map write_of_run runs)
   kernel-writes fit queue id s granted d left runs is =
       All-map (WriteIsGranted start es (RunNext queue id)) write_of_run runs
       (All-weaker (IsWithinGrant start s.launch.before s.launch.opening.client) (λ run. WriteIsGranted start es (RunNext queue id) (write_of_run run))
       (λ run may. (may.0, inr (record { queue = queue; id = id; event_is = refl; packet = s; is_left = left; allowed = may.1 })))
-      runs (runs-granted start es s.launch.before s.launch.opening.client (given start es queue id) d (progress start es queue id).groups_run fit granted runs is))
+      runs (runs-granted start es s.launch.before s.launch.opening.client (given_at_launch start es queue id) d (progress start es queue id).groups_run fit granted runs is))
 
   pub write-granted : are_region_lengths (region_lengths start.policy) ≡ true → (event : Event) (told : Outcome) (effects : List Effect) → owed start es event ≡ enters told effects → All (WriteIsGranted start es event) effects
   write-granted fit = each-change (λ event told. WriteIsGranted start es event) (λ told. group-writes) (λ told queue id s granted d is left runs wrote_so. kernel-writes fit queue id s granted d left runs wrote_so) (λ told queue id s v null is. tt) (λ event told queue id due. tt)
@@ -350,7 +350,7 @@ module _ (start : Start) (es : List Entry) (legal : IsLegal start es) where
           let e : group_error queue id group fault.item fault.line fault.rule ≡ error = cc in
           ap (λ x. named x.queue x.packet) e
 
-      by_kind : (p : Packet) (so_far : Progress) → GroupRan start es told effects p so_far ⊎ KernelRan start es told effects queue id (given start es queue id) p so_far → named queue id ≡ named error.queue error.packet
+      by_kind : (p : Packet) (so_far : Progress) → GroupRan start es told effects p so_far ⊎ KernelRan start es told effects queue id (given_at_launch start es queue id) p so_far → named queue id ≡ named error.queue error.packet
       by_kind p so_far (inl ran) = none-told told error is (ap error_of ran.outcome_is)
       by_kind p so_far (inr ran) = by_end ran.dispatch so_far.groups_run _ (kernel-ended start es told effects queue id ran.dispatch so_far.groups_run _ ran.owed_is)
 
@@ -386,7 +386,7 @@ module _ (start : Start) (es : List Entry) (legal : IsLegal start es) where
           let e : group_error queue id group fault.item fault.line fault.rule ≡ error = cc in
           fault.effects_are ∙ ap (λ x. effect.Release x.queue x.packet ∷ []) e
 
-      by_kind : (p : Packet) (so_far : Progress) → GroupRan start es told effects p so_far ⊎ KernelRan start es told effects queue id (given start es queue id) p so_far → effects ≡ effect.Release error.queue error.packet ∷ []
+      by_kind : (p : Packet) (so_far : Progress) → GroupRan start es told effects p so_far ⊎ KernelRan start es told effects queue id (given_at_launch start es queue id) p so_far → effects ≡ effect.Release error.queue error.packet ∷ []
       by_kind p so_far (inl ran) = none-told told error (error-told told error faults) (ap error_of ran.outcome_is)
       by_kind p so_far (inr ran) = by_end ran.dispatch so_far.groups_run _ (kernel-ended start es told effects queue id ran.dispatch so_far.groups_run _ ran.owed_is)
 

@@ -17,7 +17,7 @@ use Rattle.aql_packet.specs.declared.packet.Packet.TheVariants as packet
 use Rattle.aql_packet.specs.Reading.{barrier_bit}
 use Rattle.executor.specs.Results.{GroupResult, broke_rule, group_result, wrote}
 use Rattle.executor.specs.declared.run.Run.{Run}
-use Rattle.policy.specs.Rules.{knows_client, knows, allows}
+use Rattle.policy.specs.Rules.{knows_client, knows_object, are_allowed}
 use Rattle.policy.specs.Policy.{region_lengths, rules_of}
 use Rattle.policy.specs.declared.object.Object.{Object}
 use Rattle.policy.specs.declared.object.Object.TheVariants as object
@@ -29,10 +29,10 @@ use Rattle.signals.specs.declared.operation.SignalOp.{SignalOp}
 use Rattle.queue_error.specs.declared.rule.Rule.{Rule}
 use Rattle.queue_error.specs.declared.rule.Rule.TheVariants.{B1}
 use Rattle.core_model.specs.declared.event.Event.TheVariants.{Grant, Revoke, OpenQueue, Stop, Take, RunNext, Poll, Finish, HostWrite, ChangeSignal}
-use Rattle.core_model.specs.declared.outcome.Cause.{Cause}
+use Rattle.core_model.specs.declared.outcome.WaitCause.{WaitCause}
 use Rattle.core_model.specs.declared.outcome.Outcome.{Outcome}
 use Rattle.core_model.specs.declared.outcome.Outcome.TheVariants as outcome
-use Rattle.core_model.specs.declared.outcome.Seen.{Seen}
+use Rattle.core_model.specs.declared.outcome.Satisfied.{Satisfied}
 use Rattle.core_model.specs.declared.outcome.Taken.TheVariants as taken
 use Rattle.core_model.specs.declared.outcome.Worked.TheVariants as worked
 use Rattle.core_model.specs.declared.outcome.Polled.TheVariants as polled_as
@@ -47,13 +47,13 @@ use Rattle.core_model.specs.History.{Start}
 use Rattle.core_model.specs.Grants.{in_force}
 use Rattle.core_model.specs.Memory.{signals}
 use Rattle.core_model.specs.Queues.{error_of, Opening, owner, openings, next_id, is_down, is_stopped}
-use Rattle.core_model.specs.declared.outcome.TheConstants.{NONE_SEEN}
+use Rattle.core_model.specs.declared.outcome.TheConstants.{NONE_SATISFIED}
 use Rattle.core_model.specs.Flight.{flight, flight_of, in_flight, is_packet, progress, seen_by_either}
 use Rattle.core_model.specs.Holds.{holder}
 use Rattle.core_model.specs.declared.limits.TheConstants.{QUEUES}
 use Rattle.core_model.specs.Needs.{completion_signal}
 use Rattle.core_model.specs.LaunchRules.{first_failing_rule, cause_to_wait, is_barrier}
-use Rattle.core_model.specs.View.{Given, given, group_input}
+use Rattle.core_model.specs.View.{Given, given_at_launch, group_input}
 use Rattle.core_model.specs.Work.{groups_of, write_of_run, agent_writes, is_ready, is_negative, seen_dependencies, newly_seen_positions}
 use Rattle.core_model.specs.Owed.{refuses, Owed, owed, answers, enters, owed_verdict, for_packet, error_without_place, facts_of, is_host_size, is_finished, signal_decrement, owed_take, group_error, group_owed, owed_group, owed_poll, owed_finish, owed_sight, barrier_in, release_of, old_if_asked}
 use Rattle.core_model.proofs.Lists.{found-passes}
@@ -83,12 +83,12 @@ module _ (start : Start) (es : List Entry) (told : Outcome) (effects : List Effe
 
   -- ---- a grant, a revocation, an opening change nothing
 
-  pub grant-effects : (client : ClientId) (on : Object) (rights : Rights) → owed start es (Grant client on rights) ≡ enters told effects → IsQuiet × (allows (rules_of start.policy) client on rights ≡ true)
+  pub grant-effects : (client : ClientId) (on : Object) (rights : Rights) → owed start es (Grant client on rights) ≡ enters told effects → IsQuiet × (are_allowed (rules_of start.policy) client on rights ≡ true)
   unfolding owed
   grant-effects client on rights owing =
       let one = refuse_unless-passed (knows_client (rules_of start.policy) client) _ _ told effects owing in
-      let two = refuse_unless-passed (knows (rules_of start.policy) on) _ _ told effects one.rest_is in
-      let three = refuse_unless-passed (allows (rules_of start.policy) client on rights) _ _ told effects two.rest_is in
+      let two = refuse_unless-passed (knows_object (rules_of start.policy) on) _ _ told effects one.rest_is in
+      let three = refuse_unless-passed (are_allowed (rules_of start.policy) client on rights) _ _ told effects two.rest_is in
       (quiet outcome.Accepted refl three.rest_is, three.test_is)
 
   -- no packet in flight holds what is revoked
@@ -104,7 +104,7 @@ module _ (start : Start) (es : List Entry) (told : Outcome) (effects : List Effe
   unfolding owed
   revoke-effects client on rights owing =
       let one = refuse_unless-passed (knows_client (rules_of start.policy) client) _ _ told effects owing in
-      let two = refuse_unless-passed (knows (rules_of start.policy) on) _ _ told effects one.rest_is in
+      let two = refuse_unless-passed (knows_object (rules_of start.policy) on) _ _ told effects one.rest_is in
       let three = unheld-passed (holder start es client on rights) _ two.rest_is in
       record { is_quiet = quiet outcome.Accepted refl three.1; unheld = three.0 }
 
@@ -152,7 +152,7 @@ module _ (start : Start) (es : List Entry) (told : Outcome) (effects : List Effe
     pub verdict_is : first_failing_rule (facts_of start es opening) bytes ≡ verdict
     pub outcome_is : told ≡ elim verdict [ None ↦ outcome.Taken taken.Launched | Some rule ↦ outcome.Taken (taken.Denied (error_without_place queue id.0 rule)) ]
 
-  decided-entered : (queue : QueueId) (id : ℕ) (cause : Option Cause) (verdict : Option Rule) → owed_verdict queue id cause verdict ≡ enters told effects →
+  decided-entered : (queue : QueueId) (id : ℕ) (cause : Option WaitCause) (verdict : Option Rule) → owed_verdict queue id cause verdict ≡ enters told effects →
       (effects ≡ []) × (told ≡ elim verdict [ None ↦ outcome.Taken taken.Launched | Some rule ↦ outcome.Taken (taken.Denied (error_without_place queue id rule)) ]) × (cause ≡ None)
   decided-entered queue id (Some cause) verdict same = absurd cc
   decided-entered queue id None None same = (cc, cc, refl)
@@ -246,13 +246,13 @@ module _ (start : Start) (es : List Entry) (told : Outcome) (effects : List Effe
   pub record HasRun (queue : QueueId) (id : PacketId) : Type 0 where
     pub flying : InFlight
     pub found : in_flight start es queue id ≡ Some flying
-    pub owed_is : owed_group start es queue id (given start es queue id) flying.packet (progress start es queue id) ≡ enters told effects
-    pub group : GroupRan flying.packet (progress start es queue id) ⊎ KernelRan queue id (given start es queue id) flying.packet (progress start es queue id)
+    pub owed_is : owed_group start es queue id (given_at_launch start es queue id) flying.packet (progress start es queue id) ≡ enters told effects
+    pub group : GroupRan flying.packet (progress start es queue id) ⊎ KernelRan queue id (given_at_launch start es queue id) flying.packet (progress start es queue id)
 
   pub run-entered : (queue : QueueId) (id : PacketId) → owed start es (RunNext queue id) ≡ enters told effects → HasRun queue id
   unfolding owed
   run-entered queue id owing =
-      let own = given start es queue id in
+      let own = given_at_launch start es queue id in
       let there = flying-found queue id (owed_group start es queue id own) owing in
       record {
         flying = there.flying;
@@ -264,7 +264,7 @@ module _ (start : Start) (es : List Entry) (told : Outcome) (effects : List Effe
   -- ---- a poll fails, or changes nothing
 
   -- what a poll tells that sees something new
-  abbrev pub sighting : Packet → Seen → Seen → Outcome
+  abbrev pub sighting : Packet → Satisfied → Satisfied → Outcome
   sighting p satisfied new = outcome.Polled (if is_ready p (seen_by_either satisfied new) then polled_as.Ready new else polled_as.Pending new)
 
   pub record HasSeen (queue : QueueId) (id : PacketId) : Type 0 where
@@ -285,13 +285,13 @@ module _ (start : Start) (es : List Entry) (told : Outcome) (effects : List Effe
       let barrier = refuse_unless-passed (is_barrier f.packet) _ _ told effects same in
       ready (is_ready f.packet satisfied) (list_any (is_negative (signals start es)) (seen_dependencies f.packet satisfied)) refl barrier.rest_is
     where
-      satisfied : Seen
+      satisfied : Satisfied
       satisfied = (progress start es queue id).satisfied
 
-      new : Seen
+      new : Satisfied
       new = newly_seen_positions (signals start es) f.packet satisfied
 
-      some_seen : (b : Bool) → error_of (sighting f.packet satisfied new) ≡ None → (if b then enters (sighting f.packet satisfied new) [] else answers (outcome.Polled (polled_as.Pending NONE_SEEN))) ≡ enters told effects → HasSeen queue id
+      some_seen : (b : Bool) → error_of (sighting f.packet satisfied new) ≡ None → (if b then enters (sighting f.packet satisfied new) [] else answers (outcome.Polled (polled_as.Pending NONE_SATISFIED))) ≡ enters told effects → HasSeen queue id
       some_seen true plain same = record { is_quiet = quiet (sighting f.packet satisfied new) plain same; flying = f; found = found; outcome_is = cc }
       some_seen false plain same = absurd cc
 
@@ -300,7 +300,7 @@ module _ (start : Start) (es : List Entry) (told : Outcome) (effects : List Effe
       either false = refl
 
       ready : (is negative : Bool) → list_any (is_negative (signals start es)) (seen_dependencies f.packet satisfied) ≡ negative →
-          (if is then answers (outcome.Polled (polled_as.Ready NONE_SEEN)) else if negative then enters (outcome.Polled (polled_as.Failed (error_without_place queue id.0 B1))) (effect.Release queue id ∷ []) else owed_sight f.packet satisfied new) ≡ enters told effects → HasSeen queue id ⊎ HasFailed queue id
+          (if is then answers (outcome.Polled (polled_as.Ready NONE_SATISFIED)) else if negative then enters (outcome.Polled (polled_as.Failed (error_without_place queue id.0 B1))) (effect.Release queue id ∷ []) else owed_sight f.packet satisfied new) ≡ enters told effects → HasSeen queue id ⊎ HasFailed queue id
       ready true negative looked same = absurd cc
       ready false true looked same = inr (record { flying = f; found = found; effects_are = cc; outcome_is = cc; negative = looked })
       ready false false looked same = inl (some_seen (list_any (λ at. at) new.0) (either (is_ready f.packet (seen_by_either satisfied new))) same)

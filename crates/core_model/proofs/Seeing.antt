@@ -38,7 +38,7 @@ use Rattle.core_model.specs.Flight.{flight_of, in_flight, progress}
 use Rattle.executor.specs.Items.{LentRegion}
 use Rattle.executor.specs.Results.{group_result}
 use Rattle.core_model.specs.Holds.{ObjectRight, packet_rights}
-use Rattle.core_model.specs.View.{Given, given, group_input, held_regions}
+use Rattle.core_model.specs.View.{Given, given_at_launch, group_input, held_regions}
 use Rattle.policy.specs.Rights.{has, rights_that}
 use Rattle.core_model.proofs.Lists.{filter-passes}
 use Rattle.core_model.proofs.Viewing as alike
@@ -137,12 +137,12 @@ group-reads start es told effects queue id legal owing =
 
 -- what a group of a kernel dispatch comes to is its meaning, on what its packet holds
 pub group-means : (start : Start) (es : List Entry) (told : Outcome) (effects : List Effect) (queue : QueueId) (id : PacketId) (f : InFlight) → owed start es (RunNext queue id) ≡ enters told effects →
-    in_flight start es queue id ≡ Some f → owed_group start es queue id (given start es queue id) f.packet (progress start es queue id) ≡ enters told effects
+    in_flight start es queue id ≡ Some f → owed_group start es queue id (given_at_launch start es queue id) f.packet (progress start es queue id) ≡ enters told effects
 group-means start es told effects queue id f owing found =
     let ran = run-entered start es told effects queue id owing in
     let both : Some ran.flying ≡ Some f = sym ran.found ∙ found in
     let same : ran.flying ≡ f = cc in
-    subst (λ (g : InFlight). owed_group start es queue id (given start es queue id) g.packet (progress start es queue id) ≡ enters told effects) same ran.owed_is
+    subst (λ (g : InFlight). owed_group start es queue id (given_at_launch start es queue id) g.packet (progress start es queue id) ≡ enters told effects) same ran.owed_is
 
 -- what a group of an agent dispatch changes is what its dispatch writes
 pub group-effects : (start : Start) (es : List Entry) (told : Outcome) (effects : List Effect) (queue : QueueId) (id : PacketId) (f : InFlight) (d : AgentDispatch) → owed start es (RunNext queue id) ≡ enters told effects →
@@ -153,7 +153,7 @@ group-effects start es told effects queue id f d owing found is =
     let same : ran.flying ≡ f = cc in
     by_kind ran.flying.packet (progress start es queue id) (ap (λ g. g.packet) same ∙ is) ran.group
   where
-    by_kind : (p : Packet) (so_far : Progress) → p ≡ packet.Agent d → GroupRan start es told effects p so_far ⊎ KernelRan start es told effects queue id (given start es queue id) p so_far → effects ≡ agent_writes start es d
+    by_kind : (p : Packet) (so_far : Progress) → p ≡ packet.Agent d → GroupRan start es told effects p so_far ⊎ KernelRan start es told effects queue id (given_at_launch start es queue id) p so_far → effects ≡ agent_writes start es d
     by_kind p so_far is (inl group) =
         let agents : packet.Agent group.dispatch ≡ packet.Agent d = sym group.is_agent ∙ is in
         let dispatches : group.dispatch ≡ d = cc in

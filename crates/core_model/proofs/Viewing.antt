@@ -31,7 +31,7 @@ use Rattle.core_model.specs.Grants.{in_force}
 use Rattle.policy.specs.Policy.{region_lengths}
 use Rattle.core_model.specs.Memory.{memory_at, memory_from}
 use Rattle.core_model.specs.Holds.{ObjectRight}
-use Rattle.core_model.specs.View.{Given, HeldRegion, first_address, group_input, held_region, held_regions, lent, rights_held, view}
+use Rattle.core_model.specs.View.{Given, HeldRegion, first_address, group_input, held_region, held_regions, as_lent, rights_held, view}
 use Rattle.core_model.specs.Headline.{MayReach, MayReachRange, range_of}
 use Rattle.policy.proofs.PairLemmas.{same_object_is}
 use Rattle.core_model.proofs.Lists.{found-all, found-passes}
@@ -135,7 +135,7 @@ module _ (start : Start) (before : List Entry) (client : ClientId) (hs : List Ob
   -- ---- what is written
 
   module _ (es : List Entry) (fit : are_region_lengths (region_lengths start.policy) ≡ true) where
-    lent-long : (region : HeldRegion) → length (lent start es region).bytes ≡ region.size
+    lent-long : (region : HeldRegion) → length (as_lent start es region).bytes ≡ region.size
     lent-long region = by_test (has region.rights right.Read)
       where
         by_test : (b : Bool) → length (if b then memory_from start es (first_address region) region.size else replicate region.size 0) ≡ region.size
@@ -149,8 +149,8 @@ module _ (start : Start) (before : List Entry) (client : ClientId) (hs : List Ob
 
     all-lent : All IsKnownLent (view start es hs)
     all-lent =
-        All-map IsKnownLent (lent start es) (held_regions start hs)
-        (All-weaker IsKnown (λ region. IsKnownLent (lent start es region))
+        All-map IsKnownLent (as_lent start es) (held_regions start hs)
+        (All-weaker IsKnown (λ region. IsKnownLent (as_lent start es region))
         (λ region known. record { size_is = known.size_is ∙ sym (lent-long region); granted_so = known.granted_so right.Write })
         (held_regions start hs) all-known)
 
@@ -224,17 +224,17 @@ module _ (start : Start) (one other : List Entry) where
   abbrev pub Same : Range → Type 0
   Same range = memory_from start one range.address.0 range.size ≡ memory_from start other range.address.0 range.size
 
-  pub same-lent : (regions : List HeldRegion) → All Same (map range_of (filter (λ region. has region.rights right.Read) regions)) → map (lent start one) regions ≡ map (lent start other) regions
+  pub same-lent : (regions : List HeldRegion) → All Same (map range_of (filter (λ region. has region.rights right.Read) regions)) → map (as_lent start one) regions ≡ map (as_lent start other) regions
   same-lent [] all = refl
   same-lent (r ∷ rs) all = by_test (has r.rights right.Read) refl all (same-lent rs)
     where
       by_test : (b : Bool) → has r.rights right.Read ≡ b → All Same (map range_of (if b then r ∷ filter (λ region. has region.rights right.Read) rs else filter (λ region. has region.rights right.Read) rs))
-          → (All Same (map range_of (filter (λ region. has region.rights right.Read) rs)) → map (lent start one) rs ≡ map (lent start other) rs) → map (lent start one) (r ∷ rs) ≡ map (lent start other) (r ∷ rs)
+          → (All Same (map range_of (filter (λ region. has region.rights right.Read) rs)) → map (as_lent start one) rs ≡ map (as_lent start other) rs) → map (as_lent start one) (r ∷ rs) ≡ map (as_lent start other) (r ∷ rs)
       by_test true is all rest =
           let here : memory_from start one (first_address r) r.size ≡ memory_from start other (first_address r) r.size = All-head Same (range_of r) _ all in
           let more = rest (All-tail Same (range_of r) _ all) in
           λ i. record { number = r.number; rights = r.rights; bytes = if has r.rights right.Read then here i else replicate r.size 0 } ∷ more i
       by_test false is all rest =
           let more = rest all in
-          let here : lent start one r ≡ lent start other r = rw is refl in
+          let here : as_lent start one r ≡ as_lent start other r = rw is refl in
           λ i. here i ∷ more i

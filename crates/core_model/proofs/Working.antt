@@ -11,7 +11,7 @@ use Rattle.core_model.specs.declared.outcome.Outcome.{Outcome}
 use Rattle.core_model.specs.declared.outcome.Outcome.TheVariants as outcome
 use Rattle.core_model.specs.declared.outcome.Polled.{Polled}
 use Rattle.core_model.specs.declared.outcome.Polled.TheVariants as polled_as
-use Rattle.core_model.specs.declared.outcome.Seen.{Seen}
+use Rattle.core_model.specs.declared.outcome.Satisfied.{Satisfied}
 use Rattle.core_model.specs.declared.entry.Effect.{Effect}
 use Rattle.core_model.specs.declared.entry.Effect.TheVariants as effect
 use Rattle.core_model.specs.declared.entry.Entry.{Entry}
@@ -39,10 +39,10 @@ module _ (start : Start) (es : List Entry) (legal : IsLegal start es) (told : Ou
         },
       )
 
-  abbrev pub satisfied : Seen
+  abbrev pub satisfied : Satisfied
   satisfied = (progress start es queue id).satisfied
 
-  abbrev sight : Packet → Seen
+  abbrev sight : Packet → Satisfied
   sight p = newly_seen_positions (signals start es) p satisfied
 
   -- what was seen suffices or doesn't

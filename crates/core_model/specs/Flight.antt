@@ -7,7 +7,7 @@ use Rattle.aql_packet.specs.Ids.{same_packet}
 use Rattle.aql_packet.specs.Reading.{decoded}
 use Rattle.core_model.specs.declared.event.Event.{Event}
 use Rattle.core_model.specs.declared.event.Event.TheVariants.{Take, RunNext, Poll}
-use Rattle.core_model.specs.declared.outcome.Seen.{Seen}
+use Rattle.core_model.specs.declared.outcome.Satisfied.{Satisfied}
 use Rattle.core_model.specs.declared.outcome.Outcome.{Outcome}
 use Rattle.core_model.specs.declared.outcome.Outcome.TheVariants as outcome
 use Rattle.core_model.specs.declared.outcome.Taken.TheVariants.{Launched}
@@ -76,7 +76,7 @@ LawOfFlight = (start : Start) (entries : List Entry) (f : InFlight)
     → (Contains (flight start entries) f → WasLaunchedAndStays entries f) × (WasLaunchedAndStays entries f → Contains (flight start entries) f)
 
 -- the positions seen by either (own)
-abbrev pub seen_by_either : Seen → Seen → Seen
+abbrev pub seen_by_either : Satisfied → Satisfied → Satisfied
 seen_by_either a b = record { 0 = map (λ pair. pair.0 || pair.1) (zip a.0 b.0) }
 
 -- how far a packet has come after an event: one of its groups ran, or dependencies were seen (own)

@@ -1,9 +1,12 @@
 -- Which rights are in force: what was granted, and not revoked since.
-use Rattle.std.specs.Prelude.{List, fold, Bool, false, ◌&&◌, ◌||◌, not}
+use Rattle.std.specs.Prelude.{ℕ, List, fold, Bool, false, ◌&&◌, ◌||◌, not}
 use Rattle.aql_packet.specs.declared.ids.ClientId.{ClientId}
 use Rattle.policy.specs.declared.object.Object.{Object}
+use Rattle.policy.specs.declared.object.Object.TheVariants as object
 use Rattle.policy.specs.declared.rights.Right.{Right}
 use Rattle.policy.specs.Pairs.{is_one_of}
+use Rattle.policy.specs.Policy.{region_lengths}
+use Rattle.regions.specs.Memory.{is_within, region_of}
 use Rattle.core_model.specs.declared.event.Event.{Event}
 use Rattle.core_model.specs.declared.event.Event.TheVariants.{Grant, Revoke}
 use Rattle.core_model.specs.declared.entry.Entry.{Entry}
@@ -18,3 +21,8 @@ in_force_after client object right before _ = before
 -- whether a client's right on an object is in force: a grant gave it, and no later revocation took it (own)
 unfoldable pub in_force : Start → List Entry → ClientId → Object → Right → Bool
 in_force start entries client object right = fold (λ before entry. in_force_after client object right before entry.event) false entries
+
+-- whether a client's right is in force on the region in which a range lies whole (own)
+abbrev pub in_force_on_range : Start → List Entry → ClientId → Right → ℕ → ℕ → Bool
+in_force_on_range start entries client right address size =
+    is_within (region_lengths start.policy) address size && in_force start entries client (object.Region (record { 0 = region_of address })) right

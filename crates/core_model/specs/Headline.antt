@@ -31,7 +31,7 @@ use Rattle.core_model.specs.declared.outcome.Taken.TheVariants.{Launched}
 use Rattle.core_model.specs.declared.outcome.Worked.TheVariants.{Faulted}
 use Rattle.core_model.specs.declared.outcome.Polled.{Polled}
 use Rattle.core_model.specs.declared.outcome.Polled.TheVariants.{Pending, Ready, Failed}
-use Rattle.core_model.specs.declared.outcome.Seen.{Seen}
+use Rattle.core_model.specs.declared.outcome.Satisfied.{Satisfied}
 use Rattle.core_model.specs.declared.outcome.Outcome.{Outcome}
 use Rattle.core_model.specs.declared.entry.Effect.{Effect}
 use Rattle.core_model.specs.declared.entry.Effect.TheVariants as effect
@@ -258,7 +258,7 @@ pub record IsCompleted (start : Start) (before : List Entry) (queue : QueueId) (
 
 -- what a poll of a barrier packet tells, by the signals just before and by what polls since its launch have seen: it failed where a
 -- dependency still looked at is negative; else it saw those that are 0, and is ready where they suffice with those seen before (own)
-abbrev pub IsPolled : Start → List Entry → QueueId → PacketId → Packet → Seen → Polled → Type 0
+abbrev pub IsPolled : Start → List Entry → QueueId → PacketId → Packet → Satisfied → Polled → Type 0
 IsPolled start before queue id p satisfied (Failed error) =
     (error ≡ error_without_place queue id.0 B1) × (list_any (is_negative (signals start before)) (seen_dependencies p satisfied) ≡ true)
 IsPolled start before queue id p satisfied (Pending new) =

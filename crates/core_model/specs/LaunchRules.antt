@@ -21,8 +21,8 @@ use Rattle.core_model.specs.declared.kernel.KernelSegments.{KernelSegments}
 use Rattle.core_model.specs.declared.need.Need.{Need}
 use Rattle.core_model.specs.declared.need.Subject.{Subject}
 use Rattle.core_model.specs.declared.need.Subject.TheVariants as subject
-use Rattle.core_model.specs.declared.outcome.Cause.{Cause}
-use Rattle.core_model.specs.declared.outcome.Cause.TheVariants as cause
+use Rattle.core_model.specs.declared.outcome.WaitCause.{WaitCause}
+use Rattle.core_model.specs.declared.outcome.WaitCause.TheVariants as cause
 use Rattle.core_model.specs.Needs.{range_at, function_of, needs, object_of, range_need}
 use Rattle.core_model.specs.Kernels.{grid_size, group_size}
 
@@ -132,7 +132,7 @@ is_barrier _ = false
 
 -- why a packet may not start yet, by the packets in flight of its own queue; the barrier bit counts whatever the type
 -- (PSA, Architected Queuing Language: the barrier bit, barrier packets; the number of slots is own)
-unfoldable pub cause_to_wait : List Packet → Bool → Option Cause
+unfoldable pub cause_to_wait : List Packet → Bool → Option WaitCause
 cause_to_wait flying barrier_bit =
     if list_any is_barrier flying then Some cause.Barrier
     else if barrier_bit && nat_lt 0 (length flying) then Some cause.Active

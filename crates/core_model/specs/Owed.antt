@@ -11,14 +11,13 @@ use Rattle.aql_packet.specs.declared.packet.Packet.TheVariants as packet
 use Rattle.aql_packet.specs.Reading.{barrier_bit}
 use Rattle.aql_packet.specs.Ring.{is_ring_size}
 use Rattle.executor.specs.Results.{GroupResult, broke_rule, group_result, wrote}
-use Rattle.regions.specs.Memory.{is_within, region_of}
 use Rattle.signals.specs.Values.{applied, value_of}
 use Rattle.signals.specs.declared.operation.SignalOp.{SignalOp}
 use Rattle.signals.specs.declared.operation.SignalOp.TheVariants as op
 use Rattle.policy.specs.declared.object.Object.TheVariants as object
 use Rattle.policy.specs.declared.rights.Right.TheVariants as right
 use Rattle.policy.specs.declared.row.TheConstants.{TAKES_NOTHING}
-use Rattle.policy.specs.Rules.{knows_client, knows, allows}
+use Rattle.policy.specs.Rules.{knows_client, knows_object, are_allowed}
 use Rattle.policy.specs.Policy.{region_lengths, row_of, rules_of}
 use Rattle.queue_error.specs.declared.rule.Rule.{Rule}
 use Rattle.queue_error.specs.declared.rule.Rule.TheVariants.{B1}
@@ -30,8 +29,8 @@ use Rattle.core_model.specs.declared.entry.Effect.TheVariants as effect
 use Rattle.core_model.specs.declared.entry.Entry.{Entry}
 use Rattle.core_model.specs.declared.flight.InFlight.{InFlight}
 use Rattle.core_model.specs.declared.flight.Progress.{Progress}
-use Rattle.core_model.specs.declared.outcome.Cause.{Cause}
-use Rattle.core_model.specs.declared.outcome.Seen.{Seen}
+use Rattle.core_model.specs.declared.outcome.WaitCause.{WaitCause}
+use Rattle.core_model.specs.declared.outcome.Satisfied.{Satisfied}
 use Rattle.core_model.specs.declared.outcome.Outcome.{Outcome}
 use Rattle.core_model.specs.declared.outcome.Outcome.TheVariants as outcome
 use Rattle.core_model.specs.declared.outcome.Taken.TheVariants.{Launched, Denied, Waiting}
@@ -41,10 +40,10 @@ use Rattle.core_model.specs.declared.refusal.Refusal.{Refusal}
 use Rattle.core_model.specs.declared.refusal.Refusal.TheVariants as refusal
 use Rattle.core_model.specs.Refusals.{for_some, refuse_unless}
 use Rattle.core_model.specs.History.{Start}
-use Rattle.core_model.specs.Grants.{in_force}
+use Rattle.core_model.specs.Grants.{in_force, in_force_on_range}
 use Rattle.core_model.specs.Memory.{signals}
 use Rattle.core_model.specs.Queues.{Opening, openings, owner, next_id, is_stopped, is_down}
-use Rattle.core_model.specs.declared.outcome.TheConstants.{NONE_SEEN}
+use Rattle.core_model.specs.declared.outcome.TheConstants.{NONE_SATISFIED}
 use Rattle.core_model.specs.Flight.{flight_of, in_flight, progress, seen_by_either}
 use Rattle.core_model.specs.declared.limits.TheConstants.{MOST_HOST_BYTES, QUEUES}
 use Rattle.core_model.specs.Needs.{completion_signal}
@@ -52,7 +51,7 @@ use Rattle.core_model.specs.LaunchRules.{Facts, first_failing_rule, cause_to_wai
 use Rattle.core_model.specs.Work.{agent_writes, groups_of, write_of_run, is_ready, is_negative, newly_seen_positions, seen_dependencies}
 use Rattle.core_model.specs.Holds.{holder}
 use Rattle.core_model.specs.Kernels.{segments_of}
-use Rattle.core_model.specs.View.{Given, given, group_input}
+use Rattle.core_model.specs.View.{Given, given_at_launch, group_input}
 
 -- What an event is owed (own).
 pub data Owed : Type 0 where
@@ -82,7 +81,7 @@ abbrev pub error_without_place : QueueId → ℕ → Rule → QueueError
 error_without_place queue id rule = record { queue = queue; packet = record { 0 = id }; rule = rule; place = None }
 
 -- a packet that is next: it waits, or is launched, or denied by the first rule that fails (own)
-abbrev pub owed_verdict : QueueId → ℕ → Option Cause → Option Rule → Owed
+abbrev pub owed_verdict : QueueId → ℕ → Option WaitCause → Option Rule → Owed
 owed_verdict queue id (Some cause) verdict = answers (outcome.Taken (Waiting cause))
 owed_verdict queue id None None = enters (outcome.Taken Launched) []
 owed_verdict queue id None (Some rule) = enters (outcome.Taken (Denied (error_without_place queue id rule))) []
@@ -129,18 +128,18 @@ owed_group start entries queue id own (packet.BarrierAnd _) so_far = refuses ref
 owed_group start entries queue id own (packet.BarrierOr _) so_far = refuses refusal.NotInFlight
 
 -- the outcome of a poll that sees something new, or nothing new (own)
-abbrev pub owed_sight : Packet → Seen → Seen → Owed
+abbrev pub owed_sight : Packet → Satisfied → Satisfied → Owed
 owed_sight p seen new =
     if list_any (λ at. at) new.0
     then enters (outcome.Polled (if is_ready p (seen_by_either seen new) then Ready new else Pending new)) []
-    else answers (outcome.Polled (Pending NONE_SEEN))
+    else answers (outcome.Polled (Pending NONE_SATISFIED))
 
 -- a poll of a barrier packet in flight: ready packets stay ready; then a negative dependency fails it, before what is newly seen
 -- (PSA, Architected Queuing Language: barrier packets; that a negative dependency fails the packet is own)
 abbrev pub owed_poll : List ℤ → QueueId → PacketId → Packet → Progress → Owed
 owed_poll values queue id p so_far =
     refuse_unless (is_barrier p) (refuses refusal.NotInFlight)
-    (if is_ready p so_far.satisfied then answers (outcome.Polled (Ready NONE_SEEN))
+    (if is_ready p so_far.satisfied then answers (outcome.Polled (Ready NONE_SATISFIED))
     else if list_any (is_negative values) (seen_dependencies p so_far.satisfied)
     then enters (outcome.Polled (Failed (error_without_place queue id.0 B1))) (effect.Release queue id ∷ [])
     else owed_sight p so_far.satisfied (newly_seen_positions values p so_far.satisfied))
@@ -182,12 +181,12 @@ old_if_asked _ old = pos 0
 unfoldable pub owed : Start → List Entry → Event → Owed
 owed start entries (Grant client on rights) =
     refuse_unless (knows_client (rules_of start.policy) client) (refuses refusal.UnknownClient)
-    (refuse_unless (knows (rules_of start.policy) on) (refuses refusal.UnknownObject)
-    (refuse_unless (allows (rules_of start.policy) client on rights) (refuses refusal.NotAllowed)
+    (refuse_unless (knows_object (rules_of start.policy) on) (refuses refusal.UnknownObject)
+    (refuse_unless (are_allowed (rules_of start.policy) client on rights) (refuses refusal.NotAllowed)
     (enters outcome.Accepted [])))
 owed start entries (Revoke client on rights) =
     refuse_unless (knows_client (rules_of start.policy) client) (refuses refusal.UnknownClient)
-    (refuse_unless (knows (rules_of start.policy) on) (refuses refusal.UnknownObject)
+    (refuse_unless (knows_object (rules_of start.policy) on) (refuses refusal.UnknownObject)
     (elim (holder start entries client on rights) [ None ↦ enters outcome.Accepted [] | Some f ↦ refuses (refusal.Busy f.queue f.id) ]))
 owed start entries (OpenQueue client agent size) =
     refuse_unless (knows_client (rules_of start.policy) client) (refuses refusal.UnknownClient)
@@ -201,14 +200,13 @@ owed start entries (Stop queue) =
     else enters outcome.Accepted (release_of queue (barrier_in (flight_of start entries queue))))
 owed start entries (Take queue id bytes) =
     for_some (owner start entries queue) (refuses refusal.UnknownQueue) (owed_take start entries queue id bytes)
-owed start entries (RunNext queue id) = for_packet start entries queue id (owed_group start entries queue id (given start entries queue id))
+owed start entries (RunNext queue id) = for_packet start entries queue id (owed_group start entries queue id (given_at_launch start entries queue id))
 owed start entries (Poll queue id) = for_packet start entries queue id (owed_poll (signals start entries) queue id)
 owed start entries (Finish queue id) = for_packet start entries queue id (owed_finish (signals start entries) queue id)
 owed start entries (HostWrite client address bytes) =
     refuse_unless (knows_client (rules_of start.policy) client) (refuses refusal.UnknownClient)
     (refuse_unless (is_host_size (length bytes)) (refuses refusal.BadSize)
-    (refuse_unless (is_within (region_lengths start.policy) address.0 (length bytes) && in_force start entries client (object.Region (record { 0 = region_of address.0 })) right.Write)
-    (refuses (refusal.Denied right.Write))
+    (refuse_unless (in_force_on_range start entries client right.Write address.0 (length bytes)) (refuses (refusal.Denied right.Write))
     (enters outcome.Accepted (effect.Write address bytes ∷ []))))
 owed start entries (ChangeSignal client signal operation) =
     refuse_unless (knows_client (rules_of start.policy) client) (refuses refusal.UnknownClient)

@@ -1,8 +1,7 @@
 -- What each query is answered: a function of the history alone.
-use Rattle.std.specs.Prelude.{◌&&◌, Bool, List, Result, Ok, Err}
+use Rattle.std.specs.Prelude.{Bool, List, Result, Ok, Err}
 use Rattle.std.specs.List.{list_any}
 use Rattle.aql_packet.specs.declared.ids.ClientId.{ClientId}
-use Rattle.regions.specs.Memory.{is_within, region_of}
 use Rattle.signals.specs.Values.{meets, value_of}
 use Rattle.policy.specs.declared.object.Object.{Object}
 use Rattle.policy.specs.declared.object.Object.TheVariants as object
@@ -11,7 +10,7 @@ use Rattle.policy.specs.declared.rights.Rights.{Rights}
 use Rattle.policy.specs.Listing.{all_objects, listing_by}
 use Rattle.policy.specs.Rights.{all_rights}
 use Rattle.policy.specs.Rules.{count, knows_client}
-use Rattle.policy.specs.Policy.{region_lengths, rules_of}
+use Rattle.policy.specs.Policy.{rules_of}
 use Rattle.core_model.specs.declared.event.Query.{Query}
 use Rattle.core_model.specs.declared.event.Query.TheVariants as query
 use Rattle.core_model.specs.declared.answer.Answer.{Answer}
@@ -21,7 +20,7 @@ use Rattle.core_model.specs.declared.refusal.Refusal.{Refusal}
 use Rattle.core_model.specs.declared.refusal.Refusal.TheVariants as refusal
 use Rattle.core_model.specs.Refusals.{for_some, refuse_unless}
 use Rattle.core_model.specs.History.{Start}
-use Rattle.core_model.specs.Grants.{in_force}
+use Rattle.core_model.specs.Grants.{in_force, in_force_on_range}
 use Rattle.core_model.specs.Memory.{memory_from, signals}
 use Rattle.core_model.specs.Queues.{owner, errors}
 use Rattle.core_model.specs.Owed.{is_host_size}
@@ -43,8 +42,7 @@ unfoldable pub query_answer : Start → List Entry → Query → AnswerOrRefusal
 query_answer start entries (query.HostRead client address size) =
     refuse_unless (knows_client (rules_of start.policy) client) (Err refusal.UnknownClient)
     (refuse_unless (is_host_size size) (Err refusal.BadSize)
-    (refuse_unless (is_within (region_lengths start.policy) address.0 size && in_force start entries client (object.Region (record { 0 = region_of address.0 })) right.Read)
-    (Err (refusal.Denied right.Read))
+    (refuse_unless (in_force_on_range start entries client right.Read address.0 size) (Err (refusal.Denied right.Read))
     (Ok (answer.Bytes (memory_from start entries address.0 size)))))
 query_answer start entries (query.LoadSignal client signal) =
     refuse_unless (knows_client (rules_of start.policy) client) (Err refusal.UnknownClient)

@@ -25,8 +25,8 @@ pub record Given : Type 0 where
   pub rights : List ObjectRight
   pub arguments : List ℕ
 
-abbrev pub given : Start → List Entry → QueueId → PacketId → Given
-given start entries queue id = record { rights = packet_rights start entries queue id; arguments = arguments start entries queue id }
+abbrev pub given_at_launch : Start → List Entry → QueueId → PacketId → Given
+given_at_launch start entries queue id = record { rights = packet_rights start entries queue id; arguments = arguments start entries queue id }
 
 -- the rights that are held on an object
 abbrev pub rights_held : List ObjectRight → Object → Rights
@@ -53,8 +53,8 @@ abbrev pub first_address : HeldRegion → ℕ
 first_address region = region.number * REGION_SPAN
 
 -- a held region as it is lent: only where READ is held its bytes are those of memory
-abbrev pub lent : Start → List Entry → HeldRegion → LentRegion
-lent start entries region = record {
+abbrev pub as_lent : Start → List Entry → HeldRegion → LentRegion
+as_lent start entries region = record {
   number = region.number;
   rights = region.rights;
   bytes = if has region.rights Read then memory_from start entries (first_address region) region.size else replicate region.size 0;
@@ -62,7 +62,7 @@ lent start entries region = record {
 
 -- the memory that a packet's groups see
 abbrev pub view : Start → List Entry → List ObjectRight → List LentRegion
-view start entries all = map (lent start entries) (held_regions start all)
+view start entries all = map (as_lent start entries) (held_regions start all)
 
 -- all that a group of a kernel dispatch is given to run on
 abbrev pub group_input : Start → List Entry → Given → KernelDispatch → ℕ → GroupInput

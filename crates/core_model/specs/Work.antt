@@ -15,7 +15,7 @@ use Rattle.signals.specs.Values.{value_of}
 use Rattle.core_model.specs.declared.entry.Effect.{Effect}
 use Rattle.core_model.specs.declared.entry.Effect.TheVariants.{Write}
 use Rattle.core_model.specs.declared.entry.Entry.{Entry}
-use Rattle.core_model.specs.declared.outcome.Seen.{Seen}
+use Rattle.core_model.specs.declared.outcome.Satisfied.{Satisfied}
 use Rattle.core_model.specs.History.{Start}
 use Rattle.core_model.specs.Memory.{memory_from}
 use Rattle.core_model.specs.declared.need.AgentFunction.{AgentFunction}
@@ -70,12 +70,12 @@ abbrev pub SeenDependency : Type 0
 SeenDependency = SignalHandle × Bool
 
 -- a barrier packet's dependencies, each with whether it was seen as 0 (PSA, Architected Queuing Language: barrier packets)
-abbrev pub seen_dependencies : Packet → Seen → List SeenDependency
+abbrev pub seen_dependencies : Packet → Satisfied → List SeenDependency
 seen_dependencies p seen = zip (dependencies p) seen.0
 
 -- a barrier-AND is ready when each of its dependencies that isn't null was seen as 0, a barrier-OR when one was
 -- (PSA, Architected Queuing Language; that a barrier-OR of nulls is never ready is own)
-abbrev pub is_ready : Packet → Seen → Bool
+abbrev pub is_ready : Packet → Satisfied → Bool
 is_ready (packet.BarrierAnd barrier) seen = list_all (λ a. a.0.0 == 0 || a.1) (zip barrier.dependencies seen.0)
 is_ready (packet.BarrierOr barrier) seen = list_any (λ a. not (a.0.0 == 0) && a.1) (zip barrier.dependencies seen.0)
 is_ready _ seen = false
@@ -97,5 +97,5 @@ abbrev pub is_zero : List ℤ → SeenDependency → Bool
 is_zero values a = is_awaited a && int_eq (signal_value values a.0) (pos 0)
 
 -- the positions that a poll is the first to see as 0 (PSA, Architected Queuing Language: barrier packets; polls are own)
-abbrev pub newly_seen_positions : List ℤ → Packet → Seen → Seen
+abbrev pub newly_seen_positions : List ℤ → Packet → Satisfied → Satisfied
 newly_seen_positions values p seen = record { 0 = map (is_zero values) (seen_dependencies p seen) }

@@ -14,7 +14,7 @@ ghost use Rattle.aql_packet.specs.declared.packet.Packet.TheVariants as packet;
 ghost use Rattle.signals.specs.Values.{applied, meets, value_of};
 ghost use Rattle.signals.specs.declared.operation.Condition.{Condition};
 ghost use Rattle.signals.specs.declared.operation.SignalOp.{SignalOp};
-ghost use Rattle.policy.specs.Rules.{allowed, allows, knows_client};
+ghost use Rattle.policy.specs.Rules.{is_allowed, are_allowed, knows_client};
 ghost use Rattle.policy.specs.Policy.{region_lengths, rules_of};
 ghost use Rattle.policy.specs.declared.object.Object.{Object};
 ghost use Rattle.policy.specs.declared.object.Object.TheVariants as object;
@@ -46,7 +46,7 @@ ghost use Rattle.core_model.specs.Grants.{in_force};
 ghost use Rattle.core_model.specs.Memory.{memory_from, signals};
 ghost use Rattle.aql_packet.specs.Memory.{are_region_lengths};
 ghost use Rattle.core_model.specs.Holds.{packet_rights};
-ghost use Rattle.core_model.specs.View.{Given, given};
+ghost use Rattle.core_model.specs.View.{Given, given_at_launch};
 ghost use Rattle.core_model.specs.Queues.{Opening, error_of, next_id};
 ghost use Rattle.core_model.specs.Flight.{LawOfFlight, flight, in_flight, progress};
 ghost use Rattle.core_model.specs.Work.{agent_writes};
@@ -135,7 +135,7 @@ pub fn each_read_of_a_group_was_granted()
         in_flight start before queue id ≡ Some flying → flying.packet ≡ packet.Agent dispatch → effects ≡ agent_writes start before dispatch }
     ensures means { (start : Start) (entries before : List Entry) (queue : QueueId) (id : PacketId) (told : Outcome) (effects : List Effect) (flying : InFlight) →
         IsLegal start entries → IsEntryBehind entries before (entry_of (RunNext queue id) told effects) →
-        in_flight start before queue id ≡ Some flying → owed_group start before queue id (given start before queue id) flying.packet (progress start before queue id) ≡ enters told effects }
+        in_flight start before queue id ≡ Some flying → owed_group start before queue id (given_at_launch start before queue id) flying.packet (progress start before queue id) ≡ enters told effects }
 {}
 
 /// What a group is owed depends, beside what its packet was given at its launch, on memory alone, by the
@@ -168,7 +168,7 @@ pub fn held_rights_are_in_force()
 pub fn each_grant_is_allowed()
     ensures { (start : Start) (entries before : List Entry) (client : ClientId) (on : Object) (rights : Rights) (told : Outcome) (effects : List Effect) →
         IsLegal start entries → IsEntryBehind entries before (entry_of (Grant client on rights) told effects) →
-        (allows (rules_of start.policy) client on rights ≡ true) × (effects ≡ []) }
+        (are_allowed (rules_of start.policy) client on rights ≡ true) × (effects ≡ []) }
 {}
 
 /// A queue is opened for a client that may use the agent, and is a new one, which is the client's from
@@ -221,7 +221,7 @@ pub fn each_listed_right_is_in_force()
 /// Each right in force is one that the policy allows the client.
 pub fn each_right_in_force_is_allowed()
     ensures { (start : Start) (entries : List Entry) (client : ClientId) (on : Object) (right : Right) →
-        IsLegal start entries → in_force start entries client on right ≡ true → allowed (rules_of start.policy) client on right ≡ true }
+        IsLegal start entries → in_force start entries client on right ≡ true → is_allowed (rules_of start.policy) client on right ≡ true }
 {}
 
 /// A known client's own call is denied where the right that it needs is not in force: a write or a read of

@@ -34,5 +34,5 @@ pub use limits::{
     MOST_ENTRIES, MOST_GROUP_ITEMS, MOST_HOST_BYTES, MOST_SEGMENT_BYTES, QUEUES, SLOTS,
 };
 pub use need::{ADD64, AgentFunction, COPY, FILL, Need, Range, Subject};
-pub use outcome::{Cause, NONE_SEEN, Outcome, Polled, Seen, Taken, Worked};
+pub use outcome::{NONE_SATISFIED, Outcome, Polled, Satisfied, Taken, WaitCause, Worked};
 pub use refusal::Refusal;

@@ -6,7 +6,7 @@ use queue_error::QueueError;
 /// Why a packet may not start yet (PSA, Architected Queuing Language: the barrier bit and barrier
 /// packets; the number of slots is own).
 #[derive(Clone, Copy, Debug, PartialEq, Eq)]
-pub enum Cause {
+pub enum WaitCause {
     /// A barrier packet of the queue is in flight.
     Barrier,
     /// The packet's barrier bit is set, and a packet of the queue is in flight.
@@ -23,7 +23,7 @@ pub enum Taken {
     /// It failed a launch rule, which the error names, and its queue launches nothing more.
     Denied(QueueError),
     /// It may not start yet. Nothing changed.
-    Waiting(Cause),
+    Waiting(WaitCause),
 }
 
 /// What became of the next group of a dispatch.
@@ -39,18 +39,18 @@ pub enum Worked {
 
 /// For each of the five dependencies of a barrier packet, whether it was seen as 0.
 #[derive(Clone, Copy, Debug, PartialEq, Eq)]
-pub struct Seen(pub [bool; 5]);
+pub struct Satisfied(pub [bool; 5]);
 
 /// No position.
-pub const NONE_SEEN: Seen = Seen([false; 5]);
+pub const NONE_SATISFIED: Satisfied = Satisfied([false; 5]);
 
 /// What a poll of a barrier packet found, with the positions that it is the first to have seen as 0.
 #[derive(Clone, Copy, Debug, PartialEq, Eq)]
 pub enum Polled {
     /// The barrier isn't ready.
-    Pending(Seen),
+    Pending(Satisfied),
     /// The barrier is ready.
-    Ready(Seen),
+    Ready(Satisfied),
     /// A dependency was negative: the packet faulted and is released.
     Failed(QueueError),
 }

@@ -207,7 +207,7 @@ module _ (view : List LentRegion) (short : AreShort view) where
     act_kept a same i m (step.Branch next) kept = kept
     act_kept a same i m (step.ConditionalBranch b) kept = kept
     act_kept a same i m step.Return kept = kept
-    act_kept a same i m (step.Identify q) kept = kept
+    act_kept a same i m (step.WorkItemQuery q) kept = kept
 
     turn_kept : (a : Surroundings) → a.view ≡ view → (i : Item) (executed : ℕ) (m : Contents) → Kept m.written → KeptAct (turn a p.steps i executed m)
     turn_kept a same i executed m kept = by_step (slice_get p.steps i.next)

@@ -115,7 +115,7 @@ module _ (ones others : List LentRegion) (alike : AreLentAlike ones others) (p :
   same_act a i m (step.Branch next) = refl
   same_act a i m (step.ConditionalBranch b) = refl
   same_act a i m step.Return = refl
-  same_act a i m (step.Identify q) = refl
+  same_act a i m (step.WorkItemQuery q) = refl
 
   same_turn : (a : Surroundings) (i : Item) (executed : ℕ) (m : Contents) (o : Option Step) → turn_at (seeing ones a) i executed m o ≡ turn_at (seeing others a) i executed m o
   same_turn a i executed m None = refl

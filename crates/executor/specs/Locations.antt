@@ -2,8 +2,8 @@
 use Rattle.std.specs.Prelude.{ℕ, ◌+◌, ◌-◌, ◌*◌, ◌/◌, ◌%◌, min}
 use Rattle.executor.specs.declared.location.Extent.{Extent}
 use Rattle.executor.specs.declared.location.Location.{Location}
-use Rattle.hsail_reader.specs.declared.types.Query.{Query}
-use Rattle.hsail_reader.specs.declared.types.Query.TheVariants.{WorkItemId, WorkGroupId, WorkGroupSize, CurrentWorkGroupSize, WorkItemAbsoluteId, GridSize}
+use Rattle.hsail_reader.specs.declared.types.WorkItemQuery.{WorkItemQuery}
+use Rattle.hsail_reader.specs.declared.types.WorkItemQuery.TheVariants.{WorkItemId, WorkGroupId, WorkGroupSize, CurrentWorkGroupSize, WorkItemAbsoluteId, GridSize}
 use Rattle.kernel_check.specs.declared.step.Dimension.{Dimension}
 use Rattle.kernel_check.specs.declared.step.Dimension.TheVariants.{X, Y, Z}
 
@@ -13,7 +13,7 @@ along e Y = e.y
 along e Z = e.z
 
 -- what an item asks in one dimension
-abbrev pub answer : Location → Query → Dimension → ℕ
+abbrev pub answer : Location → WorkItemQuery → Dimension → ℕ
 answer l WorkItemId d = along l.item d
 answer l WorkGroupId d = along l.group d
 answer l WorkGroupSize d = along l.group_size d

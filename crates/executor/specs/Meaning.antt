@@ -89,7 +89,7 @@ act a i m (step.ConditionalBranch b) =
     goes_on (record i { next = if read1 i.registers b.condition then b.next else i.next + 1 }) m
 act a i m step.Return = ends m
 act a i m step.Barrier = arrives (onward i i.registers) m
-act a i m (step.Identify q) =
+act a i m (step.WorkItemQuery q) =
     goes_on (onward i (with_any i.registers q.target (answer a.location q.query q.dimension))) m
 
 -- the turn of an item at a step, or behind the last of them, where it ends without a step (own); an item that

@@ -201,7 +201,7 @@ pub fn act(
             item.next += 1;
             return Outcome::Arrived;
         }
-        Step::Identify(query) => {
+        Step::WorkItemQuery(query) => {
             let answer = around.location.answer(query.query, query.dimension);
             set(item, query.target, answer);
         }

@@ -2,7 +2,7 @@
 ghost use Rattle.std.specs.Prelude.{◌≡◌};
 ghost use Rattle.executor.specs.Locations.{along, answer};
 
-use hsail_reader::Query;
+use hsail_reader::WorkItemQuery;
 use kernel_check::Dimension;
 
 /// A size or an id in each dimension.
@@ -43,19 +43,19 @@ pub struct Location {
 impl Location {
     /// The answer to a question, in one dimension.
     #[inline(always)]
-    pub fn answer(&self, query: Query, dimension: Dimension) -> u64
+    pub fn answer(&self, query: WorkItemQuery, dimension: Dimension) -> u64
         ensures { result ≡ answer self.now query dimension }
     {
         let item = self.item.along(dimension) as u64;
         let group = self.group.along(dimension) as u64;
         let group_size = self.group_size.along(dimension) as u64;
         match query {
-            Query::WorkItemId => item,
-            Query::WorkGroupId => group,
-            Query::WorkGroupSize => group_size,
-            Query::CurrentWorkGroupSize => self.current_size.along(dimension) as u64,
-            Query::WorkItemAbsoluteId => group * group_size + item,
-            Query::GridSize => self.grid_size.along(dimension) as u64,
+            WorkItemQuery::WorkItemId => item,
+            WorkItemQuery::WorkGroupId => group,
+            WorkItemQuery::WorkGroupSize => group_size,
+            WorkItemQuery::CurrentWorkGroupSize => self.current_size.along(dimension) as u64,
+            WorkItemQuery::WorkItemAbsoluteId => group * group_size + item,
+            WorkItemQuery::GridSize => self.grid_size.along(dimension) as u64,
         }
     }
 }

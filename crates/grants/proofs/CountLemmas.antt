@@ -15,7 +15,7 @@ use Rattle.policy.specs.Rights.{has, all_rights}
 use Rattle.grants.specs.declared.hold.Hold.{Hold}
 use Rattle.grants.specs.Pairs.{same_pair}
 use Rattle.grants.specs.Holders.{same_packet}
-use Rattle.grants.specs.Holds.{held}
+use Rattle.grants.specs.Holds.{is_held}
 use Rattle.grants.specs.inner.Counts.{is_hold_of, holds_of, IsCounted, hold_count, count_in, count_of, one_for_right}
 use Rattle.grants.specs.declared.cell.Cell.{Cell}
 use Rattle.grants.specs.Cells.{Table, cell_of}
@@ -137,7 +137,7 @@ none_of true false right h = refl
 none_of false pair right h = refl
 
 -- where no hold of a right is counted, no packet holds it
-pub held-uncounted : (holds : List Hold) (q : QueueId) (p : PacketId) (c : ClientId) (o : Object) (right : Right) → holds_of holds c o right ≡ 0 → held holds q p c o right ≡ false
+pub held-uncounted : (holds : List Hold) (q : QueueId) (p : PacketId) (c : ClientId) (o : Object) (right : Right) → holds_of holds c o right ≡ 0 → is_held holds q p c o right ≡ false
 held-uncounted [] q p c o right h = refl
 held-uncounted (x ∷ xs) q p c o right h =
     let parts = holds_of-append (x ∷ []) xs c o right in
@@ -162,9 +162,9 @@ any_less f g less (x ∷ xs) h = by_test (f x) refl h (any_less f g less xs)
 -- where no hold of any of some rights is counted, no packet holds one of them
 pub unheld : (table : Table) (holds : List Hold) → IsCounted table holds → (c : ClientId) (o : Object) (rights : Rights) (cell : Cell) → cell_of table c o ≡ Some cell
     → list_any (λ right. has rights right && nat_lt 0 (count_of cell.held right)) all_rights ≡ false
-    → (q : QueueId) (p : PacketId) → list_any (λ right. has rights right && held holds q p c o right) all_rights ≡ false
+    → (q : QueueId) (p : PacketId) → list_any (λ right. has rights right && is_held holds q p c o right) all_rights ≡ false
 unheld table holds is c o rights cell at none q p =
-    any_less (λ right. has rights right && nat_lt 0 (count_of cell.held right)) (λ right. has rights right && held holds q p c o right)
-    (λ right. uncounted_and (has rights right) (count_of cell.held right) (held holds q p c o right)
+    any_less (λ right. has rights right && nat_lt 0 (count_of cell.held right)) (λ right. has rights right && is_held holds q p c o right)
+    (λ right. uncounted_and (has rights right) (count_of cell.held right) (is_held holds q p c o right)
     (λ zero_is. held-uncounted holds q p c o right (sym (is c o right) ∙ ap (count_in right) at ∙ zero_is)))
     all_rights none

@@ -14,7 +14,7 @@ use Rattle.policy.specs.Rights.{has, all_rights}
 use Rattle.grants.specs.declared.hold.Hold.{Hold}
 use Rattle.grants.specs.Pairs.{same_pair}
 use Rattle.grants.specs.Holders.{same_packet, IsUpTo, IsFirstTo}
-use Rattle.grants.specs.Holds.{is_on, is_hold, held}
+use Rattle.grants.specs.Holds.{is_on, is_hold, is_held}
 use Rattle.grants.specs.inner.PacketHolds.{is_of, hold_of, have_common_right, holds_one}
 use Rattle.policy.proofs.ValueLemmas.{list_any-map}
 use Rattle.policy.proofs.PairLemmas.{both, same_number, itself}
@@ -53,7 +53,7 @@ same_packet_itself q p = rw (itself q.0, itself p.0)
 
 -- what is held where the holds of a packet are taken out
 pub held-dropped : (q : QueueId) (p : PacketId) (q' : QueueId) (p' : PacketId) (c : ClientId) (o : Object) (right : Right) (holds : List Hold)
-    → held (filter (λ hold. not (is_of q p hold)) holds) q' p' c o right ≡ (not (same_packet q' p' q p) && held holds q' p' c o right)
+    → is_held (filter (λ hold. not (is_of q p hold)) holds) q' p' c o right ≡ (not (same_packet q' p' q p) && is_held holds q' p' c o right)
 held-dropped q p q' p' c o right holds =
     any-filter_same (is_hold q' p' c o right) (λ hold. not (is_of q p hold)) (not (same_packet q' p' q p))
     (λ hold e.
@@ -73,11 +73,11 @@ any-and false f g xs = never xs
 
 -- what is held where a packet's holds are put behind
 pub held-pushed : (q : QueueId) (p : PacketId) (c : ClientId) (rights : List (Object × Rights)) (q' : QueueId) (p' : PacketId) (c' : ClientId) (o' : Object) (right : Right) (holds : List Hold)
-    → held (holds ++ map (hold_of q p c) rights) q' p' c' o' right
-    ≡ (held holds q' p' c' o' right || (same_packet q' p' q p && list_any (λ named. same_pair c' o' c named.0 && has named.1 right) rights))
+    → is_held (holds ++ map (hold_of q p c) rights) q' p' c' o' right
+    ≡ (is_held holds q' p' c' o' right || (same_packet q' p' q p && list_any (λ named. same_pair c' o' c named.0 && has named.1 right) rights))
 held-pushed q p c rights q' p' c' o' right holds =
     list_any-append (is_hold q' p' c' o' right) holds (map (hold_of q p c) rights)
-    ∙ ap (λ b. held holds q' p' c' o' right || b)
+    ∙ ap (λ b. is_held holds q' p' c' o' right || b)
     (list_any-map (is_hold q' p' c' o' right) (hold_of q p c) rights
     ∙ any-and (same_packet q' p' q p) (λ named. same_pair c' o' c named.0) (λ named. has named.1 right) rights)
 
@@ -130,10 +130,10 @@ none_of f (x ∷ xs) = rw (and-false (f x)) (none_of f xs)
 
 -- a packet holds one of the rights where one of its holds has one
 pub holder : (holds : List Hold) (c : ClientId) (o : Object) (rights : Rights) (q : QueueId) (p : PacketId)
-    → list_any (λ right. has rights right && held holds q p c o right) all_rights ≡ holds_one holds c o rights q p
+    → list_any (λ right. has rights right && is_held holds q p c o right) all_rights ≡ holds_one holds c o rights q p
 holder [] c o rights q p = none_of (has rights) all_rights
 holder (h ∷ hs) c o rights q p =
-    spread_any (is_on q p c o h) (has rights) (has h.rights) (held hs q p c o) all_rights
+    spread_any (is_on q p c o h) (has rights) (has h.rights) (is_held hs q p c o) all_rights
     ∙ ap (λ b. (is_on q p c o h && have_common_right rights h.rights) || b) (holder hs c o rights q p)
 
 -- ---- the first
@@ -202,7 +202,7 @@ module _ (holds : List Hold) (c : ClientId) (o : Object) (rights : Rights) (i : 
       ∙ or-false (holds_one (take i holds) c o rights q p)
 
 -- a packet without holds holds nothing
-pub held-none : (holds : List Hold) (q : QueueId) (p : PacketId) (c : ClientId) (o : Object) (right : Right) → list_any (is_of q p) holds ≡ false → held holds q p c o right ≡ false
+pub held-none : (holds : List Hold) (q : QueueId) (p : PacketId) (c : ClientId) (o : Object) (right : Right) → list_any (is_of q p) holds ≡ false → is_held holds q p c o right ≡ false
 held-none [] q p c o right h = refl
 held-none (x ∷ xs) q p c o right h = by_test (is_of q p x) refl h (held-none xs q p c o right)
   where
@@ -212,6 +212,6 @@ held-none (x ∷ xs) q p c o right h = by_test (is_of q p x) refl h (held-none x
         let packet = same_packet_is q p x.queue x.packet (both (same_packet q p x.queue x.packet) (same_pair c o x.client x.object) on).0 in
         true≢false (sym (same_packet_itself q p) ∙ (λ i. same_packet (packet.0 i) (packet.1 i) q p) ∙ none))
 
-    by_test : (b : Bool) → is_of q p x ≡ b → (b || list_any (is_of q p) xs) ≡ false → (list_any (is_of q p) xs ≡ false → held xs q p c o right ≡ false) → held (x ∷ xs) q p c o right ≡ false
+    by_test : (b : Bool) → is_of q p x ≡ b → (b || list_any (is_of q p) xs) ≡ false → (list_any (is_of q p) xs ≡ false → is_held xs q p c o right ≡ false) → is_held (x ∷ xs) q p c o right ≡ false
     by_test true e h rest = absurd (true≢false h)
-    by_test false e h rest = (λ i. other e i || held xs q p c o right) ∙ rest h
+    by_test false e h rest = (λ i. other e i || is_held xs q p c o right) ∙ rest h

@@ -11,7 +11,7 @@ use Rattle.policy.specs.declared.rights.Rights.{Rights}
 use Rattle.policy.specs.Rights.{has, all_rights, each_right}
 use Rattle.policy.specs.Listing.{all_objects, listing_by}
 use Rattle.policy.specs.Rules.{count}
-use Rattle.grants.specs.Pairs.{same_pair, is_one_of, names}
+use Rattle.grants.specs.Pairs.{same_pair, is_one_of, is_named}
 use Rattle.grants.specs.Holders.{same_packet}
 use Rattle.grants.specs.Ledger.{Ledger, rules_in, in_force, holds}
 use Rattle.grants.specs.Laws.{Call, LeadsTo, AreMade, last_ledger, in_force_after, holds_after, LawOfCalls}
@@ -63,14 +63,14 @@ none_passes f h right =
 
 -- a right that a list of rights in force names is in force
 named-in_force : (f : Object → Right → Bool) (rights : List (Object × Rights)) (client c : ClientId) (o : Object) (right : Right)
-    → list_all (λ named. each_right named.1 (f named.0)) rights ≡ true → names rights client c o right ≡ true → (c ≡ client) × (f o right ≡ true)
+    → list_all (λ named. each_right named.1 (f named.0)) rights ≡ true → is_named rights client c o right ≡ true → (c ≡ client) × (f o right ≡ true)
 named-in_force f [] client c o right all named = absurd (true≢false (sym named))
 named-in_force f (n ∷ rights) client c o right all named =
     let parts = both _ _ all in
     by_test (is_one_of c o right client n.0 n.1) refl named (named-in_force f rights client c o right parts.1) parts.0
   where
-    by_test : (b : Bool) → is_one_of c o right client n.0 n.1 ≡ b → (b || names rights client c o right) ≡ true
-        → (names rights client c o right ≡ true → (c ≡ client) × (f o right ≡ true)) → each_right n.1 (f n.0) ≡ true → (c ≡ client) × (f o right ≡ true)
+    by_test : (b : Bool) → is_one_of c o right client n.0 n.1 ≡ b → (b || is_named rights client c o right) ≡ true
+        → (is_named rights client c o right ≡ true → (c ≡ client) × (f o right ≡ true)) → each_right n.1 (f n.0) ≡ true → (c ≡ client) × (f o right ≡ true)
     by_test false e h rest here = rest h
     by_test true e h rest here =
         let both_are = both (same_pair c o client n.0) (has n.1 right) e in
@@ -96,10 +96,10 @@ step-sound (Revoke client object rights) old new l sound q p c o right h =
 step-sound (Hold client queue packet rights) old new l sound q p c o right h =
     l.1.same_rights c o right ∙ by_test (holds old q p c o right) refl (sym (l.1.held q p c o right) ∙ h)
   where
-    by_test : (b : Bool) → holds old q p c o right ≡ b → (b || (same_packet q p queue packet && names rights client c o right)) ≡ true → in_force old c o right ≡ true
+    by_test : (b : Bool) → holds old q p c o right ≡ b → (b || (same_packet q p queue packet && is_named rights client c o right)) ≡ true → in_force old c o right ≡ true
     by_test true e k = sound q p c o right e
     by_test false e k =
-        let named = both (same_packet q p queue packet) (names rights client c o right) k in
+        let named = both (same_packet q p queue packet) (is_named rights client c o right) k in
         let found = named-in_force (λ x r. in_force old client x r) rights client c o right l.0 named.1 in
         ap (λ x. in_force old x o right) found.0 ∙ found.1
 step-sound (Release queue packet) old new l sound q p c o right h =

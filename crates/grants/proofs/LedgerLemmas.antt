@@ -11,9 +11,9 @@ use Rattle.policy.specs.declared.rights.Rights.{Rights}
 use Rattle.policy.specs.Rights.{has, all_rights}
 use Rattle.grants.specs.declared.hold.Hold.{Hold}
 use Rattle.grants.specs.declared.cell.Cell.{Cell}
-use Rattle.policy.specs.Rules.{knows_client, knows}
+use Rattle.policy.specs.Rules.{knows_client, knows_object}
 use Rattle.grants.specs.Holders.{same_packet, IsFirstTo}
-use Rattle.grants.specs.Holds.{held}
+use Rattle.grants.specs.Holds.{is_held}
 use Rattle.grants.specs.inner.PacketHolds.{is_of, hold_of, holds_one}
 use Rattle.grants.specs.Cells.{Table, cell_of}
 use Rattle.grants.specs.inner.Counts.{SameRights, IsCounted, count_of}
@@ -38,7 +38,7 @@ module _ (table : Table) (list : List Hold) (room : ℕ) (old : Ledger) (view : 
       → SameRights table after → more ≡ list ++ map (hold_of q p c) rights → Holds old (ledger after more left) c q p rights
   held_more c q p rights after more left same put =
       let moved : Holds (ledger table list room) (ledger after more left) c q p rights = record {
-        held = λ q' p' c' o' right. ap (λ hs. held hs q' p' c' o' right) put ∙ held-pushed q p c rights q' p' c' o' right list;
+        held = λ q' p' c' o' right. ap (λ hs. is_held hs q' p' c' o' right) put ∙ held-pushed q p c rights q' p' c' o' right list;
         same_rules = same.same_rules;
         same_rights = same.same_rights;
       } in subst (λ g. Holds g (ledger after more left) c q p rights) view moved
@@ -49,8 +49,8 @@ module _ (table : Table) (list : List Hold) (room : ℕ) (old : Ledger) (view : 
       → length rest + left ≡ length list + room → Releases old (ledger after rest left) q p
   released q p after rest left same dropped more places =
       let moved : Releases (ledger table list room) (ledger after rest left) q p = record {
-        released = λ q' p' c' o' right. ap (λ hs. held hs q' p' c' o' right) dropped ∙ held-dropped q p q' p' c' o' right list
-            ∙ and_comm (not (same_packet q' p' q p)) (held list q' p' c' o' right);
+        released = λ q' p' c' o' right. ap (λ hs. is_held hs q' p' c' o' right) dropped ∙ held-dropped q p q' p' c' o' right list
+            ∙ and_comm (not (same_packet q' p' q p)) (is_held list q' p' c' o' right);
         same_rules = same.same_rules;
         same_rights = same.same_rights;
         room = more;
@@ -58,11 +58,11 @@ module _ (table : Table) (list : List Hold) (room : ℕ) (old : Ledger) (view : 
       } in subst (λ g. Releases g (ledger after rest left) q p) view moved
 
   -- a client and an object that have a cell are declared
-  pub declared : (c : ClientId) (o : Object) (found : Option Cell) (cell : Cell) → is_some found ≡ (knows_client table.rules c && knows table.rules o) → found ≡ Some cell
-      → (knows_client (rules_in old) c ≡ true) × (knows (rules_in old) o ≡ true)
+  pub declared : (c : ClientId) (o : Object) (found : Option Cell) (cell : Cell) → is_some found ≡ (knows_client table.rules c && knows_object table.rules o) → found ≡ Some cell
+      → (knows_client (rules_in old) c ≡ true) × (knows_object (rules_in old) o ≡ true)
   declared c o found cell known is =
-      let parts = both (knows_client table.rules c) (knows table.rules o) (sym known ∙ ap is_some is) in
-      (sym (ap (λ g. knows_client (rules_in g) c) view) ∙ parts.0, sym (ap (λ g. knows (rules_in g) o) view) ∙ parts.1)
+      let parts = both (knows_client table.rules c) (knows_object table.rules o) (sym known ∙ ap is_some is) in
+      (sym (ap (λ g. knows_client (rules_in g) c) view) ∙ parts.0, sym (ap (λ g. knows_object (rules_in g) o) view) ∙ parts.1)
 
   -- the first of the packets with a hold of one of the rights is the first that holds one of them
   pub holder_first : (c : ClientId) (o : Object) (rights : Rights) (first : Option (QueueId × PacketId)) → IsFirstTo (holds_one list c o rights) first → IsFirstTo (is_holder old c o rights) first

@@ -10,7 +10,7 @@ use Rattle.policy.specs.declared.object.Object.{Object}
 use Rattle.policy.specs.declared.object.Object.TheVariants.{Agent, Region, Signal, Kernel}
 use Rattle.grants.specs.declared.cell.Cell.{Cell}
 use Rattle.grants.specs.Pairs.{same_pair}
-use Rattle.policy.specs.Rules.{Rules, knows_client, knows}
+use Rattle.policy.specs.Rules.{Rules, knows_client, knows_object}
 use Rattle.grants.specs.Cells.{object_count, object_place, place_of, item_at}
 use Rattle.grants.specs.inner.Counts.{replacement}
 use Rattle.policy.proofs.PairLemmas.{both, same_pair_is, same_pair_itself}
@@ -19,13 +19,13 @@ from_one : (n m : ℕ) → (nat_lt 0 n && nat_le n m) ≡ true → (0 < n) × (n
 from_one n m h = let parts = both (nat_lt 0 n) (nat_le n m) h in (ltb-true 0 n parts.0, leb-true n m parts.1)
 
 module _ (rules : Rules) where
-  pub in_row : (o : Object) → knows rules o ≡ true → object_place rules o < object_count rules
+  pub in_row : (o : Object) → knows_object rules o ≡ true → object_place rules o < object_count rules
   in_row (Agent h) k = let b = from_one h.0 rules.agents k in let l = b.0 in let u = b.1 in omega arith
   in_row (Region h) k = let b = from_one h.0 rules.regions k in let l = b.0 in let u = b.1 in omega arith
   in_row (Signal h) k = let b = from_one h.0 rules.signals k in let l = b.0 in let u = b.1 in omega arith
   in_row (Kernel h) k = let b = from_one h.0 rules.kernels k in let l = b.0 in let u = b.1 in omega arith
 
-  same_in_row : (o p : Object) → knows rules o ≡ true → knows rules p ≡ true → object_place rules o ≡ object_place rules p → o ≡ p
+  same_in_row : (o p : Object) → knows_object rules o ≡ true → knows_object rules p ≡ true → object_place rules o ≡ object_place rules p → o ≡ p
   same_in_row (Agent h) (Agent g) k l e = let b = from_one h.0 rules.agents k in let d = from_one g.0 rules.agents l in
       let n : h.0 ≡ g.0 = omega (arith, b.0, d.0, e) in ap (λ i. Agent (record { 0 = i })) n
   same_in_row (Region h) (Region g) k l e = let b = from_one h.0 rules.regions k in let d = from_one g.0 rules.regions l in
@@ -50,13 +50,13 @@ module _ (rules : Rules) where
   -- a place is one only for a declared client and object
   pub record IsPlace (c : ClientId) (o : Object) (place : ℕ) : Type 0 where
     pub client : knows_client rules c ≡ true
-    pub object : knows rules o ≡ true
+    pub object : knows_object rules o ≡ true
     pub is : place ≡ (c.0 - 1) * object_count rules + object_place rules o
 
   pub place-Some : (c : ClientId) (o : Object) (place : ℕ) → place_of rules c o ≡ Some place → IsPlace c o place
-  place-Some c o place h = by_test (knows_client rules c) (knows rules o) refl refl h
+  place-Some c o place h = by_test (knows_client rules c) (knows_object rules o) refl refl h
     where
-      by_test : (a b : Bool) → knows_client rules c ≡ a → knows rules o ≡ b
+      by_test : (a b : Bool) → knows_client rules c ≡ a → knows_object rules o ≡ b
           → (if a && b then Some ((c.0 - 1) * object_count rules + object_place rules o) else None) ≡ Some place → IsPlace c o place
       by_test true true client object e = record { client = client; object = object; is = cc }
       by_test true false client object e = cc
@@ -146,7 +146,7 @@ module _ (rules : Rules) (cells : List Cell) (long : length cells ≡ rules.clie
 
 module _ (rules : Rules) (cells : List Cell) (long : length cells ≡ rules.clients * object_count rules) (c : ClientId) (o : Object) where
   -- there is a cell just for a declared client and object
-  pub cell-declared : is_some (item_at cells (place_of rules c o)) ≡ (knows_client rules c && knows rules o)
+  pub cell-declared : is_some (item_at cells (place_of rules c o)) ≡ (knows_client rules c && knows_object rules o)
   cell-declared = by_test (place_of rules c o) refl
     where
       some_within : (xs : List Cell) (i : ℕ) → i < length xs → is_some (slice_get xs i) ≡ true
@@ -159,8 +159,8 @@ module _ (rules : Rules) (cells : List Cell) (long : length cells ≡ rules.clie
       none_for true false n h = refl
       none_for false b n h = refl
 
-      by_test : (at : Option ℕ) → place_of rules c o ≡ at → is_some (item_at cells (place_of rules c o)) ≡ (knows_client rules c && knows rules o)
-      by_test None is = ap (λ at. is_some (item_at cells at)) is ∙ sym (none_for (knows_client rules c) (knows rules o) _ is)
+      by_test : (at : Option ℕ) → place_of rules c o ≡ at → is_some (item_at cells (place_of rules c o)) ≡ (knows_client rules c && knows_object rules o)
+      by_test None is = ap (λ at. is_some (item_at cells at)) is ∙ sym (none_for (knows_client rules c) (knows_object rules o) _ is)
       by_test (Some place) is =
           let p = place-Some rules c o place is in
           let w = place-within rules c o place is in

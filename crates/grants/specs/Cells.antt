@@ -9,7 +9,7 @@ use Rattle.policy.specs.declared.rights.Right.{Right}
 use Rattle.policy.specs.Object.{kind_of, number_of}
 use Rattle.policy.specs.Rights.{has}
 use Rattle.grants.specs.declared.cell.Cell.{Cell}
-use Rattle.policy.specs.Rules.{Rules, knows_client, knows}
+use Rattle.policy.specs.Rules.{Rules, knows_client, knows_object}
 
 -- ---- places
 
@@ -31,7 +31,7 @@ object_place rules object = objects_before rules (kind_of object) + (number_of o
 -- the place of a declared client's cell on a declared object: a row for each client
 abbrev pub place_of : Rules → ClientId → Object → Option ℕ
 place_of rules client object =
-    if knows_client rules client && knows rules object then Some ((client.0 - 1) * object_count rules + object_place rules object) else None
+    if knows_client rules client && knows_object rules object then Some ((client.0 - 1) * object_count rules + object_place rules object) else None
 
 -- what lies at a place
 abbrev pub item_at : List Cell → Option ℕ → Option Cell

@@ -20,5 +20,5 @@ abbrev pub is_hold : QueueId → PacketId → ClientId → Object → Right → 
 is_hold queue packet client object right hold = is_on queue packet client object hold && has hold.rights right
 
 -- the packet holds the client's right on the object
-abbrev pub held : List Hold → QueueId → PacketId → ClientId → Object → Right → Bool
-held holds queue packet client object right = list_any (is_hold queue packet client object right) holds
+abbrev pub is_held : List Hold → QueueId → PacketId → ClientId → Object → Right → Bool
+is_held holds queue packet client object right = list_any (is_hold queue packet client object right) holds

@@ -8,7 +8,7 @@ use Rattle.policy.specs.declared.rights.Right.{Right}
 use Rattle.policy.specs.declared.rights.Rights.{Rights}
 use Rattle.policy.specs.Listing.{all_objects, listing_by}
 use Rattle.policy.specs.Rules.{count}
-use Rattle.grants.specs.Pairs.{is_one_of, names}
+use Rattle.grants.specs.Pairs.{is_one_of, is_named}
 use Rattle.grants.specs.Holders.{same_packet}
 use Rattle.grants.specs.Ledger.{Ledger, rules_in, in_force, holds, IsNew, Gives, Takes, Holds, Releases, grant_due, RevokeAnswers, are_in_force, listing}
 
@@ -45,7 +45,7 @@ in_force_after client object right before _ = before
 -- the packet came to hold the right and wasn't released since
 abbrev pub holds_after : QueueId → PacketId → ClientId → Object → Right → Bool → Call → Bool
 holds_after queue packet client object right before (Hold client' queue' packet' rights) =
-    before || (same_packet queue packet queue' packet' && names rights client' client object right)
+    before || (same_packet queue packet queue' packet' && is_named rights client' client object right)
 holds_after queue packet client object right before (Release queue' packet') = before && not (same_packet queue packet queue' packet')
 holds_after queue packet client object right before _ = before
 

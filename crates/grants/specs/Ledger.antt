@@ -9,13 +9,13 @@ use Rattle.policy.specs.declared.rights.Right.{Right}
 use Rattle.policy.specs.declared.rights.Rights.{Rights}
 use Rattle.policy.specs.Listing.{all_objects, listing_by}
 use Rattle.policy.specs.Rights.{has, all_rights, each_right, rights_that}
-use Rattle.grants.specs.declared.refusal.Refusal.{Refusal}
-use Rattle.grants.specs.declared.refusal.Refusal.TheVariants.{NotAllowed, Busy, UnknownObject, UnknownClient}
+use Rattle.grants.specs.declared.refusal.GrantRefusal.{GrantRefusal}
+use Rattle.grants.specs.declared.refusal.GrantRefusal.TheVariants.{NotAllowed, Busy, UnknownObject, UnknownClient}
 use Rattle.grants.specs.declared.hold.Hold.{Hold}
-use Rattle.policy.specs.Rules.{Rules, count, knows_client, knows, allows}
-use Rattle.grants.specs.Pairs.{is_one_of, names}
+use Rattle.policy.specs.Rules.{Rules, count, knows_client, knows_object, are_allowed}
+use Rattle.grants.specs.Pairs.{is_one_of, is_named}
 use Rattle.grants.specs.Holders.{same_packet, IsFirstTo}
-use Rattle.grants.specs.Holds.{held}
+use Rattle.grants.specs.Holds.{is_held}
 use Rattle.grants.specs.Cells.{Table, in_table}
 
 -- The table of rights, the list of holds, and the room for further ones. Clauses read them by the look-ups below.
@@ -39,7 +39,7 @@ in_force grants client object right = in_table grants.table client object right
 
 -- whether a packet, of a queue of a client, holds a right on an object
 abbrev pub holds : Ledger → QueueId → PacketId → ClientId → Object → Right → Bool
-holds grants queue packet client object right = held grants.list queue packet client object right
+holds grants queue packet client object right = is_held grants.list queue packet client object right
 
 -- the rights of the client on the object
 abbrev pub rights_on : Ledger → ClientId → Object → Rights
@@ -91,7 +91,7 @@ pub record Takes (old new : Ledger) (client : ClientId) (object : Object) (right
 pub record Holds (old new : Ledger) (client : ClientId) (queue : QueueId) (packet : PacketId) (rights : List (Object × Rights)) : Type 0 where
   pub held : (queue' : QueueId) (packet' : PacketId) (client' : ClientId) (object' : Object) (right : Right)
       → holds new queue' packet' client' object' right
-      ≡ (holds old queue' packet' client' object' right || (same_packet queue' packet' queue packet && names rights client client' object' right))
+      ≡ (holds old queue' packet' client' object' right || (same_packet queue' packet' queue packet && is_named rights client client' object' right))
   pub same_rules : rules_in new ≡ rules_in old
   pub same_rights : SameRights old new
 
@@ -108,24 +108,24 @@ pub record Releases (old new : Ledger) (queue : QueueId) (packet : PacketId) : T
 -- ---- answers
 
 -- a grant is refused by the first of these that stands, and made where none does
-abbrev pub grant_due : Ledger → ClientId → Object → Rights → Result (Unit {0}) Refusal
+abbrev pub grant_due : Ledger → ClientId → Object → Rights → Result (Unit {0}) GrantRefusal
 grant_due grants client object rights =
     if not (knows_client (rules_in grants) client) then Err UnknownClient
-    else if not (knows (rules_in grants) object) then Err UnknownObject
-    else if not (allows (rules_in grants) client object rights) then Err NotAllowed
+    else if not (knows_object (rules_in grants) object) then Err UnknownObject
+    else if not (are_allowed (rules_in grants) client object rights) then Err NotAllowed
     else Ok tt
 
 -- a revocation's answer: a client or an object that isn't declared is told first, then the least of the packets that hold one of the
 -- rights; the revocation is made where none does
-abbrev pub RevokeAnswers : Ledger → ClientId → Object → Rights → Result (Unit {0}) Refusal → Type 0
+abbrev pub RevokeAnswers : Ledger → ClientId → Object → Rights → Result (Unit {0}) GrantRefusal → Type 0
 RevokeAnswers grants client object rights (Err UnknownClient) = knows_client (rules_in grants) client ≡ false
-RevokeAnswers grants client object rights (Err UnknownObject) = (knows_client (rules_in grants) client ≡ true) × (knows (rules_in grants) object ≡ false)
+RevokeAnswers grants client object rights (Err UnknownObject) = (knows_client (rules_in grants) client ≡ true) × (knows_object (rules_in grants) object ≡ false)
 RevokeAnswers grants client object rights (Err NotAllowed) = ⊥
 RevokeAnswers grants client object rights (Err (Busy queue packet)) =
-    (knows_client (rules_in grants) client ≡ true) × (knows (rules_in grants) object ≡ true)
+    (knows_client (rules_in grants) client ≡ true) × (knows_object (rules_in grants) object ≡ true)
     × IsFirstTo (is_holder grants client object rights) (Some (queue, packet))
 RevokeAnswers grants client object rights (Ok x) =
-    (knows_client (rules_in grants) client ≡ true) × (knows (rules_in grants) object ≡ true) × IsFirstTo (is_holder grants client object rights) None
+    (knows_client (rules_in grants) client ≡ true) × (knows_object (rules_in grants) object ≡ true) × IsFirstTo (is_holder grants client object rights) None
 
 -- ---- listing
 

@@ -9,7 +9,7 @@ ghost use Rattle.policy.specs.declared.rights.Right.{Right};
 ghost use Rattle.policy.specs.Rights.{each_right};
 ghost use Rattle.grants.specs.Pairs.{same_pair, is_one_of};
 ghost use Rattle.policy.specs.Policy.{rules_of};
-ghost use Rattle.policy.specs.Rules.{knows_client, knows};
+ghost use Rattle.policy.specs.Rules.{knows_client, knows_object};
 ghost use Rattle.grants.specs.inner.Counts.{is_hold_of, SameRights, SameCounts, hold_count, empty_cell, one_for_right, replacement};
 ghost use Rattle.grants.specs.Cells.{cell_of, in_table};
 
@@ -87,7 +87,7 @@ impl Cells {
     /// The cell of a client and an object, if both are declared.
     pub fn get(&self, client: ClientId, object: Object) -> Option<Cell>
         ensures cell { result ≡ cell_of self.now client object }
-        ensures declared { is_some result ≡ (knows_client self.now.rules client && knows self.now.rules object) }
+        ensures declared { is_some result ≡ (knows_client self.now.rules client && knows_object self.now.rules object) }
     {
         let place = self.rules.place_of(client, object)?;
         cell_at(self.cells.as_slice(), place)
@@ -106,7 +106,7 @@ impl Cells {
 
     /// Puts rights of a declared client on a declared object in force.
     pub fn put_in_force(&mut self, client: ClientId, object: Object, rights: Rights)
-        requires { (knows_client self.old.rules client && knows self.old.rules object) ≡ true }
+        requires { (knows_client self.old.rules client && knows_object self.old.rules object) ≡ true }
         ensures in_force { (client' : ClientId) (object' : Object) (right : Right) → in_table self.new client' object' right
             ≡ (in_table self.old client' object' right || is_one_of client' object' right client object rights) }
         ensures counts { SameCounts self.old self.new }

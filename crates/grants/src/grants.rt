@@ -10,7 +10,7 @@ ghost use Rattle.policy.specs.Rules.{count};
 use crate::cells::Cells;
 use crate::counting::{put_holds, uncount_packet};
 use crate::hold::{Hold, drop_holds, first_holder, is_held};
-use crate::refusal::Refusal;
+use crate::refusal::GrantRefusal;
 use crate::sets::known;
 use aql_packet::{ClientId, PacketId, QueueId};
 use bitflags::Flags;
@@ -60,7 +60,12 @@ impl Grants {
 
     /// Gives a client rights on an object. It is refused as `may_grant` says. A right in force stays
     /// so. It takes no memory.
-    pub fn grant(&mut self, client: ClientId, object: Object, rights: Rights) -> Result<(), Refusal>
+    pub fn grant(
+        &mut self,
+        client: ClientId,
+        object: Object,
+        rights: Rights,
+    ) -> Result<(), GrantRefusal>
         ensures answer { result ≡ grant_due self.old client object rights }
         ensures ok { OnOk result (Gives self.old self.new client object rights) }
         ensures err { OnErr result (self.new ≡ self.old) }
@@ -72,18 +77,23 @@ impl Grants {
 
     /// Whether rights on an object may be granted to a client. It is refused, in this order, for a
     /// client or an object that the policy doesn't declare, or a right that it doesn't allow.
-    pub fn may_grant(&self, client: ClientId, object: Object, rights: Rights) -> Result<(), Refusal>
+    pub fn may_grant(
+        &self,
+        client: ClientId,
+        object: Object,
+        rights: Rights,
+    ) -> Result<(), GrantRefusal>
         ensures { result ≡ grant_due self.now client object rights }
     {
         let rules = self.table.rules();
         if !rules.knows_client(client) {
-            return Err(Refusal::UnknownClient);
+            return Err(GrantRefusal::UnknownClient);
         }
         if !rules.knows(object) {
-            return Err(Refusal::UnknownObject);
+            return Err(GrantRefusal::UnknownObject);
         }
         if !rules.allows(client, object, rights) {
-            return Err(Refusal::NotAllowed);
+            return Err(GrantRefusal::NotAllowed);
         }
         Ok(())
     }
@@ -103,7 +113,7 @@ impl Grants {
         client: ClientId,
         object: Object,
         rights: Rights,
-    ) -> Result<(), Refusal>
+    ) -> Result<(), GrantRefusal>
         ensures answer { RevokeAnswers self.old client object rights result }
         ensures ok { OnOk result (Takes self.old self.new client object rights) }
         ensures err { OnErr result (self.new ≡ self.old) }
@@ -122,21 +132,21 @@ impl Grants {
         client: ClientId,
         object: Object,
         rights: Rights,
-    ) -> Result<(), Refusal>
+    ) -> Result<(), GrantRefusal>
         ensures { RevokeAnswers self.now client object rights result }
     {
         let rules = self.table.rules();
         if !rules.knows_client(client) {
-            return Err(Refusal::UnknownClient);
+            return Err(GrantRefusal::UnknownClient);
         }
         let Some(cell) = self.table.get(client, object) else {
-            return Err(Refusal::UnknownObject);
+            return Err(GrantRefusal::UnknownObject);
         };
         if !cell.is_held(rights) {
             return Ok(());
         }
         match first_holder(self.holds.as_slice(), client, object, rights) {
-            Some((queue, packet)) => Err(Refusal::Busy { queue, packet }),
+            Some((queue, packet)) => Err(GrantRefusal::Busy { queue, packet }),
             None => Ok(()),
         }
     }

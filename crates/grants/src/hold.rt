@@ -3,7 +3,7 @@
 ghost use Rattle.std.specs.Prelude.{◌≡◌, ◌≤◌, ◌⊎◌, ◌&&◌, not, filter, vec_len, vec_capacity};
 ghost use Rattle.grants.specs.Pairs.{same_pair};
 ghost use Rattle.grants.specs.Holders.{IsUpTo, IsFirstTo};
-ghost use Rattle.grants.specs.Holds.{held, is_on};
+ghost use Rattle.grants.specs.Holds.{is_held, is_on};
 ghost use Rattle.grants.specs.inner.PacketHolds.{holds_one, is_of, have_common_right};
 
 use aql_packet::{ClientId, PacketId, QueueId};
@@ -68,7 +68,7 @@ pub fn is_held(
     object: Object,
     right: Right,
 ) -> bool
-    ensures { result ≡ held holds.now queue packet client object right }
+    ensures { result ≡ is_held holds.now queue packet client object right }
 {
     holds.iter().any(|hold| hold.is_on(queue, packet, client, object) && hold.rights.has(right))
 }

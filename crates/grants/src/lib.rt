@@ -15,4 +15,4 @@ mod sets;
 
 pub use grants::Grants;
 pub use laws::law_of_calls;
-pub use refusal::Refusal;
+pub use refusal::GrantRefusal;

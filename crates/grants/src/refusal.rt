@@ -4,7 +4,7 @@ use aql_packet::{PacketId, QueueId};
 
 /// Why a change of grants is refused.
 #[derive(Clone, Copy, Debug, PartialEq, Eq)]
-pub enum Refusal {
+pub enum GrantRefusal {
     /// The policy doesn't allow one of the rights.
     NotAllowed,
     /// A packet in flight of a queue of the client holds one of the rights: of these packets the one

@@ -40,7 +40,7 @@ impl Model for Rules {
 
 impl Rules {
     ghost use Rattle.policy.specs.Policy.{rules_of};
-    ghost use Rattle.policy.specs.Rules.{count, knows_client, knows, allows};
+    ghost use Rattle.policy.specs.Rules.{count, knows_client, knows_object, are_allowed};
     ghost use Rattle.grants.specs.Cells.{object_count, objects_before, place_of};
 
     /// The rules of a policy.
@@ -118,14 +118,14 @@ impl Rules {
 
     /// Whether the object is declared.
     pub fn knows(&self, object: Object) -> bool
-        ensures { result ≡ knows self.now object }
+        ensures { result ≡ knows_object self.now object }
     {
         1 <= object.number() && object.number() <= self.count(object.kind()) as u64
     }
 
     /// Whether each of some rights is allowed to the client on the object.
     pub fn allows(&self, client: ClientId, object: Object, rights: Rights) -> bool
-        ensures { result ≡ allows self.now client object rights }
+        ensures { result ≡ are_allowed self.now client object rights }
     {
         policy::rows_allow(self.allows.as_slice(), client, object, rights)
     }

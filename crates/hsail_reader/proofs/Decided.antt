@@ -6,7 +6,7 @@ use Rattle.hsail_reader.specs.Grammars.{Grammar, give, behind, spells, begun_by,
 use Rattle.hsail_reader.specs.Terminals.{mark_of, number_of, register_of, same_kind, same_word, word_at, picked, align_of, align, group_of, semicolon, open_bracket, close_parenthesis, close_brace, syntax, at_begin, behind_align}
 use Rattle.hsail_reader.specs.TextTokens.{PlacedToken}
 use Rattle.hsail_reader.specs.WordSpelling.{SpellsWord}
-use Rattle.hsail_reader.specs.Nouns.{Alignment, Argument, Constant, DataType, Item, Kernel, Opcode, Operand, Operation, Place, Shape, TokenKind, Word}
+use Rattle.hsail_reader.specs.Nouns.{Alignment, Argument, Constant, DataType, Item, Kernel, Opcode, Operand, Operation, SegmentPlace, Shape, TokenKind, Word}
 use Rattle.hsail_reader.specs.declared.token.TokenKind.TheVariants as kinds
 use Rattle.hsail_reader.specs.declared.rows.Shape.TheVariants as shapes
 use Rattle.hsail_reader.specs.declared.words.Word.TheVariants as words
@@ -97,7 +97,7 @@ places F law = (
 )
 
 -- a place begins with no variable
-place_first : (p : Place) (from to : List PlacedToken) → spells place p from to →
+place_first : (p : SegmentPlace) (from to : List PlacedToken) → spells place p from to →
     begun_by (λ t. option_map (λ one. t.text) (same_kind kinds.Variable t.kind)) from ≡ false
 unfolding place
 place_first p from to s =
@@ -110,7 +110,7 @@ places_inside : (F : Front) → Decides place_inside F
 unfolding place_inside
 places_inside F = (places _ (λ to b. (b.3.2.0, b.3.1, b.3.2.1, b.3.2.2)), λ p. (marks 93, λ one. tt))
 
-place_inside_first : (p : Place) (from to : List PlacedToken) → spells place_inside p from to →
+place_inside_first : (p : SegmentPlace) (from to : List PlacedToken) → spells place_inside p from to →
     begun_by (λ t. option_map (λ one. t.text) (same_kind kinds.Variable t.kind)) from ≡ false
 unfolding place_inside
 place_inside_first p from to s = place_first s.0 from s.1 s.2

@@ -3,7 +3,7 @@
 use Rattle.std.proofs.Common.{◌≡◌, ℕ, zero, suc, ◌<◌, ◌≤◌, ◌⊎◌, inl, inr, ⊎_elim, List, [], ◌∷◌, length, Bool, true, false, ◌||◌, if◌then◌else◌, Option, Some, None, Result, Ok, Err, is_some, refl, ap, subst, ◌∙◌, arith}
 use Rattle.hsail_reader.specs.Grammars.{Grammar, give, token, behind, either, many, on_line, each, line_of, spells, Reading, ◌>>=◌, refuse, found_at, token_at, with_first, many_at, begun_by, begins, read}
 use Rattle.hsail_reader.specs.TextTokens.{PlacedToken}
-use Rattle.hsail_reader.specs.Nouns.{Flaw, Refusal}
+use Rattle.hsail_reader.specs.Nouns.{Flaw, PlacedFlaw}
 use Rattle.hsail_reader.specs.declared.fault.Flaw.TheVariants.{Syntax}
 use Rattle.hsail_reader.proofs.Options.{chosen, same_ok}
 
@@ -139,14 +139,14 @@ complete (many stops g) F d xs from to s may =
 complete (on_line f) F d x from to s may = complete (f (line_of from)) F (d (line_of from)) x from to s may
 
 -- what holds of one reading holds of the same reading
-carried : {A : Type 0} (P : A → Type 0) (x y : A) → ◌≡◌ {A = Result A Refusal} (Ok x) (Ok y) → P x → P y
+carried : {A : Type 0} (P : A → Type 0) (x y : A) → ◌≡◌ {A = Result A PlacedFlaw} (Ok x) (Ok y) → P x → P y
 carried P x y is p = subst P (same_ok x y is) p
 
 -- a refusal is no reading, whatever its flaw
 no_reading : {A B : Type 0} (tokens : List PlacedToken) (flaw : Flaw) (y : B) → refuse {X = B} tokens flaw ≡ Ok y → A
 no_reading tokens flaw y is = cc
 
-pub bound : {A B : Type 0} (read : Result A Refusal) (f : A → Result B Refusal) (y : B) → (read >>= f) ≡ Ok y →
+pub bound : {A B : Type 0} (read : Result A PlacedFlaw) (f : A → Result B PlacedFlaw) (y : B) → (read >>= f) ≡ Ok y →
     (x : A) × (read ≡ Ok x) × (f x ≡ Ok y)
 bound (Ok x) f y is = (x, refl, is)
 bound (Err r) f y is = cc

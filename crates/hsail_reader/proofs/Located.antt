@@ -2,13 +2,13 @@
 use Rattle.std.proofs.Common.{◌≡◌, ℕ, ◌+◌, List, [], ◌∷◌, ◌==◌, Result, Err, ⊎_elim, refl, ap, sym, ◌∙◌}
 use Rattle.std.proofs.lemmas.Bool.{cases_Bool}
 use Rattle.hsail_reader.specs.Faults.{error_of, fault_at, fault_of, before_place, cause_of, too_long}
-use Rattle.hsail_reader.specs.Nouns.{Cause, Flaw, Module, ReadError, ReadFault, Refusal, Stop}
-use Rattle.hsail_reader.specs.declared.fault.Cause.TheVariants.{TooLong}
+use Rattle.hsail_reader.specs.Nouns.{ReadCause, Flaw, Module, ReadError, ReadFault, PlacedFlaw, Stop}
+use Rattle.hsail_reader.specs.declared.fault.ReadCause.TheVariants.{TooLong}
 use Rattle.hsail_reader.specs.declared.fault.Flaw.TheVariants as flaw
 use Rattle.hsail_reader.specs.declared.fault.ReadError.TheVariants as error
 use Rattle.hsail_reader.specs.declared.fault.Stop.TheVariants as stop
 
-fault_at_cause : (line column : ℕ) (before : List ℕ) (cause : Cause) → (fault_at line column before cause).cause ≡ cause
+fault_at_cause : (line column : ℕ) (before : List ℕ) (cause : ReadCause) → (fault_at line column before cause).cause ≡ cause
 fault_at_cause line column [] cause = refl
 fault_at_cause line column (b ∷ before) cause =
     ⊎_elim (λ y. rw y (fault_at_cause (line + 1) 1 before cause)) (λ n. rw n (fault_at_cause line (column + 1) before cause))
@@ -19,7 +19,7 @@ not_too_long flaw.Lexeme e = cc
 not_too_long flaw.Syntax e = cc
 not_too_long flaw.NotInProfile e = cc
 
-never_too_long : (text : List ℕ) (r : Refusal) (f : ReadFault) → f ≡ fault_of text r → f ≡ too_long → ⊥
+never_too_long : (text : List ℕ) (r : PlacedFlaw) (f : ReadFault) → f ≡ fault_of text r → f ≡ too_long → ⊥
 never_too_long text r f is e =
     not_too_long r.flaw
     (sym (fault_at_cause 1 1 (before_place r.place text) (cause_of r.flaw))

@@ -4,13 +4,13 @@ use Rattle.hsail_reader.specs.Faults.{with_front, refusal}
 use Rattle.hsail_reader.specs.Lexemes.{lexeme_at, lexed}
 use Rattle.hsail_reader.specs.Tokens.{tokens_from, further, before_rest}
 use Rattle.hsail_reader.specs.TextTokens.{PlacedToken, kept, line_after, line_behind, IsLongestFront, AreTokens, none, lexeme}
-use Rattle.hsail_reader.specs.Nouns.{Lexeme, Refusal, LexemeKind}
+use Rattle.hsail_reader.specs.Nouns.{Lexeme, PlacedFlaw, LexemeKind}
 use Rattle.std.proofs.Math.Seq.{take-append_seam, drop-append_seam}
 use Rattle.hsail_reader.proofs.Options.{same_ok, no_ok}
 use Rattle.hsail_reader.proofs.LexemeFronts.{FoundSpelled, found_is_lexeme, lexeme_is_some, lexeme_reaches, longest_is_found}
 use Rattle.hsail_reader.specs.declared.fault.Flaw.TheVariants as flaw
 
-pub with_front_append : (a b : List PlacedToken) (r : Result (List PlacedToken) Refusal) →
+pub with_front_append : (a b : List PlacedToken) (r : Result (List PlacedToken) PlacedFlaw) →
     with_front (a ++ b) r ≡ with_front a (with_front b r)
 with_front_append a b (Ok items) = ap (λ (x : List PlacedToken). Ok x) (simp append_assoc)
 with_front_append a b (Err r) = refl
@@ -53,7 +53,7 @@ tokens_from_step place line (b ∷ bytes) found is some fits =
     (behind_first found.length place line b bytes some fits))
 
 -- one turn of the loop over the lexemes
-pub goes_on : (front after : List PlacedToken) (place line : ℕ) (bytes : List ℕ) (found : Lexeme) (whole : Result (List PlacedToken) Refusal) →
+pub goes_on : (front after : List PlacedToken) (place line : ℕ) (bytes : List ℕ) (found : Lexeme) (whole : Result (List PlacedToken) PlacedFlaw) →
     lexeme_at bytes ≡ Some found → 0 < found.length → found.length ≤ length bytes →
     after ≡ front ++ kept found.kind (take found.length bytes) place line →
     with_front front (tokens_from 0 place line bytes) ≡ whole →
@@ -100,7 +100,7 @@ pub cut : (text : List ℕ) (tokens : List PlacedToken) → AreTokens 0 1 text t
 cut text tokens are = tokens_are_cut 0 1 text tokens are
 
 -- the tokens behind some, where all are read
-behind_some : (front tokens : List PlacedToken) (rest : Result (List PlacedToken) Refusal) → with_front front rest ≡ Ok tokens →
+behind_some : (front tokens : List PlacedToken) (rest : Result (List PlacedToken) PlacedFlaw) → with_front front rest ≡ Ok tokens →
     (later : List PlacedToken) × (rest ≡ Ok later) × (front ++ later ≡ tokens)
 behind_some front tokens (Ok later) is = (later, refl, same_ok (front ++ later) tokens is)
 behind_some front tokens (Err r) is = no_ok r tokens is

@@ -9,7 +9,7 @@ use Rattle.hsail_reader.specs.Grammars.{spells, read, ◌>>=◌}
 use Rattle.hsail_reader.specs.TextTokens.{PlacedToken}
 use Rattle.hsail_reader.specs.Syntax.{module_at, read_at, located, reading}
 use Rattle.hsail_reader.specs.Tokens.{tokens_of}
-use Rattle.hsail_reader.specs.Nouns.{Module, ReadError, Refusal, Stop}
+use Rattle.hsail_reader.specs.Nouns.{Module, ReadError, PlacedFlaw, Stop}
 use Rattle.hsail_reader.specs.declared.fault.Stop.TheVariants as stop
 use Rattle.hsail_reader.proofs.Decided.{module_decides}
 use Rattle.hsail_reader.proofs.Grammars.{Front, complete, sound, bound}
@@ -88,7 +88,7 @@ text_is_read text m s =
     ap (λ b. if b then Err too_long else located text (read_at text)) (short (length text) (fits_of text m s))
     ∙ ap (located text) (text_at text m s)
 
-located_is : (text : List ℕ) (read : Result Module Refusal) (m : Module) → located text read ≡ Ok m → read ≡ Ok m
+located_is : (text : List ℕ) (read : Result Module PlacedFlaw) (m : Module) → located text read ≡ Ok m → read ≡ Ok m
 located_is text (Ok n) m is = cc
 located_is text (Err r) m is = cc
 

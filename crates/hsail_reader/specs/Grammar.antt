@@ -7,12 +7,12 @@ use Rattle.hsail_reader.specs.Grammars.{Grammar, give, either, many, on_line, sp
 use Rattle.hsail_reader.specs.Terminals.{◌>>=◌, ◌>>◌, optional, open_parenthesis, close_parenthesis, open_bracket, close_bracket, open_brace, close_brace, plus, minus, comma, colon, semicolon, register, number, global, variable, label, major, minor, profile, large, rounding, module_word, prog, kernel_word, align, kernarg, group, opcode, syntax, at_begin, behind_align}
 use Rattle.hsail_reader.specs.TextTokens.{AreTokens, PlacedToken}
 use Rattle.hsail_reader.specs.Rows.{kind_at}
-use Rattle.hsail_reader.specs.Nouns.{Address, Alignment, Argument, Constant, DataType, Fields, Flaw, Item, Kernel, Module, Opcode, Operand, Operation, Place, ReadError, Shape, Source}
+use Rattle.hsail_reader.specs.Nouns.{Address, Alignment, Argument, Constant, DataType, Fields, Flaw, Item, Kernel, Module, Opcode, Operand, Operation, SegmentPlace, ReadError, Shape, Source}
 use Rattle.hsail_reader.specs.declared.fault.ReadError.TheVariants as error
 use Rattle.hsail_reader.specs.declared.module.Address.TheVariants as addresses
 use Rattle.hsail_reader.specs.declared.module.Item.TheVariants as an_item
 use Rattle.hsail_reader.specs.declared.module.Operand.TheVariants as an_operand
-use Rattle.hsail_reader.specs.declared.module.Place.TheVariants as places
+use Rattle.hsail_reader.specs.declared.module.SegmentPlace.TheVariants as places
 use Rattle.hsail_reader.specs.declared.rows.Shape.TheVariants as shape
 use Rattle.hsail_reader.specs.declared.types.Source.TheVariants as sources
 
@@ -38,14 +38,14 @@ unfoldable pub offset : Grammar Constant
 offset = either (minus >> signed true) (either (plus >> signed false) (give no_offset))
 
 -- a place: n, r, r+n or r-n, for a register r of any class (the check asks for the class)
-unfoldable pub place : Grammar Place
+unfoldable pub place : Grammar SegmentPlace
 place = either (number >>= λ n. give (places.Absolute n)) (do
   r ← register
   o ← offset
   give (places.Relative (record { register = r; offset = o })))
 
 -- place ], behind its opening bracket
-unfoldable pub place_inside : Grammar Place
+unfoldable pub place_inside : Grammar SegmentPlace
 place_inside = do
   p ← place
   close_bracket

@@ -3,7 +3,7 @@
 use Rattle.std.specs.Prelude.{◌≡◌, ℕ, zero, suc, ◌⊎◌, List, [], ◌∷◌, Bool, true, false, ◌||◌, if◌then◌else◌, Option, Some, None, Result, Ok, Err, is_some, length}
 use Rattle.hsail_reader.specs.Faults.{refusal}
 use Rattle.hsail_reader.specs.TextTokens.{PlacedToken}
-use Rattle.hsail_reader.specs.Nouns.{Flaw, Refusal}
+use Rattle.hsail_reader.specs.Nouns.{Flaw, PlacedFlaw}
 use Rattle.hsail_reader.specs.declared.fault.Flaw.TheVariants.{Syntax}
 
 -- a grammar of an X:
@@ -43,10 +43,10 @@ spells (on_line f) x from to = spells (f (line_of from)) x from to
 
 -- what is read at the front of some tokens, with the tokens behind it; or the first fault
 abbrev pub Reading : Type 0 → Type 0
-Reading X = Result (X × List PlacedToken) Refusal
+Reading X = Result (X × List PlacedToken) PlacedFlaw
 
 infixl 10 ◌>>=◌
-abbrev pub ◌>>=◌ : {A B : Type 0} → Result A Refusal → (A → Result B Refusal) → Result B Refusal
+abbrev pub ◌>>=◌ : {A B : Type 0} → Result A PlacedFlaw → (A → Result B PlacedFlaw) → Result B PlacedFlaw
 (Ok x) >>= f = f x
 (Err r) >>= f = Err r
 
@@ -55,7 +55,7 @@ place_of [] = None
 place_of (t ∷ tokens) = Some t.place
 
 -- a fault at the first of these tokens, or at the end of the text
-abbrev pub refuse : {X : Type 0} → List PlacedToken → Flaw → Result X Refusal
+abbrev pub refuse : {X : Type 0} → List PlacedToken → Flaw → Result X PlacedFlaw
 refuse tokens flaw = Err (refusal (place_of tokens) flaw)
 
 abbrev pub found_at : {X : Type 0} → Option X → Flaw → List PlacedToken → List PlacedToken → Reading X

@@ -1,9 +1,9 @@
 -- The types of the code, by their names (own).
-pub use Rattle.hsail_reader.specs.declared.fault.Cause.{Cause}
+pub use Rattle.hsail_reader.specs.declared.fault.ReadCause.{ReadCause}
 pub use Rattle.hsail_reader.specs.declared.fault.Flaw.{Flaw}
 pub use Rattle.hsail_reader.specs.declared.fault.ReadError.{ReadError}
 pub use Rattle.hsail_reader.specs.declared.fault.ReadFault.{ReadFault}
-pub use Rattle.hsail_reader.specs.declared.fault.Refusal.{Refusal}
+pub use Rattle.hsail_reader.specs.declared.fault.PlacedFlaw.{PlacedFlaw}
 pub use Rattle.hsail_reader.specs.declared.fault.Stop.{Stop}
 pub use Rattle.hsail_reader.specs.declared.module.Address.{Address}
 pub use Rattle.hsail_reader.specs.declared.module.Argument.{Argument}
@@ -12,7 +12,7 @@ pub use Rattle.hsail_reader.specs.declared.module.Kernel.{Kernel}
 pub use Rattle.hsail_reader.specs.declared.module.Module.{Module}
 pub use Rattle.hsail_reader.specs.declared.module.Operand.{Operand}
 pub use Rattle.hsail_reader.specs.declared.module.Operation.{Operation}
-pub use Rattle.hsail_reader.specs.declared.module.Place.{Place}
+pub use Rattle.hsail_reader.specs.declared.module.SegmentPlace.{SegmentPlace}
 pub use Rattle.hsail_reader.specs.declared.module.Profile.{Profile}
 pub use Rattle.hsail_reader.specs.declared.module.Rounding.{Rounding}
 pub use Rattle.hsail_reader.specs.declared.reading.Fields.{Fields}

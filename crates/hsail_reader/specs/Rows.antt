@@ -18,7 +18,7 @@ use Rattle.hsail_reader.specs.declared.types.BinaryOperation.TheVariants as bina
 use Rattle.hsail_reader.specs.declared.types.TernaryOperation.TheVariants as ternary
 use Rattle.hsail_reader.specs.declared.types.Comparison.TheVariants as comparison
 use Rattle.hsail_reader.specs.declared.types.Segment.TheVariants as segment
-use Rattle.hsail_reader.specs.declared.types.Query.TheVariants as query
+use Rattle.hsail_reader.specs.declared.types.WorkItemQuery.TheVariants as query
 
 -- a row: the front of its words, the modifiers and the types that may stand behind it, what it does, and its
 -- operands, each with the type at its place
@@ -225,12 +225,12 @@ rows =
     ∷ row (codes "cbr") Width Bit form.ConditionalBranch a Label no no
     ∷ row (codes "ret") Plain Untyped form.Return no no no no
     ∷ row (codes "barrier") Width Untyped form.Barrier no no no no
-    ∷ row (codes "workitemid") Plain Unsigned32 (form.Identify query.WorkItemId) d Dimension no no
-    ∷ row (codes "workgroupid") Plain Unsigned32 (form.Identify query.WorkGroupId) d Dimension no no
-    ∷ row (codes "workgroupsize") Plain Unsigned32 (form.Identify query.WorkGroupSize) d Dimension no no
-    ∷ row (codes "currentworkgroupsize") Plain Unsigned32 (form.Identify query.CurrentWorkGroupSize) d Dimension no no
-    ∷ row (codes "workitemabsid") Plain Unsigned32And64 (form.Identify query.WorkItemAbsoluteId) d Dimension no no
-    ∷ row (codes "gridsize") Plain Unsigned32And64 (form.Identify query.GridSize) d Dimension no no ∷ []
+    ∷ row (codes "workitemid") Plain Unsigned32 (form.WorkItemQuery query.WorkItemId) d Dimension no no
+    ∷ row (codes "workgroupid") Plain Unsigned32 (form.WorkItemQuery query.WorkGroupId) d Dimension no no
+    ∷ row (codes "workgroupsize") Plain Unsigned32 (form.WorkItemQuery query.WorkGroupSize) d Dimension no no
+    ∷ row (codes "currentworkgroupsize") Plain Unsigned32 (form.WorkItemQuery query.CurrentWorkGroupSize) d Dimension no no
+    ∷ row (codes "workitemabsid") Plain Unsigned32And64 (form.WorkItemQuery query.WorkItemAbsoluteId) d Dimension no no
+    ∷ row (codes "gridsize") Plain Unsigned32And64 (form.WorkItemQuery query.GridSize) d Dimension no no ∷ []
 
 -- a row of the code, with its stem as bytes
 abbrev pub row_view : Row → InstructionRow

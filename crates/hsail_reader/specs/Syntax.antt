@@ -6,18 +6,18 @@ use Rattle.hsail_reader.specs.Grammar.{module_text}
 use Rattle.hsail_reader.specs.Grammars.{read, ◌>>=◌}
 use Rattle.hsail_reader.specs.TextTokens.{PlacedToken}
 use Rattle.hsail_reader.specs.Tokens.{tokens_of}
-use Rattle.hsail_reader.specs.Nouns.{Module, ReadError, ReadFault, Refusal}
+use Rattle.hsail_reader.specs.Nouns.{Module, ReadError, ReadFault, PlacedFlaw}
 use Rattle.hsail_reader.specs.declared.fault.ReadError.TheVariants as error
 
 -- the module that some tokens are
-unfoldable pub module_at : List PlacedToken → Result Module Refusal
+unfoldable pub module_at : List PlacedToken → Result Module PlacedFlaw
 module_at tokens = read module_text tokens >>= λ m. Ok m.0
 
 -- the module that the tokens of a text are
-abbrev pub read_at : List ℕ → Result Module Refusal
+abbrev pub read_at : List ℕ → Result Module PlacedFlaw
 read_at text = tokens_of text >>= module_at
 
-abbrev pub located : List ℕ → Result Module Refusal → Result Module ReadFault
+abbrev pub located : List ℕ → Result Module PlacedFlaw → Result Module ReadFault
 located text (Ok m) = Ok m
 located text (Err r) = Err (fault_of text r)
 

@@ -10,7 +10,7 @@ use std::fmt;
 
 /// What is wrong with a text.
 #[derive(Clone, Copy, Debug, PartialEq, Eq)]
-pub enum Cause {
+pub enum ReadCause {
     /// The bytes from there on begin no lexeme.
     Lexeme,
     /// No module goes on with the token there.
@@ -21,16 +21,16 @@ pub enum Cause {
     TooLong,
 }
 
-impl Cause {
+impl ReadCause {
     /// The number of the cause: Lexeme 1, Syntax 2, NotInProfile 3, TooLong 4.
     pub fn number(self) -> u8
         ensures { result ≡ cause_number self }
     {
         match self {
-            Cause::Lexeme => 1,
-            Cause::Syntax => 2,
-            Cause::NotInProfile => 3,
-            Cause::TooLong => 4,
+            ReadCause::Lexeme => 1,
+            ReadCause::Syntax => 2,
+            ReadCause::NotInProfile => 3,
+            ReadCause::TooLong => 4,
         }
     }
 
@@ -39,10 +39,10 @@ impl Cause {
         ensures { result.now ≡ cause_name self }
     {
         match self {
-            Cause::Lexeme => "Lexeme",
-            Cause::Syntax => "Syntax",
-            Cause::NotInProfile => "NotInProfile",
-            Cause::TooLong => "TooLong",
+            ReadCause::Lexeme => "Lexeme",
+            ReadCause::Syntax => "Syntax",
+            ReadCause::NotInProfile => "NotInProfile",
+            ReadCause::TooLong => "TooLong",
         }
     }
 }
@@ -52,7 +52,7 @@ impl Cause {
 pub struct ReadFault {
     pub line: u32,
     pub column: u32,
-    pub cause: Cause,
+    pub cause: ReadCause,
 }
 
 /// It prints as `line 4, column 3: Syntax`.
@@ -105,13 +105,13 @@ pub enum Flaw {
 }
 
 impl Flaw {
-    fn cause(self) -> Cause
+    fn cause(self) -> ReadCause
         ensures { result ≡ cause_of self }
     {
         match self {
-            Flaw::Lexeme => Cause::Lexeme,
-            Flaw::Syntax => Cause::Syntax,
-            Flaw::NotInProfile => Cause::NotInProfile,
+            Flaw::Lexeme => ReadCause::Lexeme,
+            Flaw::Syntax => ReadCause::Syntax,
+            Flaw::NotInProfile => ReadCause::NotInProfile,
         }
     }
 }
@@ -119,7 +119,7 @@ impl Flaw {
 /// A fault before its line and column are counted: how many bytes stand before it, or `None` at the
 /// end of the text.
 #[derive(Clone, Copy)]
-pub struct Refusal {
+pub struct PlacedFlaw {
     pub place: Option<usize>,
     pub flaw: Flaw,
 }
@@ -128,7 +128,7 @@ pub struct Refusal {
 #[derive(Clone, Copy)]
 pub enum Stop {
     OutOfMemory,
-    Refused(Refusal),
+    Refused(PlacedFlaw),
 }
 
 impl From<AllocError> for Stop {
@@ -148,7 +148,7 @@ impl<T: Drop> From<AllocFailed<T>> for Stop {
 }
 
 /// The fault behind the bytes that stand before it.
-fn fault_behind(before: &[u8], cause: Cause) -> ReadFault
+fn fault_behind(before: &[u8], cause: ReadCause) -> ReadFault
     requires { length before.now ≤ 65536 }
     ensures { result ≡ fault_at 1 1 before.now cause }
 {
@@ -172,7 +172,7 @@ fn fault_behind(before: &[u8], cause: Cause) -> ReadFault
 }
 
 /// The fault of a text, with its line and column.
-fn located(text: &[u8], refusal: Refusal) -> ReadFault
+fn located(text: &[u8], refusal: PlacedFlaw) -> ReadFault
     requires { length text.now ≤ 65536 }
     ensures { result ≡ fault_of text.now refusal }
 {

@@ -17,20 +17,20 @@ mod tokens;
 mod types;
 mod words;
 
-pub use fault::{Cause, ReadError, ReadFault};
+pub use fault::{ReadCause, ReadError, ReadFault};
 pub use grammar::{
     modules_are_read_as_spelled, spelled_operations_are_of_rows, texts_are_cut_as_spelled,
     texts_are_read_as_spelled, words_are_read_as_spelled,
 };
 pub use module::{
     Access, Address, Argument, GroupVariable, Indexed, Instruction, Item, Kernel, Label, Module,
-    Operand, Operands, Operation, Place, Profile, Relative, Rounding, Target, TypedSource,
+    Operand, Operands, Operation, Profile, Relative, Rounding, SegmentPlace, Target, TypedSource,
     operations_are_of_rows,
 };
 pub use reading::read_module;
 pub use rows::Form;
 pub use types::{
     Alignment, AtomicOperation, BinaryOperation, Comparison, Constant, DataType, MemoryOrder,
-    MemoryScope, Modifier, Modifiers, Query, Register, RegisterClass, Segment, Source,
-    TernaryOperation, UnaryOperation, Width,
+    MemoryScope, Modifier, Modifiers, Register, RegisterClass, Segment, Source, TernaryOperation,
+    UnaryOperation, Width, WorkItemQuery,
 };

@@ -238,7 +238,7 @@ pub enum Address {
     /// `[%x]`
     Variable(Sequence<u8>),
     /// `[n]`, `[r]`, `[r+n]` or `[r-n]`, for a register r of any class
-    Place(Place),
+    Place(SegmentPlace),
     /// `[%x][..]`
     Indexed(Indexed),
 }
@@ -247,12 +247,12 @@ pub enum Address {
 #[derive(Drop)]
 pub struct Indexed {
     pub variable: Sequence<u8>,
-    pub place: Place,
+    pub place: SegmentPlace,
 }
 
 /// A place in a segment: a register and a number, or a number alone.
 #[derive(Clone, Copy, Debug, PartialEq, Eq)]
-pub enum Place {
+pub enum SegmentPlace {
     /// `n`
     Absolute(u64),
     /// `r`, which stands for `r+0`, `r+n` or `r-n`

@@ -9,8 +9,8 @@ ghost use Rattle.hsail_reader.specs.Grammars as grammars;
 ghost use Rattle.hsail_reader.specs.Grammars.{begins, place_of, read};
 ghost use Rattle.hsail_reader.specs.Terminals as terminals;
 
-use crate::fault::{Flaw, Refusal, Stop};
-use crate::module::{Address, Indexed, Place, Relative};
+use crate::fault::{Flaw, PlacedFlaw, Stop};
+use crate::module::{Address, Indexed, Relative, SegmentPlace};
 use crate::token::{Token, TokenKind};
 use crate::types::{Constant, Register, Source};
 use sequences::Sequence;
@@ -30,7 +30,7 @@ pub fn refused(tokens: &[Token<'_>], flaw: Flaw) -> Stop
         [] => None,
         [first, ..] => Some(first.place),
     };
-    Stop::Refused(Refusal { place, flaw })
+    Stop::Refused(PlacedFlaw { place, flaw })
 }
 
 /// The line of the first token, or 0 at the end of the text.
@@ -200,22 +200,22 @@ fn offset<'a, 't>(tokens: Tokens<'a, 't>) -> Read<'a, 't, Constant>
 
 /// A number; or a register and what is added to it.
 #[tactic(auto, unfolding(crate::specs::Grammar::place))]
-fn place<'a, 't>(tokens: Tokens<'a, 't>) -> Read<'a, 't, Place>
+fn place<'a, 't>(tokens: Tokens<'a, 't>) -> Read<'a, 't, SegmentPlace>
     ensures { Gives (λ x. (x.0, token_views x.1.now)) result (read grammar.place (token_views tokens.now)) }
 {
     if let [first, rest @ ..] = tokens {
         if let TokenKind::Number(number) = first.kind {
-            return Ok((Place::Absolute(number), rest));
+            return Ok((SegmentPlace::Absolute(number), rest));
         }
     }
     let (register, rest) = register(tokens)?;
     let (offset, rest) = offset(rest)?;
-    Ok((Place::Relative(Relative { register, offset }), rest))
+    Ok((SegmentPlace::Relative(Relative { register, offset }), rest))
 }
 
 /// A place and the bracket behind it.
 #[tactic(auto, unfolding(crate::specs::Grammar::place_inside))]
-fn place_inside<'a, 't>(tokens: Tokens<'a, 't>) -> Read<'a, 't, Place>
+fn place_inside<'a, 't>(tokens: Tokens<'a, 't>) -> Read<'a, 't, SegmentPlace>
     ensures { Gives (λ x. (x.0, token_views x.1.now)) result (read grammar.place_inside (token_views tokens.now)) }
 {
     let (place, rest) = place(tokens)?;

@@ -8,7 +8,7 @@ ghost use Rattle.hsail_reader.specs.Grammars.{read};
 ghost use Rattle.hsail_reader.specs.Syntax.{module_at, read_at, reading, Answers};
 ghost use Rattle.hsail_reader.specs.Terminals as terminals;
 
-use crate::fault::{Cause, Flaw, ReadError, ReadFault, Stop, told};
+use crate::fault::{Flaw, ReadCause, ReadError, ReadFault, Stop, told};
 use crate::kernels::{kernels, word_of_token};
 use crate::module::{Module, Profile, Rounding};
 use crate::operands::{Read, Tokens, global, mark, refused};
@@ -168,7 +168,7 @@ pub fn read_module(alloc: Global, text: &[u8]) -> Result<Module, ReadError>
         return Err(ReadError::Fault(ReadFault {
             line: 1,
             column: 1,
-            cause: Cause::TooLong,
+            cause: ReadCause::TooLong,
         }));
     }
     match parsed(alloc, text) {

@@ -10,20 +10,20 @@ use crate::types::BinaryOperation::{
 use crate::types::Comparison::{Equal, Greater, GreaterOrEqual, Less, LessOrEqual, NotEqual};
 use crate::types::DataType::{B1, B8, B16, B32, B64, S8, S16, S32, S64, U8, U16, U32, U64};
 use crate::types::Modifiers::{One, Two};
-use crate::types::Query::{
-    CurrentWorkGroupSize, GridSize, WorkGroupId, WorkGroupSize, WorkItemAbsoluteId, WorkItemId,
-};
 use crate::types::Segment::{Global, Group, Kernarg};
 use crate::types::TernaryOperation::{ConditionalMove, MultiplyAdd};
 use crate::types::UnaryOperation::{Convert, Move, Not};
 use crate::types::Width::{All, Number as WithNumber, WaveSize};
+use crate::types::WorkItemQuery::{
+    CurrentWorkGroupSize, GridSize, WorkGroupId, WorkGroupSize, WorkItemAbsoluteId, WorkItemId,
+};
 use crate::types::{
     AtomicOperation, BinaryOperation, DataType, MemoryOrder, MemoryScope, Modifier, Modifiers,
-    Query, Segment, TernaryOperation, UnaryOperation,
+    Segment, TernaryOperation, UnaryOperation,
 };
 use Form::{
-    Atomic, AtomicNoReturn, Barrier, Binary, Branch, ConditionalBranch, Identify, Load, Return,
-    Store, Ternary, Unary,
+    Atomic, AtomicNoReturn, Barrier, Binary, Branch, ConditionalBranch, Load, Return, Store,
+    Ternary, Unary, WorkItemQuery,
 };
 use KindAt::{Given, Own};
 use ModifierEnd::{Number, Whole};
@@ -50,7 +50,7 @@ pub enum Form {
     ConditionalBranch,
     Return,
     Barrier,
-    Identify(Query),
+    WorkItemQuery(crate::types::WorkItemQuery),
 }
 
 /// The type at an operand's place: that of the word, or one that the row gives.
@@ -263,12 +263,12 @@ const ROWS: [Row; 78] = rows! {
     "cbr", Width, Bit, ConditionalBranch, A, Label, NO, NO;
     "ret", Plain, Untyped, Return, NO, NO, NO, NO;
     "barrier", Width, Untyped, Barrier, NO, NO, NO, NO;
-    "workitemid", Plain, Unsigned32, Identify(WorkItemId), D, Dimension, NO, NO;
-    "workgroupid", Plain, Unsigned32, Identify(WorkGroupId), D, Dimension, NO, NO;
-    "workgroupsize", Plain, Unsigned32, Identify(WorkGroupSize), D, Dimension, NO, NO;
-    "currentworkgroupsize", Plain, Unsigned32, Identify(CurrentWorkGroupSize), D, Dimension, NO, NO;
-    "workitemabsid", Plain, Unsigned32And64, Identify(WorkItemAbsoluteId), D, Dimension, NO, NO;
-    "gridsize", Plain, Unsigned32And64, Identify(GridSize), D, Dimension, NO, NO;
+    "workitemid", Plain, Unsigned32, WorkItemQuery(WorkItemId), D, Dimension, NO, NO;
+    "workgroupid", Plain, Unsigned32, WorkItemQuery(WorkGroupId), D, Dimension, NO, NO;
+    "workgroupsize", Plain, Unsigned32, WorkItemQuery(WorkGroupSize), D, Dimension, NO, NO;
+    "currentworkgroupsize", Plain, Unsigned32, WorkItemQuery(CurrentWorkGroupSize), D, Dimension, NO, NO;
+    "workitemabsid", Plain, Unsigned32And64, WorkItemQuery(WorkItemAbsoluteId), D, Dimension, NO, NO;
+    "gridsize", Plain, Unsigned32And64, WorkItemQuery(GridSize), D, Dimension, NO, NO;
 };
 
 /// The rows of the modifiers with brackets.

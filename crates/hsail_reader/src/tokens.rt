@@ -5,7 +5,7 @@ ghost use Rattle.hsail_reader.specs.Faults.{Gives};
 ghost use Rattle.hsail_reader.specs.Tokens.{token_views, tokens_of};
 ghost use Rattle.hsail_reader.specs.TextTokens.{line_after, kept};
 
-use crate::fault::{Flaw, Refusal, Stop};
+use crate::fault::{Flaw, PlacedFlaw, Stop};
 use crate::lexeme::lexeme;
 use crate::token::{LexemeKind, Token};
 use std::alloc::{AllocError, Global};
@@ -59,7 +59,7 @@ pub fn tokens(alloc: Global, text: &[u8]) -> Result<Vec<Token<'_>>, Stop>
     let mut line = 1;
     while !rest.is_empty() {
         let Some(found) = lexeme(rest) else {
-            return Err(Stop::Refused(Refusal {
+            return Err(Stop::Refused(PlacedFlaw {
                 place: Some(place),
                 flaw: Flaw::Lexeme,
             }));

@@ -249,7 +249,7 @@ pub enum AtomicOperation {
 /// The operations `d, k`: what an item asks of its place in the grid (PRM, Dispatch Packet
 /// Operations).
 #[derive(Clone, Copy, Debug, PartialEq, Eq)]
-pub enum Query {
+pub enum WorkItemQuery {
     WorkItemId,
     WorkGroupId,
     WorkGroupSize,

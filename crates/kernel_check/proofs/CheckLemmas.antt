@@ -2,12 +2,12 @@
 use Rattle.std.proofs.Common.{◌≡◌, ℕ, List, [], ◌∷◌, ◌++◌, Option, Some, None, refl, sym, ap, ◌∙◌}
 use Rattle.kernel_check.specs.Faults.{Checkpoint, first_fault, fault_or, unless, FailsAs, Stops}
 use Rattle.kernel_check.specs.Names.{or_else}
-use Rattle.kernel_check.specs.declared.fault.Cause.{Cause}
+use Rattle.kernel_check.specs.declared.fault.CheckCause.{CheckCause}
 use Rattle.kernel_check.specs.declared.fault.CheckError.{CheckError}
 use Rattle.kernel_check.specs.declared.fault.CheckError.TheVariants as error
 use Rattle.kernel_check.specs.declared.fault.CheckFault.{CheckFault}
 
-fault_or-else : (line : ℕ) (cause : Option Cause) (x y : Option CheckFault) → fault_or line cause (or_else x y) ≡ or_else (fault_or line cause x) y
+fault_or-else : (line : ℕ) (cause : Option CheckCause) (x y : Option CheckFault) → fault_or line cause (or_else x y) ≡ or_else (fault_or line cause x) y
 fault_or-else line None x y = refl
 fault_or-else line (Some cause) x y = refl
 

@@ -377,10 +377,10 @@ module _ (variables : List ℕ → Option Placed) (labels : List ℕ → Option 
       on_read (λ a. Exact f t a b c d) _ a h.0 (λ s. on_label (λ b. Exact f t (operand.Source s) b c d) b h.1
       (λ x. on_absent (λ c. Exact f t (operand.Source s) (operand.Label x) c d) c n.0
       (on_absent (λ d. Exact f t (operand.Source s) (operand.Label x) operand.Absent d) d n.1 (refl, (is1 s, tt)))))
-  exact (form.Identify q) t a b c d has none =
+  exact (form.WorkItemQuery q) t a b c d has none =
       let h = three _ _ _ has in
       let n = two _ _ none in
-      let f = form.Identify q in
+      let f = form.WorkItemQuery q in
       on_set (λ a. Exact f t a b c d) _ a h.1 (λ r. on_dimension (λ b. Exact f t (operand.Target r) b c d) b h.2
       (λ x. on_absent (λ c. Exact f t (operand.Target r) (operand.Dimension x) c d) c n.0
       (on_absent (λ d. Exact f t (operand.Target r) (operand.Dimension x) operand.Absent d) d n.1

@@ -8,8 +8,8 @@ use Rattle.hsail_reader.specs.declared.module.Address.TheVariants as address
 use Rattle.hsail_reader.specs.declared.module.Operand.{Operand}
 use Rattle.hsail_reader.specs.declared.module.Operand.TheVariants as operand
 use Rattle.hsail_reader.specs.declared.module.Operation.{Operation}
-use Rattle.hsail_reader.specs.declared.module.Place.{Place}
-use Rattle.hsail_reader.specs.declared.module.Place.TheVariants as place
+use Rattle.hsail_reader.specs.declared.module.SegmentPlace.{SegmentPlace}
+use Rattle.hsail_reader.specs.declared.module.SegmentPlace.TheVariants as place
 use Rattle.hsail_reader.specs.declared.types.DataType.{DataType}
 use Rattle.hsail_reader.specs.declared.types.Register.{Register}
 use Rattle.kernel_check.specs.declared.step.AddressForms.{AddressForms}
@@ -24,14 +24,14 @@ use Rattle.kernel_check.specs.Faults.{Checkpoint, first_fault, fault_or, least_c
 use Rattle.kernel_check.specs.Laws.{IsFirst, IsEarliest, IsKept, IsKeptSource, IsPlace, IsReached, IsFaithfulOperand, IsFaithful}
 use Rattle.kernel_check.specs.Operands.{is_same_class, is_far, is_far_address, is_far_place, is_over, is_over_source, any_operand}
 use Rattle.kernel_check.specs.Steps.{forms_of}
-use Rattle.kernel_check.specs.declared.fault.Cause.{Cause}
-use Rattle.kernel_check.specs.declared.fault.Cause.TheVariants as cause
+use Rattle.kernel_check.specs.declared.fault.CheckCause.{CheckCause}
+use Rattle.kernel_check.specs.declared.fault.CheckCause.TheVariants as cause
 use Rattle.kernel_check.specs.declared.fault.CheckFault.{CheckFault}
 use Rattle.kernel_check.specs.declared.layout.Placed.{Placed}
 use Rattle.kernel_check.proofs.SoundLemmas.{none_fails, no_fault, four, second_false}
 
 -- where a fault is told, its item is the first that fails
-earliest_at : (line : ℕ) (c : Option Cause) (later : List Checkpoint) (f : CheckFault) → fault_or line c (first_fault later) ≡ Some f
+earliest_at : (line : ℕ) (c : Option CheckCause) (later : List Checkpoint) (f : CheckFault) → fault_or line c (first_fault later) ≡ Some f
     → ((g : CheckFault) → first_fault later ≡ Some g → IsEarliest later g) → IsEarliest (record { line = line; cause = c } ∷ later) f
 earliest_at line None later f e rest =
     let r : IsEarliest later f = rest f e in
@@ -83,7 +83,7 @@ same_class class.Single class.Single e = refl
 same_class class.Double class.Double e = refl
 same_class _ _ e = cc
 
-placed : (base : Option RegisterClass) (p : Place) → is_far_place p ≡ false → is_bad_place base p ≡ false → IsPlace base p
+placed : (base : Option RegisterClass) (p : SegmentPlace) → is_far_place p ≡ false → is_bad_place base p ≡ false → IsPlace base p
 placed None p near good = cc
 placed (Some k) (place.Absolute n) near good = tt
 placed (Some k) (place.Relative r) near good =
@@ -148,23 +148,23 @@ module _ (variables : List ℕ → Option Placed) (labels : List ℕ → Option 
       }
 
 -- the first of some causes by which an item fails
-first_at : (fails : Cause → Bool) (x : Cause) (others : List Cause) (c : Cause) (b : Bool) → fails x ≡ b
+first_at : (fails : CheckCause → Bool) (x : CheckCause) (others : List CheckCause) (c : CheckCause) (b : Bool) → fails x ≡ b
     → (if b then Some x else first_cause fails others) ≡ Some c
     → (first_cause fails others ≡ Some c → IsFirst fails others c) → IsFirst fails (x ∷ others) c
 first_at fails x others c true is e rest =
     let same : x ≡ c = cc in
     subst (IsFirst fails (x ∷ others)) same
-    (record { before = []; behind = others; split = refl; pass = All-nil (λ (o : Cause). fails o ≡ false); here = is })
+    (record { before = []; behind = others; split = refl; pass = All-nil (λ (o : CheckCause). fails o ≡ false); here = is })
 first_at fails x others c false is e rest =
     let r : IsFirst fails others c = rest e in
     record {
       before = x ∷ r.before;
       behind = r.behind;
       split = ap (λ xs. x ∷ xs) r.split;
-      pass = All-cons (λ (o : Cause). fails o ≡ false) x r.before is r.pass;
+      pass = All-cons (λ (o : CheckCause). fails o ≡ false) x r.before is r.pass;
       here = r.here;
     }
 
-pub first : (fails : Cause → Bool) (listed : List Cause) (c : Cause) → first_cause fails listed ≡ Some c → IsFirst fails listed c
+pub first : (fails : CheckCause → Bool) (listed : List CheckCause) (c : CheckCause) → first_cause fails listed ≡ Some c → IsFirst fails listed c
 first fails [] c e = cc
 first fails (x ∷ others) c e = first_at fails x others c (fails x) refl e (first fails others c)

@@ -136,7 +136,7 @@ module _ (t : DataType) (o p : Operands) (a : Alike o.first p.first) (b : Alike 
   needed_alike (form.AtomicNoReturn _) = rw (a.written, b.read (type_class t)) refl
   needed_alike form.Branch = a.label
   needed_alike form.ConditionalBranch = rw (a.read class.Control, b.label) refl
-  needed_alike (form.Identify q) = rw (a.set (type_class t), b.dimension) refl
+  needed_alike (form.WorkItemQuery q) = rw (a.set (type_class t), b.dimension) refl
   needed_alike _ = refl
 
   -- what stands behind the operands of a form

@@ -37,8 +37,8 @@ use Rattle.kernel_check.specs.Names.{Known, find, or_else}
 use Rattle.kernel_check.specs.Operands.{any_operand, is_over, is_over_source}
 use Rattle.kernel_check.specs.Programs.{FitsIn, StaysWithin, IsSound}
 use Rattle.kernel_check.specs.Steps.{step_of, form_step, known_offset, offset_of, load_from, load_at, store_from, store_at, atomic_pointer, atomic_in, atomic_at, as_atomic, as_no_return, next_at, target_in, read_in, as_unary, as_binary, as_ternary, number_type, number_bytes, source32_at, source_in, source_of, unary_in, unary_by, binary32, binary64, binary_in, ternary_in, slot_of, is_signed, pair32_of, pair64_of, shift64_of}
-use Rattle.kernel_check.specs.declared.fault.Cause.{Cause}
-use Rattle.kernel_check.specs.declared.fault.Cause.TheVariants as cause
+use Rattle.kernel_check.specs.declared.fault.CheckCause.{CheckCause}
+use Rattle.kernel_check.specs.declared.fault.CheckCause.TheVariants as cause
 use Rattle.kernel_check.specs.declared.fault.CheckFault.{CheckFault}
 use Rattle.kernel_check.specs.declared.layout.Placed.{Placed}
 use Rattle.kernel_check.specs.declared.step.AnySource.TheVariants as any
@@ -69,7 +69,7 @@ no_first true x rest e = cc
 no_first false x rest e = (refl, e)
 
 -- where there is no least cause, no cause fails
-pub none_fails : (fails : Cause → Bool) → least_cause fails ≡ None → (c : Cause) → fails c ≡ false
+pub none_fails : (fails : CheckCause → Bool) → least_cause fails ≡ None → (c : CheckCause) → fails c ≡ false
 none_fails fails none c =
     let p1 = no_first (fails cause.UnknownLabel) cause.UnknownLabel _ none in
     let p2 = no_first (fails cause.DoubleName) cause.DoubleName _ p1.1 in
@@ -97,7 +97,7 @@ four false false false true e = cc
 four false false false false e = (refl, refl, refl, refl)
 
 -- where there is no first fault, none of the items fails
-pub no_fault : (line : ℕ) (c : Option Cause) (rest : Option CheckFault) → fault_or line c rest ≡ None → (c ≡ None) × (rest ≡ None)
+pub no_fault : (line : ℕ) (c : Option CheckCause) (rest : Option CheckFault) → fault_or line c rest ≡ None → (c ≡ None) × (rest ≡ None)
 no_fault line None rest e = (refl, e)
 no_fault line (Some c) rest e = cc
 
@@ -387,7 +387,7 @@ module _ (variables : List ℕ → Option Placed) (labels : List ℕ → Option 
   ternary_within class.Double MultiplyAdd t = tt
   ternary_within class.Double ConditionalMove t = tt
 
-  form_within : (number : ℕ) (f : Form) (op : Operation) → ((c : Cause) → instruction_fails variables labels number op c ≡ false)
+  form_within : (number : ℕ) (f : Form) (op : Operation) → ((c : CheckCause) → instruction_fails variables labels number op c ≡ false)
       → StaysWithin count bytes (form_step variables labels f op)
   form_within number (form.Unary u) op fine = unary_by_within u (as_unary u op)
       (fits_read op.operands.second (four _ _ _ _ (second_false (nat_le 4096 number) (any_operand is_over op.operands) (fine cause.TooLarge))).1)

@@ -5,8 +5,8 @@ use Rattle.kernel_check.specs.Layout.{end_behind, group_end_behind}
 use Rattle.kernel_check.specs.Names.{Known, find}
 use Rattle.kernel_check.specs.Operands.{any_operand, is_same_class, is_wrong, is_over}
 use Rattle.kernel_check.specs.Steps.{forms_of}
-use Rattle.kernel_check.specs.declared.fault.Cause.{Cause}
-use Rattle.kernel_check.specs.declared.fault.Cause.TheVariants.{UnknownLabel, DoubleName, WrongRegister, WrongType, UnknownArgument, TooLarge, BadAddress}
+use Rattle.kernel_check.specs.declared.fault.CheckCause.{CheckCause}
+use Rattle.kernel_check.specs.declared.fault.CheckCause.TheVariants.{UnknownLabel, DoubleName, WrongRegister, WrongType, UnknownArgument, TooLarge, BadAddress}
 use Rattle.kernel_check.specs.declared.layout.Placed.{Placed}
 use Rattle.hsail_reader.specs.Types.{type_bits}
 use Rattle.hsail_reader.specs.declared.module.Address.{Address}
@@ -16,8 +16,8 @@ use Rattle.hsail_reader.specs.declared.module.GroupVariable.{GroupVariable}
 use Rattle.hsail_reader.specs.declared.module.Operand.{Operand}
 use Rattle.hsail_reader.specs.declared.module.Operand.TheVariants as operand
 use Rattle.hsail_reader.specs.declared.module.Operation.{Operation}
-use Rattle.hsail_reader.specs.declared.module.Place.{Place}
-use Rattle.hsail_reader.specs.declared.module.Place.TheVariants as place
+use Rattle.hsail_reader.specs.declared.module.SegmentPlace.{SegmentPlace}
+use Rattle.hsail_reader.specs.declared.module.SegmentPlace.TheVariants as place
 use Rattle.kernel_check.specs.declared.step.AddressForms.{AddressForms}
 use Rattle.hsail_reader.specs.declared.types.DataType.{DataType}
 use Rattle.hsail_reader.specs.declared.types.RegisterClass.{RegisterClass}
@@ -65,7 +65,7 @@ misses_argument variables (operand.Address a) = names_unknown variables a.addres
 misses_argument variables _ = false
 
 -- a place that isn't counted from a register of the base's class; or any, where there is no base
-abbrev pub is_bad_place : Option RegisterClass → Place → Bool
+abbrev pub is_bad_place : Option RegisterClass → SegmentPlace → Bool
 is_bad_place None p = true
 is_bad_place (Some class) (place.Absolute n) = false
 is_bad_place (Some class) (place.Relative r) = not (is_same_class class r.register.class)
@@ -87,7 +87,7 @@ has_bad_address variables _ = false
 
 -- by which causes an instruction with these operands fails that stands behind these variables and these many
 -- instructions: an operand fails, or there are more than 4,096 instructions
-abbrev pub instruction_fails : (List ℕ → Option Placed) → (List ℕ → Option ℕ) → ℕ → Operation → Cause → Bool
+abbrev pub instruction_fails : (List ℕ → Option Placed) → (List ℕ → Option ℕ) → ℕ → Operation → CheckCause → Bool
 instruction_fails variables labels number op UnknownLabel = any_operand (misses_label labels) op.operands
 instruction_fails variables labels number op DoubleName = false
 instruction_fails variables labels number op WrongRegister = any_operand is_wrong op.operands
@@ -97,25 +97,25 @@ instruction_fails variables labels number op TooLarge = nat_le 4096 number || an
 instruction_fails variables labels number op BadAddress = any_operand (has_bad_address variables) op.operands
 
 -- by which causes a label fails that stands behind these
-abbrev pub label_fails : Known ℕ → List ℕ → Cause → Bool
+abbrev pub label_fails : Known ℕ → List ℕ → CheckCause → Bool
 label_fails before name DoubleName = is_some (find before name)
 label_fails before name _ = false
 
 -- by which causes an argument fails that stands behind these, which end there
-abbrev pub argument_fails : Known Placed → ℕ → Argument → Cause → Bool
+abbrev pub argument_fails : Known Placed → ℕ → Argument → CheckCause → Bool
 argument_fails before end a DoubleName = is_some (find before a.name)
 argument_fails before end a TooLarge = nat_lt 4096 (end_behind end a)
 argument_fails before end a _ = false
 
 -- by which causes a group variable fails that stands behind these variables, the last of which in group memory
 -- ends there
-abbrev pub variable_fails : Known Placed → ℕ → GroupVariable → Cause → Bool
+abbrev pub variable_fails : Known Placed → ℕ → GroupVariable → CheckCause → Bool
 variable_fails before end v DoubleName = is_some (find before v.name)
 variable_fails before end v TooLarge = nat_lt 65536 (group_end_behind end v)
 variable_fails before end v _ = false
 
 -- by which causes the head of a kernel fails that stands behind these kernels
-abbrev pub kernel_fails : Known ℕ → List ℕ → Cause → Bool
+abbrev pub kernel_fails : Known ℕ → List ℕ → CheckCause → Bool
 kernel_fails before name DoubleName = is_some (find before name)
 kernel_fails before name TooLarge = nat_le 64 (length before)
 kernel_fails before name _ = false

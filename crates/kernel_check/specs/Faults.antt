@@ -1,14 +1,14 @@
 -- Why an item of a module is refused.
 use Rattle.std.specs.Prelude.{◌≡◌, ℕ, List, [], ◌∷◌, ◌++◌, codes, Bool, if◌then◌else◌, Option, Some, None, Result, Ok, Err}
 use Rattle.std.specs.Fmt.{decimal}
-use Rattle.kernel_check.specs.declared.fault.Cause.{Cause}
-use Rattle.kernel_check.specs.declared.fault.Cause.TheVariants.{UnknownLabel, DoubleName, WrongRegister, WrongType, UnknownArgument, TooLarge, BadAddress}
+use Rattle.kernel_check.specs.declared.fault.CheckCause.{CheckCause}
+use Rattle.kernel_check.specs.declared.fault.CheckCause.TheVariants.{UnknownLabel, DoubleName, WrongRegister, WrongType, UnknownArgument, TooLarge, BadAddress}
 use Rattle.kernel_check.specs.declared.fault.CheckError.{CheckError}
 use Rattle.kernel_check.specs.declared.fault.CheckError.TheVariants as error
 use Rattle.kernel_check.specs.declared.fault.CheckFault.{CheckFault}
 
 -- the numbers of the causes (own)
-abbrev pub cause_number : Cause → ℕ
+abbrev pub cause_number : CheckCause → ℕ
 cause_number UnknownLabel = 1
 cause_number DoubleName = 2
 cause_number WrongRegister = 3
@@ -17,7 +17,7 @@ cause_number UnknownArgument = 5
 cause_number TooLarge = 6
 cause_number BadAddress = 7
 
-abbrev pub cause_name : Cause → List ℕ
+abbrev pub cause_name : CheckCause → List ℕ
 cause_name UnknownLabel = codes "UnknownLabel"
 cause_name DoubleName = codes "DoubleName"
 cause_name WrongRegister = codes "WrongRegister"
@@ -35,32 +35,32 @@ text_of_error error.OutOfMemory = codes "out of memory"
 text_of_error (error.Fault f) = text_of_fault f
 
 -- the causes by number
-abbrev pub causes : List Cause
+abbrev pub causes : List CheckCause
 causes =
     UnknownLabel ∷ DoubleName ∷ WrongRegister ∷ WrongType ∷ UnknownArgument ∷ TooLarge ∷ BadAddress ∷ []
 
 -- the first of some causes by which an item fails
-abbrev pub first_cause : (Cause → Bool) → List Cause → Option Cause
+abbrev pub first_cause : (CheckCause → Bool) → List CheckCause → Option CheckCause
 first_cause fails [] = None
 first_cause fails (cause ∷ others) = if fails cause then Some cause else first_cause fails others
 
 -- the cause of least number by which an item fails
-abbrev pub least_cause : (Cause → Bool) → Option Cause
+abbrev pub least_cause : (CheckCause → Bool) → Option CheckCause
 least_cause fails = first_cause fails causes
 
 -- an item of the text, by its line, with the least cause by which it fails
 pub record Checkpoint : Type 0 where
   pub line : ℕ
-  pub cause : Option Cause
+  pub cause : Option CheckCause
 
-abbrev pub checkpoint : ℕ → (Cause → Bool) → Checkpoint
+abbrev pub checkpoint : ℕ → (CheckCause → Bool) → Checkpoint
 checkpoint line fails = record { line = line; cause = least_cause fails }
 
-abbrev pub fault : ℕ → Cause → CheckFault
+abbrev pub fault : ℕ → CheckCause → CheckFault
 fault line cause = record { line = line; cause = cause }
 
 -- the fault at an item, else another
-abbrev pub fault_or : ℕ → Option Cause → Option CheckFault → Option CheckFault
+abbrev pub fault_or : ℕ → Option CheckCause → Option CheckFault → Option CheckFault
 fault_or line None other = other
 fault_or line (Some cause) other = Some (fault line cause)
 

@@ -3,7 +3,7 @@ use Rattle.std.specs.Prelude.{◌≡◌, ℕ, ◌<◌, ◌≤◌, List, [], ◌�
 use Rattle.std.specs.List.{All}
 use Rattle.kernel_check.specs.Faults.{Checkpoint, fault_at}
 use Rattle.kernel_check.specs.Steps.{forms_of, slot_of, next_of}
-use Rattle.kernel_check.specs.declared.fault.Cause.{Cause}
+use Rattle.kernel_check.specs.declared.fault.CheckCause.{CheckCause}
 use Rattle.kernel_check.specs.declared.fault.CheckFault.{CheckFault}
 use Rattle.kernel_check.specs.declared.layout.Placed.{Placed}
 use Rattle.hsail_reader.specs.declared.module.Address.{Address}
@@ -11,8 +11,8 @@ use Rattle.hsail_reader.specs.declared.module.Address.TheVariants as address
 use Rattle.hsail_reader.specs.declared.module.Operand.{Operand}
 use Rattle.hsail_reader.specs.declared.module.Operand.TheVariants as operand
 use Rattle.hsail_reader.specs.declared.module.Operation.{Operation}
-use Rattle.hsail_reader.specs.declared.module.Place.{Place}
-use Rattle.hsail_reader.specs.declared.module.Place.TheVariants as place
+use Rattle.hsail_reader.specs.declared.module.SegmentPlace.{SegmentPlace}
+use Rattle.hsail_reader.specs.declared.module.SegmentPlace.TheVariants as place
 use Rattle.kernel_check.specs.declared.step.AddressForms.{AddressForms}
 use Rattle.hsail_reader.specs.declared.types.Register.{Register}
 use Rattle.hsail_reader.specs.declared.types.RegisterClass.{RegisterClass}
@@ -21,9 +21,9 @@ use Rattle.hsail_reader.specs.declared.types.Source.{Source}
 use Rattle.hsail_reader.specs.declared.types.Source.TheVariants as source
 
 -- a cause by which an item fails, while it fails by none before it in a list of causes
-pub record IsFirst (fails : Cause → Bool) (listed : List Cause) (c : Cause) : Type 0 where
-  pub before : List Cause
-  pub behind : List Cause
+pub record IsFirst (fails : CheckCause → Bool) (listed : List CheckCause) (c : CheckCause) : Type 0 where
+  pub before : List CheckCause
+  pub behind : List CheckCause
   pub split : listed ≡ before ++ c ∷ behind
   pub pass : All (λ other. fails other ≡ false) before
   pub here : fails c ≡ true
@@ -51,7 +51,7 @@ IsKeptSource (source.Register r) = IsKept r
 IsKeptSource (source.Constant c) = Unit {0}
 
 -- a place that is a number alone, or is counted from a register of the base's class, whose number is kept
-abbrev pub IsPlace : Option RegisterClass → Place → Type 0
+abbrev pub IsPlace : Option RegisterClass → SegmentPlace → Type 0
 IsPlace None p = ⊥
 IsPlace (Some class) (place.Absolute n) = Unit {0}
 IsPlace (Some class) (place.Relative r) = (r.register.class ≡ class) × IsKept r.register

@@ -2,7 +2,7 @@
 -- (PRM, Group Segment).
 use Rattle.std.specs.Prelude.{ℕ, ◌+◌, ◌-◌, ◌*◌, ◌/◌, max, nat_le, Bool, ◌==◌, if◌then◌else◌, List, [], ◌∷◌, ◌++◌, Option, Some, None}
 use Rattle.kernel_check.specs.Names.{Known}
-use Rattle.kernel_check.specs.declared.block.Block.{Block}
+use Rattle.kernel_check.specs.declared.kernarg.KernargSegment.{KernargSegment}
 use Rattle.kernel_check.specs.declared.layout.Placed.{Placed}
 use Rattle.hsail_reader.specs.Types.{type_bits, alignment_bytes}
 use Rattle.hsail_reader.specs.declared.module.Argument.{Argument}
@@ -83,5 +83,5 @@ laid_out arguments = record {
   end = end_from 0 arguments;
 }
 
-abbrev pub block_laid : Block → Laid
-block_laid block = record { names = block.names; wide = block.wide.items; end = block.end }
+abbrev pub segment_laid : KernargSegment → Laid
+segment_laid block = record { names = block.names; wide = block.wide.items; end = block.end }

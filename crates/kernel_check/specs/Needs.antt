@@ -106,7 +106,7 @@ has_needed form.Branch t o = is_label o.first
 has_needed form.ConditionalBranch t o = is_read class.Control o.first && is_label o.second
 has_needed form.Return t o = true
 has_needed form.Barrier t o = true
-has_needed (form.Identify q) t o = is_wide t && is_set (type_class t) o.first && is_dimension o.second
+has_needed (form.WorkItemQuery q) t o = is_wide t && is_set (type_class t) o.first && is_dimension o.second
 
 -- an operation of which its step has all that it needs
 abbrev pub leaves_nothing_out : Operation → Bool

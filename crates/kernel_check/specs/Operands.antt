@@ -7,8 +7,8 @@ use Rattle.hsail_reader.specs.declared.module.Address.TheVariants as address
 use Rattle.hsail_reader.specs.declared.module.Operand.{Operand}
 use Rattle.hsail_reader.specs.declared.module.Operand.TheVariants as operand
 use Rattle.hsail_reader.specs.declared.module.Operands.{Operands}
-use Rattle.hsail_reader.specs.declared.module.Place.{Place}
-use Rattle.hsail_reader.specs.declared.module.Place.TheVariants as place
+use Rattle.hsail_reader.specs.declared.module.SegmentPlace.{SegmentPlace}
+use Rattle.hsail_reader.specs.declared.module.SegmentPlace.TheVariants as place
 use Rattle.hsail_reader.specs.declared.types.DataType.{DataType}
 use Rattle.hsail_reader.specs.declared.types.Register.{Register}
 use Rattle.hsail_reader.specs.declared.types.RegisterClass.{RegisterClass}
@@ -46,7 +46,7 @@ is_over_source kind (source.Register r) = is_far r
 is_over_source kind (source.Constant c) = not (is_in_range kind c)
 
 -- a register in brackets whose number is over 63
-abbrev pub is_far_place : Place → Bool
+abbrev pub is_far_place : SegmentPlace → Bool
 is_far_place (place.Absolute n) = false
 is_far_place (place.Relative r) = is_far r.register
 

@@ -53,8 +53,8 @@ use Rattle.hsail_reader.specs.declared.module.Operation.{Operation}
 use Rattle.hsail_reader.specs.declared.module.TypedSource.{TypedSource}
 use Rattle.hsail_reader.specs.declared.rows.Form.{Form}
 use Rattle.hsail_reader.specs.declared.rows.Form.TheVariants as form
-use Rattle.hsail_reader.specs.declared.module.Place.{Place}
-use Rattle.hsail_reader.specs.declared.module.Place.TheVariants as place
+use Rattle.hsail_reader.specs.declared.module.SegmentPlace.{SegmentPlace}
+use Rattle.hsail_reader.specs.declared.module.SegmentPlace.TheVariants as place
 use Rattle.kernel_check.specs.declared.translate.Ternary.{Ternary}
 use Rattle.kernel_check.specs.declared.translate.Unary.{Unary}
 use Rattle.hsail_reader.specs.declared.types.AtomicOperation.{AtomicOperation}
@@ -166,7 +166,7 @@ forms_of segment.Global = record { variable = false; base = Some class.Double; i
 forms_of segment.Group = record { variable = true; base = Some class.Single; indexed = true }
 
 -- a place of global memory; what is taken away is added modulo 2^64
-abbrev pub pointer_of : Place → Pointer
+abbrev pub pointer_of : SegmentPlace → Pointer
 pointer_of (place.Absolute n) = record { base = None; offset = n }
 pointer_of (place.Relative r) =
     record { base = Some (slot_of r.register); offset = constant_bits U64 r.offset }
@@ -185,7 +185,7 @@ offset_of variables (address.Variable x) = known_offset (variables x)
 offset_of variables _ = 0
 
 -- a place of group memory, counted from a number of bytes; sums wrap at 2^32 (own)
-abbrev pub group_place : ℕ → Place → GroupPointer
+abbrev pub group_place : ℕ → SegmentPlace → GroupPointer
 group_place start (place.Absolute n) = record { base = None; offset = (start + n) % 2 ^ 32 }
 group_place start (place.Relative r) =
     record { base = Some (slot_of r.register); offset = (start + constant_bits U64 r.offset) % 2 ^ 32 }
@@ -517,7 +517,7 @@ form_step variables labels form.ConditionalBranch op = step.ConditionalBranch
     (record { condition = source1_of (read_in op.operands.first); next = next_at labels op.operands.second })
 form_step variables labels form.Return op = step.Return
 form_step variables labels form.Barrier op = step.Barrier
-form_step variables labels (form.Identify q) op = step.Identify (record {
+form_step variables labels (form.WorkItemQuery q) op = step.WorkItemQuery (record {
   query = q;
   target = register_of op.kind (target_in op.operands.first);
   dimension = dimension_in op.operands.second;
@@ -657,7 +657,7 @@ sets (step.Load l) = Some (number_in l.target)
 sets (step.LoadGroup l) = Some (number_in l.target)
 sets (step.Atomic32 a) = a.target
 sets (step.Atomic64 a) = a.target
-sets (step.Identify i) = Some (number_in i.target)
+sets (step.WorkItemQuery i) = Some (number_in i.target)
 sets _ = None
 
 -- the sources of an instruction, in the order of the text

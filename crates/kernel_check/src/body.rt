@@ -7,9 +7,9 @@ ghost use Rattle.kernel_check.specs.Faults.{first_fault, checkpoint, unless, Giv
 ghost use Rattle.kernel_check.specs.Layout.{group_end_behind, group_placed};
 ghost use Rattle.kernel_check.specs.Names.{find};
 
-use crate::block::refused;
 use crate::causes::{instruction_cause, label_cause, variable_end};
 use crate::fault::CheckError;
+use crate::kernarg::refused;
 use crate::layout::{Placed, place_group};
 use crate::names::Names;
 use crate::step::LinedStep;

@@ -7,14 +7,14 @@ ghost use Rattle.kernel_check.specs.Layout.{end_behind, group_end_behind};
 ghost use Rattle.kernel_check.specs.Causes.{misses_label, differs, is_of_other_width, has_wrong_type, names_unknown, misses_argument, is_same_segment, lies_elsewhere, is_bad_place, is_bad, has_bad_address, instruction_fails, label_fails, argument_fails, variable_fails, kernel_fails};
 ghost use Rattle.kernel_check.specs.Operands.{any_operand, is_over};
 
-use crate::fault::Cause;
+use crate::fault::CheckCause;
 use crate::layout::{Placed, end, group_end};
 use crate::memory::forms;
 use crate::names::Names;
 use crate::operands::{any_over, any_wrong, same_class};
 use hsail_reader::{
-    Address, Argument, DataType, GroupVariable, Operand, Operands, Operation, Place, RegisterClass,
-    Segment,
+    Address, Argument, DataType, GroupVariable, Operand, Operands, Operation, RegisterClass,
+    Segment, SegmentPlace,
 };
 
 /// The most instructions of a kernel.
@@ -146,13 +146,16 @@ fn too_large(number: usize, operands: &Operands) -> bool
 }
 
 /// Whether a place isn't counted from a register of the base's class; or any, where there is no base.
-fn bad_place(base: Option<RegisterClass>, place: Place) -> bool
+fn bad_place(base: Option<RegisterClass>, place: SegmentPlace) -> bool
     ensures { result ≡ is_bad_place base place }
 {
     match (base, place) {
         (None, _) => true,
-        (Some(_), Place::Absolute(_)) => false,
-        (Some(class), Place::Relative(relative)) => !same_class(class, relative.register.class),
+        (Some(_), SegmentPlace::Absolute(_)) => false,
+        (Some(class), SegmentPlace::Relative(relative)) => !same_class(
+            class,
+            relative.register.class,
+        ),
     }
 }
 
@@ -209,55 +212,59 @@ pub fn instruction_cause(
     labels: &Names<'_, usize>,
     number: usize,
     operation: &Operation,
-) -> Option<Cause>
+) -> Option<CheckCause>
     ensures value { result ≡ least_cause (instruction_fails (find variables.now) (find labels.now) number operation.now) }
     ensures room { result ≡ None → number < 4096 }
 {
     let operands = operation.operands();
     if any_unknown_label(labels, operands) {
-        return Some(Cause::UnknownLabel);
+        return Some(CheckCause::UnknownLabel);
     }
     if any_wrong(operands) {
-        return Some(Cause::WrongRegister);
+        return Some(CheckCause::WrongRegister);
     }
     if any_wrong_type(variables, operands) {
-        return Some(Cause::WrongType);
+        return Some(CheckCause::WrongType);
     }
     if any_unknown_argument(variables, operands) {
-        return Some(Cause::UnknownArgument);
+        return Some(CheckCause::UnknownArgument);
     }
     if too_large(number, operands) {
-        return Some(Cause::TooLarge);
+        return Some(CheckCause::TooLarge);
     }
     if any_bad_address(variables, operands) {
-        return Some(Cause::BadAddress);
+        return Some(CheckCause::BadAddress);
     }
     None
 }
 
 /// The least cause by which a label fails, of which these stand before.
-pub fn label_cause(before: &Names<'_, usize>, name: &[u8]) -> Option<Cause>
+pub fn label_cause(before: &Names<'_, usize>, name: &[u8]) -> Option<CheckCause>
     ensures value { result ≡ least_cause (label_fails before.now name.now) }
     ensures new_name { result ≡ None → find before.now name.now ≡ None }
 {
     if before.get(name).is_some() {
-        return Some(Cause::DoubleName);
+        return Some(CheckCause::DoubleName);
     }
     None
 }
 
 /// The least cause by which an argument fails that stands behind these.
-pub fn argument_cause(before: &Names<'_, Placed>, bytes: u32, argument: &Argument) -> Option<Cause>
+pub fn argument_cause(
+    before: &Names<'_, Placed>,
+    bytes: u32,
+    argument: &Argument,
+) -> Option<CheckCause>
     requires { bytes ≤ 4096 }
     ensures value { result ≡ least_cause (argument_fails before.now bytes argument.now) }
     ensures new_name { result ≡ None → find before.now argument.now.name ≡ None }
     ensures room { result ≡ None → end_behind bytes argument.now ≤ 4096 }
 {
     if before.get(argument.name.as_slice()).is_some() {
-        return Some(Cause::DoubleName);
+        return Some(CheckCause::DoubleName);
     }
     if end(bytes, argument) > MAX_ARGUMENT_BYTES {
-        return Some(Cause::TooLarge);
+        return Some(CheckCause::TooLarge);
     }
     None
 }
@@ -268,7 +275,7 @@ pub fn variable_end(
     before: &Names<'_, Placed>,
     bytes: u32,
     variable: &GroupVariable,
-) -> Result<u32, Cause>
+) -> Result<u32, CheckCause>
     requires { bytes ≤ 65536 }
     ensures fine { OnOk result (least_cause (variable_fails before.now bytes variable.now) ≡ None) }
     ensures value { IfOk result (λ end. end ≡ group_end_behind bytes variable.now) }
@@ -277,22 +284,22 @@ pub fn variable_end(
     ensures refused { IfErr result (λ cause. least_cause (variable_fails before.now bytes variable.now) ≡ Some cause) }
 {
     if before.get(variable.name.as_slice()).is_some() {
-        return Err(Cause::DoubleName);
+        return Err(CheckCause::DoubleName);
     }
-    group_end(bytes, variable).ok_or(Cause::TooLarge)
+    group_end(bytes, variable).ok_or(CheckCause::TooLarge)
 }
 
 /// The least cause by which a kernel's head fails that stands behind these kernels.
-pub fn kernel_cause(before: &Names<'_, usize>, name: &[u8]) -> Option<Cause>
+pub fn kernel_cause(before: &Names<'_, usize>, name: &[u8]) -> Option<CheckCause>
     ensures value { result ≡ least_cause (kernel_fails before.now name.now) }
     ensures new_name { result ≡ None → find before.now name.now ≡ None }
     ensures room { result ≡ None → length before.now < 64 }
 {
     if before.get(name).is_some() {
-        return Some(Cause::DoubleName);
+        return Some(CheckCause::DoubleName);
     }
     if before.len() >= MAX_KERNELS {
-        return Some(Cause::TooLarge);
+        return Some(CheckCause::TooLarge);
     }
     None
 }

@@ -5,11 +5,11 @@ ghost use Rattle.kernel_check.specs.Checks.{body_checks, kernel_checks, module_c
 ghost use Rattle.kernel_check.specs.Faults.{first_fault, unless, Gives, Judges};
 ghost use Rattle.kernel_check.specs.Names.{find};
 
-use crate::block::{Block, place_arguments, refused};
 use crate::body::checked_items;
 use crate::causes::kernel_cause;
 use crate::checked::Checked;
 use crate::fault::CheckError;
+use crate::kernarg::{KernargSegment, place_arguments, refused};
 use crate::labels::labels;
 use crate::names::Names;
 use crate::program::Program;
@@ -23,7 +23,7 @@ fn checked_body(alloc: Global, kernel: &Kernel) -> Result<Program, CheckError>
     let arguments = kernel.arguments.as_slice();
     let items = kernel.items.as_slice();
     let block = place_arguments(alloc, arguments)?;
-    let Block {
+    let KernargSegment {
         mut names,
         wide,
         end,

@@ -10,7 +10,7 @@ use std::fmt;
 
 /// What is wrong with an item of a module. An item with several faults has the one of least number.
 #[derive(Clone, Copy, Debug, PartialEq, Eq)]
-pub enum Cause {
+pub enum CheckCause {
     /// The kernel has no label of that name.
     UnknownLabel,
     /// The second of two kernels of a module, or of two variables or two labels of a kernel.
@@ -28,19 +28,19 @@ pub enum Cause {
     BadAddress,
 }
 
-impl Cause {
+impl CheckCause {
     /// The number of the cause, from 1 for `UnknownLabel` to 7 for `BadAddress`.
     pub fn number(self) -> u8
         ensures { result ≡ cause_number self }
     {
         match self {
-            Cause::UnknownLabel => 1,
-            Cause::DoubleName => 2,
-            Cause::WrongRegister => 3,
-            Cause::WrongType => 4,
-            Cause::UnknownArgument => 5,
-            Cause::TooLarge => 6,
-            Cause::BadAddress => 7,
+            CheckCause::UnknownLabel => 1,
+            CheckCause::DoubleName => 2,
+            CheckCause::WrongRegister => 3,
+            CheckCause::WrongType => 4,
+            CheckCause::UnknownArgument => 5,
+            CheckCause::TooLarge => 6,
+            CheckCause::BadAddress => 7,
         }
     }
 
@@ -49,13 +49,13 @@ impl Cause {
         ensures { result.now ≡ cause_name self }
     {
         match self {
-            Cause::UnknownLabel => "UnknownLabel",
-            Cause::DoubleName => "DoubleName",
-            Cause::WrongRegister => "WrongRegister",
-            Cause::WrongType => "WrongType",
-            Cause::UnknownArgument => "UnknownArgument",
-            Cause::TooLarge => "TooLarge",
-            Cause::BadAddress => "BadAddress",
+            CheckCause::UnknownLabel => "UnknownLabel",
+            CheckCause::DoubleName => "DoubleName",
+            CheckCause::WrongRegister => "WrongRegister",
+            CheckCause::WrongType => "WrongType",
+            CheckCause::UnknownArgument => "UnknownArgument",
+            CheckCause::TooLarge => "TooLarge",
+            CheckCause::BadAddress => "BadAddress",
         }
     }
 }
@@ -64,7 +64,7 @@ impl Cause {
 #[derive(Clone, Copy, Debug, PartialEq, Eq)]
 pub struct CheckFault {
     pub line: u32,
-    pub cause: Cause,
+    pub cause: CheckCause,
 }
 
 /// It prints as `line 4: UnknownLabel`.

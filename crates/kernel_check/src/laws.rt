@@ -9,7 +9,7 @@ ghost use Rattle.kernel_check.specs.Laws.{Ascends, IsFirst, IsEarliest, IsFaithf
 ghost use Rattle.kernel_check.specs.Needs.{leaves_nothing_out};
 ghost use Rattle.kernel_check.specs.Reads.{KeepsAll, KeepsOrder};
 ghost use Rattle.kernel_check.specs.Steps.{step_of};
-ghost use Rattle.kernel_check.specs.declared.fault.Cause.{Cause};
+ghost use Rattle.kernel_check.specs.declared.fault.CheckCause.{CheckCause};
 ghost use Rattle.kernel_check.specs.declared.fault.CheckFault.{CheckFault};
 ghost use Rattle.kernel_check.specs.declared.layout.Placed.{Placed};
 ghost use Rattle.hsail_reader.specs.RowOperations.{IsOfRow};
@@ -21,8 +21,8 @@ ghost use Rattle.hsail_reader.specs.declared.module.Operation.{Operation};
 pub fn faults_are_earliest()
     ensures earliest { (checks : List Checkpoint) (f : CheckFault) → first_fault checks ≡ Some f → IsEarliest checks f }
     ensures all_pass { (checks : List Checkpoint) → first_fault checks ≡ None → All (λ c. c.cause ≡ None) checks }
-    ensures least { (fails : Cause → Bool) (c : Cause) → least_cause fails ≡ Some c → IsFirst fails causes c }
-    ensures none { (fails : Cause → Bool) → least_cause fails ≡ None → (c : Cause) → fails c ≡ false }
+    ensures least { (fails : CheckCause → Bool) (c : CheckCause) → least_cause fails ≡ Some c → IsFirst fails causes c }
+    ensures none { (fails : CheckCause → Bool) → least_cause fails ≡ None → (c : CheckCause) → fails c ≡ false }
 {}
 
 /// The step of an instruction that fails by no cause has the instruction's own registers, an argument

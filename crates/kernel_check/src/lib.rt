@@ -3,13 +3,13 @@
 //! The next line lets the check look for proofs by its tactics.
 #![tactic(auto)]
 
-mod block;
 mod body;
 mod causes;
 mod checked;
 mod checking;
 mod constants;
 mod fault;
+mod kernarg;
 mod labels;
 mod laws;
 mod layout;
@@ -23,7 +23,7 @@ mod values;
 
 pub use checked::Checked;
 pub use checking::check;
-pub use fault::{Cause, CheckError, CheckFault};
+pub use fault::{CheckCause, CheckError, CheckFault};
 pub use laws::{
     faults_are_earliest, steps_are_faithful, steps_have_what_they_need, wide_arguments_ascend,
 };
@@ -32,7 +32,7 @@ pub use step::{
     AnyRegister, AnySource, ArgumentStep, AtomicOperation32, AtomicOperation64, AtomicPointer,
     AtomicStep32, AtomicStep64, BranchStep, Choice1, Choice32, Choice64, Compare1, Compare32,
     Compare64, ControlOperation, ControlStep, ConvertStep, Dimension, DoubleOperation, DoubleStep,
-    GroupLoadStep, GroupPointer, GroupStoreStep, IdentifyStep, LinedStep, LoadStep, NumberType,
-    Pair1, Pair32, Pair64, Pointer, Shift64, SingleOperation, SingleStep, Slot, Source1, Source32,
-    Source64, Step, StoreStep, Swap32, Swap64, Triple32, Triple64,
+    GroupLoadStep, GroupPointer, GroupStoreStep, LinedStep, LoadStep, NumberType, Pair1, Pair32,
+    Pair64, Pointer, Shift64, SingleOperation, SingleStep, Slot, Source1, Source32, Source64, Step,
+    StoreStep, Swap32, Swap64, Triple32, Triple64, WorkItemQueryStep,
 };

@@ -15,8 +15,8 @@ use crate::step::{
 };
 use crate::values::{any_register, any_source, is_signed, number_type, slot, source32, source64};
 use hsail_reader::{
-    Access, Address, AtomicOperation, DataType, Operand, Place, Register, RegisterClass, Segment,
-    TypedSource,
+    Access, Address, AtomicOperation, DataType, Operand, Register, RegisterClass, Segment,
+    SegmentPlace, TypedSource,
 };
 
 /// The addresses that a segment has.
@@ -43,15 +43,15 @@ pub fn forms(segment: Segment) -> AddressForms
 }
 
 /// A place of global memory.
-fn pointer(place: Place) -> Pointer
+fn pointer(place: SegmentPlace) -> Pointer
     ensures { result ≡ pointer_of place }
 {
     match place {
-        Place::Absolute(number) => Pointer {
+        SegmentPlace::Absolute(number) => Pointer {
             base: None,
             offset: number,
         },
-        Place::Relative(relative) => Pointer {
+        SegmentPlace::Relative(relative) => Pointer {
             base: Some(slot(relative.register)),
             offset: bits(DataType::U64, relative.offset),
         },
@@ -99,15 +99,15 @@ fn group_sum(start: u32, number: u64) -> u32
 }
 
 /// A place of group memory, counted from a number of bytes.
-fn group_place(start: u32, place: Place) -> GroupPointer
+fn group_place(start: u32, place: SegmentPlace) -> GroupPointer
     ensures { result ≡ group_place start place }
 {
     match place {
-        Place::Absolute(number) => GroupPointer {
+        SegmentPlace::Absolute(number) => GroupPointer {
             base: None,
             offset: group_sum(start, number),
         },
-        Place::Relative(relative) => GroupPointer {
+        SegmentPlace::Relative(relative) => GroupPointer {
             base: Some(slot(relative.register)),
             offset: group_sum(start, bits(DataType::U64, relative.offset)),
         },

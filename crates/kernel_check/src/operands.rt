@@ -4,7 +4,9 @@ ghost use Rattle.std.specs.Prelude.{◌≡◌};
 ghost use Rattle.kernel_check.specs.Operands.{any_operand, is_far, is_far_address, is_far_place, is_of_other_class, is_over, is_over_source, is_same_class, is_wrong, is_wrong_source};
 
 use crate::constants::in_range;
-use hsail_reader::{Address, DataType, Operand, Operands, Place, Register, RegisterClass, Source};
+use hsail_reader::{
+    Address, DataType, Operand, Operands, Register, RegisterClass, SegmentPlace, Source,
+};
 
 /// The greatest number of a register.
 const MAX_REGISTER: u64 = 63;
@@ -80,12 +82,12 @@ fn over_source(kind: DataType, source: Source) -> bool
 }
 
 /// Whether a place has a register whose number is over 63.
-fn far_place(place: Place) -> bool
+fn far_place(place: SegmentPlace) -> bool
     ensures { result ≡ is_far_place place }
 {
     match place {
-        Place::Absolute(_) => false,
-        Place::Relative(relative) => far(relative.register),
+        SegmentPlace::Absolute(_) => false,
+        SegmentPlace::Relative(relative) => far(relative.register),
     }
 }
 

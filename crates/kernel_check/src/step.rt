@@ -3,7 +3,7 @@
 
 ghost use Rattle.std.specs.Prelude.{◌≡◌, ◌<◌};
 
-use hsail_reader::{Comparison, Query, RegisterClass};
+use hsail_reader::{Comparison, RegisterClass, WorkItemQuery};
 use std::marker::Model;
 
 /// The number of a register within its class: 0 to 63 (PRM, Registers). A contract sees the number.
@@ -510,8 +510,8 @@ pub enum Dimension {
 
 /// `workitemid_u32` and its kin: `target, dimension`.
 #[derive(Clone, Copy)]
-pub struct IdentifyStep {
-    pub query: Query,
+pub struct WorkItemQueryStep {
+    pub query: WorkItemQuery,
     pub target: AnyRegister,
     pub dimension: Dimension,
 }
@@ -558,7 +558,7 @@ pub enum Step {
     Return,
     /// `barrier`; its width has no effect (own)
     Barrier,
-    Identify(IdentifyStep),
+    WorkItemQuery(WorkItemQueryStep),
 }
 
 /// A step, with the line of its instruction's first token.

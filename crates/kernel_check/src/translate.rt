@@ -11,8 +11,8 @@ use crate::memory::{Atomic, atomic_at, load_at, store_at};
 use crate::names::Names;
 use crate::step::{
     BranchStep, Choice1, Choice32, Choice64, Compare1, Compare32, Compare64, ControlOperation,
-    ControlStep, ConvertStep, Dimension, DoubleOperation, DoubleStep, IdentifyStep, Pair1, Pair32,
-    Pair64, Shift64, SingleOperation, SingleStep, Slot, Step, Triple32, Triple64,
+    ControlStep, ConvertStep, Dimension, DoubleOperation, DoubleStep, Pair1, Pair32, Pair64,
+    Shift64, SingleOperation, SingleStep, Slot, Step, Triple32, Triple64, WorkItemQueryStep,
 };
 use crate::values::{
     any_register, any_source, is_signed, number_type, read_in, slot, source1, source32, source64,
@@ -498,7 +498,7 @@ pub fn translated(
         }),
         Form::Return => Step::Return,
         Form::Barrier => Step::Barrier,
-        Form::Identify(query) => Step::Identify(IdentifyStep {
+        Form::WorkItemQuery(query) => Step::WorkItemQuery(WorkItemQueryStep {
             query,
             target: any_register(operation.kind(), target_in(&operands.first)),
             dimension: dimension_in(&operands.second),

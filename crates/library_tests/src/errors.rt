@@ -1,7 +1,7 @@
 //! What queue errors print.
 
 use aql_packet::{PacketId, QueueId};
-use queue_error::{Place, QueueError, Rule};
+use queue_error::{FaultPlace, QueueError, Rule};
 use std::test::*;
 
 const RULES: [(Rule, &str); 18] = [
@@ -35,12 +35,12 @@ fn each_rule_prints_its_name(rt: HostRuntime) -> Result<(), Fail> {
 
 #[test]
 fn an_error_prints_with_and_without_a_place(rt: HostRuntime) -> Result<(), Fail> {
-    let inside = Place {
+    let inside = FaultPlace {
         group: 1,
         item: 1,
         line: 9,
     };
-    let last = Place {
+    let last = FaultPlace {
         group: 4_294_967_294,
         item: 1_023,
         line: 65_536,

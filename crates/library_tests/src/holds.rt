@@ -3,7 +3,7 @@
 use crate::studio::{POLICY, read};
 use aql_packet::{ClientId, PacketId, QueueId, RegionHandle};
 use bitflags::Flags;
-use grants::{Grants, Refusal};
+use grants::{GrantRefusal, Grants};
 use policy::{Object, Policy, Rights};
 use std::alloc::{AllocError, Global};
 use std::process::Abort;
@@ -37,7 +37,7 @@ fn is_granted(grants: &mut Grants, rights: Rights) -> bool {
     grants.grant(NORA, TAPE, rights).is_ok()
 }
 
-fn revoke(grants: &mut Grants, rights: Rights) -> Result<(), Refusal> {
+fn revoke(grants: &mut Grants, rights: Rights) -> Result<(), GrantRefusal> {
     grants.revoke(NORA, TAPE, rights)
 }
 
@@ -58,8 +58,8 @@ fn both() -> Rights {
     Rights::READ.union(Rights::WRITE)
 }
 
-fn busy() -> Refusal {
-    Refusal::Busy {
+fn busy() -> GrantRefusal {
+    GrantRefusal::Busy {
         queue: QUEUE,
         packet: PacketId(7),
     }

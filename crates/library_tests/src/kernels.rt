@@ -2,7 +2,7 @@
 
 use crate::studio::{checked, fade};
 use kernel_check::{
-    Cause, CheckError, CheckFault, Checked, faults_are_earliest, steps_are_faithful,
+    CheckCause, CheckError, CheckFault, Checked, faults_are_earliest, steps_are_faithful,
     wide_arguments_ascend,
 };
 use std::process::Abort;
@@ -43,7 +43,7 @@ fn a_kernel_is_found_by_its_name(rt: HostRuntime) -> Result<(), Fail> {
 
 const FAULT: CheckFault = CheckFault {
     line: 4,
-    cause: Cause::UnknownLabel,
+    cause: CheckCause::UnknownLabel,
 };
 
 fn check_printed(

@@ -2,9 +2,9 @@
 
 use crate::studio::{fade, module_of};
 use hsail_reader::{
-    Access, Address, Alignment, Argument, BinaryOperation, Cause, DataType, Form, Indexed, Item,
-    Kernel, Modifier, Modifiers, Module, Operand, Operation, Place, Profile, ReadError, ReadFault,
-    Relative, Rounding, Segment, Source, UnaryOperation, Width,
+    Access, Address, Alignment, Argument, BinaryOperation, DataType, Form, Indexed, Item, Kernel,
+    Modifier, Modifiers, Module, Operand, Operation, Profile, ReadCause, ReadError, ReadFault,
+    Relative, Rounding, Segment, SegmentPlace, Source, UnaryOperation, Width,
 };
 use std::alloc::{AllocError, Global};
 use std::process::Abort;
@@ -182,8 +182,8 @@ fn is_relative(place: &Relative, register: u64, negative: bool, magnitude: u64) 
 fn check_index(rt: &impl Abort, indexed: &Indexed) -> Result<(), Fail> {
     assert_eq!(rt; indexed.variable.as_slice(), b"%x".as_slice());
     match &indexed.place {
-        Place::Relative(place) => assert!(rt; is_relative(place, 3, true, 5)),
-        Place::Absolute(_) => return Err(Fail::from("a register")),
+        SegmentPlace::Relative(place) => assert!(rt; is_relative(place, 3, true, 5)),
+        SegmentPlace::Absolute(_) => return Err(Fail::from("a register")),
     }
     Ok(())
 }
@@ -287,18 +287,18 @@ fn check_told(rt: &(impl Abort + AllocGlobal), error: ReadError, wanted: &str) -
 const FAULT: ReadFault = ReadFault {
     line: 4,
     column: 3,
-    cause: Cause::NotInProfile,
+    cause: ReadCause::NotInProfile,
 };
 
 /// Each cause, and its number.
-const NUMBERS: [(Cause, u8); 4] = [
-    (Cause::Lexeme, 1),
-    (Cause::Syntax, 2),
-    (Cause::NotInProfile, 3),
-    (Cause::TooLong, 4),
+const NUMBERS: [(ReadCause, u8); 4] = [
+    (ReadCause::Lexeme, 1),
+    (ReadCause::Syntax, 2),
+    (ReadCause::NotInProfile, 3),
+    (ReadCause::TooLong, 4),
 ];
 
-fn check_numbers(rt: &impl Abort, numbers: &[(Cause, u8)]) {
+fn check_numbers(rt: &impl Abort, numbers: &[(ReadCause, u8)]) {
     for (cause, number) in numbers {
         assert_eq!(rt; cause.number(), *number, "{cause:?}");
     }

@@ -3,7 +3,7 @@ use Rattle.std.specs.Prelude.{◌==◌, Bool, nat_lt, List, filter, length, map,
 use Rattle.aql_packet.specs.declared.ids.PacketId.{PacketId}
 use Rattle.aql_packet.specs.declared.packet.Packet.{Packet}
 use Rattle.core_model.specs.declared.flight.Progress.{Progress}
-use Rattle.core_model.specs.declared.outcome.Cause.{Cause}
+use Rattle.core_model.specs.declared.outcome.WaitCause.{WaitCause}
 use Rattle.core_model.specs.declared.flight.TheConstants.{LAUNCH_PROGRESS}
 use Rattle.packet_processor.specs.declared.places.Place.{Place}
 use Rattle.packet_processor.specs.declared.queue_state.QueueState.{QueueState}
@@ -37,6 +37,6 @@ abbrev pub state_of : QueueState → State
 state_of q = if q.stopped then Stopped else if nat_lt 0 (length q.errors.now) then Error else Running
 
 -- a packet without a cause to wait may start
-abbrev pub launching : Option Cause → MayLaunch
-launching None = Go
-launching (Some cause) = Waiting cause
+abbrev pub may_launch_unless : Option WaitCause → MayLaunch
+may_launch_unless None = Go
+may_launch_unless (Some cause) = Waiting cause

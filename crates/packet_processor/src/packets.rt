@@ -6,7 +6,7 @@ ghost use Rattle.core_model.specs.Needs.{completion_signal};
 ghost use Rattle.core_model.specs.Work.{is_ready};
 
 use aql_packet::{Packet, SignalHandle};
-use core_model::Seen;
+use core_model::Satisfied;
 
 /// The signal that is decremented when a packet completes (PSA, Architected Queuing Language); 0 is
 /// the null signal.
@@ -30,7 +30,7 @@ pub fn is_barrier(packet: &Packet) -> bool
 
 /// Whether a barrier packet is ready, by which of its dependencies were seen as 0 (PSA, Architected
 /// Queuing Language): a barrier-AND when all that aren't null were, a barrier-OR when one was.
-pub fn is_ready(packet: &Packet, seen: &Seen) -> bool
+pub fn is_ready(packet: &Packet, seen: &Satisfied) -> bool
     ensures { result ≡ is_ready packet.now seen.now }
 {
     match packet {

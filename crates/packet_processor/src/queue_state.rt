@@ -3,12 +3,12 @@
 ghost use Rattle.std.specs.Prelude.{◌≡◌, ◌||◌, length, nat_lt};
 ghost use Rattle.std.specs.List.{list_any};
 ghost use Rattle.core_model.specs.LaunchRules.{is_barrier, cause_to_wait};
-ghost use Rattle.packet_processor.specs.Queueing.{launching, packets, state_of};
+ghost use Rattle.packet_processor.specs.Queueing.{may_launch_unless, packets, state_of};
 
 use crate::packets::is_barrier;
 use crate::places::Place;
 use aql_packet::RawHeader;
-use core_model::{Cause, SLOTS};
+use core_model::{SLOTS, WaitCause};
 use queue_error::QueueError;
 
 /// Whether a queue's packets are launched.
@@ -28,7 +28,7 @@ pub enum MayLaunch {
     /// It may start.
     Go,
     /// It has to wait, and why.
-    Waiting(Cause),
+    Waiting(WaitCause),
 }
 
 /// What is known of one queue at a moment, lent by who keeps it.
@@ -68,17 +68,17 @@ impl QueueState<'_> {
     /// where the bit is set, while any packet of it is, nor while eight are (own).
     #[tactic(auto, unfolding(core_model::specs::LaunchRules::cause_to_wait))]
     pub fn may_launch(&self, header: &RawHeader) -> MayLaunch
-        ensures { result ≡ launching (cause_to_wait (packets self.now) header.now.barrier) }
+        ensures { result ≡ may_launch_unless (cause_to_wait (packets self.now) header.now.barrier) }
     {
         if self.has_barrier() {
-            return MayLaunch::Waiting(Cause::Barrier);
+            return MayLaunch::Waiting(WaitCause::Barrier);
         }
         let count = self.places.len();
         if header.barrier && count > 0 {
-            return MayLaunch::Waiting(Cause::Active);
+            return MayLaunch::Waiting(WaitCause::Active);
         }
         if count >= SLOTS {
-            return MayLaunch::Waiting(Cause::Slots);
+            return MayLaunch::Waiting(WaitCause::Slots);
         }
         MayLaunch::Go
     }

@@ -4,8 +4,8 @@ use Rattle.std.specs.List.{list_all}
 use Rattle.std.specs.Option.{option_or}
 use Rattle.std.specs.Result.{result_err}
 use Rattle.toml.specs.Data.{Data, Members, get_member, as_table}
-use Rattle.policy.specs.declared.fault.Cause.{Cause}
-use Rattle.policy.specs.declared.fault.Cause.TheVariants.{BadValue, DoubleName, TooMany}
+use Rattle.policy.specs.declared.fault.PolicyCause.{PolicyCause}
+use Rattle.policy.specs.declared.fault.PolicyCause.TheVariants.{BadValue, DoubleName, TooMany}
 use Rattle.policy.specs.declared.fault.PolicyFault.{PolicyFault}
 use Rattle.policy.specs.declared.fault.Section.{Section}
 use Rattle.policy.specs.SectionNames.{name_of_section}
@@ -63,7 +63,7 @@ key_says {X} name read row x h = at (get_member name row) h
 -- ---- rows
 
 -- a row with a name, below rows of these names
-pub named_agrees : {V : Type 0} (known : List Name) (rest : Members → Result V Cause) (checks : Members → List (Option Cause))
+pub named_agrees : {V : Type 0} (known : List Name) (rest : Members → Result V PolicyCause) (checks : Members → List (Option PolicyCause))
     → ((row : Members) → result_err (rest row) ≡ first_of (checks row))
     → (before : List (Name × V)) (above : List Name) → names before ≡ above → (row : Members)
     → result_err (named_row known rest before row) ≡ first_of (named_checks known checks above row)
@@ -77,17 +77,17 @@ named_agrees {V} known rest checks agrees before above same row =
 
 -- ---- arrays
 
-in_row_fault : {A : Type 0} (s : Section) (n : ℕ) (r : Result A Cause) → result_err (in_row s n r) ≡ option_map (fault_in s n) (result_err r)
+in_row_fault : {A : Type 0} (s : Section) (n : ℕ) (r : Result A PolicyCause) → result_err (in_row s n r) ≡ option_map (fault_in s n) (result_err r)
 in_row_fault s n (Ok x) = refl
 in_row_fault s n (Err cause) = refl
 
-table_agrees : {R : Type 0} (read : Members → Result R Cause) (checks : Members → List (Option Cause)) → ((row : Members) → result_err (read row) ≡ first_of (checks row))
+table_agrees : {R : Type 0} (read : Members → Result R PolicyCause) (checks : Members → List (Option PolicyCause)) → ((row : Members) → result_err (read row) ≡ first_of (checks row))
     → (o : Option Members) → result_err (of_table read o) ≡ first_of (row_checks checks o)
 table_agrees read checks agrees None = refl
 table_agrees read checks agrees (Some row) = agrees row
 
 -- rows read in order, and what ties those that were read to those above
-module _ {R : Type 0} (s : Section) (read : List R → Members → Result R Cause) (checks : List Data → Members → List (Option Cause)) (Fits : List R → List Data → Type 0)
+module _ {R : Type 0} (s : Section) (read : List R → Members → Result R PolicyCause) (checks : List Data → Members → List (Option PolicyCause)) (Fits : List R → List Data → Type 0)
     (long : (before : List R) (above : List Data) → Fits before above → length before ≡ length above)
     (more : (before : List R) (above : List Data) (d : Data) (r : R) → Fits before above → of_table (read before) (as_table d) ≡ Ok r → Fits (before ++ r ∷ []) (above ++ d ∷ []))
     (agrees : (before : List R) (above : List Data) → Fits before above → (row : Members) → result_err (read before row) ≡ first_of (checks above row)) where

@@ -7,20 +7,20 @@ use Rattle.policy.specs.declared.object.Object.{Object}
 use Rattle.policy.specs.declared.rights.Right.{Right}
 use Rattle.policy.specs.declared.rights.Rights.{Rights}
 use Rattle.policy.specs.declared.row.AllowRow.{AllowRow}
-use Rattle.policy.specs.Rules.{covers, is_for, is_on}
+use Rattle.policy.specs.Rules.{covers_right, is_for, is_on}
 use Rattle.policy.specs.Rights.{has}
 use Rattle.policy.proofs.RightsLemmas.{has-or}
 
 module _ (client : ClientId) (object : Object) (right : Right) (rows : List AllowRow) (i : ℕ) (d : AllowRow) (within : i < length rows) (old new : Rights)
-    (so_far : has old right ≡ list_any (covers client object right) (take i rows)) where
+    (so_far : has old right ≡ list_any (covers_right client object right) (take i rows)) where
   -- a row that covers them adds its rights
   pub covered_more : (is_for (get_or rows i d).subject client && is_on (get_or rows i d).target object) ≡ true → new.0 ≡ bit_or old.0 (get_or rows i d).rights.0
-      → has new right ≡ list_any (covers client object right) (take (i + 1) rows)
+      → has new right ≡ list_any (covers_right client object right) (take (i + 1) rows)
   covered_more fits added =
       ap (λ n. has (record { 0 = n }) right) added ∙ has-or old (get_or rows i d).rights right
       ∙ ap (λ b. b || has (get_or rows i d).rights right) so_far
-      ∙ ap (λ b. list_any (covers client object right) (take i rows) || (b && has (get_or rows i d).rights right)) (sym fits)
-      ∙ sym (list_any_more (covers client object right) rows i d within)
+      ∙ ap (λ b. list_any (covers_right client object right) (take i rows) || (b && has (get_or rows i d).rights right)) (sym fits)
+      ∙ sym (list_any_more (covers_right client object right) rows i d within)
 
   or-false : (b : Bool) → b ≡ (b || false)
   or-false true = refl
@@ -28,8 +28,8 @@ module _ (client : ClientId) (object : Object) (right : Right) (rows : List Allo
 
   -- another row adds none
   pub covered_same : (is_for (get_or rows i d).subject client && is_on (get_or rows i d).target object) ≡ false → new ≡ old
-      → has new right ≡ list_any (covers client object right) (take (i + 1) rows)
+      → has new right ≡ list_any (covers_right client object right) (take (i + 1) rows)
   covered_same fits same =
-      ap (λ r. has r right) same ∙ so_far ∙ or-false (list_any (covers client object right) (take i rows))
-      ∙ ap (λ b. list_any (covers client object right) (take i rows) || (b && has (get_or rows i d).rights right)) (sym fits)
-      ∙ sym (list_any_more (covers client object right) rows i d within)
+      ap (λ r. has r right) same ∙ so_far ∙ or-false (list_any (covers_right client object right) (take i rows))
+      ∙ ap (λ b. list_any (covers_right client object right) (take i rows) || (b && has (get_or rows i d).rights right)) (sym fits)
+      ∙ sym (list_any_more (covers_right client object right) rows i d within)

@@ -9,8 +9,8 @@ use Rattle.std.proofs.lemmas.List.Sums.{sum-map}
 use Rattle.toml.specs.Data.{Data, Members, get_member, as_table}
 use Rattle.aql_packet.specs.declared.memory.TheConstants.{MOST_REGIONS}
 use Rattle.policy.specs.declared.limits.TheConstants.{MOST_AGENTS, MOST_ALLOW_ROWS, MOST_CLIENTS, MOST_KERNELS, MOST_MEMORY_BYTES, MOST_SIGNALS}
-use Rattle.policy.specs.declared.fault.Cause.{Cause}
-use Rattle.policy.specs.declared.fault.Cause.TheVariants.{BadValue, DoubleName, UnknownName, TooMany}
+use Rattle.policy.specs.declared.fault.PolicyCause.{PolicyCause}
+use Rattle.policy.specs.declared.fault.PolicyCause.TheVariants.{BadValue, DoubleName, UnknownName, TooMany}
 use Rattle.policy.specs.declared.fault.Section.{Section}
 use Rattle.policy.specs.declared.fault.Section.TheVariants as section
 use Rattle.policy.specs.declared.object.Kind.{Kind}
@@ -33,13 +33,13 @@ said_by-append : {X : Type 0} (f : Members → Option X) (ds es : List Data) →
 said_by-append f ds es = filter_map-append (λ d. option_and_then f (as_table d)) ds es
 
 -- a row that was read says what was read
-table_says : {R X : Type 0} (read : Members → Result R Cause) (g : R → X) (f : Members → Option X) → ((row : Members) (r : R) → read row ≡ Ok r → f row ≡ Some (g r))
+table_says : {R X : Type 0} (read : Members → Result R PolicyCause) (g : R → X) (f : Members → Option X) → ((row : Members) (r : R) → read row ≡ Ok r → f row ≡ Some (g r))
     → (o : Option Members) (r : R) → of_table read o ≡ Ok r → option_and_then f o ≡ Some (g r)
 table_says read g f each None r h = cc
 table_says read g f each (Some row) r h = each row r h
 
 -- rows that were read, by what they say
-module _ {R X : Type 0} (s : Section) (read : List R → Members → Result R Cause) (g : R → X) (f : Members → Option X)
+module _ {R X : Type 0} (s : Section) (read : List R → Members → Result R PolicyCause) (g : R → X) (f : Members → Option X)
     (each : (before : List R) (row : Members) (r : R) → read before row ≡ Ok r → f row ≡ Some (g r)) where
   said_more : (before : List R) (above : List Data) (d : Data) (r : R) → map g before ≡ said_by f above → of_table (read before) (as_table d) ≡ Ok r
       → map g (before ++ r ∷ []) ≡ said_by f (above ++ d ∷ [])
@@ -79,7 +79,7 @@ module _ {R X : Type 0} (s : Section) (read : List R → Members → Result R Ca
 
 -- ---- arrays of rows with names
 
-module _ {V : Type 0} (known : List Name) (rest : Members → Result V Cause) where
+module _ {V : Type 0} (known : List Name) (rest : Members → Result V PolicyCause) where
   -- the name and the rest of a row that was read
   named_parts : (before : List (Name × V)) (row : Members) (r : Name × V) → named_row known rest before row ≡ Ok r → (row_name row ≡ Some r.0) × (rest row ≡ Ok r.1)
   named_parts before row r h =
@@ -95,7 +95,7 @@ module _ {V : Type 0} (known : List Name) (rest : Members → Result V Cause) wh
     named_says : (rows : List (Name × V)) → array_of s limit (named_row known rest) file ≡ Ok rows → names rows ≡ names_at s file
     named_says rows h = array_says s (named_row known rest) (λ row. row.0) row_name (λ before row r e. (named_parts before row r e).0) limit file rows h
 
-    named_array : (checks : Members → List (Option Cause)) → ((row : Members) → result_err (rest row) ≡ first_of (checks row))
+    named_array : (checks : Members → List (Option PolicyCause)) → ((row : Members) → result_err (rest row) ≡ first_of (checks row))
         → result_err (array_of s limit (named_row known rest) file) ≡ first_of (named_array_checks s limit known checks file)
     named_array checks agrees =
         array_agrees s (named_row known rest) (λ above. named_checks known checks (said_by row_name above))

@@ -8,8 +8,8 @@ use Rattle.std.proofs.lemmas.List.Folds.{list_all-append, list_all-map}
 use Rattle.toml.specs.Data.{Data, integer, Members, get_member, as_table}
 use Rattle.aql_packet.specs.declared.memory.TheConstants.{MOST_REGIONS}
 use Rattle.policy.specs.declared.limits.TheConstants.{MOST_AGENTS, MOST_ALLOW_ROWS, MOST_CLIENTS, MOST_KERNELS, MOST_MEMORY_BYTES, MOST_SIGNALS}
-use Rattle.policy.specs.declared.fault.Cause.{Cause}
-use Rattle.policy.specs.declared.fault.Cause.TheVariants.{BadValue, DoubleName, TooMany}
+use Rattle.policy.specs.declared.fault.PolicyCause.{PolicyCause}
+use Rattle.policy.specs.declared.fault.PolicyCause.TheVariants.{BadValue, DoubleName, TooMany}
 use Rattle.policy.specs.declared.fault.Section.{Section}
 use Rattle.policy.specs.declared.fault.Section.TheVariants as section
 use Rattle.policy.specs.declared.row.AllowRow.{AllowRow}
@@ -27,7 +27,7 @@ passed : {E : Type 0} (test : Bool) (e : E) (u : Unit {0}) → unless test e ≡
 passed true e u h = refl
 passed false e u h = cc
 
-of_table_ok : {A : Type 0} (read : Members → Result A Cause) (o : Option Members) (x : A) → of_table read o ≡ Ok x → (row : Members) × (read row ≡ Ok x)
+of_table_ok : {A : Type 0} (read : Members → Result A PolicyCause) (o : Option Members) (x : A) → of_table read o ≡ Ok x → (row : Members) × (read row ≡ Ok x)
 of_table_ok read None x h = cc
 of_table_ok read (Some row) x h = (row, h)
 
@@ -46,7 +46,7 @@ rows_few : (s : Section) (limit : ℕ) (o : Option Data) (ds : List Data) → ro
 rows_few s limit None ds h = let e : [] ≡ ds = cc in subst (λ x. length x ≤ limit) e (omega arith)
 rows_few s limit (Some d) ds h = tables_few s limit (items_in d) ds h
 
-module _ {R : Type 0} (s : Section) (read : List R → Members → Result R Cause) where
+module _ {R : Type 0} (s : Section) (read : List R → Members → Result R PolicyCause) where
   length-read_each : (ds : List Data) (before rows : List R) → read_each s read before ds ≡ Ok rows → length rows ≡ length before + length ds
   length-read_each [] before rows h = let e : before ≡ rows = cc in subst (λ x. length x ≡ length before + 0) e (omega arith)
   length-read_each (d ∷ ds) before rows h =
@@ -103,7 +103,7 @@ value_fits : (o : Option Data) (n : ℕ) → right_value a_length o ≡ Ok n →
 value_fits None n h = cc
 value_fits (Some d) n h = length_fits d n (or_fault_ok BadValue (a_length d) n h)
 
-row_fits : (u : Result (Unit {0}) Cause) (name : Name) (size : ℕ) (region : Name × ℕ) → (u >>= (λ _. Ok (name, size))) ≡ Ok region
+row_fits : (u : Result (Unit {0}) PolicyCause) (name : Name) (size : ℕ) (region : Name × ℕ) → (u >>= (λ _. Ok (name, size))) ≡ Ok region
     → is_region_length size ≡ true → is_region_length region.1 ≡ true
 row_fits (Ok x) name size region h fits = let e : (name, size) ≡ region = cc in subst (λ r. is_region_length r.1 ≡ true) e fits
 row_fits (Err e) name size region h fits = cc

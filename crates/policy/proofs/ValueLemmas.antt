@@ -8,7 +8,7 @@ use Rattle.toml.specs.View.{view, items_of, items_view, members_view}
 use Rattle.toml.specs.declared.value.Value.{Value}
 use Rattle.policy.specs.declared.object.Kind.{Kind}
 use Rattle.policy.specs.declared.rights.Rights.{Rights}
-use Rattle.policy.specs.declared.fault.Cause.TheVariants.{BadValue, TooMany}
+use Rattle.policy.specs.declared.fault.PolicyCause.TheVariants.{BadValue, TooMany}
 use Rattle.policy.specs.declared.fault.PolicyFault.{PolicyFault}
 use Rattle.policy.specs.declared.fault.Section.{Section}
 use Rattle.policy.specs.Reading.{fault_in}

@@ -7,8 +7,8 @@ use Rattle.std.specs.Str.{bytes_eq}
 use Rattle.toml.specs.Data.{Data, Members, get_member, as_table}
 use Rattle.aql_packet.specs.declared.memory.TheConstants.{MOST_REGIONS}
 use Rattle.policy.specs.declared.limits.TheConstants.{MOST_AGENTS, MOST_ALLOW_ROWS, MOST_CLIENTS, MOST_KERNELS, MOST_MEMORY_BYTES, MOST_SIGNALS}
-use Rattle.policy.specs.declared.fault.Cause.{Cause}
-use Rattle.policy.specs.declared.fault.Cause.TheVariants.{BadValue, DoubleName, UnknownName, TooMany}
+use Rattle.policy.specs.declared.fault.PolicyCause.{PolicyCause}
+use Rattle.policy.specs.declared.fault.PolicyCause.TheVariants.{BadValue, DoubleName, UnknownName, TooMany}
 use Rattle.policy.specs.declared.fault.PolicyFault.{PolicyFault}
 use Rattle.policy.specs.declared.fault.Section.{Section}
 use Rattle.policy.specs.declared.fault.Section.TheVariants as section
@@ -63,48 +63,48 @@ section_of kind.Kernel = section.Kernel
 -- ---- rows
 
 -- an earlier row has the name already
-abbrev pub double_name : List Name → Option Name → Option Cause
+abbrev pub double_name : List Name → Option Name → Option PolicyCause
 double_name above None = None
 double_name above (Some name) = result_err (unless (number_in above name == 0) DoubleName)
 
 -- a row with a name of its own, below rows of these names: its keys, its name, the rest of it, and its name again
-abbrev pub named_checks : List Name → (Members → List (Option Cause)) → List Name → Members → List (Option Cause)
+abbrev pub named_checks : List Name → (Members → List (Option PolicyCause)) → List Name → Members → List (Option PolicyCause)
 named_checks known rest above row =
     result_err (only known row) ∷ result_err (key (codes "name") a_name row) ∷ rest row ++ double_name above (row_name row) ∷ []
 
-abbrev pub client_rest : Members → List (Option Cause)
+abbrev pub client_rest : Members → List (Option PolicyCause)
 client_rest row = []
 
-abbrev pub agent_rest : Members → List (Option Cause)
+abbrev pub agent_rest : Members → List (Option PolicyCause)
 agent_rest row = result_err (takes row) ∷ []
 
-abbrev pub region_rest : Members → List (Option Cause)
+abbrev pub region_rest : Members → List (Option PolicyCause)
 region_rest row = result_err (region_length row) ∷ []
 
-abbrev pub signal_rest : Members → List (Option Cause)
+abbrev pub signal_rest : Members → List (Option PolicyCause)
 signal_rest row = result_err (initial_value row) ∷ []
 
-abbrev pub kernel_rest : Members → List (Option Cause)
+abbrev pub kernel_rest : Members → List (Option PolicyCause)
 kernel_rest row = result_err (key (codes "entry") an_entry row) ∷ result_err (key (codes "text") a_text row) ∷ []
 
 -- the rights of an allow row are those of its kind
-abbrev pub rights_check : Option Kind → Members → Option Cause
+abbrev pub rights_check : Option Kind → Members → Option PolicyCause
 rights_check None row = None
 rights_check (Some on) row = result_err (key (codes "rights") (some_rights on) row)
 
 -- its client is declared
-abbrev pub client_check : List Name → Option (Option Name) → Option Cause
+abbrev pub client_check : List Name → Option (Option Name) → Option PolicyCause
 client_check clients None = None
 client_check clients (Some client) = result_err (or_fault UnknownName (subject_of clients client))
 
 -- its object is declared, among those of its kind
-abbrev pub object_check : (Kind → List Name) → Option Kind → Option (Option Name) → Option Cause
+abbrev pub object_check : (Kind → List Name) → Option Kind → Option (Option Name) → Option PolicyCause
 object_check objects None object = None
 object_check objects (Some on) None = None
 object_check objects (Some on) (Some object) = result_err (or_fault UnknownName (target_of on (objects on) object))
 
 -- an allow row: its keys, each in turn, and then the names
-abbrev pub allow_checks : List Name → (Kind → List Name) → Members → List (Option Cause)
+abbrev pub allow_checks : List Name → (Kind → List Name) → Members → List (Option PolicyCause)
 allow_checks clients objects row =
     result_err (only allow_keys row)
     ∷ result_err (key (codes "client") a_choice row)
@@ -117,18 +117,18 @@ allow_checks clients objects row =
 
 -- ---- arrays
 
-abbrev pub row_checks : (Members → List (Option Cause)) → Option Members → List (Option Cause)
+abbrev pub row_checks : (Members → List (Option PolicyCause)) → Option Members → List (Option PolicyCause)
 row_checks checks None = Some BadValue ∷ []
 row_checks checks (Some row) = checks row
 
 -- rows, by the rows above each
-abbrev pub rows_checks : Section → (List Data → Members → List (Option Cause)) → List Data → List Data → List (Option PolicyFault)
+abbrev pub rows_checks : Section → (List Data → Members → List (Option PolicyCause)) → List Data → List Data → List (Option PolicyFault)
 rows_checks at checks above [] = []
 rows_checks at checks above (d ∷ ds) =
     map (option_map (fault_in at (length above + 1))) (row_checks (checks above) (as_table d)) ++ rows_checks at checks (above ++ d ∷ []) ds
 
 -- an array: that it is one of tables, that it isn't too long, and its rows
-abbrev pub tables_checks : Section → ℕ → (List Data → Members → List (Option Cause)) → Option (List Data) → List (Option PolicyFault)
+abbrev pub tables_checks : Section → ℕ → (List Data → Members → List (Option PolicyCause)) → Option (List Data) → List (Option PolicyFault)
 tables_checks at limit checks None = Some (fault_in at 0 BadValue) ∷ []
 tables_checks at limit checks (Some ds) =
     result_err (unless (list_all is_table ds) (fault_in at 0 BadValue))
@@ -136,14 +136,14 @@ tables_checks at limit checks (Some ds) =
     ∷ rows_checks at checks [] ds
 
 -- the same at a key
-abbrev pub member_checks : Section → ℕ → (List Data → Members → List (Option Cause)) → Option Data → List (Option PolicyFault)
+abbrev pub member_checks : Section → ℕ → (List Data → Members → List (Option PolicyCause)) → Option Data → List (Option PolicyFault)
 member_checks at limit checks None = []
 member_checks at limit checks (Some d) = tables_checks at limit checks (items_in d)
 
-abbrev pub array_checks : Section → ℕ → (List Data → Members → List (Option Cause)) → Members → List (Option PolicyFault)
+abbrev pub array_checks : Section → ℕ → (List Data → Members → List (Option PolicyCause)) → Members → List (Option PolicyFault)
 array_checks at limit checks file = member_checks at limit checks (get_member (name_of_section at) file)
 
-abbrev pub named_array_checks : Section → ℕ → List Name → (Members → List (Option Cause)) → Members → List (Option PolicyFault)
+abbrev pub named_array_checks : Section → ℕ → List Name → (Members → List (Option PolicyCause)) → Members → List (Option PolicyFault)
 named_array_checks at limit known rest = array_checks at limit (λ above. named_checks known rest (said_by row_name above))
 
 -- the regions together don't have too many bytes

@@ -4,6 +4,6 @@ use Rattle.policy.specs.declared.read.values.Choice.{Choice}
 use Rattle.policy.specs.declared.read.values.Choice.TheVariants.{Any, Named}
 
 -- the name that is chosen, or none for every one
-abbrev pub chosen : Choice → Option (List ℕ)
-chosen Any = None
-chosen (Named name) = Some name.now
+abbrev pub chosen_name : Choice → Option (List ℕ)
+chosen_name Any = None
+chosen_name (Named name) = Some name.now

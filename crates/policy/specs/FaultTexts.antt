@@ -1,14 +1,14 @@
 -- How faults print, in bytes (own).
 use Rattle.std.specs.Prelude.{ℕ, List, [], ◌++◌, codes, Option, Some, None}
 use Rattle.std.specs.Fmt.{decimal}
-use Rattle.policy.specs.declared.fault.Cause.{Cause}
-use Rattle.policy.specs.declared.fault.Cause.TheVariants.{NotToml, MissingKey, BadValue, UnknownName, DoubleName, TooMany}
+use Rattle.policy.specs.declared.fault.PolicyCause.{PolicyCause}
+use Rattle.policy.specs.declared.fault.PolicyCause.TheVariants.{NotToml, MissingKey, BadValue, UnknownName, DoubleName, TooMany}
 use Rattle.policy.specs.declared.fault.PolicyFault.{PolicyFault}
 use Rattle.policy.specs.declared.fault.Section.{Section}
 use Rattle.policy.specs.SectionNames.{name_of_section}
 
 -- a cause's number and its name
-abbrev pub number_of_cause : Cause → ℕ
+abbrev pub number_of_cause : PolicyCause → ℕ
 number_of_cause NotToml = 1
 number_of_cause MissingKey = 2
 number_of_cause BadValue = 3
@@ -16,7 +16,7 @@ number_of_cause UnknownName = 4
 number_of_cause DoubleName = 5
 number_of_cause TooMany = 6
 
-abbrev pub name_of_cause : Cause → List ℕ
+abbrev pub name_of_cause : PolicyCause → List ℕ
 name_of_cause NotToml = codes "NotToml"
 name_of_cause MissingKey = codes "MissingKey"
 name_of_cause BadValue = codes "BadValue"

@@ -7,8 +7,8 @@ use Rattle.toml.specs.Data.{Data, string, integer, table, Items, no_items, item,
 use Rattle.toml.specs.Parse.{parse_document}
 use Rattle.aql_packet.specs.declared.memory.TheConstants.{MOST_REGIONS}
 use Rattle.policy.specs.declared.limits.TheConstants.{MOST_AGENTS, MOST_ALLOW_ROWS, MOST_CLIENTS, MOST_KERNELS, MOST_MEMORY_BYTES, MOST_NAME_BYTES, MOST_POLICY_BYTES, MOST_SIGNALS}
-use Rattle.policy.specs.declared.fault.Cause.{Cause}
-use Rattle.policy.specs.declared.fault.Cause.TheVariants.{NotToml, MissingKey, BadValue, UnknownName, DoubleName, TooMany}
+use Rattle.policy.specs.declared.fault.PolicyCause.{PolicyCause}
+use Rattle.policy.specs.declared.fault.PolicyCause.TheVariants.{NotToml, MissingKey, BadValue, UnknownName, DoubleName, TooMany}
 use Rattle.policy.specs.declared.fault.PolicyFault.{PolicyFault}
 use Rattle.policy.specs.declared.fault.Section.{Section}
 use Rattle.policy.specs.declared.fault.ReadPolicyError.{ReadPolicyError}
@@ -145,15 +145,15 @@ keys_in no_members = []
 keys_in (member k d ms) = k ∷ keys_in ms
 
 -- no key but these
-abbrev pub only : List Name → Members → Result (Unit {0}) Cause
+abbrev pub only : List Name → Members → Result (Unit {0}) PolicyCause
 only known row = unless (list_all (λ k. list_any (bytes_eq k) known) (keys_in row)) BadValue
 
 -- the value at a key: MissingKey where it is absent, BadValue where it is wrong
-abbrev pub right_value : {A : Type 0} → (Data → Option A) → Option Data → Result A Cause
+abbrev pub right_value : {A : Type 0} → (Data → Option A) → Option Data → Result A PolicyCause
 right_value read None = Err MissingKey
 right_value read (Some d) = or_fault BadValue (read d)
 
-abbrev pub key : {A : Type 0} → Name → (Data → Option A) → Members → Result A Cause
+abbrev pub key : {A : Type 0} → Name → (Data → Option A) → Members → Result A PolicyCause
 key name read row = right_value read (get_member name row)
 
 -- the keys of a row of each array, and of the file
@@ -179,26 +179,26 @@ abbrev pub file_keys : List Name
 file_keys = codes "version" ∷ codes "client" ∷ codes "agent" ∷ codes "region" ∷ codes "signal" ∷ codes "kernel" ∷ codes "allow" ∷ []
 
 -- what a row holds beside its name
-abbrev pub no_more_keys : Members → Result (Unit {0}) Cause
+abbrev pub no_more_keys : Members → Result (Unit {0}) PolicyCause
 no_more_keys row = Ok tt
 
-abbrev pub takes : Members → Result Takes Cause
+abbrev pub takes : Members → Result Takes PolicyCause
 takes = key (codes "takes") some_dispatches
 
-abbrev pub region_length : Members → Result ℕ Cause
+abbrev pub region_length : Members → Result ℕ PolicyCause
 region_length = key (codes "length") a_length
 
-abbrev pub initial_value : Members → Result ℤ Cause
+abbrev pub initial_value : Members → Result ℤ PolicyCause
 initial_value = key (codes "initial") a_number
 
-abbrev pub kernel_source : Members → Result Source Cause
+abbrev pub kernel_source : Members → Result Source PolicyCause
 kernel_source row = do
   entry ← key (codes "entry") an_entry row
   text ← key (codes "text") a_text row
   Ok (record { entry = entry; text = text })
 
 -- a row with a name of its own: its keys, its name, the rest of it, and no earlier row of that name
-abbrev pub named_row : {V : Type 0} → List Name → (Members → Result V Cause) → List (Name × V) → Members → Result (Name × V) Cause
+abbrev pub named_row : {V : Type 0} → List Name → (Members → Result V PolicyCause) → List (Name × V) → Members → Result (Name × V) PolicyCause
 named_row known rest before row = do
   _ ← only known row
   name ← key (codes "name") a_name row
@@ -216,7 +216,7 @@ target_of on objects None = Some (target.Any on)
 target_of on objects (Some name) = if nat_lt 0 (number_in objects name) then Some (target.One (object_of on (number_in objects name))) else None
 
 -- an allow row: its keys, each in turn, and then the names
-abbrev pub allow_row : Declared → Members → Result AllowRow Cause
+abbrev pub allow_row : Declared → Members → Result AllowRow PolicyCause
 allow_row declared row = do
   _ ← only allow_keys row
   client ← key (codes "client") a_choice row
@@ -229,7 +229,7 @@ allow_row declared row = do
 
 -- ---- arrays
 
-abbrev pub in_row : {A : Type 0} → Section → ℕ → Result A Cause → Result A PolicyFault
+abbrev pub in_row : {A : Type 0} → Section → ℕ → Result A PolicyCause → Result A PolicyFault
 in_row section row (Ok x) = Ok x
 in_row section row (Err cause) = Err (fault_in section row cause)
 
@@ -238,7 +238,7 @@ is_table (table ms) = true
 is_table _ = false
 
 -- a row, which is a table
-abbrev pub of_table : {A : Type 0} → (Members → Result A Cause) → Option Members → Result A Cause
+abbrev pub of_table : {A : Type 0} → (Members → Result A PolicyCause) → Option Members → Result A PolicyCause
 of_table read None = Err BadValue
 of_table read (Some row) = read row
 
@@ -256,13 +256,13 @@ rows_in section limit None = Ok []
 rows_in section limit (Some d) = tables_in section limit (items_in d)
 
 -- rows read in order, each beside those before it
-abbrev pub read_each : {R : Type 0} → Section → (List R → Members → Result R Cause) → List R → List Data → Result (List R) PolicyFault
+abbrev pub read_each : {R : Type 0} → Section → (List R → Members → Result R PolicyCause) → List R → List Data → Result (List R) PolicyFault
 read_each section read before [] = Ok before
 read_each section read before (d ∷ ds) = do
   row ← in_row section (length before + 1) (of_table (read before) (as_table d))
   read_each section read (before ++ row ∷ []) ds
 
-abbrev pub array_of : {R : Type 0} → Section → ℕ → (List R → Members → Result R Cause) → Members → Result (List R) PolicyFault
+abbrev pub array_of : {R : Type 0} → Section → ℕ → (List R → Members → Result R PolicyCause) → Members → Result (List R) PolicyFault
 array_of section limit read file = do
   rows ← rows_in section limit (get_member (name_of_section section) file)
   read_each section read [] rows

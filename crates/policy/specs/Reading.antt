@@ -1,6 +1,6 @@
 -- Readings that end at their first fault.
 use Rattle.std.specs.Prelude.{ℕ, ◌≡◌, Option, Some, None, Result, Ok, Err, Bool, true, false}
-use Rattle.policy.specs.declared.fault.Cause.{Cause}
+use Rattle.policy.specs.declared.fault.PolicyCause.{PolicyCause}
 use Rattle.policy.specs.declared.fault.PolicyFault.{PolicyFault}
 use Rattle.policy.specs.declared.fault.Section.{Section}
 use Rattle.policy.specs.declared.fault.RowError.{RowError}
@@ -25,18 +25,18 @@ unless true e = Ok tt
 unless false e = Err e
 
 -- a fault before the arrays, and one in a row of an array
-abbrev pub fault_of_file : Cause → PolicyFault
+abbrev pub fault_of_file : PolicyCause → PolicyFault
 fault_of_file cause = record { cause = cause; kind = None; row = 0 }
 
-abbrev pub fault_in : Section → ℕ → Cause → PolicyFault
+abbrev pub fault_in : Section → ℕ → PolicyCause → PolicyFault
 fault_in section row cause = record { cause = cause; kind = Some section; row = row }
 
 -- what a function returned, seen by a view, is what the reading of a row gives, unless memory ran out
-abbrev pub RowFails : {B : Type 0} → RowError → Result B Cause → Type 0
+abbrev pub RowFails : {B : Type 0} → RowError → Result B PolicyCause → Type 0
 RowFails in_row.OutOfMemory reading = Unit {0}
 RowFails (in_row.Fault cause) reading = reading ≡ Err cause
 
-abbrev pub RowGives : {A B : Type 0} → (A → B) → Result A RowError → Result B Cause → Type 0
+abbrev pub RowGives : {A B : Type 0} → (A → B) → Result A RowError → Result B PolicyCause → Type 0
 RowGives view (Ok x) reading = reading ≡ Ok (view x)
 RowGives view (Err e) reading = RowFails e reading
 

@@ -36,8 +36,8 @@ abbrev pub knows_client : Rules → ClientId → Bool
 knows_client rules client = nat_lt 0 client.0 && nat_le client.0 rules.clients
 
 -- the object is declared
-abbrev pub knows : Rules → Object → Bool
-knows rules object = nat_lt 0 (number_of object) && nat_le (number_of object) (count rules (kind_of object))
+abbrev pub knows_object : Rules → Object → Bool
+knows_object rules object = nat_lt 0 (number_of object) && nat_le (number_of object) (count rules (kind_of object))
 
 -- an allow row is for the client
 abbrev pub is_for : Subject → ClientId → Bool
@@ -50,13 +50,13 @@ is_on (target.Any kind) object = same_kind kind (kind_of object)
 is_on (target.One named) object = same_object named object
 
 -- the row covers the client, the object and the right
-abbrev pub covers : ClientId → Object → Right → AllowRow → Bool
-covers client object right row = (is_for row.subject client && is_on row.target object) && has row.rights right
+abbrev pub covers_right : ClientId → Object → Right → AllowRow → Bool
+covers_right client object right row = (is_for row.subject client && is_on row.target object) && has row.rights right
 
 -- some row covers the client, the object and the right
-abbrev pub allowed : Rules → ClientId → Object → Right → Bool
-allowed rules client object right = list_any (covers client object right) rules.allows
+abbrev pub is_allowed : Rules → ClientId → Object → Right → Bool
+is_allowed rules client object right = list_any (covers_right client object right) rules.allows
 
 -- each right of the set is allowed
-abbrev pub allows : Rules → ClientId → Object → Rights → Bool
-allows rules client object rights = each_right rights (allowed rules client object)
+abbrev pub are_allowed : Rules → ClientId → Object → Rights → Bool
+are_allowed rules client object rights = each_right rights (is_allowed rules client object)

@@ -44,7 +44,7 @@ impl Section {
     }
 
     // A fault in a row of the array, or of the whole of it, which is row 0.
-    pub(crate) fn fault(self, row: u32, cause: Cause) -> PolicyFault
+    pub(crate) fn fault(self, row: u32, cause: PolicyCause) -> PolicyFault
         ensures { result ≡ fault_in self row cause }
     {
         PolicyFault {
@@ -57,7 +57,7 @@ impl Section {
 
 /// Why a policy file is refused.
 #[derive(Clone, Copy, Debug, PartialEq, Eq)]
-pub enum Cause {
+pub enum PolicyCause {
     /// The file isn't UTF-8 text in TOML.
     NotToml,
     /// A row lacks a key.
@@ -72,7 +72,7 @@ pub enum Cause {
     TooMany,
 }
 
-impl Cause {
+impl PolicyCause {
     ghost use Rattle.policy.specs.FaultTexts.{number_of_cause, name_of_cause};
 
     /// The cause's number.
@@ -80,12 +80,12 @@ impl Cause {
         ensures { result ≡ number_of_cause self }
     {
         match self {
-            Cause::NotToml => 1,
-            Cause::MissingKey => 2,
-            Cause::BadValue => 3,
-            Cause::UnknownName => 4,
-            Cause::DoubleName => 5,
-            Cause::TooMany => 6,
+            PolicyCause::NotToml => 1,
+            PolicyCause::MissingKey => 2,
+            PolicyCause::BadValue => 3,
+            PolicyCause::UnknownName => 4,
+            PolicyCause::DoubleName => 5,
+            PolicyCause::TooMany => 6,
         }
     }
 
@@ -94,12 +94,12 @@ impl Cause {
         ensures { result.now ≡ name_of_cause self }
     {
         match self {
-            Cause::NotToml => "NotToml",
-            Cause::MissingKey => "MissingKey",
-            Cause::BadValue => "BadValue",
-            Cause::UnknownName => "UnknownName",
-            Cause::DoubleName => "DoubleName",
-            Cause::TooMany => "TooMany",
+            PolicyCause::NotToml => "NotToml",
+            PolicyCause::MissingKey => "MissingKey",
+            PolicyCause::BadValue => "BadValue",
+            PolicyCause::UnknownName => "UnknownName",
+            PolicyCause::DoubleName => "DoubleName",
+            PolicyCause::TooMany => "TooMany",
         }
     }
 }
@@ -108,7 +108,7 @@ impl Cause {
 #[derive(Clone, Copy, Debug, PartialEq, Eq)]
 pub struct PolicyFault {
     /// What is wrong.
-    pub cause: Cause,
+    pub cause: PolicyCause,
     /// The array in which it lies; none for a fault before the arrays.
     pub kind: Option<Section>,
     /// The row in which it lies, from 1; 0 for a fault of the array as a whole, or before the arrays.
@@ -119,7 +119,7 @@ impl PolicyFault {
     ghost use Rattle.policy.specs.Reading.{fault_of_file};
 
     // A fault before the arrays.
-    pub(crate) fn of_file(cause: Cause) -> PolicyFault
+    pub(crate) fn of_file(cause: PolicyCause) -> PolicyFault
         ensures { result ≡ fault_of_file cause }
     {
         PolicyFault {
@@ -162,13 +162,13 @@ pub enum RowError {
     // There was no memory for it.
     OutOfMemory,
     // It has a fault.
-    Fault(Cause),
+    Fault(PolicyCause),
 }
 
-impl From<Cause> for RowError {
+impl From<PolicyCause> for RowError {
     ghost from_gives = { λ cause error. error ≡ row.Fault cause };
 
-    fn from(cause: Cause) -> RowError {
+    fn from(cause: PolicyCause) -> RowError {
         RowError::Fault(cause)
     }
 }

@@ -16,7 +16,7 @@ mod row;
 mod table;
 
 pub use coverage::rows_allow;
-pub use fault::{Cause, PolicyFault, ReadPolicyError, Section};
+pub use fault::{PolicyCause, PolicyFault, ReadPolicyError, Section};
 pub use kernel_source::KernelSource;
 pub use laws::faults_are_first;
 pub use limits::{

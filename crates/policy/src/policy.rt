@@ -7,7 +7,7 @@ ghost use Rattle.policy.specs.Object.{kind_of, number_of};
 ghost use Rattle.policy.specs.Limits.{IsWithinLimits};
 ghost use Rattle.policy.specs.Names.{AreDistinct};
 ghost use Rattle.policy.specs.Policy.{names, numbered, number_in, names_of, name_in, row_of, rules_of};
-ghost use Rattle.policy.specs.Rules.{allows, count, knows, knows_client};
+ghost use Rattle.policy.specs.Rules.{are_allowed, count, knows_object, knows_client};
 
 use crate::coverage::rows_allow;
 use crate::kernel_source::KernelSource;
@@ -135,7 +135,7 @@ impl Policy {
 
     /// Whether an object is one of the policy's.
     pub fn declares(&self, object: Object) -> bool
-        ensures { result ≡ knows (rules_of self.now) object }
+        ensures { result ≡ knows_object (rules_of self.now) object }
     {
         1 <= object.number() && object.number() <= self.object_count(object.kind()) as u64
     }
@@ -236,7 +236,7 @@ impl Policy {
     /// Whether the policy allows each of some rights to a client on an object: for each of them
     /// some allow row covers the client, the object and the right.
     pub fn allows(&self, client: ClientId, object: Object, rights: Rights) -> bool
-        ensures { result ≡ allows (rules_of self.now) client object rights }
+        ensures { result ≡ are_allowed (rules_of self.now) client object rights }
     {
         rows_allow(self.allow_rows(), client, object, rights)
     }

@@ -5,7 +5,7 @@ use Rattle.aql_packet.specs.declared.packet.CodecRule.{CodecRule}
 use Rattle.aql_packet.specs.declared.packet.CodecRule.TheVariants as codec
 use Rattle.queue_error.specs.declared.rule.Rule.{Rule}
 use Rattle.queue_error.specs.declared.rule.Rule.TheVariants.{L1, L2, L3, L4, L5, L6, L7, L8, L9, L10, A1, A2, A3, A4, A5, A6, A7, B1}
-use Rattle.queue_error.specs.declared.error.Place.{Place}
+use Rattle.queue_error.specs.declared.error.FaultPlace.{FaultPlace}
 use Rattle.queue_error.specs.declared.error.QueueError.{QueueError}
 
 -- A rule's name.
@@ -30,13 +30,13 @@ text_of_rule A7 = codes "A7"
 text_of_rule B1 = codes "B1"
 
 -- `group G item I line L`
-abbrev pub text_of_place : Place → List ℕ
+abbrev pub text_of_place : FaultPlace → List ℕ
 text_of_place place =
     codes "group " ++ decimal place.group ++ codes " item " ++ decimal place.item
     ++ codes " line " ++ decimal place.line
 
 -- The end of an error: where it has a place, a blank and the place.
-abbrev pub text_of_end : Option Place → List ℕ
+abbrev pub text_of_end : Option FaultPlace → List ℕ
 text_of_end None = []
 text_of_end (Some place) = codes " " ++ text_of_place place
 

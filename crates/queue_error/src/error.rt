@@ -6,7 +6,7 @@ use std::fmt;
 
 /// Where in a kernel's work a rule was broken. It prints as `group 1 item 1 line 9`.
 #[derive(Clone, Copy, Debug, PartialEq, Eq)]
-pub struct Place {
+pub struct FaultPlace {
     /// The work-group's flat number, from 0.
     pub group: u32,
     /// The work-item's flat number in its group, from 0.
@@ -23,10 +23,10 @@ pub struct QueueError {
     pub packet: PacketId,
     pub rule: Rule,
     /// Where a kernel's work broke the rule; no place where the packet as a whole did.
-    pub place: Option<Place>,
+    pub place: Option<FaultPlace>,
 }
 
-impl fmt::Display for Place {
+impl fmt::Display for FaultPlace {
     ghost use Rattle.std.specs.Prelude.{Some};
     ghost use Rattle.queue_error.specs.Texts.{text_of_place};
 

@@ -4,7 +4,7 @@ use Rattle.std.specs.List.{list_all}
 use Rattle.std.proofs.lemmas.Bool.{leb-true, and_parts}
 use Rattle.std.proofs.lemmas.List.{length-replicate, length-take, length-drop, length-map, length-set, map-set, set-get_or, get_or-map}
 use Rattle.std.proofs.lemmas.List.Elements.{All-nil, All-cons, All-map, All-replicate, All-append, All-take, All-drop, All-set}
-use Rattle.regions.specs.declared.regions.Place.{Place}
+use Rattle.regions.specs.declared.regions.RegionPlace.{RegionPlace}
 use Rattle.aql_packet.specs.Memory.{are_region_lengths, is_region_length}
 use Rattle.regions.specs.Memory.{IsMemory, lengths_of, overlaid, zeros}
 use Rattle.regions.specs.Place.{laid_at}
@@ -42,7 +42,7 @@ length-overlaid bytes offset patch fits = simp (length-append, length-take, leng
 
 -- bytes laid over one region leave each region's length
 pub lengths_of-laid_at :
-    (regions : List (List ℕ)) (place : Place) (patch : List ℕ) → place.index < length regions →
+    (regions : List (List ℕ)) (place : RegionPlace) (patch : List ℕ) → place.index < length regions →
     place.offset + length patch ≤ length (get_or regions place.index []) →
     lengths_of (laid_at regions place patch) ≡ lengths_of regions
 lengths_of-laid_at regions place patch known fits =
@@ -54,7 +54,7 @@ lengths_of-laid_at regions place patch known fits =
 
 -- bytes laid over one region leave a memory
 pub IsMemory-laid_at :
-    (regions : List (List ℕ)) (place : Place) (patch : List ℕ) → place.index < length regions →
+    (regions : List (List ℕ)) (place : RegionPlace) (patch : List ℕ) → place.index < length regions →
     place.offset + length patch ≤ length (get_or regions place.index []) →
     All (λ byte. byte < 256) patch → IsMemory regions → IsMemory (laid_at regions place patch)
 IsMemory-laid_at regions place patch known fits small memory =

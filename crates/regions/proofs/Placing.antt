@@ -3,7 +3,7 @@ use Rattle.std.proofs.Common.{◌≡◌, ◌∙◌, sym, ℕ, suc, ◌+◌, ◌<
 use Rattle.std.specs.Prelude.{slice_index_or}
 use Rattle.std.proofs.lemmas.Bool.{cases_lt}
 use Rattle.std.proofs.lemmas.List.{get_or_default, get_or_past}
-use Rattle.regions.specs.declared.regions.Place.{Place}
+use Rattle.regions.specs.declared.regions.RegionPlace.{RegionPlace}
 use Rattle.regions.specs.Memory.{region_of, offset_of, region_bytes, bytes_from, lengths_of, is_within}
 use Rattle.regions.specs.Place.{IsPlaceOf}
 use Rattle.regions.proofs.Laws.{IsWithin-from_test}
@@ -21,7 +21,7 @@ module _ (regions : List (List ℕ)) (address size : ℕ) (test : is_within (len
   ]
 
   -- it lies at the place of its first address
-  pub placed : (place : Place) → place.index + 1 ≡ region_of address → place.offset ≡ offset_of address → IsPlaceOf regions address size place
+  pub placed : (place : RegionPlace) → place.index + 1 ≡ region_of address → place.offset ≡ offset_of address → IsPlaceOf regions address size place
   placed place index offset =
       let within = IsWithin-from_test regions address size test in
       let next : region_of address ≡ suc place.index = omega (arith, index) in
@@ -39,7 +39,7 @@ module _ (regions : List (List ℕ)) (address size : ℕ) (test : is_within (len
       }
 
   -- and its bytes are the part of its region from there on
-  pub part_placed : (place : Place) (region part : List ℕ) → place.index + 1 ≡ region_of address → place.offset ≡ offset_of address
+  pub part_placed : (place : RegionPlace) (region part : List ℕ) → place.index + 1 ≡ region_of address → place.offset ≡ offset_of address
       → region ≡ get_or regions place.index region → part ≡ take size (drop place.offset region) → part ≡ bytes_from regions address size
   part_placed place region part index offset is read =
       let next : region_of address ≡ suc place.index = omega (arith, index) in

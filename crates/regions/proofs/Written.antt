@@ -4,7 +4,7 @@ use Rattle.std.proofs.lemmas.Bool.{lt-ltb, le-ltb, le-leb, lt-leb, cond-true, co
 use Rattle.std.proofs.lemmas.List.Elements.{All-from_get_or, All-replicate, All-take, All-drop}
 use Rattle.std.proofs.lemmas.List.{length-drop, length-set, take_at, get_or-take, get_or-drop, get_or_append_left, get_or-append_right, length-take-le, get_or-set_same, get_or-set_other, get_or_read}
 use Rattle.std.proofs.lemmas.Option.{slice_get-get_or, slice_get_past}
-use Rattle.regions.specs.declared.regions.Place.{Place}
+use Rattle.regions.specs.declared.regions.RegionPlace.{RegionPlace}
 use Rattle.aql_packet.specs.Memory.{covers}
 use Rattle.regions.specs.Memory.{region_of, offset_of, region_bytes, bytes_from, overlaid, lengths_of, IsMemory, IsWritten}
 use Rattle.regions.specs.Place.{IsPlaceOf, laid_at}
@@ -113,7 +113,7 @@ covers-other address size x ends other = elim (cases_lt x address) [
 
 -- bytes laid over one region are what each of their addresses has then
 pub IsWritten-laid_at :
-    (regions : List (List ℕ)) (address : ℕ) (place : Place) (patch : List ℕ) → IsMemory regions →
+    (regions : List (List ℕ)) (address : ℕ) (place : RegionPlace) (patch : List ℕ) → IsMemory regions →
     IsPlaceOf regions address (length patch) place →
     IsWritten regions address patch (laid_at regions place patch)
 IsWritten-laid_at regions address place patch memory at x =
@@ -149,7 +149,7 @@ pub record Leaves (old : List (List ℕ)) (address : ℕ) (patch : List ℕ) (ne
 
 -- a region whose bytes became these, with others laid over them
 pub laid_leaves :
-    (old regions : List (List ℕ)) (address : ℕ) (place : Place) (patch : List ℕ) → regions ≡ old →
+    (old regions : List (List ℕ)) (address : ℕ) (place : RegionPlace) (patch : List ℕ) → regions ≡ old →
     IsMemory regions → IsPlaceOf old address (length patch) place →
     All (λ byte. byte < 256) patch → Leaves old address patch (laid_at regions place patch)
 laid_leaves old regions address place patch e memory at small =
@@ -163,7 +163,7 @@ laid_leaves old regions address place patch e memory at small =
 
 -- one region after a write to it, by what was read of it and what it became
 pub set-laid_at :
-    (regions : List (List ℕ)) (place : Place) (patch bytes left : List ℕ) →
+    (regions : List (List ℕ)) (place : RegionPlace) (patch bytes left : List ℕ) →
     place.index < length regions → bytes ≡ get_or regions place.index bytes →
     left ≡ overlaid bytes place.offset patch →
     set regions place.index left ≡ laid_at regions place patch
@@ -173,7 +173,7 @@ set-laid_at regions place patch bytes left known read is =
 
 -- what a write to one region leaves, by where it lies, what was read of that region and what that became
 pub write_leaves :
-    (old regions : List (List ℕ)) (address : ℕ) (place : Place) (patch bytes left : List ℕ) →
+    (old regions : List (List ℕ)) (address : ℕ) (place : RegionPlace) (patch bytes left : List ℕ) →
     regions ≡ old → IsMemory regions → IsPlaceOf old address (length patch) place →
     All (λ byte. byte < 256) patch → bytes ≡ get_or regions place.index bytes →
     left ≡ overlaid bytes place.offset patch →
@@ -195,7 +195,7 @@ replicate_small size byte fits = All-replicate (λ b. b < 256) size byte fits
 
 -- the bytes of a range are those of its region from its offset on
 bytes_from-at_place :
-    (regions : List (List ℕ)) (address size : ℕ) (place : Place) →
+    (regions : List (List ℕ)) (address size : ℕ) (place : RegionPlace) →
     IsPlaceOf regions address size place →
     bytes_from regions address size ≡ take size (drop place.offset (get_or regions place.index []))
 bytes_from-at_place regions address size place at =
@@ -204,7 +204,7 @@ bytes_from-at_place regions address size place at =
 
 -- what a copy leaves in the list that it was handed, by where its two ranges lie
 copied_leaves :
-    (regions : List (List ℕ)) (source target size : ℕ) (from to : Place) → IsMemory regions →
+    (regions : List (List ℕ)) (source target size : ℕ) (from to : RegionPlace) → IsMemory regions →
     IsPlaceOf regions source size from → IsPlaceOf regions target size to →
     Leaves regions target (bytes_from regions source size) (laid_at regions to (take size (drop from.offset (get_or regions from.index []))))
 copied_leaves regions source target size from to memory at_source at_target =
@@ -219,7 +219,7 @@ copied_leaves regions source target size from to memory at_source at_target =
 
 -- what a copy leaves, where the list was lent whole and came back as another
 pub copy_leaves :
-    (old regions back : List (List ℕ)) (count source target size : ℕ) (from to : Place) →
+    (old regions back : List (List ℕ)) (count source target size : ℕ) (from to : RegionPlace) →
     regions ≡ old → count ≡ length regions → IsMemory regions → IsPlaceOf old source size from →
     IsPlaceOf old target size to →
     back ≡ laid_at regions to (take size (drop from.offset (get_or regions from.index []))) →

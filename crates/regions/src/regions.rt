@@ -44,7 +44,7 @@ pub fn region_of(address: Address) -> RegionHandle
 
 /// Where a range lies: the index of its region, and the offset of its first byte there.
 #[derive(Clone, Copy)]
-struct Place {
+struct RegionPlace {
     index: usize,
     offset: usize,
 }
@@ -197,7 +197,7 @@ impl Regions {
     }
 
     /// Where a range of `length` bytes from an address on lies.
-    fn locate(&self, address: Address, length: u64) -> Result<Place, RegionFault>
+    fn locate(&self, address: Address, length: u64) -> Result<RegionPlace, RegionFault>
         ensures fault { result_err result ≡ range_fault (lengths_of self.now) address.0 length }
         ensures place { IfOk result (λ place. IsPlaceOf self.now address.0 length place) }
         ensures memory { IsMemory self.now }
@@ -215,12 +215,12 @@ impl Regions {
 }
 
 /// Where an address lies whose region has a number from 1 on.
-fn place_of(address: Address) -> Place
+fn place_of(address: Address) -> RegionPlace
     requires { 0 < region_of address.0 }
     ensures index { result.index + 1 ≡ region_of address.0 }
     ensures offset { result.offset ≡ offset_of address.0 }
 {
-    Place {
+    RegionPlace {
         index: (address.0 / REGION_SPAN) as usize - 1,
         offset: (address.0 % REGION_SPAN) as usize,
     }
@@ -236,7 +236,7 @@ fn are_sized(lengths: &[u32]) -> bool
 }
 
 /// Lays `size` bytes at one place over those at another, as if by a copy aside.
-fn copy_part(regions: &mut [Region], source: Place, target: Place, size: usize)
+fn copy_part(regions: &mut [Region], source: RegionPlace, target: RegionPlace, size: usize)
     requires source { LiesInside regions.old source size }
     requires target { LiesInside regions.old target size }
     ensures { regions.new ≡ laid_at regions.old target (part_at regions.old source size) }

@@ -13,7 +13,7 @@ use Rattle.queue_error.specs.declared.error.QueueError.{QueueError}
 use Rattle.queue_error.specs.Texts.{text_of_rule, text_of_end}
 use Rattle.signals.specs.declared.operation.SignalOp.{SignalOp}
 use Rattle.signals.specs.declared.operation.SignalOp.TheVariants as op
-use Rattle.core_model.specs.declared.outcome.Seen.{Seen}
+use Rattle.core_model.specs.declared.outcome.Satisfied.{Satisfied}
 use Rattle.core_model.specs.declared.outcome.Taken.{Taken}
 use Rattle.core_model.specs.declared.outcome.Taken.TheVariants as taken
 use Rattle.core_model.specs.declared.outcome.Worked.{Worked}
@@ -76,15 +76,15 @@ text_of_event policy number (event.ChangeSignal client signal operation) =
     codes "signal " ++ text_of_client policy client ++ codes " " ++ name_of_operation operation
 
 -- the dependency at a position, from 1, was newly seen
-abbrev pub seen_at : Seen → ℕ → Bool
+abbrev pub seen_at : Satisfied → ℕ → Bool
 seen_at seen position = slice_index_or seen.0 (position - 1) false
 
 -- the positions at which a dependency was newly seen
-abbrev pub positions_seen : Seen → List ℕ
+abbrev pub positions_seen : Satisfied → List ℕ
 positions_seen seen = filter (seen_at seen) (1 ∷ 2 ∷ 3 ∷ 4 ∷ 5 ∷ [])
 
 -- ` seen K,K`
-abbrev pub text_of_seen : Seen → List ℕ
+abbrev pub text_of_seen : Satisfied → List ℕ
 text_of_seen seen = codes " seen " ++ with_commas (map decimal (positions_seen seen))
 
 -- the rule of an error, and its place where there is one

@@ -13,8 +13,8 @@ use Rattle.queue_error.specs.declared.error.QueueError.{QueueError}
 use Rattle.queue_error.specs.Texts.{text_of_error}
 use Rattle.core_model.specs.declared.refusal.Refusal.{Refusal}
 use Rattle.core_model.specs.declared.refusal.Refusal.TheVariants as refusal
-use Rattle.core_model.specs.declared.outcome.Cause.{Cause}
-use Rattle.core_model.specs.declared.outcome.Cause.TheVariants as cause
+use Rattle.core_model.specs.declared.outcome.WaitCause.{WaitCause}
+use Rattle.core_model.specs.declared.outcome.WaitCause.TheVariants as cause
 use Rattle.core_model.specs.declared.outcome.Taken.{Taken}
 use Rattle.core_model.specs.declared.outcome.Taken.TheVariants as taken
 use Rattle.core_model.specs.declared.outcome.Worked.{Worked}
@@ -67,7 +67,7 @@ abbrev pub text_of_refusal : Refusal → List ℕ
 text_of_refusal refusal = codes "refused " ++ name_of_refusal refusal ++ details_of_refusal refusal
 
 -- why a packet waits
-abbrev pub text_of_cause : Cause → List ℕ
+abbrev pub text_of_cause : WaitCause → List ℕ
 text_of_cause cause.Barrier = codes "Barrier"
 text_of_cause cause.Active = codes "Active"
 text_of_cause cause.Slots = codes "Slots"

@@ -6,7 +6,7 @@ ghost use Rattle.script.specs.Texts.{comma_if};
 
 use crate::texts::{write_address, write_bytes, write_client, write_item, write_rights};
 use aql_packet::{ClientId, PacketId, QueueId};
-use core_model::{Effect, Entry, Event, Outcome, Polled, Seen, Taken, Worked};
+use core_model::{Effect, Entry, Event, Outcome, Polled, Satisfied, Taken, Worked};
 use policy::{Object, Policy, Rights};
 use queue_error::QueueError;
 use signals::SignalOp;
@@ -120,7 +120,7 @@ fn write_event(
 }
 
 // Writes the positions at which dependencies were newly seen.
-fn write_seen(out: &mut String, seen: Seen) -> Result<(), AllocError>
+fn write_seen(out: &mut String, seen: Satisfied) -> Result<(), AllocError>
     ensures { OnOk result (string_bytes out.new ≡ string_bytes out.old ++ text_of_seen seen) }
 {
     out.push_str(" seen ")?;
@@ -135,7 +135,7 @@ fn write_seen(out: &mut String, seen: Seen) -> Result<(), AllocError>
 }
 
 // Whether the dependency at a position, from 1, was newly seen.
-fn is_seen(seen: Seen, position: u8) -> bool
+fn is_seen(seen: Satisfied, position: u8) -> bool
     ensures { result ≡ seen_at seen position }
 {
     match seen.0.get((position as usize).saturating_sub(1)) {

@@ -8,7 +8,7 @@ use crate::command::{Form, LineAnswer, LineReply, Shown};
 use crate::entries::write_audit;
 use crate::texts::{write_bytes, write_rights, write_word};
 use aql_packet::PacketId;
-use core_model::{Answer, Cause, Outcome, Polled, Refusal, Taken, Worked};
+use core_model::{Answer, Outcome, Polled, Refusal, Taken, WaitCause, Worked};
 use policy::{Object, Policy, Rights};
 use queue_error::QueueError;
 use ring_core::Seen;
@@ -58,13 +58,13 @@ fn write_refusal(out: &mut String, refusal: &Refusal) -> Result<(), AllocError>
 }
 
 // Why a packet waits, as a word.
-fn cause_name(cause: &Cause) -> &'static str
+fn cause_name(cause: &WaitCause) -> &'static str
     ensures { result.now ≡ text_of_cause cause.now }
 {
     match cause {
-        Cause::Barrier => "Barrier",
-        Cause::Active => "Active",
-        Cause::Slots => "Slots",
+        WaitCause::Barrier => "Barrier",
+        WaitCause::Active => "Active",
+        WaitCause::Slots => "Slots",
     }
 }
 

@@ -15,7 +15,7 @@ use Rattle.core_model.specs.declared.event.Event.TheVariants.{OpenQueue, Take}
 use Rattle.core_model.specs.declared.event.Query.{Query}
 use Rattle.core_model.specs.declared.event.Request.TheVariants as asked
 use Rattle.core_model.specs.declared.entry.Entry.{Entry}
-use Rattle.core_model.specs.declared.outcome.Cause.{Cause}
+use Rattle.core_model.specs.declared.outcome.WaitCause.{WaitCause}
 use Rattle.core_model.specs.declared.outcome.Outcome.{Outcome}
 use Rattle.core_model.specs.declared.outcome.Outcome.TheVariants as outcome
 use Rattle.core_model.specs.declared.outcome.Taken.{Taken}
@@ -131,17 +131,17 @@ through_if : (b : Bool) (why : cores.Refusal) (rest : Owed) (told : Outcome) →
 through_if true why rest told is = absurd (cc)
 through_if false why rest told is = is
 
-decided_waits : (queue : QueueId) (id : ℕ) (cause : Option Cause) (verdict : Option Rule) (told : Outcome) → owed_verdict queue id cause verdict ≡ answers told → (c : Cause) × (told ≡ outcome.Taken (taken.Waiting c))
+decided_waits : (queue : QueueId) (id : ℕ) (cause : Option WaitCause) (verdict : Option Rule) (told : Outcome) → owed_verdict queue id cause verdict ≡ answers told → (c : WaitCause) × (told ≡ outcome.Taken (taken.Waiting c))
 decided_waits queue id (Some cause) verdict told is = (cause, cc)
 decided_waits queue id None None told is = absurd (cc)
 decided_waits queue id None (Some rule) told is = absurd (cc)
 
 -- a hand-over that leaves no entry waits
-take_waits : (start : Start) (es : List Entry) (queue : QueueId) (id : PacketId) (bytes : List ℕ) (told : Outcome) → owed start es (Take queue id bytes) ≡ answers told → (c : Cause) × (told ≡ outcome.Taken (taken.Waiting c))
+take_waits : (start : Start) (es : List Entry) (queue : QueueId) (id : PacketId) (bytes : List ℕ) (told : Outcome) → owed start es (Take queue id bytes) ≡ answers told → (c : WaitCause) × (told ≡ outcome.Taken (taken.Waiting c))
 unfolding owed
 take_waits start es queue id bytes told = by_owner (owner start es queue)
   where
-    by_owner : (o : Option Opening) → for_some o (refuses refusal.UnknownQueue) (owed_take start es queue id bytes) ≡ answers told → (c : Cause) × (told ≡ outcome.Taken (taken.Waiting c))
+    by_owner : (o : Option Opening) → for_some o (refuses refusal.UnknownQueue) (owed_take start es queue id bytes) ≡ answers told → (c : WaitCause) × (told ≡ outcome.Taken (taken.Waiting c))
     by_owner None is = absurd (cc)
     by_owner (Some opening) is =
         let one = through_if (is_down start es queue) refusal.QueueDown _ told is in
@@ -161,7 +161,7 @@ decides queue id (Some rule) (Ok (taken.Denied error)) told is made r = refl
 decides queue id (Some rule) (Ok (taken.Waiting cause)) told is made r = absurd (cc)
 decides queue id (Some rule) (Err why) told is made r = absurd (cc)
 
-waits_stay : (r : QueueRing) (became : Result Taken cores.Refusal) (c : Cause) → map_ok outcome.Taken became ≡ Ok (outcome.Taken (taken.Waiting c)) → ring_taken r became ≡ r
+waits_stay : (r : QueueRing) (became : Result Taken cores.Refusal) (c : WaitCause) → map_ok outcome.Taken became ≡ Ok (outcome.Taken (taken.Waiting c)) → ring_taken r became ≡ r
 waits_stay r (Ok taken.Launched) c is = absurd (cc)
 waits_stay r (Ok (taken.Denied error)) c is = absurd (cc)
 waits_stay r (Ok (taken.Waiting cause)) c is = refl

@@ -33,7 +33,7 @@ use Rattle.core_model.specs.Memory.{memory_from}
 use Rattle.core_model.specs.Queues.{Opening}
 use Rattle.core_model.specs.Flight.{in_flight, progress}
 use Rattle.core_model.specs.Holds.{packet_rights}
-use Rattle.core_model.specs.View.{Given, given}
+use Rattle.core_model.specs.View.{Given, given_at_launch}
 use Rattle.core_model.specs.Owed.{enters, owed_group}
 use Rattle.core_model.specs.Legal.{IsLegal, entry_of, empty_history}
 use Rattle.core_model.specs.Queries.{query_answer}
@@ -92,7 +92,7 @@ abbrev pub EachGroupCameToItsMeaning : Start → List Entry → Type 0
 EachGroupCameToItsMeaning start entries =
     (before : List Entry) (queue : QueueId) (id : PacketId) (told : Outcome) (effects : List Effect) (flying : InFlight) →
     IsEntryBehind entries before (entry_of (RunNext queue id) told effects) → in_flight start before queue id ≡ Some flying →
-    owed_group start before queue id (given start before queue id) flying.packet (progress start before queue id) ≡ enters told effects
+    owed_group start before queue id (given_at_launch start before queue id) flying.packet (progress start before queue id) ≡ enters told effects
 
 -- a group depends on no byte of memory but those of the ranges that its work reads
 abbrev pub GroupsDependOnWhatTheyRead : Start → Type 0

@@ -25,10 +25,12 @@ use Rattle.grants.specs.Ledger.{Ledger}
 use Rattle.access_core.specs.inner.ArgumentBlocks.{AreBlocksOf, block_of}
 use Rattle.access_core.specs.Cores.{Core, TablePlaces, places_of}
 use Rattle.access_core.specs.declared.argument_blocks.ArgumentBlock.{ArgumentBlock}
+use Rattle.access_core.specs.declared.kernel.Kernel.{Kernel}
 use Rattle.access_core.specs.declared.queue.Queue.{Queue}
+use Rattle.core_model.specs.declared.kernel.KernelSegments.{KernelSegments}
 use Rattle.access_core.specs.Opening.{has_entry, program_of}
 use Rattle.access_core.specs.inner.Held.{packet_holds}
-pub use Rattle.access_core.specs.inner.CachedQueue.{IsSound, cached, cached_opening, queue_at}
+pub use Rattle.access_core.specs.inner.CachedQueue.{IsSound, cached_view, cached_opening, queue_at}
 use Rattle.access_core.specs.inner.LiesInRegions.{lies_in_regions}
 
 -- what the history begins from
@@ -44,8 +46,10 @@ abbrev pub error_places : Queue → ℕ
 error_places q = places_of q.errors
 
 -- how many places the tables have that can grow
-abbrev pub table_places : Vec Queue → Ledger → Roomy ArgumentBlock → Roomy Entry → TablePlaces
-table_places queues grants blocks audit = record {
+abbrev pub table_places : Vec Kernel → Vec KernelSegments → Vec Queue → Ledger → Roomy ArgumentBlock → Roomy Entry → TablePlaces
+table_places kernels segments queues grants blocks audit = record {
+  kernel_places = vec_capacity kernels;
+  segment_places = vec_capacity segments;
   queue_places = vec_capacity queues;
   error_places = map error_places queues.items;
   hold_places = ledger.places grants;
@@ -55,7 +59,7 @@ table_places queues grants blocks audit = record {
 
 -- what a contract sees of the fields
 abbrev pub core_of : Inside → Core
-core_of a = record { history = history_of a; places = table_places a.queues a.grants a.blocks a.audit }
+core_of a = record { history = history_of a; places = table_places a.kernels a.segments a.queues a.grants a.blocks a.audit }
 
 -- whether an audit has no room for an entry after which as many packets are in flight
 abbrev pub is_full : History → Bool
@@ -80,7 +84,7 @@ pub record IsCached (a : Inside) : Type 0 where
   pub arguments : All (λ f. block_of a.blocks.items f.queue f.id ≡ arguments (start_of a) a.audit.items f.queue f.id) (flight (start_of a) a.audit.items)
   -- each kernel is one of its checked kernels, and has these segments
   pub entries : All (λ kernel. has_entry kernel ≡ true) a.kernels.items
-  pub segments : a.segments ≡ map segments_of (map program_of a.kernels.items)
+  pub segments : a.segments.items ≡ map segments_of (map program_of a.kernels.items)
   -- the regions' lengths, and each byte in them
   pub lengths : lengths_of a.memory ≡ region_lengths a.policy
   pub memory : (x : ℕ) → lies_in_region (region_lengths a.policy) x ≡ true → byte_at a.memory x ≡ Some (memory_at (start_of a) a.audit.items x)
@@ -88,7 +92,7 @@ pub record IsCached (a : Inside) : Type 0 where
   pub values : a.signals ≡ signals (start_of a) a.audit.items
   -- the queues
   pub openings : map cached_opening a.queues.items ≡ openings (start_of a) a.audit.items
-  pub queues : (queue : QueueId) → cached (numbered a.queues.items queue.0) ≡ queue_at (start_of a) a.audit.items queue
+  pub queues : (queue : QueueId) → cached_view (numbered a.queues.items queue.0) ≡ queue_at (start_of a) a.audit.items queue
   pub sound : All IsSound a.queues.items
   pub few_queues : length a.queues.items ≤ QUEUES
   -- how many packets are in flight, each with all its ranges within regions

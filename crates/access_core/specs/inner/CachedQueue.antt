@@ -24,9 +24,9 @@ pub record QueueView : Type 0 where
   pub places : List Place
 
 -- what is cached of a queue; of one that isn't there, nothing
-abbrev pub cached : Option Queue → QueueView
-cached None = record { next = 0; stopped = false; errors = []; places = [] }
-cached (Some q) = record { next = q.next; stopped = q.stopped; errors = q.errors.items; places = q.places }
+abbrev pub cached_view : Option Queue → QueueView
+cached_view None = record { next = 0; stopped = false; errors = []; places = [] }
+cached_view (Some q) = record { next = q.next; stopped = q.stopped; errors = q.errors.items; places = q.places }
 
 -- the place of a packet of a queue in flight: the packet, and how far it has come since its launch
 abbrev pub place_of : Start → List Entry → QueueId → InFlight → Place
@@ -51,4 +51,4 @@ pub record IsSound (q : Queue) : Type 0 where
 -- this is what is cached of a queue of the history: who opened it, and what became of it since
 pub record IsQueue (history : History) (queue : QueueId) (one : Option Queue) : Type 0 where
   pub opening : option_map cached_opening one ≡ owner history.start history.entries queue
-  pub cached_is : cached one ≡ queue_at history.start history.entries queue
+  pub cached_is : cached_view one ≡ queue_at history.start history.entries queue

@@ -25,8 +25,8 @@ use Rattle.access_core.specs.declared.access.taking.Launching.{Launching}
 use Rattle.access_core.specs.declared.access.taking.Decision.{Decision}
 use Rattle.access_core.specs.declared.access.taking.Decision.TheVariants.{Wait, Deny, Launch}
 use Rattle.std.specs.Prelude.{true, false}
-use Rattle.grants.specs.declared.refusal.Refusal.{Refusal as Why}
-use Rattle.grants.specs.declared.refusal.Refusal.TheVariants as why
+use Rattle.grants.specs.declared.refusal.GrantRefusal.{GrantRefusal as Why}
+use Rattle.grants.specs.declared.refusal.GrantRefusal.TheVariants as why
 use Rattle.core_model.specs.declared.refusal.Refusal.{Refusal}
 use Rattle.core_model.specs.declared.refusal.Refusal.TheVariants as refusal
 

@@ -4,7 +4,7 @@ use Rattle.aql_packet.specs.declared.ids.QueueId.{QueueId}
 use Rattle.aql_packet.specs.declared.ids.PacketId.{PacketId}
 use Rattle.queue_error.specs.declared.rule.Rule.TheVariants.{B1}
 use Rattle.core_model.specs.declared.entry.Effect.TheVariants as effect
-use Rattle.core_model.specs.declared.outcome.Seen.{Seen}
+use Rattle.core_model.specs.declared.outcome.Satisfied.{Satisfied}
 use Rattle.core_model.specs.declared.outcome.Outcome.TheVariants as outcome
 use Rattle.core_model.specs.declared.outcome.Polled.{Polled}
 use Rattle.core_model.specs.declared.outcome.Polled.TheVariants.{Pending, Ready, Failed}
@@ -13,7 +13,7 @@ use Rattle.access_core.specs.declared.access.polling.Look.{Look}
 use Rattle.access_core.specs.declared.access.polling.Look.TheVariants.{Still, Fails, Sees}
 
 -- what is answered of positions that are seen as 0 for the first time, with which the barrier is ready or not
-abbrev pub sight : Bool → Seen → Polled
+abbrev pub sight : Bool → Satisfied → Polled
 sight true new = Ready new
 sight false new = Pending new
 

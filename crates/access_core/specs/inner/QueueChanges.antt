@@ -45,11 +45,11 @@ abbrev pub with_stop : Option PacketId → Queue → Queue
 with_stop barrier q = record q { stopped = true; places = without_one barrier q.places }
 
 -- how many places it frees to take a packet out of flight
-abbrev pub freed : Option PacketId → List Place → ℕ
-freed id places = length places - length (without_one id places)
+abbrev pub places_freed : Option PacketId → List Place → ℕ
+places_freed id places = length places - length (without_one id places)
 
 abbrev pub freed_by : Option PacketId → List Queue → QueueId → ℕ
-freed_by id queues queue = elim (numbered queues queue.0) [ None ↦ 0 | Some q ↦ freed id q.places ]
+freed_by id queues queue = elim (numbered queues queue.0) [ None ↦ 0 | Some q ↦ places_freed id q.places ]
 
 -- the queue is there
 abbrev pub IsThere : List Queue → QueueId → Type 0

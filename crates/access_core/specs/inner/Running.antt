@@ -9,7 +9,7 @@ use Rattle.core_model.specs.History.{History, Start}
 use Rattle.core_model.specs.Holds.{ObjectRight}
 use Rattle.policy.specs.Policy.{region_lengths}
 use Rattle.core_model.specs.Memory.{memory_from}
-use Rattle.core_model.specs.View.{HeldRegion, first_address, given, group_input, held_region, held_regions}
+use Rattle.core_model.specs.View.{HeldRegion, first_address, given_at_launch, group_input, held_region, held_regions}
 use Rattle.core_model.specs.declared.entry.Entry.{Entry}
 use Rattle.aql_packet.specs.declared.packet.KernelDispatch.{KernelDispatch}
 use Rattle.executor.specs.Items.{LentRegion}
@@ -52,7 +52,7 @@ lent_if_held start entries region = if region.rights.0 == 0 then None else Some 
 -- what the next group of a kernel dispatch in flight comes to
 abbrev pub next_result : History → QueueId → PacketId → Place → KernelDispatch → GroupResult
 next_result history queue id place d =
-    group_result (group_input history.start history.entries (given history.start history.entries queue id) d place.progress.groups_run)
+    group_result (group_input history.start history.entries (given_at_launch history.start history.entries queue id) d place.progress.groups_run)
 
 -- a group leaves nothing for this: an item broke the rule; where memory was wanted nothing is said
 abbrev pub FaultsAs : GroupResult → RunFault → Type 0

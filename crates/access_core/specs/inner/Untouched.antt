@@ -15,6 +15,6 @@ pub record IsUntouched (policy : Declared) (kernels : List Kernel) (capacity : �
   pub grants : IsNew parts.grants
   pub memory : parts.memory ≡ zeros (region_lengths policy)
   pub signals : parts.signals ≡ initial_values policy
-  pub segments : parts.segments ≡ map segments_of (map program_of kernels)
+  pub segments : parts.segments.items ≡ map segments_of (map program_of kernels)
   pub empty : parts.audit.items ≡ []
   pub places : parts.audit.room ≡ capacity

@@ -60,13 +60,13 @@ impl AccessCore {
 }
 
 // The core's refusal where a change of grants is refused.
-fn refusal_of(why: grants::Refusal) -> Refusal
+fn refusal_of(why: grants::GrantRefusal) -> Refusal
     ensures { result ≡ refusal_of why }
 {
     match why {
-        grants::Refusal::UnknownClient => Refusal::UnknownClient,
-        grants::Refusal::UnknownObject => Refusal::UnknownObject,
-        grants::Refusal::NotAllowed => Refusal::NotAllowed,
-        grants::Refusal::Busy { queue, packet } => Refusal::Busy { queue, packet },
+        grants::GrantRefusal::UnknownClient => Refusal::UnknownClient,
+        grants::GrantRefusal::UnknownObject => Refusal::UnknownObject,
+        grants::GrantRefusal::NotAllowed => Refusal::NotAllowed,
+        grants::GrantRefusal::Busy { queue, packet } => Refusal::Busy { queue, packet },
     }
 }

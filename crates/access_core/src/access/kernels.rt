@@ -106,7 +106,7 @@ impl AccessCore {
             queue,
             packet,
             rule: fault.rule,
-            place: Some(queue_error::Place {
+            place: Some(queue_error::FaultPlace {
                 group,
                 item: fault.item,
                 line: fault.line,

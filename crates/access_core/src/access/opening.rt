@@ -24,7 +24,7 @@ use std::alloc::{AllocError, Global};
 /// What a core gets memory for when it is opened.
 #[derive(Drop)]
 struct Parts {
-    segments: Sequence<KernelSegments>,
+    segments: Vec<KernelSegments>,
     grants: Grants,
     memory: Regions,
     signals: Signals,
@@ -108,11 +108,11 @@ fn get_parts(
 }
 
 // How large the segments of kernels are.
-fn segments(alloc: Global, kernels: &[Kernel]) -> Result<Sequence<KernelSegments>, AllocError>
+fn segments(alloc: Global, kernels: &[Kernel]) -> Result<Vec<KernelSegments>, AllocError>
     requires { All (λ kernel. has_entry kernel ≡ true) kernels.now }
-    ensures { IfOk result (λ segments. segments ≡ map segments_of (map program_of kernels.now)) }
+    ensures { IfOk result (λ segments. segments.items ≡ map segments_of (map program_of kernels.now)) }
 {
-    let mut segments = Sequence::new(alloc);
+    let mut segments = Vec::new(alloc);
     for kernel in kernels {
         segments.push(kernel.segments())?;
     }

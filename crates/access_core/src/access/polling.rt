@@ -19,7 +19,9 @@ use crate::access::working::free_place;
 use crate::access::{AccessCore, enter};
 use crate::queue::Queue;
 use aql_packet::{Packet, PacketId, QueueId, SignalHandle};
-use core_model::{Effect, Effects, Event, NONE_SEEN, Outcome, Polled, Progress, Refusal, Seen};
+use core_model::{
+    Effect, Effects, Event, NONE_SATISFIED, Outcome, Polled, Progress, Refusal, Satisfied,
+};
 use packet_processor::{Place, is_ready};
 use queue_error::{QueueError, Rule};
 use signals::Signals;
@@ -32,7 +34,7 @@ enum Look {
     /// A dependency that is still looked at is negative.
     Fails,
     /// These positions are seen as 0 for the first time, and the barrier is ready with them or not.
-    Sees { new: Seen, ready: bool },
+    Sees { new: Satisfied, ready: bool },
 }
 
 impl AccessCore {
@@ -105,7 +107,7 @@ impl AccessCore {
         queue: QueueId,
         packet: PacketId,
         place: Place,
-        new: Seen,
+        new: Satisfied,
         ready: bool,
     ) -> Polled
         requires may { due self.old.history (Event.Poll queue packet) ≡ look_owed queue packet (Look.Sees new ready) }
@@ -148,14 +150,14 @@ fn look_at(
     };
     let seen = &place.progress.satisfied;
     if is_ready(&place.packet, seen) {
-        return Ok(Look::Still(Polled::Ready(NONE_SEEN)));
+        return Ok(Look::Still(Polled::Ready(NONE_SATISFIED)));
     }
     if is_any_negative(signals, &dependencies, seen) {
         return Ok(Look::Fails);
     }
     let new = newly_seen_positions(signals, &dependencies, seen);
     if !is_any(&new) {
-        return Ok(Look::Still(Polled::Pending(NONE_SEEN)));
+        return Ok(Look::Still(Polled::Pending(NONE_SATISFIED)));
     }
     let ready = is_ready(&place.packet, &seen_by_either(seen, &new));
     Ok(Look::Sees { new, ready })
@@ -194,7 +196,7 @@ fn is_zero(signals: &Signals, signal: SignalHandle, seen: bool) -> bool
 }
 
 // Whether one of the dependencies that are still looked at is negative.
-fn is_any_negative(signals: &Signals, dependencies: &[SignalHandle; 5], seen: &Seen) -> bool
+fn is_any_negative(signals: &Signals, dependencies: &[SignalHandle; 5], seen: &Satisfied) -> bool
     ensures { result ≡ list_any (is_negative signals.now) (zip dependencies.now seen.now.0) }
 {
     dependencies
@@ -204,10 +206,14 @@ fn is_any_negative(signals: &Signals, dependencies: &[SignalHandle; 5], seen: &S
 }
 
 // The positions that are seen as 0 for the first time.
-fn newly_seen_positions(signals: &Signals, dependencies: &[SignalHandle; 5], seen: &Seen) -> Seen
+fn newly_seen_positions(
+    signals: &Signals,
+    dependencies: &[SignalHandle; 5],
+    seen: &Satisfied,
+) -> Satisfied
     ensures { result.0 ≡ map (is_zero signals.now) (zip dependencies.now seen.now.0) }
 {
-    Seen([
+    Satisfied([
         is_zero(signals, dependencies[0], seen.0[0]),
         is_zero(signals, dependencies[1], seen.0[1]),
         is_zero(signals, dependencies[2], seen.0[2]),
@@ -217,17 +223,17 @@ fn newly_seen_positions(signals: &Signals, dependencies: &[SignalHandle; 5], see
 }
 
 // Whether there is a position.
-fn is_any(seen: &Seen) -> bool
+fn is_any(seen: &Satisfied) -> bool
     ensures { result ≡ list_any (λ at. at) seen.now.0 }
 {
     seen.0.iter().any(|at| *at)
 }
 
 // The positions seen by either.
-fn seen_by_either(before: &Seen, new: &Seen) -> Seen
+fn seen_by_either(before: &Satisfied, new: &Satisfied) -> Satisfied
     ensures { result ≡ seen_by_either before.now new.now }
 {
-    Seen([
+    Satisfied([
         before.0[0] | new.0[0],
         before.0[1] | new.0[1],
         before.0[2] | new.0[2],
@@ -237,7 +243,7 @@ fn seen_by_either(before: &Seen, new: &Seen) -> Seen
 }
 
 // What is told of positions that are seen as 0 for the first time.
-fn sight(ready: bool, new: Seen) -> Polled
+fn sight(ready: bool, new: Satisfied) -> Polled
     ensures { result ≡ sight ready new }
 {
     if ready {

@@ -16,7 +16,7 @@ use crate::access::lookups::queue_of;
 use crate::access::{AccessCore, enter};
 use crate::queue::Queue;
 use aql_packet::{AgentHandle, ClientId, Packet, PacketId, QueueId, RawHeader, header_of};
-use core_model::{Cause, Effects, Event, Outcome, Range, Refusal, Taken};
+use core_model::{Effects, Event, Outcome, Range, Refusal, Taken, WaitCause};
 use packet_processor::{
     Facts, MayLaunch, QueueState, Verdict, held_by_arguments, held_by_needs, verdict,
 };
@@ -35,7 +35,7 @@ fn header(bytes: &[u8; 64]) -> RawHeader
 // What is decided of a packet that is next.
 #[derive(Drop)]
 enum Decision {
-    Wait(Cause),
+    Wait(WaitCause),
     Deny(Rule),
     Launch(Launching),
 }

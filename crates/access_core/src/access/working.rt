@@ -7,7 +7,7 @@ ghost use Rattle.core_model.specs.Memory.{signals_after};
 ghost use Rattle.core_model.specs.Needs.{completion_signal};
 ghost use Rattle.core_model.specs.Owed.{completion_of, refuses, is_finished};
 ghost use Rattle.core_model.specs.Legal.{Meets, as_accepted, due};
-ghost use Rattle.access_core.specs.inner.QueueChanges.{IsThere, freed, freed_by, with_queue, with_release, without_one};
+ghost use Rattle.access_core.specs.inner.QueueChanges.{IsThere, places_freed, freed_by, with_queue, with_release, without_one};
 ghost use Rattle.access_core.specs.inner.LiesInRegions.{lies_in_regions};
 ghost use Rattle.access_core.specs.inner.InPlace.{finish_owed, IsInPlace, IsSized, RefusedAt};
 
@@ -85,7 +85,7 @@ pub(crate) fn release(queues: &mut Vec<Queue>, queue: QueueId, packet: PacketId)
 // Takes a packet out of its place, if one is named, and answers how many places that frees.
 pub(crate) fn free_place(places: &mut Places, packet: Option<PacketId>) -> usize
     ensures places { places.new ≡ without_one packet places.old }
-    ensures freed { result ≡ freed packet places.old }
+    ensures freed { result ≡ places_freed packet places.old }
 {
     match packet {
         None => 0,

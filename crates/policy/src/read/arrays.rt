@@ -4,7 +4,7 @@ ghost use Rattle.std.specs.Prelude.{◌≡◌, ◌≤◌, map, length, Some, IfO
 ghost use Rattle.std.specs.List.{list_all};
 ghost use Rattle.toml.specs.Data.{get_member, as_table};
 ghost use Rattle.toml.specs.View.{view, table_view};
-ghost use Rattle.policy.specs.declared.fault.Cause.TheVariants.{BadValue};
+ghost use Rattle.policy.specs.declared.fault.PolicyCause.TheVariants.{BadValue};
 ghost use Rattle.policy.specs.declared.fault.Section.TheVariants.{Allow};
 ghost use Rattle.policy.specs.declared.limits.TheConstants.{MOST_ALLOW_ROWS, MOST_SIGNALS};
 ghost use Rattle.policy.specs.Table.{named};
@@ -13,7 +13,7 @@ ghost use Rattle.policy.specs.Results.{map_ok};
 ghost use Rattle.policy.specs.Reading.{or_fault, placed, RowGives, FileGives};
 ghost use Rattle.policy.specs.Format.{is_table, rows_in, tables_in, of_table, named_row, allow_row, array_of};
 
-use crate::fault::{Cause, PolicyFault, ReadPolicyError, RowError, Section};
+use crate::fault::{PolicyCause, PolicyFault, ReadPolicyError, RowError, Section};
 use crate::limits::MOST_ALLOW_ROWS;
 use crate::policy::Policy;
 use crate::read::rows::{self, NamedRow};
@@ -37,10 +37,10 @@ fn tables_in(section: Section, limit: usize, items: &[Value]) -> Result<(), Poli
     ensures bound { OnOk result (length items.now ≤ limit) }
 {
     if !are_tables(items) {
-        return Err(section.fault(0, Cause::BadValue));
+        return Err(section.fault(0, PolicyCause::BadValue));
     }
     if items.len() > limit {
-        return Err(section.fault(0, Cause::TooMany));
+        return Err(section.fault(0, PolicyCause::TooMany));
     }
     Ok(())
 }
@@ -58,7 +58,7 @@ pub fn rows_in(section: Section, limit: usize, file: &Table) -> Result<&[Value],
             tables_in(section, limit, items)?;
             Ok(items)
         }
-        None => Err(section.fault(0, Cause::BadValue)),
+        None => Err(section.fault(0, PolicyCause::BadValue)),
     }
 }
 
@@ -81,7 +81,7 @@ pub fn placed<T>(
 fn as_row(row: &Value) -> Result<&Table, RowError>
     ensures { RowGives (λ t. table_view t.now) result (or_fault BadValue (as_table (view row.now))) }
 {
-    row.as_table().ok_or(RowError::Fault(Cause::BadValue))
+    row.as_table().ok_or(RowError::Fault(PolicyCause::BadValue))
 }
 
 // A row of an array of named rows, after those before it.

@@ -2,13 +2,13 @@
 
 ghost use Rattle.std.specs.Prelude.{◌≡◌, nat_le, sum_by, option_map, IfOk, IfErr};
 ghost use Rattle.toml.specs.View.{view, table_view};
-ghost use Rattle.policy.specs.declared.fault.Cause.TheVariants.{TooMany};
+ghost use Rattle.policy.specs.declared.fault.PolicyCause.TheVariants.{TooMany};
 ghost use Rattle.policy.specs.declared.fault.Section.TheVariants.{Region};
 ghost use Rattle.policy.specs.declared.limits.TheConstants.{MOST_MEMORY_BYTES};
 ghost use Rattle.policy.specs.Reading.{unless, fault_in, FileGives};
 ghost use Rattle.policy.specs.Format.{file_keys, file_head, is_version, regions_of, objects_of, declared_by, Declares, IsRefused};
 
-use crate::fault::{Cause, PolicyFault, ReadPolicyError, Section};
+use crate::fault::{PolicyCause, PolicyFault, ReadPolicyError, Section};
 use crate::limits::{
     MOST_AGENTS, MOST_CLIENTS, MOST_KERNELS, MOST_MEMORY_BYTES, MOST_POLICY_BYTES, MOST_SIGNALS,
 };
@@ -53,10 +53,10 @@ fn check_keys(file: &Table) -> Result<(), PolicyFault>
     ensures { result ≡ file_head (table_view file.now) }
 {
     if !rows::has_only::<FileKeys>(file) {
-        return Err(PolicyFault::of_file(Cause::BadValue));
+        return Err(PolicyFault::of_file(PolicyCause::BadValue));
     }
     if !is_version(values::find(file, "version")) {
-        return Err(PolicyFault::of_file(Cause::BadValue));
+        return Err(PolicyFault::of_file(PolicyCause::BadValue));
     }
     Ok(())
 }
@@ -68,7 +68,7 @@ fn check_lengths(regions: &Rows<u32>) -> Result<(), PolicyFault>
     if regions.total() <= MOST_MEMORY_BYTES {
         Ok(())
     } else {
-        Err(Section::Region.fault(0, Cause::TooMany))
+        Err(Section::Region.fault(0, PolicyCause::TooMany))
     }
 }
 
@@ -111,10 +111,10 @@ pub fn read_policy(alloc: Global, text: &[u8]) -> Result<Policy, ReadPolicyError
     ensures refused { IfErr result (IsRefused text.now) }
 {
     if text.len() > MOST_POLICY_BYTES {
-        return Err(PolicyFault::of_file(Cause::TooMany).into());
+        return Err(PolicyFault::of_file(PolicyCause::TooMany).into());
     }
     let Ok(text) = std::str::from_utf8(text) else {
-        return Err(PolicyFault::of_file(Cause::NotToml).into());
+        return Err(PolicyFault::of_file(PolicyCause::NotToml).into());
     };
     match toml::table_from_str(alloc, text) {
         Ok(file) => read_file(alloc, &file),
@@ -122,7 +122,7 @@ pub fn read_policy(alloc: Global, text: &[u8]) -> Result<Policy, ReadPolicyError
             if error.is_memory() {
                 Err(ReadPolicyError::OutOfMemory)
             } else {
-                Err(PolicyFault::of_file(Cause::NotToml).into())
+                Err(PolicyFault::of_file(PolicyCause::NotToml).into())
             }
         }
     }

@@ -6,17 +6,17 @@ ghost use Rattle.std.specs.Str.{bytes_eq};
 ghost use Rattle.std.specs.BTreeMap.{keys};
 ghost use Rattle.toml.specs.Data.{Members, get_member};
 ghost use Rattle.toml.specs.View.{view, table_view};
-ghost use Rattle.policy.specs.declared.fault.Cause.{Cause};
-ghost use Rattle.policy.specs.declared.fault.Cause.TheVariants.{MissingKey, BadValue};
+ghost use Rattle.policy.specs.declared.fault.PolicyCause.{PolicyCause};
+ghost use Rattle.policy.specs.declared.fault.PolicyCause.TheVariants.{MissingKey, BadValue};
 ghost use Rattle.policy.specs.Names.{Name};
-ghost use Rattle.policy.specs.Choice.{chosen};
+ghost use Rattle.policy.specs.Choice.{chosen_name};
 ghost use Rattle.policy.specs.Policy.{names_of};
 ghost use Rattle.policy.specs.Table.{named};
 ghost use Rattle.policy.specs.Results.{map_ok};
 ghost use Rattle.policy.specs.Reading.{or_fault, RowGives};
 ghost use Rattle.policy.specs.Format.{keys_in, only, key, named_row, a_name, an_entry, a_text, a_length, a_number, some_dispatches, client_keys, agent_keys, region_keys, signal_keys, kernel_keys, no_more_keys, takes, region_length, initial_value, kernel_source, a_choice, a_kind, some_rights, subject_of, target_of, allow_row, allow_keys};
 
-use crate::fault::{Cause, RowError};
+use crate::fault::{PolicyCause, RowError};
 use crate::kernel_source::KernelSource;
 use crate::object::Kind;
 use crate::policy::Policy;
@@ -41,7 +41,7 @@ pub trait Keys {
 /// What a row holds beside its name.
 pub trait NamedRow: Keys + Sized + Drop {
     /// How it is read.
-    ghost reading: { Members → Result Self Cause };
+    ghost reading: { Members → Result Self PolicyCause };
 
     /// Reads it.
     fn read(alloc: Global, row: &Table) -> Result<Self, RowError>
@@ -62,28 +62,28 @@ pub fn has_only<K: Keys>(row: &Table) -> bool
 }
 
 /// A table with no key but these.
-pub fn only<K: Keys>(row: &Table) -> Result<(), Cause>
+pub fn only<K: Keys>(row: &Table) -> Result<(), PolicyCause>
     ensures { result ≡ only K.known (table_view row.now) }
 {
     if has_only::<K>(row) {
         Ok(())
     } else {
-        Err(Cause::BadValue)
+        Err(PolicyCause::BadValue)
     }
 }
 
 // The value at a key that a row has to have.
-fn value_at<'a>(row: &'a Table, name: &str) -> Result<&'a Value, Cause>
+fn value_at<'a>(row: &'a Table, name: &str) -> Result<&'a Value, PolicyCause>
     ensures { map_ok (λ v. view v.now) result ≡ or_fault MissingKey (get_member name.now (table_view row.now)) }
 {
-    values::find(row, name).ok_or(Cause::MissingKey)
+    values::find(row, name).ok_or(PolicyCause::MissingKey)
 }
 
 /// A row's name.
-pub fn name_at(row: &Table) -> Result<&str, Cause>
+pub fn name_at(row: &Table) -> Result<&str, PolicyCause>
     ensures { map_ok (λ s. s.now) result ≡ key (codes "name") a_name (table_view row.now) }
 {
-    values::a_name(value_at(row, "name")?).ok_or(Cause::BadValue)
+    values::a_name(value_at(row, "name")?).ok_or(PolicyCause::BadValue)
 }
 
 /// A row with a name of its own: its keys, its name, the rest of it, and no earlier row of that name.
@@ -98,70 +98,70 @@ pub fn named_row<V: NamedRow>(
     let name = name_at(row)?;
     let rest = V::read(alloc, row)?;
     if before.number(name.as_bytes()) != 0 {
-        return Err(RowError::Fault(Cause::DoubleName));
+        return Err(RowError::Fault(PolicyCause::DoubleName));
     }
     Ok((String::from_str(alloc, name)?, rest))
 }
 
 // Which dispatches an agent takes.
-fn takes_at(row: &Table) -> Result<Takes, Cause>
+fn takes_at(row: &Table) -> Result<Takes, PolicyCause>
     ensures { result ≡ takes (table_view row.now) }
 {
-    values::some_dispatches(value_at(row, "takes")?).ok_or(Cause::BadValue)
+    values::some_dispatches(value_at(row, "takes")?).ok_or(PolicyCause::BadValue)
 }
 
 // A region's length.
-fn length_at(row: &Table) -> Result<u32, Cause>
+fn length_at(row: &Table) -> Result<u32, PolicyCause>
     ensures { result ≡ region_length (table_view row.now) }
 {
-    values::a_length(value_at(row, "length")?).ok_or(Cause::BadValue)
+    values::a_length(value_at(row, "length")?).ok_or(PolicyCause::BadValue)
 }
 
 // The value with which a signal begins.
-fn initial_at(row: &Table) -> Result<i64, Cause>
+fn initial_at(row: &Table) -> Result<i64, PolicyCause>
     ensures { result ≡ initial_value (table_view row.now) }
 {
-    values::a_number(value_at(row, "initial")?).ok_or(Cause::BadValue)
+    values::a_number(value_at(row, "initial")?).ok_or(PolicyCause::BadValue)
 }
 
 // The name of a kernel's entry.
-fn entry_at(row: &Table) -> Result<&str, Cause>
+fn entry_at(row: &Table) -> Result<&str, PolicyCause>
     ensures { map_ok (λ s. s.now) result ≡ key (codes "entry") an_entry (table_view row.now) }
 {
-    values::an_entry(value_at(row, "entry")?).ok_or(Cause::BadValue)
+    values::an_entry(value_at(row, "entry")?).ok_or(PolicyCause::BadValue)
 }
 
 // The text of a kernel's module.
-fn text_at(row: &Table) -> Result<&str, Cause>
+fn text_at(row: &Table) -> Result<&str, PolicyCause>
     ensures { map_ok (λ s. s.now) result ≡ key (codes "text") a_text (table_view row.now) }
 {
-    values::a_text(value_at(row, "text")?).ok_or(Cause::BadValue)
+    values::a_text(value_at(row, "text")?).ok_or(PolicyCause::BadValue)
 }
 
 // A name, or "*", at a key.
-fn choice_at<'a>(row: &'a Table, name: &str) -> Result<Choice<'a>, Cause>
-    ensures { map_ok chosen result ≡ key name.now a_choice (table_view row.now) }
+fn choice_at<'a>(row: &'a Table, name: &str) -> Result<Choice<'a>, PolicyCause>
+    ensures { map_ok chosen_name result ≡ key name.now a_choice (table_view row.now) }
 {
-    values::a_choice(value_at(row, name)?).ok_or(Cause::BadValue)
+    values::a_choice(value_at(row, name)?).ok_or(PolicyCause::BadValue)
 }
 
 // A kind of objects.
-fn kind_at(row: &Table) -> Result<Kind, Cause>
+fn kind_at(row: &Table) -> Result<Kind, PolicyCause>
     ensures { result ≡ key (codes "kind") a_kind (table_view row.now) }
 {
-    values::a_kind(value_at(row, "kind")?).ok_or(Cause::BadValue)
+    values::a_kind(value_at(row, "kind")?).ok_or(PolicyCause::BadValue)
 }
 
 // Rights on objects of a kind.
-fn rights_at(on: Kind, row: &Table) -> Result<Rights, Cause>
+fn rights_at(on: Kind, row: &Table) -> Result<Rights, PolicyCause>
     ensures { result ≡ key (codes "rights") (some_rights on) (table_view row.now) }
 {
-    values::some_rights(on, value_at(row, "rights")?).ok_or(Cause::BadValue)
+    values::some_rights(on, value_at(row, "rights")?).ok_or(PolicyCause::BadValue)
 }
 
 // Whom an allow row covers, if the policy declares it.
 fn subject_of(policy: &Policy, client: Choice) -> Option<Subject>
-    ensures { result ≡ subject_of policy.now.clients (chosen client.entry) }
+    ensures { result ≡ subject_of policy.now.clients (chosen_name client.entry) }
 {
     match client {
         Choice::Any => Some(Subject::Any),
@@ -178,7 +178,7 @@ fn subject_of(policy: &Policy, client: Choice) -> Option<Subject>
 
 // What an allow row covers, if the policy declares it.
 fn target_of(policy: &Policy, on: Kind, object: Choice) -> Option<Target>
-    ensures { result ≡ target_of on (names_of policy.now on) (chosen object.entry) }
+    ensures { result ≡ target_of on (names_of policy.now on) (chosen_name object.entry) }
 {
     match object {
         Choice::Any => Some(Target::Any(on)),
@@ -202,8 +202,8 @@ pub fn allow_row(policy: &Policy, row: &Table) -> Result<AllowRow, RowError>
     let on = kind_at(row)?;
     let object = choice_at(row, "object")?;
     let rights = rights_at(on, row)?;
-    let subject = subject_of(policy, client).ok_or(RowError::Fault(Cause::UnknownName))?;
-    let target = target_of(policy, on, object).ok_or(RowError::Fault(Cause::UnknownName))?;
+    let subject = subject_of(policy, client).ok_or(RowError::Fault(PolicyCause::UnknownName))?;
+    let target = target_of(policy, on, object).ok_or(RowError::Fault(PolicyCause::UnknownName))?;
     Ok(AllowRow {
         subject,
         target,

@@ -6,7 +6,7 @@ ghost use Rattle.std.specs.Option.{option_copied};
 ghost use Rattle.std.specs.Str.{bytes_eq};
 ghost use Rattle.toml.specs.Data.{get_member};
 ghost use Rattle.toml.specs.View.{view, table_view};
-ghost use Rattle.policy.specs.Choice.{chosen};
+ghost use Rattle.policy.specs.Choice.{chosen_name};
 ghost use Rattle.policy.specs.Format.{is_name_byte, is_name, a_name, a_text, a_number, an_entry, a_length, length_of_number, is_text, items_in, dispatches_in, some_dispatches, kind_named, a_kind, kind_of_right, names_right, rights_in, some_rights, a_choice, choice_of};
 
 use crate::limits::MOST_NAME_BYTES;
@@ -256,7 +256,7 @@ pub enum Choice<'a> {
 
 /// A name, or "*".
 pub fn a_choice(value: &Value) -> Option<Choice<'_>>
-    ensures { option_map chosen result ≡ a_choice (view value.now) }
+    ensures { option_map chosen_name result ≡ a_choice (view value.now) }
 {
     match value.as_str() {
         Some(text) => choice_of(text),
@@ -265,7 +265,7 @@ pub fn a_choice(value: &Value) -> Option<Choice<'_>>
 }
 
 fn choice_of(text: &str) -> Option<Choice<'_>>
-    ensures { option_map chosen result ≡ choice_of text.now }
+    ensures { option_map chosen_name result ≡ choice_of text.now }
 {
     if same_text(text, "*") {
         Some(Choice::Any)

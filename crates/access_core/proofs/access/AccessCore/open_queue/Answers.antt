@@ -8,7 +8,7 @@ use Rattle.access_core.proofs.HeldAfter.{grants-opened}
 use Rattle.access_core.proofs.QueueLemmas.{openings-count, numbered-push, few_after}
 use Rattle.access_core.proofs.CachedMore.{IsCached-more, memory-still, none-launched}
 use Rattle.access_core.proofs.QueueAt.{IsQuiet, flight-quiet, queue_at-quiet}
-use Rattle.access_core.proofs.Terms.{ClientId, IsSound, OpenQueue, Place, QUEUES, QueueId, cached, cached_opening, openings, start_of}
+use Rattle.access_core.proofs.Terms.{ClientId, IsSound, OpenQueue, Place, QUEUES, QueueId, cached_view, cached_opening, openings, start_of}
 use Rattle.core_model.specs.declared.outcome.Outcome.TheVariants as outcome
 use Rattle.access_core.proofs.access.AccessCore.open_queue.Goals as goal
 
@@ -30,7 +30,7 @@ invariant_of-self-2 c =
       values = refl;
       queues = record {
         openings = rw push (map-append cached_opening a.queues.items _);
-        queues = λ m. rw push (numbered-push cached a.queues.items _ (rw (none, c.new.ensures) refl) m.0) ∙ c.self.invariant.queues m ∙ sym (queue_at-quiet (start_of a) a.audit.items _ _ _ calm m);
+        queues = λ m. rw push (numbered-push cached_view a.queues.items _ (rw (none, c.new.ensures) refl) m.0) ∙ c.self.invariant.queues m ∙ sym (queue_at-quiet (start_of a) a.audit.items _ _ _ calm m);
         sound = rw push (All-push IsSound a.queues.items _ c.self.invariant.sound (record { room = rw (none, c.in_ok-errors.ensures.room) refl; free = rw (none, c.new.ensures) (omega arith); below = rw c.new.ensures (All-nil (λ (p : Place). p.id.0 < 0)) }));
         few_queues = rw push (few_after a.queues.items _ (openings-count a c.self.invariant (subst (λ h. length (openings h.start h.entries) < QUEUES) (sym (seen c.self.view_is)) c.in_ok-queue.ensures.few)));
         flying = c.self.invariant.flying ∙ ap length (sym (flight-quiet (start_of a) a.audit.items _ _ _ calm));

@@ -5,4 +5,4 @@ use Rattle.access_core.specs.Opening.{program_of}
 use Rattle.access_core.proofs.access.opening.segments.Given as goal
 
 abbrev pub invariant-loop-kernel : goal.invariant-loop-kernel
-invariant-loop-kernel l = l.segments ≡ map segments_of (map program_of (take l.kernel-index l.kernels))
+invariant-loop-kernel l = l.segments.items ≡ map segments_of (map program_of (take l.kernel-index l.kernels))

@@ -1,7 +1,7 @@
 -- One queue has an error more, and a packet of it leaves flight.
 use Rattle.std.proofs.Common.{◌≡◌, ◌-◌, ap, ◌∙◌, sym, Some, arith}
 use Rattle.access_core.proofs.ChangedQueue.{freed-at, changed-by, item-at}
-use Rattle.access_core.proofs.Terms.{Queue, freed, with_failure}
+use Rattle.access_core.proofs.Terms.{Queue, places_freed, with_failure}
 use Rattle.access_core.proofs.access.polling.fail_packet.Goals as goal
 
 pub returns-clause-queues : goal.returns-clause-queues
@@ -14,4 +14,4 @@ returns-clause-queues c =
 pub returns-clause-freed : goal.returns-clause-freed
 returns-clause-freed c =
     let is = item-at c.args.queues.now.items c.args.queue.0 c.requires.0 c.index_mut-kept.result.now c.requires.1 c.index_mut-kept.ensures.value in
-    c.free_place.ensures.freed ∙ ap (λ (q : Queue). freed (Some c.args.packet) q.places) is ∙ sym (freed-at (Some c.args.packet) c.args.queues.now.items c.args.queue c.requires.0 c.requires.1)
+    c.free_place.ensures.freed ∙ ap (λ (q : Queue). places_freed (Some c.args.packet) q.places) is ∙ sym (freed-at (Some c.args.packet) c.args.queues.now.items c.args.queue c.requires.0 c.requires.1)

@@ -3,7 +3,7 @@ use Rattle.std.proofs.Common.{◌∙◌, ap, sym, ◌&&◌}
 use Rattle.std.specs.Box.{boxed_slice_items}
 use Rattle.std.specs.Option.{is_some}
 use Rattle.std.specs.Prelude.{slice_get}
-use Rattle.policy.specs.Rules.{knows_client, knows}
+use Rattle.policy.specs.Rules.{knows_client, knows_object}
 use Rattle.grants.specs.Cells.{item_at}
 use Rattle.grants.proofs.PlaceLemmas.{cell-declared}
 use Rattle.grants.proofs.cells.Cells.get.Goals as goal
@@ -12,4 +12,4 @@ pub returns-clause-declared : goal.returns-clause-declared
 returns-clause-declared c =
     ap is_some (c.cell_at.ensures ∙ ap (λ cells. slice_get cells c.in_ok-place.place) c.as_slice.ensures.value ∙ ap (item_at (boxed_slice_items c.self.inside.cells)) (sym c.in_ok-place.was ∙ c.place_of.ensures))
     ∙ cell-declared c.self.inside.rules (boxed_slice_items c.self.inside.cells) c.self.invariant c.args.client c.args.object
-    ∙ ap (λ t. knows_client t.rules c.args.client && knows t.rules c.args.object) c.self.view_is
+    ∙ ap (λ t. knows_client t.rules c.args.client && knows_object t.rules c.args.object) c.self.view_is

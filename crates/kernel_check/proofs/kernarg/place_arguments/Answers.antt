@@ -6,7 +6,7 @@ use Rattle.kernel_check.specs.Layout.{placed_at, end_behind, placed_from, end_fr
 use Rattle.kernel_check.proofs.BlockLemmas.{faults_more, names_more, wide_more, end_more}
 use Rattle.kernel_check.proofs.CheckLemmas.{stopped}
 use Rattle.kernel_check.proofs.Walks.{at_index}
-use Rattle.kernel_check.proofs.block.place_arguments.Goals as goal
+use Rattle.kernel_check.proofs.kernarg.place_arguments.Goals as goal
 
 pub returns-in_err-end-clause-value : goal.returns-in_err-end-clause-value
 returns-in_err-end-clause-value c =

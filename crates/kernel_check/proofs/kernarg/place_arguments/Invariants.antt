@@ -2,7 +2,7 @@ use Rattle.std.proofs.Common.{◌≡◌, ◌≤◌, [], ◌++◌, drop}
 use Rattle.kernel_check.specs.Checks.{argument_checks}
 use Rattle.kernel_check.specs.Faults.{first_fault}
 use Rattle.kernel_check.specs.Layout.{placed_from, end_from, wide_from}
-use Rattle.kernel_check.proofs.block.place_arguments.Given as goal
+use Rattle.kernel_check.proofs.kernarg.place_arguments.Given as goal
 
 abbrev pub invariant-arguments : goal.invariant-arguments
 invariant-arguments l = record {

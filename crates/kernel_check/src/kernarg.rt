@@ -3,13 +3,13 @@
 ghost use Rattle.std.specs.Prelude.{◌≡◌, ◌≤◌, ◌++◌, ◌∷◌, [], None, IfOk, OnOk};
 ghost use Rattle.kernel_check.specs.Checks.{argument_check, argument_checks};
 ghost use Rattle.kernel_check.specs.Faults.{first_fault, unless, Gives, Judges};
-ghost use Rattle.kernel_check.specs.Layout.{placed_at, end_behind, wide_at, laid_out, block_laid};
+ghost use Rattle.kernel_check.specs.Layout.{placed_at, end_behind, wide_at, laid_out, segment_laid};
 ghost use Rattle.kernel_check.specs.Names.{find};
 ghost use Rattle.kernel_check.specs.declared.fault.CheckError.TheVariants as check_error;
 ghost use Rattle.kernel_check.specs.Faults.{fault};
 
 use crate::causes::argument_cause;
-use crate::fault::{Cause, CheckError, CheckFault};
+use crate::fault::{CheckCause, CheckError, CheckFault};
 use crate::layout::{Placed, bytes, place_behind, wide};
 use crate::names::Names;
 use hsail_reader::Argument;
@@ -18,14 +18,14 @@ use std::alloc::{AllocError, Global};
 /// The arguments of a kernel at their places: by name, the offsets of those of 64 bits, and where the
 /// last one ends.
 #[derive(Drop)]
-pub struct Block<'a> {
+pub struct KernargSegment<'a> {
     pub names: Names<'a, Placed>,
     pub wide: Vec<u32>,
     pub end: u32,
 }
 
 /// The fault of an item at a line.
-pub fn refused(line: u32, cause: Cause) -> CheckError
+pub fn refused(line: u32, cause: CheckCause) -> CheckError
     ensures { result ≡ check_error.Fault (fault line cause) }
 {
     CheckError::Fault(CheckFault { line, cause })
@@ -86,8 +86,8 @@ fn judge_argument<'a>(
 pub fn place_arguments<'a>(
     alloc: Global,
     arguments: &'a [Argument],
-) -> Result<Block<'a>, CheckError>
-    ensures value { Gives block_laid result (unless (first_fault (argument_checks [] 0 arguments.now)) (laid_out arguments.now)) }
+) -> Result<KernargSegment<'a>, CheckError>
+    ensures value { Gives segment_laid result (unless (first_fault (argument_checks [] 0 arguments.now)) (laid_out arguments.now)) }
     ensures bound { IfOk result (λ block. block.end ≤ 4096) }
 {
     let mut names = Names::new(alloc);
@@ -96,7 +96,7 @@ pub fn place_arguments<'a>(
     'arguments: for argument in arguments {
         end = judge_argument(&mut names, &mut offsets, end, argument)?;
     }
-    Ok(Block {
+    Ok(KernargSegment {
         names,
         wide: offsets,
         end,
