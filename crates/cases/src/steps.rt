@@ -2,7 +2,7 @@
 //! class and number, constants as numbers of their width, a label as the number of the step behind it, an argument
 //! as its place in the block, a group variable as its place in group memory.
 
-use hsail_reader::{Comparison, Query};
+use hsail_reader::{Comparison, WorkItemQuery};
 use kernel_check::{
     AnyRegister, AnySource, ArgumentStep, AtomicOperation32, AtomicOperation64, AtomicPointer,
     AtomicStep32, AtomicStep64, BranchStep, Choice1, Choice32, Choice64, ControlOperation,
@@ -37,14 +37,14 @@ fn comparison_name(comparison: Comparison) -> &'static str {
     }
 }
 
-fn query_name(query: Query) -> &'static str {
+fn query_name(query: WorkItemQuery) -> &'static str {
     match query {
-        Query::WorkItemId => "workitemid",
-        Query::WorkGroupId => "workgroupid",
-        Query::WorkGroupSize => "workgroupsize",
-        Query::CurrentWorkGroupSize => "currentworkgroupsize",
-        Query::WorkItemAbsoluteId => "workitemabsid",
-        Query::GridSize => "gridsize",
+        WorkItemQuery::WorkItemId => "workitemid",
+        WorkItemQuery::WorkGroupId => "workgroupid",
+        WorkItemQuery::WorkGroupSize => "workgroupsize",
+        WorkItemQuery::CurrentWorkGroupSize => "currentworkgroupsize",
+        WorkItemQuery::WorkItemAbsoluteId => "workitemabsid",
+        WorkItemQuery::GridSize => "gridsize",
     }
 }
 
