@@ -1,25 +1,23 @@
 -- Which calls leave the places of a core's tables as they are (own).
-use Rattle.std.specs.Prelude.{◌≡◌}
+use Rattle.std.specs.Prelude.{◌≡◌, false}
+use Rattle.core_model.specs.Legal.{due, may_lack}
 use Rattle.core_model.specs.declared.event.Event.{Event}
 use Rattle.core_model.specs.declared.event.Event.TheVariants.{OpenQueue, Take}
 use Rattle.core_model.specs.declared.event.Request.{Request}
 use Rattle.core_model.specs.declared.event.Request.TheVariants as request
-use Rattle.core_model.specs.declared.outcome.Taken.{Taken}
-use Rattle.core_model.specs.declared.outcome.Taken.TheVariants.{Launched}
-use Rattle.access_core.specs.Cores.{TablePlaces}
+use Rattle.access_core.specs.Cores.{Core}
 
--- a packet that waits or is denied leaves all places; only one that is launched may want more
-abbrev pub TakenInPlace : Taken → TablePlaces → TablePlaces → Type 0
-TakenInPlace Launched old new = Unit {0}
-TakenInPlace _ old new = new ≡ old
+-- an event leaves all places where it may not want memory: where it is refused, and where a packet waits or is denied
+abbrev pub KeepsPlaces : Event → Core → Core → Type 0
+KeepsPlaces event old new = may_lack event (due old.history event) ≡ false → new.places ≡ old.places
 
--- an event leaves all places, but where a queue is opened, or a packet handed over
-abbrev pub MadeInPlace : Event → TablePlaces → TablePlaces → Type 0
-MadeInPlace (OpenQueue client agent size) old new = Unit {0}
-MadeInPlace (Take queue packet bytes) old new = Unit {0}
-MadeInPlace _ old new = new ≡ old
+-- an opening and a packet that is handed over do so; every other event leaves all places, whatever it wants
+abbrev pub MadeInPlace : Event → Core → Core → Type 0
+MadeInPlace (OpenQueue client agent size) old new = KeepsPlaces (OpenQueue client agent size) old new
+MadeInPlace (Take queue packet bytes) old new = KeepsPlaces (Take queue packet bytes) old new
+MadeInPlace _ old new = new.places ≡ old.places
 
 -- and so does a request, for each query leaves them
-abbrev pub ServedInPlace : Request → TablePlaces → TablePlaces → Type 0
+abbrev pub ServedInPlace : Request → Core → Core → Type 0
 ServedInPlace (request.Event event) old new = MadeInPlace event old new
-ServedInPlace (request.Query query) old new = new ≡ old
+ServedInPlace (request.Query query) old new = new.places ≡ old.places

@@ -6,6 +6,7 @@ ghost use Rattle.core_model.specs.Queues.{openings};
 ghost use Rattle.core_model.specs.Owed.{enters, refuses};
 ghost use Rattle.policy.specs.Results.{map_ok};
 ghost use Rattle.core_model.specs.Legal.{MeetsOrLacks, due};
+ghost use Rattle.access_core.specs.Keeping.{KeepsPlaces};
 
 use crate::access::{AccessCore, enter};
 use crate::queue::Queue;
@@ -25,7 +26,8 @@ impl AccessCore {
         agent: AgentHandle,
         size: u64,
     ) -> Result<QueueId, Refusal>
-        ensures { MeetsOrLacks (Event.OpenQueue client agent size) self.old.history self.new.history (map_ok Outcome.Opened result) }
+        ensures met { MeetsOrLacks (Event.OpenQueue client agent size) self.old.history self.new.history (map_ok Outcome.Opened result) }
+        ensures places { KeepsPlaces (Event.OpenQueue client agent size) self.old self.new }
     {
         let queue = self.may_open(client, agent, size)?;
         let errors = Reserved::with_room(alloc, SLOTS)?;

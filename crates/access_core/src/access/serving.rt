@@ -10,12 +10,12 @@ use sequences::{Reserved, Sequence};
 use std::alloc::{AllocError, Global};
 
 impl AccessCore {
-    /// Serves a request: makes the call that it names. But for an opening of a queue and a packet that is
-    /// handed over, none makes a table longer.
+    /// Serves a request: makes the call that it names. None makes a table longer but the opening of a
+    /// queue and the launch of a packet.
     pub fn serve(&mut self, alloc: Global, request: Request) -> Reply
         ensures served { IsServed self.old.history request result self.new.history }
         ensures legal { IsLegal self.new.history.start self.new.history.entries }
-        ensures places { ServedInPlace request self.old.places self.new.places }
+        ensures places { ServedInPlace request self.old self.new }
     {
         let reply = self.obey(alloc, request);
         self.ensure_legal();
@@ -73,7 +73,7 @@ impl AccessCore {
     // Makes the call that a request names.
     fn obey(&mut self, alloc: Global, request: Request) -> Reply
         ensures served { IsServed self.old.history request result self.new.history }
-        ensures places { ServedInPlace request self.old.places self.new.places }
+        ensures places { ServedInPlace request self.old self.new }
     {
         match request {
             Request::Event(event) => as_reply(self.make(alloc, event)),
@@ -84,7 +84,7 @@ impl AccessCore {
     // Makes the call of an event.
     fn make(&mut self, alloc: Global, event: Event) -> Result<Outcome, Refusal>
         ensures met { MeetsOrLacks event self.old.history self.new.history result }
-        ensures places { MadeInPlace event self.old.places self.new.places }
+        ensures places { MadeInPlace event self.old self.new }
     {
         match event {
             Event::Grant {

@@ -6,7 +6,7 @@ ghost use Rattle.core_model.specs.Holds.{arguments_of, rights_at_launch};
 ghost use Rattle.core_model.specs.Owed.{facts_of, refuses};
 ghost use Rattle.packet_processor.specs.Holding.{as_rights};
 ghost use Rattle.packet_processor.specs.Judged.{facts_seen, Judges};
-ghost use Rattle.access_core.specs.Keeping.{TakenInPlace};
+ghost use Rattle.access_core.specs.Keeping.{KeepsPlaces};
 ghost use Rattle.access_core.specs.inner.Deciding.{Decides, IsBlockPlaced, opening_of};
 ghost use Rattle.access_core.specs.inner.QueueChanges.{CanFail, CanLaunch, with_denied, with_launched, with_queue};
 ghost use Rattle.policy.specs.Results.{map_ok};
@@ -165,7 +165,7 @@ impl AccessCore {
         bytes: &[u8; 64],
     ) -> Result<Taken, Refusal>
         ensures met { MeetsOrLacks (Event.Take queue packet bytes.now) self.old.history self.new.history (map_ok Outcome.Taken result) }
-        ensures places { IfOk result (λ became. TakenInPlace became self.old.places self.new.places) }
+        ensures places { KeepsPlaces (Event.Take queue packet bytes.now) self.old self.new }
     {
         match self.may_take(queue, packet, bytes)? {
             Decision::Wait(cause) => Ok(Taken::Waiting(cause)),
@@ -257,7 +257,6 @@ impl AccessCore {
     ) -> Result<Taken, Refusal>
         requires { Decides self.old.history queue packet bytes.now (Decision.Launch launching) }
         ensures met { MeetsOrLacks (Event.Take queue packet bytes.now) self.old.history self.new.history (map_ok Outcome.Taken result) }
-        ensures places { IfOk result (λ became. TakenInPlace became self.old.places self.new.places) }
     {
         let block = self.argument_block(alloc, &launching.packet)?;
         let rights = self.rights_at_launch(alloc, &launching, block.as_slice())?;
