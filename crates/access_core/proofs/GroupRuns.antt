@@ -23,7 +23,7 @@ use Rattle.core_model.specs.Headline.{HoldsInForce}
 use Rattle.core_model.specs.Holds.{arguments, packet_rights}
 use Rattle.core_model.specs.Kernels.{grid_size, group_size, kernel_of, no_kernel}
 use Rattle.core_model.specs.View.{given_at_launch, group_input}
-use Rattle.core_model.specs.Work.{groups_of}
+use Rattle.core_model.specs.Work.{group_count}
 use Rattle.access_core.specs.inner.ArgumentBlocks.{block_of}
 use Rattle.access_core.specs.Opening.{IsNumber, has_entry, program_of}
 use Rattle.access_core.specs.declared.kernel.Kernel.{Kernel}
@@ -109,7 +109,7 @@ module _ (a : Inside) (kept : IsCached a) (old : History) (seen_as : history_of 
 
   module _ (asked : Dispatch) (asks : IsAsked asked d (arguments old.start old.entries queue id)) (p : Program) (p_is : p ≡ kernel_of old.start d) (group : ℕ) where
     -- the executor can run it
-    pub runnable : group < groups_of (packet.Kernel d) → IsRunnable p asked group
+    pub runnable : group < group_count (packet.Kernel d) → IsRunnable p asked group
     runnable below =
         let kernel : p ≡ can.kernel = p_is ∙ ap (λ o. unwrap_or o no_kernel) can.kernel_is in
         record {

@@ -51,9 +51,9 @@ pub blocks-still : (a : Inside) (event : Event) (outcome : Outcome) → launched
 blocks-still a event outcome launches fs = λ k d below. rw launches refl
 
 -- a packet's block isn't touched where another's is dropped
-block-without : (q : QueueId) (i : PacketId) (f : InFlight) → not (is_packet q i f) ≡ true → (found : List ℕ) (bs : List ArgumentBlock) → fold (block_behind f.queue f.id) found (filter (λ b. not (is_block q i b)) bs) ≡ fold (block_behind f.queue f.id) found bs
-block-without q i f other found [] = refl
-block-without q i f other found (b ∷ bs) = either (is_block q i b) refl (λ g. block-without q i f other g bs)
+block-without_packet : (q : QueueId) (i : PacketId) (f : InFlight) → not (is_packet q i f) ≡ true → (found : List ℕ) (bs : List ArgumentBlock) → fold (block_behind f.queue f.id) found (filter (λ b. not (is_block q i b)) bs) ≡ fold (block_behind f.queue f.id) found bs
+block-without_packet q i f other found [] = refl
+block-without_packet q i f other found (b ∷ bs) = either (is_block q i b) refl (λ g. block-without_packet q i f other g bs)
   where
     either : (c : Bool) → is_block q i b ≡ c → ((g : List ℕ) → fold (block_behind f.queue f.id) g (filter (λ x. not (is_block q i x)) bs) ≡ fold (block_behind f.queue f.id) g bs)
         → fold (block_behind f.queue f.id) found (if not c then b ∷ filter (λ x. not (is_block q i x)) bs else filter (λ x. not (is_block q i x)) bs)
@@ -67,7 +67,7 @@ blocks-dropped : (a : Inside) (event : Event) (outcome : Outcome) → launched_b
     → All (λ f. block_of (filter (λ b. not (is_block q i b)) a.blocks.items) f.queue f.id ≡ arguments_behind a event outcome f.queue f.id) (filter (λ f. not (is_packet q i f)) fs)
 blocks-dropped a event outcome launches q i fs =
     All-weaker (λ f. not (is_packet q i f) ≡ true) (λ f. block_of (filter (λ b. not (is_block q i b)) a.blocks.items) f.queue f.id ≡ arguments_behind a event outcome f.queue f.id)
-    (λ f other. rw launches (block-without q i f other [] a.blocks.items)) (filter (λ f. not (is_packet q i f)) fs) (filter-passes (λ f. not (is_packet q i f)) fs)
+    (λ f other. rw launches (block-without_packet q i f other [] a.blocks.items)) (filter (λ f. not (is_packet q i f)) fs) (filter-passes (λ f. not (is_packet q i f)) fs)
 
 -- a packet that is launched has its block behind the others
 blocks-launched : (a : Inside) (event : Event) (outcome : Outcome) (q : QueueId) (i : PacketId) (p : Packet) (bytes : List ℕ) → launched_by event outcome ≡ Some (record { queue = q; id = i; packet = p }) → bytes ≡ arguments_of (start_of a) a.audit.items p
@@ -114,11 +114,11 @@ left_out : (k p s x r : Bool) → (k ≡ true → p ≡ s) → (k ≡ false → 
 left_out k p s x r one two = grind arith
 
 module _ (owners : QueueId → Option Opening) (helds : QueueId → PacketId → List ObjectRight) (q : QueueId) (i : PacketId) (queue : QueueId) (id : PacketId) (client : ClientId) (on : Object) (right : Right) where
-  pub held-without : (fs : List InFlight) → packet_holds owners helds (filter (λ f. not (is_packet q i f)) fs) queue id client on right ≡ (packet_holds owners helds fs queue id client on right && not (same_packet queue id q i))
-  held-without [] = refl
-  held-without (f ∷ fs) =
+  pub held-without_packet : (fs : List InFlight) → packet_holds owners helds (filter (λ f. not (is_packet q i f)) fs) queue id client on right ≡ (packet_holds owners helds fs queue id client on right && not (same_packet queue id q i))
+  held-without_packet [] = refl
+  held-without_packet (f ∷ fs) =
       either (not (is_packet q i f))
-      ∙ ap (λ rest. if not (is_packet q i f) then ((is_packet queue id f && holds_by (owners f.queue) client on right (helds f.queue f.id)) || rest) else rest) (held-without fs)
+      ∙ ap (λ rest. if not (is_packet q i f) then ((is_packet queue id f && holds_by (owners f.queue) client on right (helds f.queue f.id)) || rest) else rest) (held-without_packet fs)
       ∙ left_out (is_packet q i f) (is_packet queue id f) (same_packet queue id q i) (holds_by (owners f.queue) client on right (helds f.queue f.id)) (packet_holds owners helds fs queue id client on right) named other
     where
       either : (b : Bool) → packet_holds owners helds (if b then f ∷ filter (λ g. not (is_packet q i g)) fs else filter (λ g. not (is_packet q i g)) fs) queue id client on right
@@ -191,7 +191,7 @@ grants-released a kept event outcome effects none launches same new blocks q i f
   held = λ queue id client on right.
       releases.released queue id client on right
       ∙ ap (λ b. b && not (same_packet queue id q i)) (kept.held queue id client on right)
-      ∙ sym (held-without (owner (start_of a) a.audit.items) (packet_rights (start_of a) a.audit.items) q i queue id client on right (flight (start_of a) a.audit.items))
+      ∙ sym (held-without_packet (owner (start_of a) a.audit.items) (packet_rights (start_of a) a.audit.items) q i queue id client on right (flight (start_of a) a.audit.items))
       ∙ (λ j. packet_holds (λ (n : QueueId). numbered (sym (owners-still a event outcome effects none) j) n.0)
       (λ n m. sym (held-unlaunched (start_of a) a.audit.items (entry_of event outcome effects) launches n m) j) (sym flying j) queue id client on right);
   blocks_are = rw (flying, dropped) (blocks-left q i (flight (start_of a) a.audit.items) a.blocks.items kept.blocks_are);

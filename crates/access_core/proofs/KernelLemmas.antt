@@ -10,12 +10,12 @@ use Rattle.executor.specs.Results.{GroupResult, broke_rule, group_result, wrote}
 use Rattle.executor.specs.declared.run.Run.{Run}
 use Rattle.core_model.specs.declared.outcome.Worked.TheVariants.{Done, Faulted, Ran}
 use Rattle.core_model.specs.Owed.{group_owed, owed}
-use Rattle.core_model.specs.View.{HeldRegion, first_address, given_at_launch, group_input, held_regions, as_lent, view}
-use Rattle.core_model.specs.Work.{groups_of, write_of_run}
+use Rattle.core_model.specs.View.{RegionRights, first_address, given_at_launch, group_input, held_regions, as_lent, view}
+use Rattle.core_model.specs.Work.{group_count, write_of_run}
 use Rattle.access_core.specs.inner.Running.{lent_whole, view_whole}
 use Rattle.access_core.proofs.QueueAt.{IsAdvance}
 use Rattle.access_core.proofs.RunLemmas.{OnlyWrites, one_group}
-use Rattle.core_model.specs.Legal.{may_lack}
+use Rattle.core_model.specs.Legal.{may_lack_memory}
 use Rattle.access_core.proofs.Calls.{due-as}
 use Rattle.access_core.proofs.WorkLemmas.{fault-releases, owed-in_place, release-due}
 use Rattle.access_core.proofs.Terms.{Entry, ObjectRight, History, IsInPlace, PacketId, Place, QueueId, RunNext, Start, answers, has, memory_at, memory_from, owed_group}
@@ -27,7 +27,7 @@ use Rattle.core_model.specs.declared.outcome.Outcome.TheVariants as outcome
 -- ---- what a group is lent
 
 module _ (start : Start) (es : List Entry) where
-  lent-alike : (region : HeldRegion) → IsLentAlike (as_lent start es region) (lent_whole start es region)
+  lent-alike : (region : RegionRights) → IsLentAlike (as_lent start es region) (lent_whole start es region)
   lent-alike region = record {
     number_is = refl;
     rights_are = refl;
@@ -39,7 +39,7 @@ module _ (start : Start) (es : List Entry) where
       by_test true = refl
       by_test false = length-replicate region.size 0 ∙ sym (length-map-range_with_len (memory_at start es) (first_address region) region.size)
 
-  all-alike : (regions : List HeldRegion) → AreLentAlike (map (as_lent start es) regions) (map (lent_whole start es) regions)
+  all-alike : (regions : List RegionRights) → AreLentAlike (map (as_lent start es) regions) (map (lent_whole start es) regions)
   all-alike [] = tt
   all-alike (region ∷ regions) = (lent-alike region, all-alike regions)
 
@@ -49,7 +49,7 @@ module _ (start : Start) (es : List Entry) where
 
 -- ---- what a group is owed
 
-pub kernel-owed : (h : History) (queue : QueueId) (id : PacketId) (place : Place) → IsInPlace h queue id place → (d : KernelDispatch) → place.packet ≡ packet.Kernel d → (ran : Bool) → nat_le (groups_of (packet.Kernel d)) place.progress.groups_run ≡ ran
+pub kernel-owed : (h : History) (queue : QueueId) (id : PacketId) (place : Place) → IsInPlace h queue id place → (d : KernelDispatch) → place.packet ≡ packet.Kernel d → (ran : Bool) → nat_le (group_count (packet.Kernel d)) place.progress.groups_run ≡ ran
     → owed h.start h.entries (RunNext queue id)
     ≡ (if ran then answers (outcome.Worked Done) else group_owed queue id d place.progress.groups_run (group_result (group_input h.start h.entries (given_at_launch h.start h.entries queue id) d place.progress.groups_run)))
 unfolding owed
@@ -66,14 +66,14 @@ fault-due a kept old seen_as queue id place found error owing =
 
 -- whatever it comes to, its run may want memory
 pub group-lacks : (h : History) (queue : QueueId) (id : PacketId) (d : KernelDispatch) (group : ℕ) (came : GroupResult) → owed h.start h.entries (RunNext queue id) ≡ group_owed queue id d group came
-    → may_lack (RunNext queue id) (due h (RunNext queue id)) ≡ true
-group-lacks h queue id d group came owing = ap (may_lack (RunNext queue id)) (due-as h (RunNext queue id) _ owing) ∙ by_result came
+    → may_lack_memory (RunNext queue id) (due h (RunNext queue id)) ≡ true
+group-lacks h queue id d group came owing = ap (may_lack_memory (RunNext queue id)) (due-as h (RunNext queue id) _ owing) ∙ by_result came
   where
-    by_room : (full : Bool) (told : Outcome) (effects : List Effect) → may_lack (RunNext queue id) (if full then refuses refusal.AuditFull else enters told effects) ≡ true
+    by_room : (full : Bool) (told : Outcome) (effects : List Effect) → may_lack_memory (RunNext queue id) (if full then refuses refusal.AuditFull else enters told effects) ≡ true
     by_room true told effects = refl
     by_room false told effects = refl
 
-    by_result : (r : GroupResult) → may_lack (RunNext queue id) (within_room h (RunNext queue id) (group_owed queue id d group r)) ≡ true
+    by_result : (r : GroupResult) → may_lack_memory (RunNext queue id) (within_room h (RunNext queue id) (group_owed queue id d group r)) ≡ true
     by_result (wrote runs) = by_room _ _ _
     by_result (broke_rule item line rule) = by_room _ _ _
 

@@ -5,7 +5,7 @@ use Rattle.std.proofs.lemmas.List.Elements.{All-map}
 use Rattle.std.proofs.lemmas.List.Sums.{fold-append}
 use Rattle.executor.specs.declared.run.Run.{Run}
 use Rattle.core_model.specs.declared.outcome.Worked.TheVariants.{Ran}
-use Rattle.core_model.specs.Legal.{may_lack}
+use Rattle.core_model.specs.Legal.{may_lack_memory}
 use Rattle.core_model.specs.Work.{write_of_run}
 use Rattle.access_core.specs.inner.Laying.{LiesWithin}
 use Rattle.access_core.proofs.Calls.{due-as}
@@ -37,9 +37,9 @@ module _ (h : History) (queue : QueueId) (id : PacketId) (group left : ℕ) (run
       ∙ ap (λ b. if b then refuses refusal.AuditFull else enters (outcome.Worked (Ran group left)) (map write_of_run runs)) room
 
   -- its run may want memory, whether the audit has room or not
-  pub group-may_lack : may_lack (RunNext queue id) (due h (RunNext queue id)) ≡ true
-  group-may_lack = by_room (is_full h) refl
+  pub group-may_lack_memory : may_lack_memory (RunNext queue id) (due h (RunNext queue id)) ≡ true
+  group-may_lack_memory = by_room (is_full h) refl
     where
-      by_room : (full : Bool) → is_full h ≡ full → may_lack (RunNext queue id) (due h (RunNext queue id)) ≡ true
-      by_room true room = ap (may_lack (RunNext queue id)) (group-due true room)
-      by_room false room = ap (may_lack (RunNext queue id)) (group-due false room)
+      by_room : (full : Bool) → is_full h ≡ full → may_lack_memory (RunNext queue id) (due h (RunNext queue id)) ≡ true
+      by_room true room = ap (may_lack_memory (RunNext queue id)) (group-due true room)
+      by_room false room = ap (may_lack_memory (RunNext queue id)) (group-due false room)

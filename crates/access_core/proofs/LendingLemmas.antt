@@ -11,7 +11,7 @@ use Rattle.executor.specs.Items.{LentRegion, lent_region}
 use Rattle.executor.specs.declared.view.HeldRegion.{HeldRegion as Borrowed}
 use Rattle.aql_packet.specs.Memory.{is_region_length}
 use Rattle.regions.specs.Memory.{region_length}
-use Rattle.core_model.specs.View.{HeldRegion, held_region, rights_held}
+use Rattle.core_model.specs.View.{RegionRights, held_region, rights_held}
 use Rattle.access_core.specs.inner.Running.{lent_if_held, lent_whole, region_numbered, view_whole}
 use Rattle.access_core.proofs.Terms.{Entry, ObjectRight, Rights, Start, are_region_lengths, is_within, memory_from, region_lengths, region_of}
 use Rattle.policy.specs.declared.object.Object.TheVariants as object
@@ -52,7 +52,7 @@ at-length : (pre xs : List ℕ) (x : ℕ) → get_or (pre ++ x ∷ xs) (length p
 at-length [] xs x = refl
 at-length (y ∷ pre) xs x = at-length pre xs x
 
-rows-are : (f : ℕ × ℕ → HeldRegion) (pre xs : List ℕ) (k : ℕ) → length pre ≡ k → map f (zip (range_with_len k (length xs)) xs) ≡ map (λ n. f (n, get_or (pre ++ xs) n 0)) (range_with_len k (length xs))
+rows-are : (f : ℕ × ℕ → RegionRights) (pre xs : List ℕ) (k : ℕ) → length pre ≡ k → map f (zip (range_with_len k (length xs)) xs) ≡ map (λ n. f (n, get_or (pre ++ xs) n 0)) (range_with_len k (length xs))
 rows-are f pre [] k is = refl
 rows-are f pre (x ∷ xs) k is =
     let long : length (pre ++ x ∷ []) ≡ k + 1 = omega (arith, length-append pre (x ∷ []), is) in
@@ -70,14 +70,14 @@ module _ (start : Start) (es : List Entry) (all : List ObjectRight) where
   -- the next region is lent behind the others, if it is held
   pub lent-next : (count : ℕ) → lent_so_far (count + 1) ≡ lent_so_far count ++ option_to_list (lent_if_held start es (region_numbered start all (count + 1)))
   lent-next count =
-      let next : HeldRegion = region_numbered start all (count + 1) in
-      let held : HeldRegion → Bool = λ region. not (region.rights.0 == 0) in
-      let before = filter (λ (region : HeldRegion). not (region.rights.0 == 0)) (map (region_numbered start all) (range_with_len 1 count)) in
-      ap (map (lent_whole start es)) (filter_of_map_range_with_len_more (λ (region : HeldRegion). not (region.rights.0 == 0)) (region_numbered start all) 1 count (count + 1) (omega arith))
+      let next : RegionRights = region_numbered start all (count + 1) in
+      let held : RegionRights → Bool = λ region. not (region.rights.0 == 0) in
+      let before = filter (λ (region : RegionRights). not (region.rights.0 == 0)) (map (region_numbered start all) (range_with_len 1 count)) in
+      ap (map (lent_whole start es)) (filter_of_map_range_with_len_more (λ (region : RegionRights). not (region.rights.0 == 0)) (region_numbered start all) 1 count (count + 1) (omega arith))
       ∙ map-append (lent_whole start es) before (cond (not (next.rights.0 == 0)) (next ∷ []) [])
       ∙ ap (λ xs. map (lent_whole start es) before ++ xs) (by_test next (next.rights.0 == 0) refl)
     where
-      by_test : (region : HeldRegion) (b : Bool) → (region.rights.0 == 0) ≡ b → map (lent_whole start es) (cond (not (region.rights.0 == 0)) (region ∷ []) []) ≡ option_to_list (lent_if_held start es region)
+      by_test : (region : RegionRights) (b : Bool) → (region.rights.0 == 0) ≡ b → map (lent_whole start es) (cond (not (region.rights.0 == 0)) (region ∷ []) []) ≡ option_to_list (lent_if_held start es region)
       by_test region true is = rw is refl
       by_test region false is = rw is refl
 
@@ -95,7 +95,7 @@ module _ (start : Start) (es : List Entry) (all : List ObjectRight) where
   -- all regions are those that the history tells
   pub lent-all : lent_so_far (length (region_lengths start.policy)) ≡ view_whole start es all
   lent-all =
-      ap (λ (regions : List HeldRegion). map (lent_whole start es) (filter (λ region. not (region.rights.0 == 0)) regions))
+      ap (λ (regions : List RegionRights). map (lent_whole start es) (filter (λ region. not (region.rights.0 == 0)) regions))
       (sym (rows-are (held_region all) (0 ∷ []) (region_lengths start.policy) 1 refl))
 
   -- a region that is held, with its bytes, is lent so
@@ -111,8 +111,8 @@ module _ (start : Start) (es : List Entry) (all : List ObjectRight) where
   lent-below count before are =
       numbers before (subst (λ (regions : List LentRegion). All (λ region. region.number < count + 1) regions) (sym are)
       (All-map (λ (region : LentRegion). region.number < count + 1) (lent_whole start es) _
-      (All-filter (λ (region : HeldRegion). not (region.rights.0 == 0)) (λ (region : HeldRegion). region.number < count + 1) _
-      (All-map (λ (region : HeldRegion). region.number < count + 1) (region_numbered start all) (range_with_len 1 count) up_to))))
+      (All-filter (λ (region : RegionRights). not (region.rights.0 == 0)) (λ (region : RegionRights). region.number < count + 1) _
+      (All-map (λ (region : RegionRights). region.number < count + 1) (region_numbered start all) (range_with_len 1 count) up_to))))
     where
       up_to : All (λ number. number < count + 1) (range_with_len 1 count)
       up_to i d known =
@@ -132,6 +132,6 @@ module _ (start : Start) (es : List Entry) (all : List ObjectRight) where
       number_or None = number
       number_or (Some region) = region.number
 
-      by_test : (region : HeldRegion) (b : Bool) → (region.rights.0 == 0) ≡ b → region.number ≡ number → number_or (lent_if_held start es region) ≡ number
+      by_test : (region : RegionRights) (b : Bool) → (region.rights.0 == 0) ≡ b → region.number ≡ number → number_or (lent_if_held start es region) ≡ number
       by_test region true none is = rw none refl
       by_test region false some is = rw some is

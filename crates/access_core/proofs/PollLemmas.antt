@@ -4,13 +4,13 @@ use Rattle.core_model.specs.declared.outcome.Satisfied.{Satisfied}
 use Rattle.core_model.specs.Owed.{owed}
 use Rattle.access_core.proofs.WorkLemmas.{owed-in_place}
 use Rattle.access_core.proofs.QueueAt.{IsAdvance}
-use Rattle.access_core.proofs.Terms.{History, Inside, IsCached, IsInPlace, Owed, PacketId, Place, Poll, Progress, QueueId, history_of, owed_poll, seen_by_either}
+use Rattle.access_core.proofs.Terms.{History, Inside, IsCached, IsInPlace, Owed, PacketId, Place, Poll, Progress, QueueId, history_of, owed_poll, satisfied_by_either}
 use Rattle.access_core.proofs.Terms.{sight, signals}
 use Rattle.core_model.specs.declared.outcome.Outcome.TheVariants as outcome
 
 -- how far a packet has come once it has seen this
 abbrev pub seen_further : Satisfied → Progress → Progress
-seen_further new so_far = record so_far { satisfied = seen_by_either so_far.satisfied new }
+seen_further new so_far = record so_far { satisfied = satisfied_by_either so_far.satisfied new }
 
 -- by the entry the packet comes as far
 pub sight-advances : (queue : QueueId) (id : PacketId) (ready : Bool) (new : Satisfied) → IsAdvance queue id (seen_further new) (Poll queue id) (outcome.Polled (sight ready new)) []

@@ -10,7 +10,7 @@ use Rattle.access_core.proofs.Terms.{Denied, Effect, Entry, Event, InFlight, Lau
 use Rattle.core_model.specs.declared.flight.TheConstants.{LAUNCH_PROGRESS}
 use Rattle.access_core.proofs.Terms.{QueueView, Start, Take, as_launched, decoded, entry_of, error_without_place, error_of, errors-more, flight}
 use Rattle.access_core.proofs.Terms.{flight-more, flight_after_effect, flight_of, hands_over_packet_of, is_packet, is_stopped-more, launched_by, next_id, next_id-more}
-use Rattle.access_core.proofs.Terms.{place_of, progress, progress-more, progress_after, queue_at, stops_queue, with_entry, with_error, with_progress, without}
+use Rattle.access_core.proofs.Terms.{place_of, progress, progress-more, progress_after, queue_at, stops_queue, with_entry, with_error, with_progress, without_packet}
 use Rattle.core_model.specs.declared.outcome.Outcome.TheVariants as outcome
 
 -- ---- lists of packets
@@ -161,7 +161,7 @@ module _ (start : Start) (es : List Entry) (event : Event) (told : Outcome) (eff
 
     pub queue_at-released : (m : QueueId)
         → queue_at start (with_entry es event told effects) m
-        ≡ after m event told (queue_at start es m) (if q.0 == m.0 then without id (queue_at start es m).places else (queue_at start es m).places)
+        ≡ after m event told (queue_at start es m) (if q.0 == m.0 then without_packet id (queue_at start es m).places else (queue_at start es m).places)
     queue_at-released m =
         queue_at-more start es event told effects m _ flight-released
         ∙ ap (after m event told (queue_at start es m)) (still is.progress m _ ∙ released-in id.0 (place_of start es m) q.0 m.0 (flight start es) (λ f. refl))

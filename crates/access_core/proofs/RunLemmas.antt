@@ -9,7 +9,7 @@ use Rattle.core_model.specs.declared.need.AgentFunction.{AgentFunction}
 use Rattle.core_model.specs.declared.need.AgentFunction.TheVariants.{Fill, Copy, Add64}
 use Rattle.core_model.specs.Owed.{owed}
 use Rattle.aql_packet.specs.declared.packet.Packet.TheVariants as packet
-use Rattle.core_model.specs.View.{Given, given_at_launch}
+use Rattle.core_model.specs.View.{GivenAtLaunch, given_at_launch}
 use Rattle.access_core.proofs.Calls.{due-as}
 use Rattle.access_core.proofs.QueueAt.{IsAdvance}
 use Rattle.access_core.proofs.WorkLemmas.{owed-in_place}
@@ -101,7 +101,7 @@ module _ (h : History) (queue : QueueId) (id : PacketId) (place : Place) (found 
       ∙ ap (λ b. if b then refuses refusal.AuditFull else enters (outcome.Worked (Ran 0 0)) writes) room
 
 -- barrier packets have no groups
-pub no-groups : (h : History) (queue : QueueId) (id : PacketId) (place : Place) → IsInPlace h queue id place → ((own : Given) → owed_group h.start h.entries queue id own place.packet place.progress ≡ refuses refusal.NotInFlight) → due h (RunNext queue id) ≡ refuses refusal.NotInFlight
+pub no-groups : (h : History) (queue : QueueId) (id : PacketId) (place : Place) → IsInPlace h queue id place → ((own : GivenAtLaunch) → owed_group h.start h.entries queue id own place.packet place.progress ≡ refuses refusal.NotInFlight) → due h (RunNext queue id) ≡ refuses refusal.NotInFlight
 unfolding owed
 no-groups h queue id place found is =
     due-as h (RunNext queue id) (refuses refusal.NotInFlight)

@@ -13,7 +13,7 @@ use Rattle.access_core.proofs.ChangedQueue.{freed-at}
 use Rattle.access_core.proofs.TakeLemmas.{IsOpen, is-open, owner-kept, queues-after, view-kept}
 use Rattle.access_core.proofs.WorkLemmas.{freed-below, in-place, queues-released, release-room, sound-released}
 use Rattle.access_core.proofs.Terms.{Effect, History, InFlight, Inside, IsCached, IsSound, Ledger, Outcome, PacketId, Place, Queue, QueueId, QueueView}
-use Rattle.access_core.proofs.Terms.{Releases, Stop, byte_after, cached_opening, due, enters, entry_of, flight_of, freed_by, history_of, is_at, is_barrier}
+use Rattle.access_core.proofs.Terms.{Releases, Stop, byte_after, cached_opening, due, enters, entry_of, flight_of, freed_by, history_of, is_place_of, is_barrier}
 use Rattle.access_core.proofs.Terms.{is_full, is_stopped, lacks_room, numbered, place_of, queue_at, refuses, release_of, signals_after, start_of}
 use Rattle.access_core.proofs.Terms.{with_queue, with_stop, without_one}
 use Rattle.core_model.specs.declared.entry.Effect.TheVariants as effect
@@ -29,15 +29,15 @@ barrier-placed g (f ∷ fs) named same = grind (arith, named f, ap is_barrier (s
 -- one that is found is found by its id
 record FoundById (id : PacketId) (ps : List Place) : Type 0 where
   place : Place
-  is : find (is_at id) ps ≡ Some place
+  is : find (is_place_of id) ps ≡ Some place
 
 found-by_id : (test : Place → Bool) (ps : List Place) (id : PacketId) → option_map (λ (p : Place). p.id) (find test ps) ≡ Some id → FoundById id ps
 found-by_id test [] id found = absurd cc
-found-by_id test (p ∷ ps) id found = first (test p) (is_at id p) refl found (found-by_id test ps id)
+found-by_id test (p ∷ ps) id found = first (test p) (is_place_of id p) refl found (found-by_id test ps id)
   where
-    first : (b c : Bool) → is_at id p ≡ c → option_map (λ (p : Place). p.id) (if b then Some p else find test ps) ≡ Some id → (option_map (λ (p : Place). p.id) (find test ps) ≡ Some id → FoundById id ps) → FoundById id (p ∷ ps)
+    first : (b c : Bool) → is_place_of id p ≡ c → option_map (λ (p : Place). p.id) (if b then Some p else find test ps) ≡ Some id → (option_map (λ (p : Place). p.id) (find test ps) ≡ Some id → FoundById id ps) → FoundById id (p ∷ ps)
     first b true is found more = record { place = p; is = rw is refl }
-    first true false is found more = absurd (let same : p.id ≡ id = cc in let yes_it : is_at id p ≡ true = rw same (itself id) in cc (is, yes_it))
+    first true false is found more = absurd (let same : p.id ≡ id = cc in let yes_it : is_place_of id p ≡ true = rw same (itself id) in cc (is, yes_it))
       where
         itself : (id : PacketId) → (id.0 == id.0) ≡ true
         itself id = grind arith

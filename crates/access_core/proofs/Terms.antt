@@ -19,7 +19,7 @@ pub use Rattle.core_model.proofs.More.{errors-more, flight-more, in_force-more, 
 pub use Rattle.core_model.proofs.More.{signals-more, with_error, with_some}
 pub use Rattle.core_model.specs.declared.flight.TheConstants.{LAUNCH_PROGRESS}
 pub use Rattle.core_model.specs.Flight.{flight, flight_after, flight_after_effect, flight_of, in_flight, is_packet, launched_by, progress}
-pub use Rattle.core_model.specs.Flight.{progress_after, seen_by_either}
+pub use Rattle.core_model.specs.Flight.{progress_after, satisfied_by_either}
 pub use Rattle.core_model.specs.Grants.{in_force, in_force_after}
 pub use Rattle.core_model.specs.History.{History, Start}
 pub use Rattle.core_model.specs.Holds.{ObjectRight, right_needed, rights_at_launch, holder, holds_one_of, is_launch, is_queue_of, is_up_to, least_in_flight}
@@ -47,7 +47,7 @@ pub use Rattle.core_model.specs.declared.outcome.Taken.TheVariants.{Denied, Laun
 pub use Rattle.core_model.specs.declared.refusal.Refusal.{Refusal}
 pub use Rattle.grants.specs.Holders.{IsFirstTo, IsUpTo}
 pub use Rattle.grants.specs.Ledger.{Holds, IsNew, Ledger, Releases, RevokeAnswers, are_in_force, grant_due, holds, is_holder, rules_in}
-pub use Rattle.packet_processor.specs.Queueing.{as_launched, is_at, with_progress, without}
+pub use Rattle.packet_processor.specs.Queueing.{as_launched, is_place_of, with_progress, without_packet}
 pub use Rattle.packet_processor.specs.declared.places.Place.{Place}
 pub use Rattle.policy.proofs.NameLemmas.{numbered-map, numbered-next}
 pub use Rattle.policy.specs.Policy.{Name, numbered, region_lengths, row_of, rules_of}

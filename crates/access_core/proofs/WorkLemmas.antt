@@ -20,9 +20,9 @@ use Rattle.access_core.proofs.TakeLemmas.{IsOpen, owner-kept, queues-after, view
 use Rattle.access_core.proofs.Terms.{CanFail, Effect, Event, Finish, History, InFlight, Inside, IsCached, IsInPlace, IsSound, Outcome, Owed, Packet, PacketId}
 use Rattle.access_core.proofs.Terms.{Place, Poll, Progress, RunNext, Queue, QueueError, QueueId, QueueView, RefusedAt, byte_after, cached_view, cached_opening}
 use Rattle.access_core.proofs.Terms.{signal_decrement, completion_signal, completion_of, due, enters, entry_of, error_without_place, finish_owed, flight, flight_after}
-use Rattle.access_core.proofs.Terms.{flight_after_effect, for_packet, freed_by, history_of, in_flight, is_at, is_packet, lacks_room, lies_in_regions, numbered}
+use Rattle.access_core.proofs.Terms.{flight_after_effect, for_packet, freed_by, history_of, in_flight, is_place_of, is_packet, lacks_room, lies_in_regions, numbered}
 use Rattle.access_core.proofs.Terms.{owed, owner, place_of, progress, queue_at, refuses, region_lengths, signals, start_of}
-use Rattle.access_core.proofs.Terms.{with_advance, with_failure, with_progress, with_queue, with_release, without}
+use Rattle.access_core.proofs.Terms.{with_advance, with_failure, with_progress, with_queue, with_release, without_packet}
 use Rattle.core_model.specs.declared.entry.Effect.TheVariants as effect
 use Rattle.core_model.specs.declared.refusal.Refusal.TheVariants as refusal
 use Rattle.core_model.specs.declared.outcome.Outcome.TheVariants as outcome
@@ -75,11 +75,11 @@ module _ (a : Inside) (kept : IsCached a) (queue : QueueId) (id : PacketId) wher
   freed-is : (at : IsOpen a queue) → length (filter (of_queue queue.0) flying) ≡ freed_by (Some id) a.queues.items queue + length (filter (of_queue queue.0) others)
   freed-is at =
       let places : at.q.places ≡ map (place_of (start_of a) a.audit.items queue) (filter (of_queue queue.0) flying) = ap (λ (v : QueueView). v.places) at.view in
-      let left : without id at.q.places ≡ map (place_of (start_of a) a.audit.items queue) (filter (of_queue queue.0) others) =
-      ap (without id) places ∙ sym (released-of id.0 (place_of (start_of a) a.audit.items queue) queue.0 flying (λ f. refl)) in
-      let freed-now : freed_by (Some id) a.queues.items queue ≡ length at.q.places - length (without id at.q.places) = freed-at (Some id) a.queues.items queue at.q at.found in
+      let left : without_packet id at.q.places ≡ map (place_of (start_of a) a.audit.items queue) (filter (of_queue queue.0) others) =
+      ap (without_packet id) places ∙ sym (released-of id.0 (place_of (start_of a) a.audit.items queue) queue.0 flying (λ f. refl)) in
+      let freed-now : freed_by (Some id) a.queues.items queue ≡ length at.q.places - length (without_packet id at.q.places) = freed-at (Some id) a.queues.items queue at.q at.found in
       let one : length at.q.places ≡ length (filter (of_queue queue.0) flying) = ap length places ∙ length-map (filter (of_queue queue.0) flying) (place_of (start_of a) a.audit.items queue) in
-      let two : length (without id at.q.places) ≡ length (filter (of_queue queue.0) others) = ap length left ∙ length-map (filter (of_queue queue.0) others) (place_of (start_of a) a.audit.items queue) in
+      let two : length (without_packet id at.q.places) ≡ length (filter (of_queue queue.0) others) = ap length left ∙ length-map (filter (of_queue queue.0) others) (place_of (start_of a) a.audit.items queue) in
       let count = released-count id.0 queue.0 flying in
       let less = filter-not_more (λ (f : InFlight). not (is_packet queue id f)) flying in
       omega (arith, freed-now, one, two, count, less)
@@ -106,7 +106,7 @@ module _ (a : Inside) (kept : IsCached a) (queue : QueueId) (id : PacketId) wher
   -- how the queues move along with it
   pub queues-released : (event : Event) (told : Outcome) (effects : List Effect) → IsRelease queue id event told effects → opening_of event ≡ None → (at : IsOpen a queue) (change : Queue → Queue) (view : QueueView → QueueView)
       → cached_opening (change at.q) ≡ cached_opening at.q → IsSound (change at.q) → cached_view (Some (change at.q)) ≡ view (cached_view (Some at.q))
-      → ((m : QueueId) (v : QueueView) → after_entry m event told v (if queue.0 == m.0 then without id v.places else v.places) ≡ (if queue.0 == m.0 then view v else v))
+      → ((m : QueueId) (v : QueueView) → after_entry m event told v (if queue.0 == m.0 then without_packet id v.places else v.places) ≡ (if queue.0 == m.0 then view v else v))
       → QueuesAfter a (with_queue a.queues.items queue change) (a.flying - freed_by (Some id) a.queues.items queue) event told effects
   queues-released event told effects is none at change view same sound alike pick =
       queues-after a kept queue at change view _ event told effects none same sound alike
@@ -116,8 +116,8 @@ module _ (a : Inside) (kept : IsCached a) (queue : QueueId) (id : PacketId) wher
 -- a queue whose packet left flight is sound
 pub sound-released : (q : Queue) (id : PacketId) → IsSound q → IsSound (with_release id q)
 sound-released q id sound =
-    let fewer = filter-not_more (λ (p : Place). not (is_at id p)) q.places in
-    record { room = sound.room; free = omega (arith, fewer, sound.free); below = All-filter (λ p. not (is_at id p)) (λ (p : Place). p.id.0 < q.next) q.places sound.below }
+    let fewer = filter-not_more (λ (p : Place). not (is_place_of id p)) q.places in
+    record { room = sound.room; free = omega (arith, fewer, sound.free); below = All-filter (λ p. not (is_place_of id p)) (λ (p : Place). p.id.0 < q.next) q.places sound.below }
 
 -- ---- a packet is found in its place
 
@@ -129,13 +129,13 @@ module _ (a : Inside) (kept : IsCached a) (queue : QueueId) (id : PacketId) (q :
   owned : owner (start_of a) a.audit.items queue ≡ Some (cached_opening q)
   owned = owner-kept a queue kept ∙ ap (option_map cached_opening) some
 
-  pub sought : find (is_at id) q.places ≡ option_map (place_of (start_of a) a.audit.items queue) (in_flight (start_of a) a.audit.items queue id)
+  pub sought : find (is_place_of id) q.places ≡ option_map (place_of (start_of a) a.audit.items queue) (in_flight (start_of a) a.audit.items queue id)
   sought =
-      ap (λ (v : QueueView). find (is_at id) v.places) (view-kept a queue q kept some)
+      ap (λ (v : QueueView). find (is_place_of id) v.places) (view-kept a queue q kept some)
       ∙ find-placed (place_of (start_of a) a.audit.items queue) queue.0 id.0 (flight (start_of a) a.audit.items) (λ f. refl)
 
   -- where one is found, it is in flight
-  pub in-place : (place : Place) → find (is_at id) q.places ≡ Some place → IsInPlace (history_of a) queue id place
+  pub in-place : (place : Place) → find (is_place_of id) q.places ≡ Some place → IsInPlace (history_of a) queue id place
   in-place place is = either (in_flight (start_of a) a.audit.items queue id) refl (sym sought ∙ is)
     where
       none_place : None ≡ Some place → ⊥
@@ -157,7 +157,7 @@ module _ (a : Inside) (kept : IsCached a) (queue : QueueId) (id : PacketId) (q :
           }
 
   -- where none is found, a call about it is refused
-  pub none-in-place : find (is_at id) q.places ≡ None → RefusedAt (history_of a) queue id refusal.NotInFlight
+  pub none-in-place : find (is_place_of id) q.places ≡ None → RefusedAt (history_of a) queue id refusal.NotInFlight
   none-in-place is rest = either (in_flight (start_of a) a.audit.items queue id) refl (sym sought ∙ is)
     where
       either : (o : Option InFlight) → in_flight (start_of a) a.audit.items queue id ≡ o → option_map (place_of (start_of a) a.audit.items queue) o ≡ None → for_packet (start_of a) a.audit.items queue id rest ≡ refuses refusal.NotInFlight
@@ -173,10 +173,10 @@ reaches-in_place a kept queue id place found =
 -- ---- a packet fails
 
 module _ (a : Inside) (kept : IsCached a) (queue : QueueId) (id : PacketId) (at : IsOpen a queue) where
-  fewer-places : (f : InFlight) → in_flight (start_of a) a.audit.items queue id ≡ Some f → length (without id at.q.places) + 1 ≤ length at.q.places
+  fewer-places : (f : InFlight) → in_flight (start_of a) a.audit.items queue id ≡ Some f → length (without_packet id at.q.places) + 1 ≤ length at.q.places
   fewer-places f found =
-      let there : find (is_at id) at.q.places ≡ Some (place_of (start_of a) a.audit.items queue f) = sought a kept queue id at.q at.found ∙ ap (option_map (place_of (start_of a) a.audit.items queue)) found in
-      filter-fewer (is_at id) (λ (p : Place). not (is_at id p)) at.q.places _ there (ap (λ (b : Bool). not b) (found-passes (is_at id) at.q.places _ there))
+      let there : find (is_place_of id) at.q.places ≡ Some (place_of (start_of a) a.audit.items queue f) = sought a kept queue id at.q at.found ∙ ap (option_map (place_of (start_of a) a.audit.items queue)) found in
+      filter-fewer (is_place_of id) (λ (p : Place). not (is_place_of id p)) at.q.places _ there (ap (λ (b : Bool). not b) (found-passes (is_place_of id) at.q.places _ there))
 
   -- its queue has room for an error
   pub can-fail : (f : InFlight) → in_flight (start_of a) a.audit.items queue id ≡ Some f → CanFail a.queues.items queue
@@ -192,7 +192,7 @@ module _ (a : Inside) (kept : IsCached a) (queue : QueueId) (id : PacketId) (at 
       record {
         room = omega (arith, longer, fewer, at.sound.room, at.sound.free);
         free = omega (arith, longer, fewer, at.sound.free);
-        below = All-filter (λ p. not (is_at id p)) (λ (p : Place). p.id.0 < at.q.next) at.q.places at.sound.below;
+        below = All-filter (λ p. not (is_place_of id p)) (λ (p : Place). p.id.0 < at.q.next) at.q.places at.sound.below;
       }
 
 -- ---- a packet comes further

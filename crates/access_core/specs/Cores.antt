@@ -7,7 +7,7 @@ use Rattle.core_model.specs.History.{History}
 abbrev pub places_of : {T : Type 0} → Roomy T → ℕ
 places_of list = length list.items + list.room
 
--- How many places each table has, taken and free, that can grow. The other tables are of types without a call that lengthens them.
+-- How many places, taken and free, each table has that can grow. The other tables are of types without a call that lengthens them.
 pub record TablePlaces : Type 0 where
   -- for kernels
   pub kernel_places : ℕ

@@ -1,17 +1,17 @@
 -- Which calls leave the places of a core's tables as they are (own).
 use Rattle.std.specs.Prelude.{◌≡◌, false}
-use Rattle.core_model.specs.Legal.{due, may_lack}
+use Rattle.core_model.specs.Legal.{due, may_lack_memory}
 use Rattle.core_model.specs.declared.event.Event.{Event}
 use Rattle.core_model.specs.declared.event.Event.TheVariants.{OpenQueue, Take}
 use Rattle.core_model.specs.declared.event.Request.{Request}
 use Rattle.core_model.specs.declared.event.Request.TheVariants as request
 use Rattle.access_core.specs.Cores.{Core}
 
--- an event leaves all places where it may not want memory: where it is refused, and where a packet waits or is denied
+-- an event leaves all places where it may not want memory: so does an opening or a take that is refused, and a take that waits or is denied
 abbrev pub KeepsPlaces : Event → Core → Core → Type 0
-KeepsPlaces event old new = may_lack event (due old.history event) ≡ false → new.places ≡ old.places
+KeepsPlaces event old new = may_lack_memory event (due old.history event) ≡ false → new.places ≡ old.places
 
--- an opening and a packet that is handed over do so; every other event leaves all places, whatever it wants
+-- an opening and a take keep the places so; every other event leaves all of them, even where it may want memory
 abbrev pub MadeInPlace : Event → Core → Core → Type 0
 MadeInPlace (OpenQueue client agent size) old new = KeepsPlaces (OpenQueue client agent size) old new
 MadeInPlace (Take queue packet bytes) old new = KeepsPlaces (Take queue packet bytes) old new

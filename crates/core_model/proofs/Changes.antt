@@ -51,7 +51,7 @@ use Rattle.core_model.specs.Queues.{error_of}
 use Rattle.core_model.specs.Flight.{flight, flight_of, in_flight, is_packet, progress}
 use Rattle.core_model.specs.Needs.{argument, range_at, completion_signal, function_of, result_range}
 use Rattle.core_model.specs.LaunchRules.{is_barrier}
-use Rattle.core_model.specs.Work.{groups_of, number_in_memory, write_of, write_of_run, function_writes, function_result, result_writes, agent_writes}
+use Rattle.core_model.specs.Work.{group_count, number_in_memory, write_of, write_of_run, function_writes, function_result, result_writes, agent_writes}
 use Rattle.core_model.specs.Holds.{packet_rights}
 use Rattle.core_model.specs.View.{given_at_launch, group_input}
 use Rattle.core_model.proofs.Viewing.{IsWithinGrant, runs-granted}
@@ -182,9 +182,9 @@ module _ (start : Start) (es : List Entry) (legal : IsLegal start es) where
 
   -- the changes of an event, given what holds of each kind of change
   module _ (P : Event → Outcome → Effect → Type 0)
-      (ran : (told : Outcome) (queue : QueueId) (id : PacketId) (s : InFlightSince start es queue id) (d : AgentDispatch) → s.flying.packet ≡ packet.Agent d → (progress start es queue id).groups_run < groups_of s.flying.packet → All (P (RunNext queue id) told) (agent_writes start es d))
+      (ran : (told : Outcome) (queue : QueueId) (id : PacketId) (s : InFlightSince start es queue id) (d : AgentDispatch) → s.flying.packet ≡ packet.Agent d → (progress start es queue id).groups_run < group_count s.flying.packet → All (P (RunNext queue id) told) (agent_writes start es d))
       (kernel_ran : (told : Outcome) (queue : QueueId) (id : PacketId) (s : InFlightSince start es queue id) → All (λ h. in_force start s.launch.before s.launch.opening.client h.0 h.1 ≡ true) (packet_rights start es queue id) →
-      (d : KernelDispatch) → s.flying.packet ≡ packet.Kernel d → (progress start es queue id).groups_run < groups_of s.flying.packet → (runs : List Run) →
+      (d : KernelDispatch) → s.flying.packet ≡ packet.Kernel d → (progress start es queue id).groups_run < group_count s.flying.packet → (runs : List Run) →
       group_result (group_input start es (given_at_launch start es queue id) d (progress start es queue id).groups_run) ≡ wrote runs → All (P (RunNext queue id) told) (map write_of_run runs))
       (completed_so : (told : Outcome) (queue : QueueId) (id : PacketId) (s : InFlightSince start es queue id) (v : ℤ) → ((completion_signal s.flying.packet).0 == 0) ≡ false → value_of (signals start es) (completion_signal s.flying.packet).0 ≡ Some v →
       P (Finish queue id) told (effect.Signal (completion_signal s.flying.packet) v (applied (Subtract (pos 1)) v)))
@@ -218,7 +218,7 @@ module _ (start : Start) (es : List Entry) (legal : IsLegal start es) where
       -- a group that ran, of an agent dispatch or of a kernel, or that faulted
       kernel-changes : (told : Outcome) (effects : List Effect) (queue : QueueId) (id : PacketId) (flying : InFlight) → in_flight start es queue id ≡ Some flying →
           (s : InFlightSince start es queue id) → All (λ h. in_force start s.launch.before s.launch.opening.client h.0 h.1 ≡ true) (packet_rights start es queue id) →
-          (d : KernelDispatch) → s.flying.packet ≡ packet.Kernel d → (progress start es queue id).groups_run < groups_of s.flying.packet →
+          (d : KernelDispatch) → s.flying.packet ≡ packet.Kernel d → (progress start es queue id).groups_run < group_count s.flying.packet →
           (result : GroupResult) → group_result (group_input start es (given_at_launch start es queue id) d (progress start es queue id).groups_run) ≡ result →
           GroupWrote start es told effects queue id d (progress start es queue id).groups_run result ⊎ GroupFaulted start es told effects queue id d (progress start es queue id).groups_run result → All (P (RunNext queue id) told) effects
       kernel-changes told effects queue id flying found s granted d is left result is_result (inl ended) =
@@ -234,9 +234,9 @@ module _ (start : Start) (es : List Entry) (legal : IsLegal start es) where
           GroupRan start es told effects flying.packet (progress start es queue id) ⊎ KernelRan start es told effects queue id (given_at_launch start es queue id) flying.packet (progress start es queue id) → All (P (RunNext queue id) told) effects
       group-changes told effects queue id flying found since (inl group) =
           subst (All (P (RunNext queue id) told)) (sym group.effects_are)
-          (ran told queue id since.0 group.dispatch (ap (λ f. f.packet) since.1 ∙ group.is_agent) (subst (λ f. (progress start es queue id).groups_run < groups_of f.packet) (sym since.1) group.is_left))
+          (ran told queue id since.0 group.dispatch (ap (λ f. f.packet) since.1 ∙ group.is_agent) (subst (λ f. (progress start es queue id).groups_run < group_count f.packet) (sym since.1) group.is_left))
       group-changes told effects queue id flying found since (inr group) =
-          kernel-changes told effects queue id flying found since.0 since.2 group.dispatch (ap (λ f. f.packet) since.1 ∙ group.is_kernel) (subst (λ f. (progress start es queue id).groups_run < groups_of f.packet) (sym since.1) group.is_left)
+          kernel-changes told effects queue id flying found since.0 since.2 group.dispatch (ap (λ f. f.packet) since.1 ∙ group.is_kernel) (subst (λ f. (progress start es queue id).groups_run < group_count f.packet) (sym since.1) group.is_left)
           (group_result (group_input start es (given_at_launch start es queue id) group.dispatch (progress start es queue id).groups_run)) refl
           (kernel-ended start es told effects queue id group.dispatch (progress start es queue id).groups_run _ group.owed_is)
 
@@ -267,7 +267,7 @@ module _ (start : Start) (es : List Entry) (legal : IsLegal start es) where
 
   -- ---- writes, changes of signals, releases
 
-  group-writes : (queue : QueueId) (id : PacketId) (s : InFlightSince start es queue id) (d : AgentDispatch) → s.flying.packet ≡ packet.Agent d → (progress start es queue id).groups_run < groups_of s.flying.packet → All (WriteIsGranted start es (RunNext queue id)) (agent_writes start es d)
+  group-writes : (queue : QueueId) (id : PacketId) (s : InFlightSince start es queue id) (d : AgentDispatch) → s.flying.packet ≡ packet.Agent d → (progress start es queue id).groups_run < group_count s.flying.packet → All (WriteIsGranted start es (RunNext queue id)) (agent_writes start es d)
   group-writes queue id s d is left =
       agent-met (WriteIsGranted start es (RunNext queue id)) (MayReachRange start s.launch.before s.launch.opening.client right.Write)
       (λ target bytes long some may. (some, inr (record { queue = queue; id = id; event_is = refl; packet = s; is_left = left; allowed = reached target bytes long some may })))
@@ -279,7 +279,7 @@ module _ (start : Start) (es : List Entry) (legal : IsLegal start es) where
 
   -- a kernel's group writes where its packet holds WRITE, which was in force at its launch
   kernel-writes : are_region_lengths (region_lengths start.policy) ≡ true → (queue : QueueId) (id : PacketId) (s : InFlightSince start es queue id) →
-      All (λ h. in_force start s.launch.before s.launch.opening.client h.0 h.1 ≡ true) (packet_rights start es queue id) → (d : KernelDispatch) → (progress start es queue id).groups_run < groups_of s.flying.packet → (runs : List Run) →
+      All (λ h. in_force start s.launch.before s.launch.opening.client h.0 h.1 ≡ true) (packet_rights start es queue id) → (d : KernelDispatch) → (progress start es queue id).groups_run < group_count s.flying.packet → (runs : List Run) →
       group_result (group_input start es (given_at_launch start es queue id) d (progress start es queue id).groups_run) ≡ wrote runs → All (WriteIsGranted start es (RunNext queue id)) (map write_of_run runs)
   kernel-writes fit queue id s granted d left runs is =
       All-map (WriteIsGranted start es (RunNext queue id)) write_of_run runs

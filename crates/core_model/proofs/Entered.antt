@@ -48,13 +48,13 @@ use Rattle.core_model.specs.Grants.{in_force}
 use Rattle.core_model.specs.Memory.{signals}
 use Rattle.core_model.specs.Queues.{error_of, Opening, owner, openings, next_id, is_down, is_stopped}
 use Rattle.core_model.specs.declared.outcome.TheConstants.{NONE_SATISFIED}
-use Rattle.core_model.specs.Flight.{flight, flight_of, in_flight, is_packet, progress, seen_by_either}
+use Rattle.core_model.specs.Flight.{flight, flight_of, in_flight, is_packet, progress, satisfied_by_either}
 use Rattle.core_model.specs.Holds.{holder}
 use Rattle.core_model.specs.declared.limits.TheConstants.{QUEUES}
 use Rattle.core_model.specs.Needs.{completion_signal}
 use Rattle.core_model.specs.LaunchRules.{first_failing_rule, cause_to_wait, is_barrier}
-use Rattle.core_model.specs.View.{Given, given_at_launch, group_input}
-use Rattle.core_model.specs.Work.{groups_of, write_of_run, agent_writes, is_ready, is_negative, seen_dependencies, newly_seen_positions}
+use Rattle.core_model.specs.View.{GivenAtLaunch, given_at_launch, group_input}
+use Rattle.core_model.specs.Work.{group_count, write_of_run, agent_writes, is_ready, is_negative, seen_dependencies, newly_seen_positions}
 use Rattle.core_model.specs.Owed.{refuses, Owed, owed, answers, enters, owed_verdict, for_packet, error_without_place, facts_of, is_host_size, is_finished, signal_decrement, owed_take, group_error, group_owed, owed_group, owed_poll, owed_finish, owed_sight, barrier_in, release_of, old_if_asked}
 use Rattle.core_model.proofs.Lists.{found-passes}
 use Rattle.core_model.proofs.Launches.{refuse_if-passed, refuse_unless-passed, for_some-found}
@@ -196,31 +196,31 @@ module _ (start : Start) (es : List Entry) (told : Outcome) (effects : List Effe
   pub record GroupRan (p : Packet) (so_far : Progress) : Type 0 where
     pub dispatch : AgentDispatch
     pub is_agent : p ≡ packet.Agent dispatch
-    pub is_left : so_far.groups_run < groups_of p
+    pub is_left : so_far.groups_run < group_count p
     pub effects_are : effects ≡ agent_writes start es dispatch
     pub outcome_is : told ≡ outcome.Worked (worked.Ran 0 0)
 
   -- a kernel dispatch with a group left, which is run
-  pub record KernelRan (queue : QueueId) (id : PacketId) (own : Given) (p : Packet) (so_far : Progress) : Type 0 where
+  pub record KernelRan (queue : QueueId) (id : PacketId) (own : GivenAtLaunch) (p : Packet) (so_far : Progress) : Type 0 where
     pub dispatch : KernelDispatch
     pub is_kernel : p ≡ packet.Kernel dispatch
-    pub is_left : so_far.groups_run < groups_of p
+    pub is_left : so_far.groups_run < group_count p
     pub owed_is : group_owed queue id dispatch so_far.groups_run (group_result (group_input start es own dispatch so_far.groups_run)) ≡ enters told effects
 
-  group-entered : (queue : QueueId) (id : PacketId) (own : Given) (p : Packet) (so_far : Progress) → owed_group start es queue id own p so_far ≡ enters told effects → GroupRan p so_far ⊎ KernelRan queue id own p so_far
+  group-entered : (queue : QueueId) (id : PacketId) (own : GivenAtLaunch) (p : Packet) (so_far : Progress) → owed_group start es queue id own p so_far ≡ enters told effects → GroupRan p so_far ⊎ KernelRan queue id own p so_far
   group-entered queue id own (packet.Agent dispatch) so_far same = ran (nat_le 1 so_far.groups_run) refl same
     where
       ran : (b : Bool) → nat_le 1 so_far.groups_run ≡ b → (if b then answers (outcome.Worked worked.Done) else enters (outcome.Worked (worked.Ran 0 0)) (agent_writes start es dispatch)) ≡ enters told effects →
           GroupRan (packet.Agent dispatch) so_far ⊎ KernelRan queue id own (packet.Agent dispatch) so_far
       ran true has same = absurd cc
       ran false has same = inl (record { dispatch = dispatch; is_agent = refl; is_left = leb-false 1 so_far.groups_run has; effects_are = cc; outcome_is = cc })
-  group-entered queue id own (packet.Kernel d) so_far same = ran (nat_le (groups_of (packet.Kernel d)) so_far.groups_run) refl same
+  group-entered queue id own (packet.Kernel d) so_far same = ran (nat_le (group_count (packet.Kernel d)) so_far.groups_run) refl same
     where
-      ran : (b : Bool) → nat_le (groups_of (packet.Kernel d)) so_far.groups_run ≡ b →
+      ran : (b : Bool) → nat_le (group_count (packet.Kernel d)) so_far.groups_run ≡ b →
           (if b then answers (outcome.Worked worked.Done) else group_owed queue id d so_far.groups_run (group_result (group_input start es own d so_far.groups_run))) ≡ enters told effects →
           GroupRan (packet.Kernel d) so_far ⊎ KernelRan queue id own (packet.Kernel d) so_far
       ran true has same = absurd cc
-      ran false has same = inr (record { dispatch = d; is_kernel = refl; is_left = leb-false (groups_of (packet.Kernel d)) so_far.groups_run has; owed_is = same })
+      ran false has same = inr (record { dispatch = d; is_kernel = refl; is_left = leb-false (group_count (packet.Kernel d)) so_far.groups_run has; owed_is = same })
   group-entered queue id own (packet.BarrierAnd _) so_far same = absurd cc
   group-entered queue id own (packet.BarrierOr _) so_far same = absurd cc
 
@@ -229,7 +229,7 @@ module _ (start : Start) (es : List Entry) (told : Outcome) (effects : List Effe
     pub runs : List Run
     pub result_is : result ≡ wrote runs
     pub effects_are : effects ≡ map write_of_run runs
-    pub outcome_is : told ≡ outcome.Worked (worked.Ran group (groups_of (packet.Kernel d) - (group + 1)))
+    pub outcome_is : told ≡ outcome.Worked (worked.Ran group (group_count (packet.Kernel d) - (group + 1)))
 
   pub record GroupFaulted (queue : QueueId) (id : PacketId) (d : KernelDispatch) (group : ℕ) (result : GroupResult) : Type 0 where
     pub item : ℕ
@@ -265,7 +265,7 @@ module _ (start : Start) (es : List Entry) (told : Outcome) (effects : List Effe
 
   -- what a poll tells that sees something new
   abbrev pub sighting : Packet → Satisfied → Satisfied → Outcome
-  sighting p satisfied new = outcome.Polled (if is_ready p (seen_by_either satisfied new) then polled_as.Ready new else polled_as.Pending new)
+  sighting p satisfied new = outcome.Polled (if is_ready p (satisfied_by_either satisfied new) then polled_as.Ready new else polled_as.Pending new)
 
   pub record HasSeen (queue : QueueId) (id : PacketId) : Type 0 where
     pub is_quiet : IsQuiet
@@ -303,7 +303,7 @@ module _ (start : Start) (es : List Entry) (told : Outcome) (effects : List Effe
           (if is then answers (outcome.Polled (polled_as.Ready NONE_SATISFIED)) else if negative then enters (outcome.Polled (polled_as.Failed (error_without_place queue id.0 B1))) (effect.Release queue id ∷ []) else owed_sight f.packet satisfied new) ≡ enters told effects → HasSeen queue id ⊎ HasFailed queue id
       ready true negative looked same = absurd cc
       ready false true looked same = inr (record { flying = f; found = found; effects_are = cc; outcome_is = cc; negative = looked })
-      ready false false looked same = inl (some_seen (list_any (λ at. at) new.0) (either (is_ready f.packet (seen_by_either satisfied new))) same)
+      ready false false looked same = inl (some_seen (list_any (λ at. at) new.0) (either (is_ready f.packet (satisfied_by_either satisfied new))) same)
 
   pub poll-entered : (queue : QueueId) (id : PacketId) → owed start es (Poll queue id) ≡ enters told effects → HasSeen queue id ⊎ HasFailed queue id
   unfolding owed

@@ -38,7 +38,7 @@ use Rattle.core_model.specs.Flight.{flight_of, in_flight, progress}
 use Rattle.executor.specs.Items.{LentRegion}
 use Rattle.executor.specs.Results.{group_result}
 use Rattle.core_model.specs.Holds.{ObjectRight, packet_rights}
-use Rattle.core_model.specs.View.{Given, given_at_launch, group_input, held_regions}
+use Rattle.core_model.specs.View.{GivenAtLaunch, given_at_launch, group_input, held_regions}
 use Rattle.policy.specs.Rights.{has, rights_that}
 use Rattle.core_model.proofs.Lists.{filter-passes}
 use Rattle.core_model.proofs.Viewing as alike
@@ -55,7 +55,7 @@ use Rattle.core_model.specs.Memory.{memory_from, signals}
 use Rattle.core_model.specs.Queues.{Opening, owner, is_down, next_id}
 use Rattle.core_model.specs.Needs.{function_of}
 use Rattle.core_model.specs.LaunchRules.{Facts, first_failing_rule, holds_rule, launch_rules, cause_to_wait}
-use Rattle.core_model.specs.Work.{groups_of, number_in_memory, write_of, function_writes, function_result, agent_writes}
+use Rattle.core_model.specs.Work.{group_count, number_in_memory, write_of, function_writes, function_result, agent_writes}
 use Rattle.core_model.specs.Owed.{owed, answers, enters, error_without_place, facts_of, is_host_size, group_owed, owed_group}
 use Rattle.core_model.specs.Legal.{IsLegal}
 use Rattle.core_model.specs.Refusals.{for_some, refuse_unless}
@@ -191,11 +191,11 @@ module _ (start : Start) (one other : List Entry) where
       ++ (if d.return_address.0 == 0 then [] else write_of d.return_address.0 (to_le_bytes w64 (same-result (function_of d) (add-size d) all i)))
 
   -- so a group is owed the same
-  pub same-group : (queue : QueueId) (id : PacketId) (own : Given) (p : Packet) (so_far : Progress) → All Same (ranges_seen start own.rights p) →
+  pub same-group : (queue : QueueId) (id : PacketId) (own : GivenAtLaunch) (p : Packet) (so_far : Progress) → All Same (ranges_seen start own.rights p) →
       owed_group start one queue id own p so_far ≡ owed_group start other queue id own p so_far
   same-group queue id own (packet.Agent d) so_far all = ap (λ es. if nat_le 1 so_far.groups_run then answers (outcome.Worked worked.Done) else enters (outcome.Worked (worked.Ran 0 0)) es) (same-agent d all)
   same-group queue id own (packet.Kernel d) so_far all =
-      ap (λ (seen : List LentRegion). if nat_le (groups_of (packet.Kernel d)) so_far.groups_run then answers (outcome.Worked worked.Done)
+      ap (λ (seen : List LentRegion). if nat_le (group_count (packet.Kernel d)) so_far.groups_run then answers (outcome.Worked worked.Done)
       else group_owed queue id d so_far.groups_run (group_result (record (group_input start one own d so_far.groups_run) { view = seen })))
       (alike.same-lent start one other (held_regions start own.rights) all)
   same-group queue id own (packet.BarrierAnd _) so_far all = refl

@@ -31,7 +31,7 @@ use Rattle.core_model.specs.Grants.{in_force}
 use Rattle.policy.specs.Policy.{region_lengths}
 use Rattle.core_model.specs.Memory.{memory_at, memory_from}
 use Rattle.core_model.specs.Holds.{ObjectRight}
-use Rattle.core_model.specs.View.{Given, HeldRegion, first_address, group_input, held_region, held_regions, as_lent, rights_held, view}
+use Rattle.core_model.specs.View.{GivenAtLaunch, RegionRights, first_address, group_input, held_region, held_regions, as_lent, rights_held, view}
 use Rattle.core_model.specs.Headline.{MayReach, MayReachRange, range_of}
 use Rattle.policy.proofs.PairLemmas.{same_object_is}
 use Rattle.core_model.proofs.Lists.{found-all, found-passes}
@@ -99,7 +99,7 @@ small-region lengths fit (suc k) = small-at lengths (and_parts (nat_le (length l
 
 module _ (start : Start) (before : List Entry) (client : ClientId) (hs : List ObjectRight) (granted : All (Granted start before client) hs) where
   -- what is known of a region that is held
-  pub record IsKnown (region : HeldRegion) : Type 0 where
+  pub record IsKnown (region : RegionRights) : Type 0 where
     pub size_is : region_length (region_lengths start.policy) region.number ≡ region.size
     pub granted_so : (one : Right) → has region.rights one ≡ true → in_force start before client (object.Region (record { 0 = region.number })) one ≡ true
 
@@ -112,7 +112,7 @@ module _ (start : Start) (before : List Entry) (client : ClientId) (hs : List Ob
       (zip (range_with_len 1 (length (region_lengths start.policy))) (region_lengths start.policy)) (rows-at (0 ∷ []) (region_lengths start.policy) 1 refl)))
 
   -- a region that is held with READ may be read
-  pub may-read : (region : HeldRegion) → IsKnown region → has region.rights right.Read ≡ true → MayReachRange start before client right.Read (range_of region)
+  pub may-read : (region : RegionRights) → IsKnown region → has region.rights right.Read ≡ true → MayReachRange start before client right.Read (range_of region)
   may-read region known reads = by_size (region.size == 0) refl
     where
       number : region_of (region.number * 2 ^ 32) ≡ region.number
@@ -135,7 +135,7 @@ module _ (start : Start) (before : List Entry) (client : ClientId) (hs : List Ob
   -- ---- what is written
 
   module _ (es : List Entry) (fit : are_region_lengths (region_lengths start.policy) ≡ true) where
-    lent-long : (region : HeldRegion) → length (as_lent start es region).bytes ≡ region.size
+    lent-long : (region : RegionRights) → length (as_lent start es region).bytes ≡ region.size
     lent-long region = by_test (has region.rights right.Read)
       where
         by_test : (b : Bool) → length (if b then memory_from start es (first_address region) region.size else replicate region.size 0) ≡ region.size
@@ -206,7 +206,7 @@ pub record IsWithinGrant (start : Start) (before : List Entry) (client : ClientI
   pub 1 : MayReach start before client right.Write run.address (length run.bytes)
 
 -- so each run that a group writes does
-pub runs-granted : (start : Start) (es before : List Entry) (client : ClientId) (own : Given) (d : KernelDispatch) (group : ℕ) → are_region_lengths (region_lengths start.policy) ≡ true →
+pub runs-granted : (start : Start) (es before : List Entry) (client : ClientId) (own : GivenAtLaunch) (d : KernelDispatch) (group : ℕ) → are_region_lengths (region_lengths start.policy) ≡ true →
     All (λ h. in_force start before client h.0 h.1 ≡ true) own.rights → (runs : List Run) → group_result (group_input start es own d group) ≡ wrote runs → All (IsWithinGrant start before client) runs
 runs-granted start es before client own d group fit granted runs is =
     All-weaker (IsHeldRun (view start es own.rights) right.Write) (IsWithinGrant start before client)
@@ -224,7 +224,7 @@ module _ (start : Start) (one other : List Entry) where
   abbrev pub Same : Range → Type 0
   Same range = memory_from start one range.address.0 range.size ≡ memory_from start other range.address.0 range.size
 
-  pub same-lent : (regions : List HeldRegion) → All Same (map range_of (filter (λ region. has region.rights right.Read) regions)) → map (as_lent start one) regions ≡ map (as_lent start other) regions
+  pub same-lent : (regions : List RegionRights) → All Same (map range_of (filter (λ region. has region.rights right.Read) regions)) → map (as_lent start one) regions ≡ map (as_lent start other) regions
   same-lent [] all = refl
   same-lent (r ∷ rs) all = by_test (has r.rights right.Read) refl all (same-lent rs)
     where

@@ -17,7 +17,7 @@ use Rattle.core_model.specs.declared.entry.Effect.TheVariants as effect
 use Rattle.core_model.specs.declared.entry.Entry.{Entry}
 use Rattle.core_model.specs.History.{Start}
 use Rattle.core_model.specs.Memory.{signals}
-use Rattle.core_model.specs.Flight.{progress, seen_by_either}
+use Rattle.core_model.specs.Flight.{progress, satisfied_by_either}
 use Rattle.core_model.specs.Needs.{completion_signal}
 use Rattle.core_model.specs.Work.{seen_dependencies, is_negative, is_ready, newly_seen_positions}
 use Rattle.core_model.specs.Owed.{signal_decrement, enters, error_without_place, is_finished, owed}
@@ -46,7 +46,7 @@ module _ (start : Start) (es : List Entry) (legal : IsLegal start es) (told : Ou
   sight p = newly_seen_positions (signals start es) p satisfied
 
   -- what was seen suffices or doesn't
-  as-polled : (p : Packet) (b : Bool) → is_ready p (seen_by_either satisfied (sight p)) ≡ b → IsPolled start es queue id p satisfied (if b then polled_as.Ready (sight p) else polled_as.Pending (sight p))
+  as-polled : (p : Packet) (b : Bool) → is_ready p (satisfied_by_either satisfied (sight p)) ≡ b → IsPolled start es queue id p satisfied (if b then polled_as.Ready (sight p) else polled_as.Pending (sight p))
   as-polled p true is = (refl, is)
   as-polled p false is = (refl, is)
 
@@ -60,9 +60,9 @@ module _ (start : Start) (es : List Entry) (legal : IsLegal start es) (told : Ou
           let since = flying-since start es legal queue id seen.flying seen.found in
           let p = since.0.flying.packet in (
             since.0,
-            (if is_ready p (seen_by_either satisfied (sight p)) then polled_as.Ready (sight p) else polled_as.Pending (sight p)),
-            seen.outcome_is ∙ sym (ap (λ f. outcome.Polled (if is_ready f.packet (seen_by_either satisfied (sight f.packet)) then polled_as.Ready (sight f.packet) else polled_as.Pending (sight f.packet))) since.1),
-            as-polled p (is_ready p (seen_by_either satisfied (sight p))) refl,
+            (if is_ready p (satisfied_by_either satisfied (sight p)) then polled_as.Ready (sight p) else polled_as.Pending (sight p)),
+            seen.outcome_is ∙ sym (ap (λ f. outcome.Polled (if is_ready f.packet (satisfied_by_either satisfied (sight f.packet)) then polled_as.Ready (sight f.packet) else polled_as.Pending (sight f.packet))) since.1),
+            as-polled p (is_ready p (satisfied_by_either satisfied (sight p))) refl,
           )
       by_end (inr failed) =
           let since = flying-since start es legal queue id failed.flying failed.found in (

@@ -76,15 +76,15 @@ LawOfFlight = (start : Start) (entries : List Entry) (f : InFlight)
     → (Contains (flight start entries) f → WasLaunchedAndStays entries f) × (WasLaunchedAndStays entries f → Contains (flight start entries) f)
 
 -- the positions seen by either (own)
-abbrev pub seen_by_either : Satisfied → Satisfied → Satisfied
-seen_by_either a b = record { 0 = map (λ pair. pair.0 || pair.1) (zip a.0 b.0) }
+abbrev pub satisfied_by_either : Satisfied → Satisfied → Satisfied
+satisfied_by_either a b = record { 0 = map (λ pair. pair.0 || pair.1) (zip a.0 b.0) }
 
 -- how far a packet has come after an event: one of its groups ran, or dependencies were seen (own)
 abbrev pub progress_after : QueueId → PacketId → Progress → Event → Outcome → Progress
 progress_after queue id p (Take q i _) (outcome.Taken Launched) = if same_packet q i queue id then LAUNCH_PROGRESS else p
 progress_after queue id p (RunNext q i) (outcome.Worked (Ran _ _)) = if same_packet q i queue id then record p { groups_run = p.groups_run + 1 } else p
-progress_after queue id p (Poll q i) (outcome.Polled (Pending seen)) = if same_packet q i queue id then record p { satisfied = seen_by_either p.satisfied seen } else p
-progress_after queue id p (Poll q i) (outcome.Polled (Ready seen)) = if same_packet q i queue id then record p { satisfied = seen_by_either p.satisfied seen } else p
+progress_after queue id p (Poll q i) (outcome.Polled (Pending seen)) = if same_packet q i queue id then record p { satisfied = satisfied_by_either p.satisfied seen } else p
+progress_after queue id p (Poll q i) (outcome.Polled (Ready seen)) = if same_packet q i queue id then record p { satisfied = satisfied_by_either p.satisfied seen } else p
 progress_after queue id p _ _ = p
 
 -- how far a packet has come since its launch (own)

@@ -22,7 +22,7 @@ in_force_after client object right before _ = before
 unfoldable pub in_force : Start → List Entry → ClientId → Object → Right → Bool
 in_force start entries client object right = fold (λ before entry. in_force_after client object right before entry.event) false entries
 
--- whether a client's right is in force on the region in which a range lies whole (own)
+-- whether a range lies whole in one region, and the client's right on that region is in force (own)
 abbrev pub in_force_on_range : Start → List Entry → ClientId → Right → ℕ → ℕ → Bool
 in_force_on_range start entries client right address size =
     is_within (region_lengths start.policy) address size && in_force start entries client (object.Region (record { 0 = region_of address })) right

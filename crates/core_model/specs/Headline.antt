@@ -45,13 +45,13 @@ use Rattle.core_model.specs.Grants.{in_force}
 use Rattle.policy.specs.Policy.{region_lengths}
 use Rattle.core_model.specs.Memory.{signals}
 use Rattle.core_model.specs.Queues.{Opening, owner, is_down, next_id}
-use Rattle.core_model.specs.Flight.{flight, flight_of, in_flight, progress, seen_by_either}
+use Rattle.core_model.specs.Flight.{flight, flight_of, in_flight, progress, satisfied_by_either}
 use Rattle.core_model.specs.Kernels.{kernel_of}
 use Rattle.core_model.specs.Needs.{range_at, function_of, result_range, dependencies, completion_signal}
 use Rattle.core_model.specs.LaunchRules.{holds_rule, launch_rules, cause_to_wait, is_barrier}
-use Rattle.core_model.specs.Work.{seen_dependencies, groups_of, is_negative, is_ready, newly_seen_positions}
+use Rattle.core_model.specs.Work.{seen_dependencies, group_count, is_negative, is_ready, newly_seen_positions}
 use Rattle.core_model.specs.Holds.{ObjectRight, arguments, arguments_of, packet_rights, rights_at_launch}
-use Rattle.core_model.specs.View.{HeldRegion, first_address, held_regions}
+use Rattle.core_model.specs.View.{RegionRights, first_address, held_regions}
 use Rattle.core_model.specs.Owed.{completion_of, error_without_place, facts_of, is_finished}
 use Rattle.core_model.specs.Legal.{IsLegal, entry_of}
 use Rattle.core_model.specs.Queries.{has_some_right}
@@ -105,7 +105,7 @@ reads_of (Agent dispatch) = ranges_read (function_of dispatch)
 reads_of _ = []
 
 -- a held region as a range
-abbrev pub range_of : HeldRegion → Range
+abbrev pub range_of : RegionRights → Range
 range_of region = range_at (first_address region) region.size
 
 -- the ranges that a packet's groups read: a kernel's are lent the regions that it holds with READ, an agent dispatch has those of its
@@ -194,7 +194,7 @@ pub record IsGroupWrite (start : Start) (before : List Entry) (event : Event) (a
   pub event_is : event ≡ RunNext queue id
   pub packet : InFlightSince start before queue id
   -- a group was left to run
-  pub is_left : (progress start before queue id).groups_run < groups_of packet.flying.packet
+  pub is_left : (progress start before queue id).groups_run < group_count packet.flying.packet
   pub allowed : MayReach start packet.launch.before packet.launch.opening.client right.Write address (length bytes)
 
 -- who wrote, at least one byte, and which grant allowed it (own)
@@ -262,9 +262,9 @@ abbrev pub IsPolled : Start → List Entry → QueueId → PacketId → Packet �
 IsPolled start before queue id p satisfied (Failed error) =
     (error ≡ error_without_place queue id.0 B1) × (list_any (is_negative (signals start before)) (seen_dependencies p satisfied) ≡ true)
 IsPolled start before queue id p satisfied (Pending new) =
-    (new ≡ newly_seen_positions (signals start before) p satisfied) × (is_ready p (seen_by_either satisfied new) ≡ false)
+    (new ≡ newly_seen_positions (signals start before) p satisfied) × (is_ready p (satisfied_by_either satisfied new) ≡ false)
 IsPolled start before queue id p satisfied (Ready new) =
-    (new ≡ newly_seen_positions (signals start before) p satisfied) × (is_ready p (seen_by_either satisfied new) ≡ true)
+    (new ≡ newly_seen_positions (signals start before) p satisfied) × (is_ready p (satisfied_by_either satisfied new) ≡ true)
 
 -- the packet that an event concerns, if it concerns one (own)
 abbrev pub packet_named : Event → Option (QueueId × PacketId)

@@ -84,30 +84,30 @@ pub record Meets (event : Event) (old new : History) (reply : Result Outcome Ref
 -- whether an event that is due this may want memory: an opening, a launch, a group and a client's write, and only where they
 -- are entered; a group also where the audit is full, since only what it comes to tells whether its entry needs room; any other
 -- refusal, an answer without an entry, and every other call never do (own)
-abbrev pub may_lack : Event → Owed → Bool
-may_lack (OpenQueue _ _ _) (enters _ _) = true
-may_lack (Take _ _ _) (enters (outcomes.Taken Launched) _) = true
-may_lack (RunNext _ _) (enters _ _) = true
-may_lack (RunNext _ _) (refuses refusal.AuditFull) = true
-may_lack (HostWrite _ _ _) (enters _ _) = true
-may_lack _ _ = false
+abbrev pub may_lack_memory : Event → Owed → Bool
+may_lack_memory (OpenQueue _ _ _) (enters _ _) = true
+may_lack_memory (Take _ _ _) (enters (outcomes.Taken Launched) _) = true
+may_lack_memory (RunNext _ _) (enters _ _) = true
+may_lack_memory (RunNext _ _) (refuses refusal.AuditFull) = true
+may_lack_memory (HostWrite _ _ _) (enters _ _) = true
+may_lack_memory _ _ = false
 
 -- memory was wanted and not to be had, and all is as before (own)
-pub record Lacks (event : Event) (old new : History) (reply : Result Outcome Refusal) : Type 0 where
-  pub may : may_lack event (due old event) ≡ true
+pub record LacksMemory (event : Event) (old new : History) (reply : Result Outcome Refusal) : Type 0 where
+  pub may : may_lack_memory event (due old event) ≡ true
   pub reply_is : reply ≡ Err refusal.OutOfMemory
   pub history_is : new ≡ old
 
 -- an event got and left what was due, unless memory was wanted (own)
 abbrev pub MeetsOrLacks : Event → History → History → Result Outcome Refusal → Type 0
-MeetsOrLacks event old new reply = Meets event old new reply ⊎ Lacks event old new reply
+MeetsOrLacks event old new reply = Meets event old new reply ⊎ LacksMemory event old new reply
 
 -- whether a query that is replied this may want memory: one that is answered by a list, never one that is refused (own)
-abbrev pub query_may_lack : AnswerOrRefusal → Bool
-query_may_lack (Err _) = false
-query_may_lack (Ok (answer.Value _)) = false
-query_may_lack (Ok (answer.Test _)) = false
-query_may_lack (Ok _) = true
+abbrev pub query_may_lack_memory : AnswerOrRefusal → Bool
+query_may_lack_memory (Err _) = false
+query_may_lack_memory (Ok (answer.Value _)) = false
+query_may_lack_memory (Ok (answer.Test _)) = false
+query_may_lack_memory (Ok _) = true
 
 -- an event's reply as a reply to a request (own)
 abbrev pub as_reply : Result Outcome Refusal → AnswerOrRefusal
@@ -120,7 +120,7 @@ Replies asked history reply = reply ≡ query_answer history.start history.entri
 -- it did, or it may want memory, and was told so (own)
 abbrev pub RepliesOrLacks : Query → History → AnswerOrRefusal → Type 0
 RepliesOrLacks asked history reply =
-    Replies asked history reply ⊎ ((query_may_lack (query_answer history.start history.entries asked) ≡ true) × (reply ≡ Err refusal.OutOfMemory))
+    Replies asked history reply ⊎ ((query_may_lack_memory (query_answer history.start history.entries asked) ≡ true) × (reply ≡ Err refusal.OutOfMemory))
 
 -- a request was served: an event got and left what was due, and a query, which changes nothing, got its reply; or either was told that
 -- memory was wanted, and then it counts as not made (own)

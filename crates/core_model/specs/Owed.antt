@@ -44,14 +44,14 @@ use Rattle.core_model.specs.Grants.{in_force, in_force_on_range}
 use Rattle.core_model.specs.Memory.{signals}
 use Rattle.core_model.specs.Queues.{Opening, openings, owner, next_id, is_stopped, is_down}
 use Rattle.core_model.specs.declared.outcome.TheConstants.{NONE_SATISFIED}
-use Rattle.core_model.specs.Flight.{flight_of, in_flight, progress, seen_by_either}
+use Rattle.core_model.specs.Flight.{flight_of, in_flight, progress, satisfied_by_either}
 use Rattle.core_model.specs.declared.limits.TheConstants.{MOST_HOST_BYTES, QUEUES}
 use Rattle.core_model.specs.Needs.{completion_signal}
 use Rattle.core_model.specs.LaunchRules.{Facts, first_failing_rule, cause_to_wait, is_barrier}
-use Rattle.core_model.specs.Work.{agent_writes, groups_of, write_of_run, is_ready, is_negative, newly_seen_positions, seen_dependencies}
+use Rattle.core_model.specs.Work.{agent_writes, group_count, write_of_run, is_ready, is_negative, newly_seen_positions, seen_dependencies}
 use Rattle.core_model.specs.Holds.{holder}
 use Rattle.core_model.specs.Kernels.{segments_of}
-use Rattle.core_model.specs.View.{Given, given_at_launch, group_input}
+use Rattle.core_model.specs.View.{GivenAtLaunch, given_at_launch, group_input}
 
 -- What an event is owed (own).
 pub data Owed : Type 0 where
@@ -112,17 +112,17 @@ fault_owed error = enters (outcome.Worked (Faulted error)) (effect.Release error
 -- what a group of a kernel dispatch comes to: it leaves its writes, or it faults (own)
 abbrev pub group_owed : QueueId → PacketId → KernelDispatch → ℕ → GroupResult → Owed
 group_owed queue id d group (wrote runs) =
-    enters (outcome.Worked (Ran group (groups_of (packet.Kernel d) - (group + 1)))) (map write_of_run runs)
+    enters (outcome.Worked (Ran group (group_count (packet.Kernel d) - (group + 1)))) (map write_of_run runs)
 group_owed queue id d group (broke_rule item line rule) = fault_owed (group_error queue id group item line rule)
 
 -- the next group of a packet in flight, in order, by what the packet was given at its launch: a kernel's work-groups are run one at a
 -- time; an agent dispatch has one group, number 0, and never faults
-abbrev pub owed_group : Start → List Entry → QueueId → PacketId → Given → Packet → Progress → Owed
+abbrev pub owed_group : Start → List Entry → QueueId → PacketId → GivenAtLaunch → Packet → Progress → Owed
 owed_group start entries queue id own (packet.Agent dispatch) so_far =
     if nat_le 1 so_far.groups_run then answers (outcome.Worked Done)
     else enters (outcome.Worked (Ran 0 0)) (agent_writes start entries dispatch)
 owed_group start entries queue id own (packet.Kernel d) so_far =
-    if nat_le (groups_of (packet.Kernel d)) so_far.groups_run then answers (outcome.Worked Done)
+    if nat_le (group_count (packet.Kernel d)) so_far.groups_run then answers (outcome.Worked Done)
     else group_owed queue id d so_far.groups_run (group_result (group_input start entries own d so_far.groups_run))
 owed_group start entries queue id own (packet.BarrierAnd _) so_far = refuses refusal.NotInFlight
 owed_group start entries queue id own (packet.BarrierOr _) so_far = refuses refusal.NotInFlight
@@ -131,7 +131,7 @@ owed_group start entries queue id own (packet.BarrierOr _) so_far = refuses refu
 abbrev pub owed_sight : Packet → Satisfied → Satisfied → Owed
 owed_sight p seen new =
     if list_any (λ at. at) new.0
-    then enters (outcome.Polled (if is_ready p (seen_by_either seen new) then Ready new else Pending new)) []
+    then enters (outcome.Polled (if is_ready p (satisfied_by_either seen new) then Ready new else Pending new)) []
     else answers (outcome.Polled (Pending NONE_SATISFIED))
 
 -- a poll of a barrier packet in flight: ready packets stay ready; then a negative dependency fails it, before what is newly seen
@@ -146,7 +146,7 @@ owed_poll values queue id p so_far =
 
 -- whether a packet's work is done: all its groups have run, or the barrier is ready (PSA, Architected Queuing Language: the packet process flow)
 abbrev pub is_finished : Packet → Progress → Bool
-is_finished p so_far = if is_barrier p then is_ready p so_far.satisfied else nat_le (groups_of p) so_far.groups_run
+is_finished p so_far = if is_barrier p then is_ready p so_far.satisfied else nat_le (group_count p) so_far.groups_run
 
 -- the decrement of a completion signal that isn't null (PSA, Signals: the packet processor decrements it by 1)
 abbrev pub signal_decrement : List ℤ → SignalHandle → List Effect

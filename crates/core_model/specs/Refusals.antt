@@ -3,11 +3,11 @@ use Rattle.std.specs.Prelude.{ℕ, Bool, Option, Some, None, if◌then◌else◌
 use Rattle.core_model.specs.declared.refusal.Refusal.{Refusal}
 use Rattle.core_model.specs.declared.refusal.Refusal.TheVariants as refusal
 
--- the rest where the test holds, else what is given before it: why the call is refused
+-- the rest where the test holds, else the refusal that stands before it (own)
 abbrev pub refuse_unless : {R : Type 0} → Bool → R → R → R
 refuse_unless test why rest = if test then rest else why
 
--- the rest for what there is, and where there is nothing why the call is refused
+-- the refusal where there is nothing, else the rest for what there is (own)
 abbrev pub for_some : {X R : Type 0} → Option X → R → (X → R) → R
 for_some None why rest = why
 for_some (Some x) why rest = rest x

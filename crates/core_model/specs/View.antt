@@ -21,11 +21,12 @@ use Rattle.core_model.specs.Kernels.{grid_size, group_size, kernel_of}
 use Rattle.core_model.specs.Holds.{ObjectRight, arguments, packet_rights}
 
 -- what a packet was given at its launch: what it holds, and its argument block
-pub record Given : Type 0 where
+pub record GivenAtLaunch : Type 0 where
   pub rights : List ObjectRight
   pub arguments : List ℕ
 
-abbrev pub given_at_launch : Start → List Entry → QueueId → PacketId → Given
+-- what the packet with this queue and id was given
+abbrev pub given_at_launch : Start → List Entry → QueueId → PacketId → GivenAtLaunch
 given_at_launch start entries queue id = record { rights = packet_rights start entries queue id; arguments = arguments start entries queue id }
 
 -- the rights that are held on an object
@@ -33,27 +34,27 @@ abbrev pub rights_held : List ObjectRight → Object → Rights
 rights_held all on = rights_that (λ right. list_any (λ h. same_object on h.0 && (bit_of h.1 == bit_of right)) all)
 
 -- a region with the rights that are held on it
-pub record HeldRegion : Type 0 where
+pub record RegionRights : Type 0 where
   pub number : ℕ
   pub size : ℕ
   pub rights : Rights
 
 -- the region of a number, and of a size
-abbrev pub held_region : List ObjectRight → ℕ × ℕ → HeldRegion
+abbrev pub held_region : List ObjectRight → ℕ × ℕ → RegionRights
 held_region all row = record { number = row.0; size = row.1; rights = rights_held all (object.Region (record { 0 = row.0 })) }
 
 -- the regions on which a right is held, by number
-abbrev pub held_regions : Start → List ObjectRight → List HeldRegion
+abbrev pub held_regions : Start → List ObjectRight → List RegionRights
 held_regions start all =
     filter (λ region. not (region.rights.0 == 0))
     (map (held_region all) (zip (range_with_len 1 (length (region_lengths start.policy))) (region_lengths start.policy)))
 
 -- the first address of a region (own)
-abbrev pub first_address : HeldRegion → ℕ
+abbrev pub first_address : RegionRights → ℕ
 first_address region = region.number * REGION_SPAN
 
 -- a held region as it is lent: only where READ is held its bytes are those of memory
-abbrev pub as_lent : Start → List Entry → HeldRegion → LentRegion
+abbrev pub as_lent : Start → List Entry → RegionRights → LentRegion
 as_lent start entries region = record {
   number = region.number;
   rights = region.rights;
@@ -65,7 +66,7 @@ abbrev pub view : Start → List Entry → List ObjectRight → List LentRegion
 view start entries all = map (as_lent start entries) (held_regions start all)
 
 -- all that a group of a kernel dispatch is given to run on
-abbrev pub group_input : Start → List Entry → Given → KernelDispatch → ℕ → GroupInput
+abbrev pub group_input : Start → List Entry → GivenAtLaunch → KernelDispatch → ℕ → GroupInput
 group_input start entries own d group = record {
   program = kernel_of start d;
   group_size = group_size d;

@@ -56,10 +56,10 @@ agent_writes start entries dispatch = function_writes start entries (function_of
 
 -- how many groups a packet has: a kernel dispatch the work-groups of its grid (PRM, Work-Group), an agent dispatch one; barrier
 -- packets have no work (own)
-abbrev pub groups_of : Packet → ℕ
-groups_of (packet.Kernel d) = count_of (locations.groups_of (grid_size d) (group_size d))
-groups_of (packet.Agent _) = 1
-groups_of _ = 0
+abbrev pub group_count : Packet → ℕ
+group_count (packet.Kernel d) = count_of (locations.groups_of (grid_size d) (group_size d))
+group_count (packet.Agent _) = 1
+group_count _ = 0
 
 -- the change of memory that a run of written bytes is
 abbrev pub write_of_run : Run → Effect

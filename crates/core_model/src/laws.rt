@@ -46,7 +46,7 @@ ghost use Rattle.core_model.specs.Grants.{in_force};
 ghost use Rattle.core_model.specs.Memory.{memory_from, signals};
 ghost use Rattle.aql_packet.specs.Memory.{are_region_lengths};
 ghost use Rattle.core_model.specs.Holds.{packet_rights};
-ghost use Rattle.core_model.specs.View.{Given, given_at_launch};
+ghost use Rattle.core_model.specs.View.{GivenAtLaunch, given_at_launch};
 ghost use Rattle.core_model.specs.Queues.{Opening, error_of, next_id};
 ghost use Rattle.core_model.specs.Flight.{LawOfFlight, flight, in_flight, progress};
 ghost use Rattle.core_model.specs.Work.{agent_writes};
@@ -141,7 +141,7 @@ pub fn each_read_of_a_group_was_granted()
 /// What a group is owed depends, beside what its packet was given at its launch, on memory alone, by the
 /// ranges that its packet's work reads.
 pub fn groups_depend_on_what_they_read()
-    ensures { (start : Start) (one other : List Entry) (queue : QueueId) (id : PacketId) (own : Given) (p : Packet) (so_far : Progress) →
+    ensures { (start : Start) (one other : List Entry) (queue : QueueId) (id : PacketId) (own : GivenAtLaunch) (p : Packet) (so_far : Progress) →
         All (λ range. memory_from start one range.address.0 range.size ≡ memory_from start other range.address.0 range.size) (ranges_seen start own.rights p) →
         owed_group start one queue id own p so_far ≡ owed_group start other queue id own p so_far }
 {}

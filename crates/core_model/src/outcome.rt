@@ -41,7 +41,7 @@ pub enum Worked {
 #[derive(Clone, Copy, Debug, PartialEq, Eq)]
 pub struct Satisfied(pub [bool; 5]);
 
-/// No position.
+/// None of the five was seen as 0.
 pub const NONE_SATISFIED: Satisfied = Satisfied([false; 5]);
 
 /// What a poll of a barrier packet found, with the positions that it is the first to have seen as 0.

@@ -10,7 +10,7 @@ use Rattle.policy.specs.Listing.{all_objects, listing_by}
 use Rattle.policy.specs.Rules.{count}
 use Rattle.grants.specs.Pairs.{is_one_of, is_named}
 use Rattle.grants.specs.Holders.{same_packet}
-use Rattle.grants.specs.Ledger.{Ledger, rules_in, in_force, holds, IsNew, Gives, Takes, Holds, Releases, grant_due, RevokeAnswers, are_in_force, listing}
+use Rattle.grants.specs.Ledger.{Ledger, rules_in, in_force, holds, IsNew, PutsInForce, TakesOutOfForce, Holds, Releases, grant_due, RevokeAnswers, are_in_force, listing}
 
 -- a call that was made; one that is refused leaves all as it was, and stands in no list
 pub data Call : Type 0 where
@@ -21,8 +21,8 @@ pub data Call : Type 0 where
 
 -- a call may be made, and leads from the one to the other
 abbrev pub LeadsTo : Ledger → Call → Ledger → Type 0
-LeadsTo old (Grant client object rights) new = (grant_due old client object rights ≡ Ok tt) × Gives old new client object rights
-LeadsTo old (Revoke client object rights) new = RevokeAnswers old client object rights (Ok tt) × Takes old new client object rights
+LeadsTo old (Grant client object rights) new = (grant_due old client object rights ≡ Ok tt) × PutsInForce old new client object rights
+LeadsTo old (Revoke client object rights) new = RevokeAnswers old client object rights (Ok tt) × TakesOutOfForce old new client object rights
 LeadsTo old (Hold client queue packet rights) new = (are_in_force old client rights ≡ true) × Holds old new client queue packet rights
 LeadsTo old (Release queue packet) new = Releases old new queue packet
 

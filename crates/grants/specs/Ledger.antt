@@ -70,7 +70,7 @@ SameHolds old new = (queue : QueueId) (packet : PacketId) (client : ClientId) (o
     → holds new queue packet client object right ≡ holds old queue packet client object right
 
 -- the rights of the client on the object came into force, and nothing else changed
-pub record Gives (old new : Ledger) (client : ClientId) (object : Object) (rights : Rights) : Type 0 where
+pub record PutsInForce (old new : Ledger) (client : ClientId) (object : Object) (rights : Rights) : Type 0 where
   pub given : (client' : ClientId) (object' : Object) (right : Right)
       → in_force new client' object' right ≡ (in_force old client' object' right || is_one_of client' object' right client object rights)
   pub same_rules : rules_in new ≡ rules_in old
@@ -79,7 +79,7 @@ pub record Gives (old new : Ledger) (client : ClientId) (object : Object) (right
   pub same_places : places new ≡ places old
 
 -- the rights of the client on the object went out of force, and nothing else changed
-pub record Takes (old new : Ledger) (client : ClientId) (object : Object) (rights : Rights) : Type 0 where
+pub record TakesOutOfForce (old new : Ledger) (client : ClientId) (object : Object) (rights : Rights) : Type 0 where
   pub taken : (client' : ClientId) (object' : Object) (right : Right)
       → in_force new client' object' right ≡ (in_force old client' object' right && not (is_one_of client' object' right client object rights))
   pub same_rules : rules_in new ≡ rules_in old

@@ -45,7 +45,7 @@ impl Model for Grants {
 }
 
 impl Grants {
-    ghost use Rattle.grants.specs.Ledger.{IsNew, Gives, Takes, Holds, Releases, RevokeAnswers, rules_in, in_force, holds, grant_due, rights_on, are_in_force, listing, places};
+    ghost use Rattle.grants.specs.Ledger.{IsNew, PutsInForce, TakesOutOfForce, Holds, Releases, RevokeAnswers, rules_in, in_force, holds, grant_due, rights_on, are_in_force, listing, places};
 
     /// No right is in force yet, and no packet holds one.
     pub fn new(alloc: Global, policy: &Policy) -> Result<Grants, AllocError>
@@ -67,7 +67,7 @@ impl Grants {
         rights: Rights,
     ) -> Result<(), GrantRefusal>
         ensures answer { result ≡ grant_due self.old client object rights }
-        ensures ok { OnOk result (Gives self.old self.new client object rights) }
+        ensures ok { OnOk result (PutsInForce self.old self.new client object rights) }
         ensures err { OnErr result (self.new ≡ self.old) }
     {
         self.may_grant(client, object, rights)?;
@@ -101,7 +101,7 @@ impl Grants {
     /// Puts a client's rights on an object in force, which `may_grant` allows.
     pub fn put_in_force(&mut self, client: ClientId, object: Object, rights: Rights)
         requires { grant_due self.old client object rights ≡ Ok tt }
-        ensures { Gives self.old self.new client object rights }
+        ensures { PutsInForce self.old self.new client object rights }
     {
         self.table.put_in_force(client, object, rights);
     }
@@ -115,7 +115,7 @@ impl Grants {
         rights: Rights,
     ) -> Result<(), GrantRefusal>
         ensures answer { RevokeAnswers self.old client object rights result }
-        ensures ok { OnOk result (Takes self.old self.new client object rights) }
+        ensures ok { OnOk result (TakesOutOfForce self.old self.new client object rights) }
         ensures err { OnErr result (self.new ≡ self.old) }
     {
         self.may_revoke(client, object, rights)?;
@@ -154,7 +154,7 @@ impl Grants {
     /// Takes a client's rights on an object out of force, which `may_revoke` allows.
     pub fn take_out_of_force(&mut self, client: ClientId, object: Object, rights: Rights)
         requires { RevokeAnswers self.old client object rights (Ok tt) }
-        ensures { Takes self.old self.new client object rights }
+        ensures { TakesOutOfForce self.old self.new client object rights }
     {
         self.table.take_out_of_force(client, object, rights);
     }

@@ -1,6 +1,6 @@
 -- A text is cut into tokens just where these are its tokens by their spelling.
 use Rattle.std.proofs.Common.{◌≡◌, ℕ, zero, suc, ◌+◌, ◌-◌, ◌<◌, ◌≤◌, List, [], ◌∷◌, ◌++◌, length, take, drop, Result, Ok, Err, Option, Some, refl, ap, subst, sym, ◌∙◌, append_assoc, arith, None, length-append}
-use Rattle.hsail_reader.specs.Faults.{with_front, refusal}
+use Rattle.hsail_reader.specs.Faults.{with_front, placed_flaw}
 use Rattle.hsail_reader.specs.Lexemes.{lexeme_at, lexed}
 use Rattle.hsail_reader.specs.Tokens.{tokens_from, further, before_rest}
 use Rattle.hsail_reader.specs.TextTokens.{PlacedToken, kept, line_after, line_behind, IsLongestFront, AreTokens, none, lexeme}
@@ -137,7 +137,7 @@ cut_goes_on None place line b bytes tokens e is goes_on =
     let P : Option Lexeme → Type 0 = λ o.
     before_rest o (b ∷ bytes) place line (tokens_from (further o) (place + 1) (line_behind line b) bytes)
     ≡ Ok tokens in
-    no_ok (refusal (Some place) flaw.Lexeme) tokens (subst P e is)
+    no_ok (placed_flaw (Some place) flaw.Lexeme) tokens (subst P e is)
 cut_goes_on (Some found) place line b bytes tokens e is goes_on =
     found_goes_on place line (b ∷ bytes) tokens found e is (found_is_lexeme (b ∷ bytes) found e) goes_on
 

@@ -35,8 +35,9 @@ fault_at line column [] cause = record { line = line; column = column; cause = c
 fault_at line column (b ∷ before) cause =
     if b == 10 then fault_at (line + 1) 1 before cause else fault_at line (column + 1) before cause
 
-abbrev pub refusal : Option ℕ → Flaw → PlacedFlaw
-refusal place flaw = record { place = place; flaw = flaw }
+-- a flaw with the number of bytes before it
+abbrev pub placed_flaw : Option ℕ → Flaw → PlacedFlaw
+placed_flaw place flaw = record { place = place; flaw = flaw }
 
 abbrev pub cause_of : Flaw → ReadCause
 cause_of flaw.Lexeme = Lexeme

@@ -1,7 +1,7 @@
 -- What a grammar is, which tokens it spells and how it is read (own): `spells` is what is promised, `read` is
 -- what reads, and both go over the same grammar.
 use Rattle.std.specs.Prelude.{◌≡◌, ℕ, zero, suc, ◌⊎◌, List, [], ◌∷◌, Bool, true, false, ◌||◌, if◌then◌else◌, Option, Some, None, Result, Ok, Err, is_some, length}
-use Rattle.hsail_reader.specs.Faults.{refusal}
+use Rattle.hsail_reader.specs.Faults.{placed_flaw}
 use Rattle.hsail_reader.specs.TextTokens.{PlacedToken}
 use Rattle.hsail_reader.specs.Nouns.{Flaw, PlacedFlaw}
 use Rattle.hsail_reader.specs.declared.fault.Flaw.TheVariants.{Syntax}
@@ -56,7 +56,7 @@ place_of (t ∷ tokens) = Some t.place
 
 -- a fault at the first of these tokens, or at the end of the text
 abbrev pub refuse : {X : Type 0} → List PlacedToken → Flaw → Result X PlacedFlaw
-refuse tokens flaw = Err (refusal (place_of tokens) flaw)
+refuse tokens flaw = Err (placed_flaw (place_of tokens) flaw)
 
 abbrev pub found_at : {X : Type 0} → Option X → Flaw → List PlacedToken → List PlacedToken → Reading X
 found_at None flaw tokens rest = refuse tokens flaw

@@ -1,7 +1,7 @@
 -- How a text is cut into tokens: its lexemes from the first byte on, without blanks and comments.
 -- Which tokens a text has stands in `TextTokens` (PRM, Source Text Format).
 use Rattle.std.specs.Prelude.{ℕ, zero, suc, ◌+◌, ◌-◌, List, [], ◌∷◌, Option, Some, None, Result, Ok, Err, take, map}
-use Rattle.hsail_reader.specs.Faults.{refusal, with_front}
+use Rattle.hsail_reader.specs.Faults.{placed_flaw, with_front}
 use Rattle.hsail_reader.specs.Lexemes.{lexeme_at}
 use Rattle.hsail_reader.specs.TextTokens.{PlacedToken, placed, kept, line_behind}
 use Rattle.hsail_reader.specs.declared.fault.Flaw.TheVariants as flaw
@@ -22,7 +22,7 @@ further (Some found) = found.length - 1
 
 -- the lexeme at this place, before the tokens behind it
 abbrev pub before_rest : Option Lexeme → List ℕ → ℕ → ℕ → Result (List PlacedToken) PlacedFlaw → Result (List PlacedToken) PlacedFlaw
-before_rest None bytes place line rest = Err (refusal (Some place) flaw.Lexeme)
+before_rest None bytes place line rest = Err (placed_flaw (Some place) flaw.Lexeme)
 before_rest (Some found) bytes place line rest =
     with_front (kept found.kind (take found.length bytes) place line) rest
 

@@ -116,8 +116,8 @@ impl Flaw {
     }
 }
 
-/// A fault before its line and column are counted: how many bytes stand before it, or `None` at the
-/// end of the text.
+/// A flaw, and how many bytes stand before it: `None` at the end of the text. Its line and column aren't
+/// counted yet.
 #[derive(Clone, Copy)]
 pub struct PlacedFlaw {
     pub place: Option<usize>,
@@ -172,15 +172,15 @@ fn fault_behind(before: &[u8], cause: ReadCause) -> ReadFault
 }
 
 /// The fault of a text, with its line and column.
-fn located(text: &[u8], refusal: PlacedFlaw) -> ReadFault
+fn located(text: &[u8], placed: PlacedFlaw) -> ReadFault
     requires { length text.now ≤ 65536 }
-    ensures { result ≡ fault_of text.now refusal }
+    ensures { result ≡ fault_of text.now placed }
 {
-    let before = match refusal.place {
+    let before = match placed.place {
         Some(place) if place <= text.len() => text.split_at(place).0,
         _ => text,
     };
-    fault_behind(before, refusal.flaw.cause())
+    fault_behind(before, placed.flaw.cause())
 }
 
 /// What a stop is to a reader of the whole text: want of memory, or the fault. It takes no memory.
@@ -190,6 +190,6 @@ pub fn told(text: &[u8], stop: Stop) -> ReadError
 {
     match stop {
         Stop::OutOfMemory => ReadError::OutOfMemory,
-        Stop::Refused(refusal) => ReadError::Fault(located(text, refusal)),
+        Stop::Refused(placed) => ReadError::Fault(located(text, placed)),
     }
 }

@@ -2,7 +2,7 @@
 
 ghost use Rattle.std.specs.Prelude.{◌≡◌, IfOk};
 ghost use Rattle.hsail_reader.specs.declared.fault.Stop.TheVariants as stop;
-ghost use Rattle.hsail_reader.specs.Faults.{Gives, refusal};
+ghost use Rattle.hsail_reader.specs.Faults.{Gives, placed_flaw};
 ghost use Rattle.hsail_reader.specs.Tokens.{token_views};
 ghost use Rattle.hsail_reader.specs.Grammar as grammar;
 ghost use Rattle.hsail_reader.specs.Grammars as grammars;
@@ -24,7 +24,7 @@ pub type Read<'a, 't, X> = Result<(X, Tokens<'a, 't>), Stop>;
 
 /// A fault at the first of these tokens, or at the end of the text.
 pub fn refused(tokens: &[Token<'_>], flaw: Flaw) -> Stop
-    ensures { result ≡ stop.Refused (refusal (place_of (token_views tokens.now)) flaw) }
+    ensures { result ≡ stop.Refused (placed_flaw (place_of (token_views tokens.now)) flaw) }
 {
     let place = match tokens {
         [] => None,

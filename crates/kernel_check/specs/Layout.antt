@@ -83,5 +83,6 @@ laid_out arguments = record {
   end = end_from 0 arguments;
 }
 
-abbrev pub segment_laid : KernargSegment → Laid
-segment_laid block = record { names = block.names; wide = block.wide.items; end = block.end }
+-- the code's kernarg segment, as the layout has it
+abbrev pub kernarg_laid : KernargSegment → Laid
+kernarg_laid kernarg = record { names = kernarg.names; wide = kernarg.wide.items; end = kernarg.end }

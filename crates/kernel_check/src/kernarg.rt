@@ -3,7 +3,7 @@
 ghost use Rattle.std.specs.Prelude.{◌≡◌, ◌≤◌, ◌++◌, ◌∷◌, [], None, IfOk, OnOk};
 ghost use Rattle.kernel_check.specs.Checks.{argument_check, argument_checks};
 ghost use Rattle.kernel_check.specs.Faults.{first_fault, unless, Gives, Judges};
-ghost use Rattle.kernel_check.specs.Layout.{placed_at, end_behind, wide_at, laid_out, segment_laid};
+ghost use Rattle.kernel_check.specs.Layout.{placed_at, end_behind, wide_at, laid_out, kernarg_laid};
 ghost use Rattle.kernel_check.specs.Names.{find};
 ghost use Rattle.kernel_check.specs.declared.fault.CheckError.TheVariants as check_error;
 ghost use Rattle.kernel_check.specs.Faults.{fault};
@@ -87,7 +87,7 @@ pub fn place_arguments<'a>(
     alloc: Global,
     arguments: &'a [Argument],
 ) -> Result<KernargSegment<'a>, CheckError>
-    ensures value { Gives segment_laid result (unless (first_fault (argument_checks [] 0 arguments.now)) (laid_out arguments.now)) }
+    ensures value { Gives kernarg_laid result (unless (first_fault (argument_checks [] 0 arguments.now)) (laid_out arguments.now)) }
     ensures bound { IfOk result (λ block. block.end ≤ 4096) }
 {
     let mut names = Names::new(alloc);

@@ -17,16 +17,16 @@ abbrev pub as_launched : PacketId → Packet → Place
 as_launched id p = record { id = id; packet = p; progress = LAUNCH_PROGRESS }
 
 -- whether a place is that of the packet with an id
-abbrev pub is_at : PacketId → Place → Bool
-is_at id place = place.id.0 == id.0
+abbrev pub is_place_of : PacketId → Place → Bool
+is_place_of id place = place.id.0 == id.0
 
 -- a place after the packet with an id has come this far
 abbrev pub with_progress : PacketId → Progress → Place → Place
-with_progress id so_far place = if is_at id place then record place { progress = so_far } else place
+with_progress id so_far place = if is_place_of id place then record place { progress = so_far } else place
 
 -- the places without that of the packet with an id
-abbrev pub without : PacketId → List Place → List Place
-without id places = filter (λ place. not (is_at id place)) places
+abbrev pub without_packet : PacketId → List Place → List Place
+without_packet id places = filter (λ place. not (is_place_of id place)) places
 
 -- the queue's packets in flight
 abbrev pub packets : QueueState → List Packet
@@ -36,7 +36,7 @@ packets q = map (λ place. place.packet) q.places.now
 abbrev pub state_of : QueueState → State
 state_of q = if q.stopped then Stopped else if nat_lt 0 (length q.errors.now) then Error else Running
 
--- a packet without a cause to wait may start
+-- a packet may start unless there is a cause to wait, which is then told
 abbrev pub may_launch_unless : Option WaitCause → MayLaunch
 may_launch_unless None = Go
 may_launch_unless (Some cause) = Waiting cause

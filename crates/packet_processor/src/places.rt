@@ -4,7 +4,7 @@ ghost use Rattle.std.specs.Prelude.{◌≡◌, ◌==◌, ◌<◌, ◌++◌, ◌�
 ghost use Rattle.std.specs.Option.{option_copied};
 ghost use Rattle.core_model.specs.declared.limits.TheConstants.{SLOTS};
 ghost use Rattle.core_model.specs.LaunchRules.{is_barrier};
-ghost use Rattle.packet_processor.specs.Queueing.{as_launched, is_at, with_progress, without};
+ghost use Rattle.packet_processor.specs.Queueing.{as_launched, is_place_of, with_progress, without_packet};
 
 use crate::packets::is_barrier;
 use aql_packet::{Barrier, Header, Packet, PacketId, Scope, SignalHandle};
@@ -80,7 +80,7 @@ impl Places {
 
     /// The packet with an id, if it is in flight.
     pub fn get(&self, id: PacketId) -> Option<&Place>
-        ensures { option_copied result ≡ find (is_at id) self.now }
+        ensures { option_copied result ≡ find (is_place_of id) self.now }
     {
         self.as_slice().iter().find(|place| place.id.0 == id.0)
     }
@@ -117,7 +117,7 @@ impl Places {
 
     /// Takes a packet out of flight.
     pub fn release(&mut self, id: PacketId)
-        ensures { self.new ≡ without id self.old }
+        ensures { self.new ≡ without_packet id self.old }
     {
         self.taken.retain(|place| place.id.0 != id.0);
     }

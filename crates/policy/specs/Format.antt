@@ -19,8 +19,8 @@ use Rattle.policy.specs.declared.object.Kind.TheVariants as kind
 use Rattle.policy.specs.declared.rights.Right.{Right}
 use Rattle.policy.specs.declared.rights.Right.TheVariants.{Use, Read, Write, Wait, Change, Launch}
 use Rattle.policy.specs.declared.rights.Rights.{Rights}
-use Rattle.policy.specs.declared.row.Subject.{Subject}
-use Rattle.policy.specs.declared.row.Subject.TheVariants as subject
+use Rattle.policy.specs.declared.row.Grantee.{Grantee}
+use Rattle.policy.specs.declared.row.Grantee.TheVariants as subject
 use Rattle.policy.specs.declared.row.Target.{Target}
 use Rattle.policy.specs.declared.row.Target.TheVariants as target
 use Rattle.policy.specs.declared.row.AllowRow.{AllowRow}
@@ -207,7 +207,7 @@ named_row known rest before row = do
   Ok (name, value)
 
 -- whom, and what, an allow row covers: a name has to be declared
-abbrev pub subject_of : List Name → Option Name → Option Subject
+abbrev pub subject_of : List Name → Option Name → Option Grantee
 subject_of clients None = Some subject.Any
 subject_of clients (Some name) = if nat_lt 0 (number_in clients name) then Some (subject.One (record { 0 = number_in clients name })) else None
 

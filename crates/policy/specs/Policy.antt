@@ -1,4 +1,4 @@
--- What a policy declares, as plain lists, and what it allows.
+-- What a policy declares, as plain lists, and its rules: `Rules.antt` says what they allow.
 use Rattle.std.specs.Prelude.{ℕ, ℤ, List, length, map, Option, option_map}
 use Rattle.policy.specs.declared.object.Kind.{Kind}
 use Rattle.policy.specs.declared.object.Kind.TheVariants as kind
@@ -48,9 +48,9 @@ name_in policy object = numbered (names_of policy (kind_of object)) (number_of o
 abbrev pub row_of : {X : Type 0} → List (Name × X) → ℕ → Option X
 row_of rows n = option_map (λ row. row.1) (numbered rows n)
 
--- ---- what is allowed
+-- ---- its rules
 
--- the rules of a policy
+-- how many clients and objects it declares, and its allow rows
 abbrev pub rules_of : Declared → Rules
 rules_of policy = record {
   clients = length policy.clients;

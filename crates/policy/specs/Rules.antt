@@ -7,15 +7,16 @@ use Rattle.policy.specs.declared.object.Kind.TheVariants as kind
 use Rattle.policy.specs.declared.object.Object.{Object}
 use Rattle.policy.specs.declared.rights.Right.{Right}
 use Rattle.policy.specs.declared.rights.Rights.{Rights}
-use Rattle.policy.specs.declared.row.Subject.{Subject}
-use Rattle.policy.specs.declared.row.Subject.TheVariants as subject
+use Rattle.policy.specs.declared.row.Grantee.{Grantee}
+use Rattle.policy.specs.declared.row.Grantee.TheVariants as subject
 use Rattle.policy.specs.declared.row.Target.{Target}
 use Rattle.policy.specs.declared.row.Target.TheVariants as target
 use Rattle.policy.specs.declared.row.AllowRow.{AllowRow}
 use Rattle.policy.specs.Object.{kind_of, number_of, same_kind, same_object}
 use Rattle.policy.specs.Rights.{has, each_right}
 
--- What is kept of a policy where only grants are judged: its numbers of clients and of objects of each kind, and its allow rows.
+-- What tells of a policy who and what is declared, and what is allowed: its numbers of clients and of objects of each kind, and its
+-- allow rows. Grants keep no more of it.
 pub record Rules : Type 0 where
   pub clients : ℕ
   pub agents : ℕ
@@ -40,7 +41,7 @@ abbrev pub knows_object : Rules → Object → Bool
 knows_object rules object = nat_lt 0 (number_of object) && nat_le (number_of object) (count rules (kind_of object))
 
 -- an allow row is for the client
-abbrev pub is_for : Subject → ClientId → Bool
+abbrev pub is_for : Grantee → ClientId → Bool
 is_for subject.Any client = true
 is_for (subject.One named) client = named.0 == client.0
 

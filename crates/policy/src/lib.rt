@@ -27,4 +27,4 @@ pub use object::{Kind, Object};
 pub use policy::Policy;
 pub use read::read_policy;
 pub use rights::{Right, Rights};
-pub use row::{AllowRow, Subject, TAKES_NOTHING, Takes, Target};
+pub use row::{AllowRow, Grantee, TAKES_NOTHING, Takes, Target};

@@ -8,7 +8,7 @@ use aql_packet::ClientId;
 
 /// Whom an allow row covers.
 #[derive(Clone, Copy, Debug, PartialEq, Eq)]
-pub enum Subject {
+pub enum Grantee {
     /// Every client.
     Any,
     /// One client.
@@ -28,7 +28,7 @@ pub enum Target {
 #[derive(Clone, Copy, Debug, PartialEq, Eq)]
 pub struct AllowRow {
     /// Whom it covers.
-    pub subject: Subject,
+    pub subject: Grantee,
     /// What it covers.
     pub target: Target,
     /// The rights that it allows.
@@ -43,8 +43,8 @@ impl AllowRow {
         ensures { result ≡ (is_for self.now.subject client && is_on self.now.target object) }
     {
         let is_for = match self.subject {
-            Subject::Any => true,
-            Subject::One(named) => named == client,
+            Grantee::Any => true,
+            Grantee::One(named) => named == client,
         };
         let is_on = match self.target {
             Target::Any(kind) => kind == object.kind(),

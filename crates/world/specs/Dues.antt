@@ -12,7 +12,7 @@ use Rattle.core_model.specs.declared.answer.Answer.TheVariants as told
 use Rattle.core_model.specs.History.{History}
 use Rattle.core_model.specs.Queues.{next_id}
 use Rattle.core_model.specs.Owed.{Owed}
-use Rattle.core_model.specs.Legal.{as_reply, due, history_after, may_lack, query_may_lack, reply_of}
+use Rattle.core_model.specs.Legal.{as_reply, due, history_after, may_lack_memory, query_may_lack_memory, reply_of}
 use Rattle.core_model.specs.Queries.{AnswerOrRefusal, query_answer}
 use Rattle.ring_core.specs.declared.access.Access.{Access}
 use Rattle.ring_core.specs.declared.access.Access.TheVariants.{Reserve, LoadHeader, ClearHeader}
@@ -39,11 +39,11 @@ Reply = Result Answer Refusal
 pub record Due : Type 0 where
   pub reply : Reply
   pub after : Joined
-  pub may_lack : Bool
+  pub may_lack_memory : Bool
 
 -- a refusal, after which all is as before
 abbrev pub refused : Joined → Refusal → Due
-refused world why = record { reply = Err why; after = world; may_lack = false }
+refused world why = record { reply = Err why; after = world; may_lack_memory = false }
 
 -- ---- ring steps
 
@@ -85,7 +85,7 @@ due_where world queue ring step (Some why) = refused world why
 due_where world queue ring step None = record {
   reply = Ok (answer_to step.access (read_index ring) (found ring step));
   after = with_ring world queue (made ring step);
-  may_lack = reserves step.access;
+  may_lack_memory = reserves step.access;
 }
 
 -- a step on the ring of a queue, if it was opened
@@ -105,7 +105,7 @@ abbrev pub due_event : Joined → Event → Owed → Due
 due_event world event owing = record {
   reply = of_core (as_reply (reply_of owing));
   after = with_core world (history_after world.core event owing);
-  may_lack = may_lack event owing;
+  may_lack_memory = may_lack_memory event owing;
 }
 
 -- a query
@@ -113,7 +113,7 @@ abbrev pub due_query : Joined → Query → Due
 due_query world query = record {
   reply = of_core (query_answer world.core.start world.core.entries query);
   after = world;
-  may_lack = query_may_lack (query_answer world.core.start world.core.entries query);
+  may_lack_memory = query_may_lack_memory (query_answer world.core.start world.core.entries query);
 }
 
 -- ---- takes
@@ -129,7 +129,7 @@ abbrev pub due_taken : Joined → ℕ → Event → Owed → Due
 due_taken world id event owing = record {
   reply = taken_reply id (reply_of owing);
   after = with_core world (history_after world.core event owing);
-  may_lack = may_lack event owing;
+  may_lack_memory = may_lack_memory event owing;
 }
 
 abbrev pub taking : QueueId → ℕ → List ℕ → Event
@@ -159,7 +159,7 @@ abbrev pub due_opening : Joined → ℕ → ℕ → Event → Owed → Due
 due_opening world size producers event owing = record {
   reply = of_core (as_reply (reply_of owing));
   after = joined (history_after world.core event owing) (rings_after world.rings size producers (reply_of owing));
-  may_lack = may_lack event owing;
+  may_lack_memory = may_lack_memory event owing;
 }
 
 -- ---- any request
@@ -177,7 +177,7 @@ owed_to world (request.Query query) = due_query world query
 abbrev pub Meets : Joined → Due → Reply → Joined → Type 0
 Meets old owed reply new =
     ((reply ≡ owed.reply) × (new ≡ owed.after))
-    ⊎ ((owed.may_lack ≡ true) × (reply ≡ Err (refusal.Core why.OutOfMemory)) × (new ≡ old))
+    ⊎ ((owed.may_lack_memory ≡ true) × (reply ≡ Err (refusal.Core why.OutOfMemory)) × (new ≡ old))
 
 abbrev pub IsServed : Joined → Request → Reply → Joined → Type 0
 IsServed old asked reply new = Meets old (owed_to old asked) reply new

@@ -33,7 +33,7 @@ use Rattle.core_model.specs.Memory.{memory_from}
 use Rattle.core_model.specs.Queues.{Opening}
 use Rattle.core_model.specs.Flight.{in_flight, progress}
 use Rattle.core_model.specs.Holds.{packet_rights}
-use Rattle.core_model.specs.View.{Given, given_at_launch}
+use Rattle.core_model.specs.View.{GivenAtLaunch, given_at_launch}
 use Rattle.core_model.specs.Owed.{enters, owed_group}
 use Rattle.core_model.specs.Legal.{IsLegal, entry_of, empty_history}
 use Rattle.core_model.specs.Queries.{query_answer}
@@ -97,7 +97,7 @@ EachGroupCameToItsMeaning start entries =
 -- a group depends on no byte of memory but those of the ranges that its work reads
 abbrev pub GroupsDependOnWhatTheyRead : Start → Type 0
 GroupsDependOnWhatTheyRead start =
-    (one other : List Entry) (queue : QueueId) (id : PacketId) (own : Given) (p : Packet) (so_far : Progress) →
+    (one other : List Entry) (queue : QueueId) (id : PacketId) (own : GivenAtLaunch) (p : Packet) (so_far : Progress) →
     All (λ range. memory_from start one range.address.0 range.size ≡ memory_from start other range.address.0 range.size) (ranges_seen start own.rights p) →
     owed_group start one queue id own p so_far ≡ owed_group start other queue id own p so_far
 

@@ -15,7 +15,7 @@ use Rattle.core_model.specs.declared.refusal.Refusal as cores
 use Rattle.core_model.specs.declared.refusal.Refusal.TheVariants as why
 use Rattle.core_model.specs.History.{History}
 use Rattle.policy.specs.Results.{map_ok}
-use Rattle.core_model.specs.Legal.{MeetsOrLacks, due, may_lack}
+use Rattle.core_model.specs.Legal.{MeetsOrLacks, due, may_lack_memory}
 use Rattle.core_model.specs.Queries.{AnswerOrRefusal}
 use Rattle.core_model.specs.Legal as cores_law
 use Rattle.ring_core.specs.Parts.{collected_packet}
@@ -93,7 +93,7 @@ rings_opened rings size producers (Err why) = rings
 -- the core will open a queue, memory aside
 abbrev pub MayOpen : History → ClientId → AgentHandle → ℕ → ℕ → Type 0
 MayOpen core client agent size producers =
-    may_lack (OpenQueue client agent (asked_size size producers)) (due core (OpenQueue client agent (asked_size size producers))) ≡ true
+    may_lack_memory (OpenQueue client agent (asked_size size producers)) (due core (OpenQueue client agent (asked_size size producers))) ≡ true
 
 -- a queue was opened with its ring, or refused by the core
 abbrev pub Opens : ClientId → AgentHandle → ℕ → ℕ → History → List QueueRing → Reply → History → List QueueRing → Type 0

@@ -8,7 +8,7 @@ use Rattle.policy.specs.Policy.{numbered}
 use Rattle.core_model.specs.declared.flight.Progress.{Progress}
 use Rattle.core_model.specs.declared.limits.TheConstants.{SLOTS}
 use Rattle.packet_processor.specs.declared.places.Place.{Place}
-use Rattle.packet_processor.specs.Queueing.{as_launched, with_progress, without}
+use Rattle.packet_processor.specs.Queueing.{as_launched, with_progress, without_packet}
 use Rattle.sequences.specs.Room.{Roomy}
 use Rattle.access_core.specs.declared.queue.Queue.{Queue}
 
@@ -23,7 +23,7 @@ with_error errors error = record { items = errors.items ++ error ∷ []; room = 
 -- the places without one packet, if it is named
 abbrev pub without_one : Option PacketId → List Place → List Place
 without_one None places = places
-without_one (Some id) places = without id places
+without_one (Some id) places = without_packet id places
 
 -- what becomes of a queue
 abbrev pub with_launched : PacketId → Packet → Queue → Queue
@@ -36,10 +36,10 @@ abbrev pub with_advance : PacketId → Progress → Queue → Queue
 with_advance id so_far q = record q { places = map (with_progress id so_far) q.places }
 
 abbrev pub with_failure : PacketId → QueueError → Queue → Queue
-with_failure id error q = record q { errors = with_error q.errors error; places = without id q.places }
+with_failure id error q = record q { errors = with_error q.errors error; places = without_packet id q.places }
 
 abbrev pub with_release : PacketId → Queue → Queue
-with_release id q = record q { places = without id q.places }
+with_release id q = record q { places = without_packet id q.places }
 
 abbrev pub with_stop : Option PacketId → Queue → Queue
 with_stop barrier q = record q { stopped = true; places = without_one barrier q.places }

@@ -9,7 +9,7 @@ use Rattle.core_model.specs.History.{History, Start}
 use Rattle.core_model.specs.Holds.{ObjectRight}
 use Rattle.policy.specs.Policy.{region_lengths}
 use Rattle.core_model.specs.Memory.{memory_from}
-use Rattle.core_model.specs.View.{HeldRegion, first_address, given_at_launch, group_input, held_region, held_regions}
+use Rattle.core_model.specs.View.{RegionRights, first_address, given_at_launch, group_input, held_region, held_regions}
 use Rattle.core_model.specs.declared.entry.Entry.{Entry}
 use Rattle.aql_packet.specs.declared.packet.KernelDispatch.{KernelDispatch}
 use Rattle.executor.specs.Items.{LentRegion}
@@ -30,7 +30,7 @@ pub record IsHolder (history : History) (queue : QueueId) (id : PacketId) (clien
   pub found : in_flight history.start history.entries queue id ≡ Some flying
 
 -- a held region as it is lent to the executor: all its bytes are those of memory
-abbrev pub lent_whole : Start → List Entry → HeldRegion → LentRegion
+abbrev pub lent_whole : Start → List Entry → RegionRights → LentRegion
 lent_whole start entries region = record {
   number = region.number;
   rights = region.rights;
@@ -42,11 +42,11 @@ abbrev pub view_whole : Start → List Entry → List ObjectRight → List LentR
 view_whole start entries all = map (lent_whole start entries) (held_regions start all)
 
 -- the region of a number, which counts from 1, with the rights that are held on it
-abbrev pub region_numbered : Start → List ObjectRight → ℕ → HeldRegion
+abbrev pub region_numbered : Start → List ObjectRight → ℕ → RegionRights
 region_numbered start all number = held_region all (number, region_length (region_lengths start.policy) number)
 
 -- a region as it is lent, if a right is held on it
-abbrev pub lent_if_held : Start → List Entry → HeldRegion → Option LentRegion
+abbrev pub lent_if_held : Start → List Entry → RegionRights → Option LentRegion
 lent_if_held start entries region = if region.rights.0 == 0 then None else Some (lent_whole start entries region)
 
 -- what the next group of a kernel dispatch in flight comes to

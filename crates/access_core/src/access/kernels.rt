@@ -11,7 +11,7 @@ ghost use Rattle.policy.specs.Results.{map_ok};
 ghost use Rattle.core_model.specs.Legal.{Meets, MeetsOrLacks};
 ghost use Rattle.policy.specs.Policy.{region_lengths};
 ghost use Rattle.core_model.specs.Owed.{group_error, owed};
-ghost use Rattle.core_model.specs.Work.{groups_of};
+ghost use Rattle.core_model.specs.Work.{group_count};
 ghost use Rattle.access_core.specs.inner.InPlace.{IsInPlace};
 ghost use Rattle.access_core.specs.inner.Running.{FaultsAs, fault_owed, next_result};
 
@@ -65,7 +65,7 @@ impl AccessCore {
     ) -> Result<Sequence<Run>, RunFault>
         requires found { IsInPlace self.now.history queue packet place }
         requires packet_is { place.packet ≡ kind.Kernel dispatch }
-        requires left { place.progress.groups_run < groups_of (kind.Kernel dispatch) }
+        requires left { place.progress.groups_run < group_count (kind.Kernel dispatch) }
         ensures ok { IfOk result (λ runs. next_result self.now.history queue packet place dispatch ≡ wrote runs) }
         ensures fault { IfErr result (FaultsAs (next_result self.now.history queue packet place dispatch)) }
         ensures written { IfOk result (λ runs. All (λ run. is_within (region_lengths self.now.history.start.policy) run.address (length run.bytes) ≡ true) runs) }
@@ -149,7 +149,7 @@ fn grid_size(dispatch: &KernelDispatch) -> Extent
 #[tactic(auto, using(crate::proofs::GroupLemmas::groups_fit))]
 pub(crate) fn group_count(dispatch: &KernelDispatch) -> u32
     requires { has_sizes dispatch.now ≡ true }
-    ensures { result ≡ groups_of (kind.Kernel dispatch.now) }
+    ensures { result ≡ group_count (kind.Kernel dispatch.now) }
 {
     let x = groups_along(dispatch.grid_size_x, dispatch.workgroup_size_x);
     let y = groups_along(dispatch.grid_size_y, dispatch.workgroup_size_y);

@@ -3,7 +3,7 @@
 ghost use Rattle.std.specs.Prelude.{◌≡◌, IfErr, IfOk, Ok, Some, is_some, map, vec_capacity};
 ghost use Rattle.std.specs.List.{list_any, zip};
 ghost use Rattle.std.specs.Option.{IfSome};
-ghost use Rattle.core_model.specs.Flight.{seen_by_either};
+ghost use Rattle.core_model.specs.Flight.{satisfied_by_either};
 ghost use Rattle.core_model.specs.LaunchRules.{is_barrier};
 ghost use Rattle.core_model.specs.Needs.{dependencies};
 ghost use Rattle.core_model.specs.Work.{is_negative, is_zero, signal_value};
@@ -116,7 +116,7 @@ impl AccessCore {
         ensures places { self.new.places ≡ self.old.places }
     {
         let progress = Progress {
-            satisfied: seen_by_either(&place.progress.satisfied, &new),
+            satisfied: satisfied_by_either(&place.progress.satisfied, &new),
             ..place.progress
         };
         advance(&mut self.queues, queue, packet, progress);
@@ -159,7 +159,7 @@ fn look_at(
     if !is_any(&new) {
         return Ok(Look::Still(Polled::Pending(NONE_SATISFIED)));
     }
-    let ready = is_ready(&place.packet, &seen_by_either(seen, &new));
+    let ready = is_ready(&place.packet, &satisfied_by_either(seen, &new));
     Ok(Look::Sees { new, ready })
 }
 
@@ -230,8 +230,8 @@ fn is_any(seen: &Satisfied) -> bool
 }
 
 // The positions seen by either.
-fn seen_by_either(before: &Satisfied, new: &Satisfied) -> Satisfied
-    ensures { result ≡ seen_by_either before.now new.now }
+fn satisfied_by_either(before: &Satisfied, new: &Satisfied) -> Satisfied
+    ensures { result ≡ satisfied_by_either before.now new.now }
 {
     Satisfied([
         before.0[0] | new.0[0],

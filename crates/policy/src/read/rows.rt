@@ -23,7 +23,7 @@ use crate::policy::Policy;
 use crate::read::values;
 use crate::read::values::{Choice, same_text};
 use crate::rights::Rights;
-use crate::row::{AllowRow, Subject, Takes, Target};
+use crate::row::{AllowRow, Grantee, Takes, Target};
 use crate::table::Table as Rows;
 use std::alloc::Global;
 use toml::{Table, Value};
@@ -160,15 +160,15 @@ fn rights_at(on: Kind, row: &Table) -> Result<Rights, PolicyCause>
 }
 
 // Whom an allow row covers, if the policy declares it.
-fn subject_of(policy: &Policy, client: Choice) -> Option<Subject>
+fn subject_of(policy: &Policy, client: Choice) -> Option<Grantee>
     ensures { result ≡ subject_of policy.now.clients (chosen_name client.entry) }
 {
     match client {
-        Choice::Any => Some(Subject::Any),
+        Choice::Any => Some(Grantee::Any),
         Choice::Named(name) => {
             let client = policy.client_named(name.as_bytes());
             if client.0 > 0 {
-                Some(Subject::One(client))
+                Some(Grantee::One(client))
             } else {
                 None
             }

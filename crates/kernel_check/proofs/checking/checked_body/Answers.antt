@@ -4,7 +4,7 @@ use Rattle.hsail_reader.specs.declared.module.Argument.{Argument}
 use Rattle.hsail_reader.specs.declared.module.Item.{Item}
 use Rattle.kernel_check.specs.Checks.{argument_checks, body_worked, first_before, item_checks, labels_from, program_of, worked}
 use Rattle.kernel_check.specs.Faults.{first_fault, unless, FailsAs}
-use Rattle.kernel_check.specs.Layout.{Laid, laid_out, segment_laid}
+use Rattle.kernel_check.specs.Layout.{Laid, laid_out, kernarg_laid}
 use Rattle.kernel_check.specs.Names.{find}
 use Rattle.kernel_check.specs.Programs.{IsSound, program}
 use Rattle.kernel_check.specs.declared.step.LinedStep.{LinedStep}
@@ -28,9 +28,9 @@ returns-in_err-body c =
     let e = c.in_err-body.field-0.0 in
     let b = first_before c.in_ok-block.block.names in
     let labels = find c.in_ok-labels.labels in
-    let laid = subst (λ (args : List Argument). unless (first_fault (argument_checks [] 0 args)) (laid_out args) ≡ Ok (segment_laid c.in_ok-block.block))
+    let laid = subst (λ (args : List Argument). unless (first_fault (argument_checks [] 0 args)) (laid_out args) ≡ Ok (kernarg_laid c.in_ok-block.block))
     c.as_slice-arguments.ensures c.in_ok-block.ensures.value in
-    let w = went_well (first_fault (argument_checks [] 0 k.arguments)) (laid_out k.arguments) (segment_laid c.in_ok-block.block) laid in
+    let w = went_well (first_fault (argument_checks [] 0 k.arguments)) (laid_out k.arguments) (kernarg_laid c.in_ok-block.block) laid in
     rw (p.1, p.2)
     (items_failed k b labels (ap (λ (l : Laid). first_before l.names) (sym w.1))
     (subst (λ (items : List Item). labels ≡ find (labels_from 0 items)) c.as_slice-items.ensures c.in_ok-labels.ensures) w.0 e (program_of k)
@@ -45,8 +45,8 @@ new-requires c =
     let body = body_worked c.in_ok-body.body in
     subst (λ (xs : List LinedStep). IsSound (program c.in_ok-name.name c.in_ok-block.block.end c.in_ok-body.body.group_bytes c.in_ok-block.block.wide.items xs))
     (sym c.as_slice-lined.ensures.value)
-    (sound_parts k (segment_laid c.in_ok-block.block) labels body c.in_ok-name.name
-    (subst (λ (args : List Argument). unless (first_fault (argument_checks [] 0 args)) (laid_out args) ≡ Ok (segment_laid c.in_ok-block.block))
+    (sound_parts k (kernarg_laid c.in_ok-block.block) labels body c.in_ok-name.name
+    (subst (λ (args : List Argument). unless (first_fault (argument_checks [] 0 args)) (laid_out args) ≡ Ok (kernarg_laid c.in_ok-block.block))
     c.as_slice-arguments.ensures c.in_ok-block.ensures.value)
     (subst (λ (items : List Item). labels ≡ find (labels_from 0 items)) c.as_slice-items.ensures c.in_ok-labels.ensures)
     (subst (λ (items : List Item). unless (first_fault (item_checks labels b items)) (worked labels b items) ≡ Ok body)
@@ -59,8 +59,8 @@ returns c =
     let b = first_before c.in_ok-block.block.names in
     let labels = find c.in_ok-labels.labels in
     let body = body_worked c.in_ok-body.body in
-    done k (segment_laid c.in_ok-block.block) labels body c.in_ok-name.name
-    (subst (λ (args : List Argument). unless (first_fault (argument_checks [] 0 args)) (laid_out args) ≡ Ok (segment_laid c.in_ok-block.block))
+    done k (kernarg_laid c.in_ok-block.block) labels body c.in_ok-name.name
+    (subst (λ (args : List Argument). unless (first_fault (argument_checks [] 0 args)) (laid_out args) ≡ Ok (kernarg_laid c.in_ok-block.block))
     c.as_slice-arguments.ensures c.in_ok-block.ensures.value)
     (subst (λ (items : List Item). labels ≡ find (labels_from 0 items)) c.as_slice-items.ensures c.in_ok-labels.ensures)
     (subst (λ (items : List Item). unless (first_fault (item_checks labels b items)) (worked labels b items) ≡ Ok body)

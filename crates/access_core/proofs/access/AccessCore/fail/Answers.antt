@@ -11,13 +11,13 @@ use Rattle.access_core.proofs.CachedMore.{IsCached-more, has_place, memory-still
 use Rattle.access_core.proofs.QueueAt.{flight-released}
 use Rattle.access_core.proofs.TakeLemmas.{is-open, open-of}
 use Rattle.access_core.proofs.WorkLemmas.{failure-releases, can-fail, freed-below, place-inside, queues-released, sound-failed}
-use Rattle.access_core.proofs.Terms.{PacketId, Poll, QueueId, QueueView, error_without_place, start_of, with_failure, without}
+use Rattle.access_core.proofs.Terms.{PacketId, Poll, QueueId, QueueView, error_without_place, start_of, with_failure, without_packet}
 use Rattle.core_model.specs.declared.entry.Effect.TheVariants as effect
 use Rattle.core_model.specs.declared.outcome.Outcome.TheVariants as outcome
 use Rattle.access_core.proofs.access.AccessCore.fail.Goals as goal
 
 abbrev failed : QueueId → PacketId → QueueView → QueueView
-failed queue id v = record v { errors = v.errors ++ error_without_place queue id.0 B1 ∷ []; places = without id v.places }
+failed queue id v = record v { errors = v.errors ++ error_without_place queue id.0 B1 ∷ []; places = without_packet id v.places }
 
 pub fail_packet-requires : goal.fail_packet-requires
 fail_packet-requires c =

@@ -13,13 +13,13 @@ use Rattle.access_core.proofs.KernelLemmas.{fault-due}
 use Rattle.access_core.proofs.QueueAt.{flight-released}
 use Rattle.access_core.proofs.TakeLemmas.{is-open, open-of}
 use Rattle.access_core.proofs.WorkLemmas.{fault-releases, can-fail, freed-below, place-inside, queues-released, sound-failed}
-use Rattle.access_core.proofs.Terms.{PacketId, QueueError, QueueView, RunNext, start_of, with_failure, without}
+use Rattle.access_core.proofs.Terms.{PacketId, QueueError, QueueView, RunNext, start_of, with_failure, without_packet}
 use Rattle.core_model.specs.declared.entry.Effect.TheVariants as effect
 use Rattle.core_model.specs.declared.outcome.Outcome.TheVariants as outcome
 use Rattle.access_core.proofs.access.AccessCore.fault.Goals as goal
 
 abbrev failed : QueueError → PacketId → QueueView → QueueView
-failed error id v = record v { errors = v.errors ++ error ∷ []; places = without id v.places }
+failed error id v = record v { errors = v.errors ++ error ∷ []; places = without_packet id v.places }
 
 pub fail_packet-requires : goal.fail_packet-requires
 fail_packet-requires c =

@@ -11,7 +11,7 @@ use Rattle.access_core.proofs.Calls.{met-entry, met-refusal}
 use Rattle.access_core.proofs.HeldAfter.{grants-still}
 use Rattle.access_core.proofs.CachedMore.{IsCached-more}
 use Rattle.access_core.proofs.KernelLemmas.{kernel-advances, runs-write}
-use Rattle.access_core.proofs.LayingLemmas.{group-due, group-may_lack, runs-within}
+use Rattle.access_core.proofs.LayingLemmas.{group-due, group-may_lack_memory, runs-within}
 use Rattle.access_core.proofs.QueueAt.{flight-advanced}
 use Rattle.access_core.proofs.RunLemmas.{one_group}
 use Rattle.access_core.proofs.TakeLemmas.{is-open, open-of}
@@ -24,7 +24,7 @@ use Rattle.access_core.proofs.access.AccessCore.ran.Goals as goal
 pub returns-in_err-changes-clause-met : goal.returns-in_err-changes-clause-met
 returns-in_err-changes-clause-met c =
     inr (record {
-      may = group-may_lack c.args.self.now.history c.args.queue c.args.packet c.args.place.progress.groups_run c.args.left c.args.runs c.requires.owed;
+      may = group-may_lack_memory c.args.self.now.history c.args.queue c.args.packet c.args.place.progress.groups_run c.args.left c.args.runs c.requires.owed;
       reply_is = search rules;
       history_is = refl;
     })

@@ -5,7 +5,7 @@ use Rattle.executor.specs.Results.{broke_rule}
 use Rattle.executor.specs.declared.fault.ItemFault.{ItemFault}
 use Rattle.core_model.specs.declared.outcome.Worked.TheVariants.{Done, Ran}
 use Rattle.core_model.specs.Owed.{group_error, group_owed}
-use Rattle.core_model.specs.Work.{groups_of, write_of_run}
+use Rattle.core_model.specs.Work.{group_count, write_of_run}
 use Rattle.access_core.specs.inner.Running.{FaultsAs, fault_owed, next_result}
 use Rattle.access_core.proofs.Calls.{due-as}
 use Rattle.access_core.proofs.KernelLemmas.{group-lacks, kernel-owed}
@@ -17,7 +17,7 @@ pub returns-then-group-count-clause-met : goal.returns-then-group-count-clause-m
 returns-then-group-count-clause-met c =
     let h = c.args.self.now.history in
     let reached : nat_le c.group_count-count.result c.args.place.progress.groups_run ≡ true = search rules in
-    let ran : nat_le (groups_of (packet.Kernel c.args.dispatch)) c.args.place.progress.groups_run ≡ true = rw (← c.group_count-count.ensures) reached in
+    let ran : nat_le (group_count (packet.Kernel c.args.dispatch)) c.args.place.progress.groups_run ≡ true = rw (← c.group_count-count.ensures) reached in
     let is : due h (RunNext c.args.queue c.args.packet) ≡ answers (outcome.Worked Done) =
     due-as h (RunNext c.args.queue c.args.packet) (answers (outcome.Worked Done)) (kernel-owed h c.args.queue c.args.packet c.args.place c.requires.found c.args.dispatch c.requires.packet_is true ran) in
     inl (record { reply_is = rw is refl; history_is = rw is refl })
@@ -28,7 +28,7 @@ ran-requires-clause-owed c =
     let d = c.args.dispatch in
     let group = c.args.place.progress.groups_run in
     let left : nat_le c.group_count-count.result group ≡ false = search rules in
-    let ran : nat_le (groups_of (packet.Kernel d)) group ≡ false = rw (← c.group_count-count.ensures) left in
+    let ran : nat_le (group_count (packet.Kernel d)) group ≡ false = rw (← c.group_count-count.ensures) left in
     kernel-owed h c.args.queue c.args.packet c.args.place c.requires.found d c.requires.packet_is false ran
     ∙ ap (group_owed c.args.queue c.args.packet d group) c.in-Ok.ensures.ok
     ∙ ap (λ (count : ℕ). enters (outcome.Worked (Ran group (count - (group + 1)))) (map write_of_run c.in-Ok.runs)) (sym c.group_count-count.ensures)
@@ -39,7 +39,7 @@ fault-requires-clause-owed c =
     let d = c.args.dispatch in
     let group = c.args.place.progress.groups_run in
     let left : nat_le c.group_count-count.result group ≡ false = search rules in
-    let ran : nat_le (groups_of (packet.Kernel d)) group ≡ false = rw (← c.group_count-count.ensures) left in
+    let ran : nat_le (group_count (packet.Kernel d)) group ≡ false = rw (← c.group_count-count.ensures) left in
     let came : next_result h c.args.queue c.args.packet c.args.place d ≡ broke_rule c.in-Err-Fault.fault.item c.in-Err-Fault.fault.line c.in-Err-Fault.fault.rule =
     subst (FaultsAs (next_result h c.args.queue c.args.packet c.args.place d)) c.in-Err-Fault.field-0-is c.in-Err-Fault.ensures.fault in
     kernel-owed h c.args.queue c.args.packet c.args.place c.requires.found d c.requires.packet_is false ran
@@ -52,7 +52,7 @@ returns-in-Err-OutOfMemory-clause-met c =
     let d = c.args.dispatch in
     let group = c.args.place.progress.groups_run in
     let left : nat_le c.group_count-count.result group ≡ false = search rules in
-    let ran : nat_le (groups_of (packet.Kernel d)) group ≡ false = rw (← c.group_count-count.ensures) left in
+    let ran : nat_le (group_count (packet.Kernel d)) group ≡ false = rw (← c.group_count-count.ensures) left in
     inr (record {
       may = group-lacks h c.args.queue c.args.packet d group (next_result h c.args.queue c.args.packet c.args.place d)
           (kernel-owed h c.args.queue c.args.packet c.args.place c.requires.found d c.requires.packet_is false ran);

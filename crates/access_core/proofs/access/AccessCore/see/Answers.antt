@@ -34,7 +34,7 @@ invariant_of-self c =
       memory = memory-still a.memory _ (λ x byte. refl);
       values = refl;
       queues = rw c.advance.ensures.queues (queues-advanced a c.self.invariant c.args.queue at c.args.packet (seen_further c.args.new) _ _ _ is refl _
-          ((λ i. record { groups_run = c.args.place.progress.groups_run; satisfied = c.seen_by_either.ensures i }) ∙ ap (seen_further c.args.new) (sym found.progress_is)));
+          ((λ i. record { groups_run = c.args.place.progress.groups_run; satisfied = c.satisfied_by_either.ensures i }) ∙ ap (seen_further c.args.new) (sym found.progress_is)));
     })
     _ (seen c.self.view_is) c.requires.may
 
