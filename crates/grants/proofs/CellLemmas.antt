@@ -1,5 +1,5 @@
 -- Counts right by right, and what one changed cell leaves in the table.
-use Rattle.std.proofs.Common.{◌≡◌, ℕ, ◌<◌, ◌≤◌, List, length, get_or, Bool, true, false, Option, Some, refl, sym, ap, subst, ◌∙◌, arith, true≢false}
+use Rattle.std.proofs.Common.{◌≡◌, ℕ, ◌<◌, ◌≤◌, List, length, get_or, Bool, true, false, Option, Some, refl, ap, ◌∙◌, arith}
 use Rattle.std.specs.Prelude.{if◌then◌else◌}
 use Rattle.std.specs.List.{list_all}
 use Rattle.std.proofs.lemmas.List.Folds.{list_all_at}
@@ -11,15 +11,8 @@ use Rattle.policy.specs.Rights.{has, each_right}
 use Rattle.grants.specs.declared.cell.Cell.{Cell}
 use Rattle.grants.specs.Pairs.{same_pair}
 use Rattle.grants.specs.Cells.{Table, cell_of, has_right}
-use Rattle.grants.specs.inner.Counts.{SameRights, SameCounts, count_in, count_of, replacement, one_for_right}
+use Rattle.grants.specs.inner.Counts.{SameRights, SameCounts, count_in, count_of, replacement}
 use Rattle.policy.proofs.PairLemmas.{same_pair_is}
-
-pub once-le : (rights : Rights) (right : Right) → one_for_right rights right ≤ 1
-once-le rights right = by_test (has rights right)
-  where
-    by_test : (b : Bool) → (if b then 1 else 0) ≤ 1
-    by_test true = omega arith
-    by_test false = omega arith
 
 module _ (old : Table) (c : ClientId) (o : Object) (before : Option Cell) (is : cell_of old c o ≡ before) (P : Bool → Option Cell → Option Cell → Type 0) (others : (s : Option Cell) → P false s s) where
   -- what is so of the changed cell, and of all that didn't change, is so everywhere
@@ -29,22 +22,11 @@ module _ (old : Table) (c : ClientId) (o : Object) (before : Option Cell) (is : 
     where
       by_test : (same : Bool) → same_pair c' o' c o ≡ same → cell_of new c' o' ≡ (if same then replacement cell (cell_of old c' o') else cell_of old c' o')
           → P same (cell_of old c' o') (cell_of new c' o')
-      by_test true same e =
-          let these = same_pair_is c' o' c o same in
-          let was : cell_of old c' o' ≡ before = (λ i. cell_of old (these.0 i) (these.1 i)) ∙ is in
-          subst (λ s. P true s (cell_of new c' o')) (sym was) (subst (λ s. P true before s) (sym (e ∙ ap (replacement cell) was)) here)
-      by_test false same e = subst (λ s. P false (cell_of old c' o') s) (sym e) (others (cell_of old c' o'))
+      by_test same h2 h3 = grind (arith, same_pair_is)
 
   -- the same where nothing changed
   pub at_each_same : P true before before → (c' : ClientId) (o' : Object) → P (same_pair c' o' c o) (cell_of old c' o') (cell_of old c' o')
-  at_each_same here c' o' = by_test (same_pair c' o' c o) refl
-    where
-      by_test : (same : Bool) → same_pair c' o' c o ≡ same → P same (cell_of old c' o') (cell_of old c' o')
-      by_test true same =
-          let these = same_pair_is c' o' c o same in
-          let was : cell_of old c' o' ≡ before = (λ i. cell_of old (these.0 i) (these.1 i)) ∙ is in
-          subst (λ s. P true s s) (sym was) here
-      by_test false same = others (cell_of old c' o')
+  at_each_same here c' o' = grind (arith, same_pair_is c' o' c o, same_pair_is)
 
 -- a cell with the holds of the one before leaves all counts as they were
 pub same_held : (old : Table) (c : ClientId) (o : Object) (before : Cell) → cell_of old c o ≡ Some before
@@ -73,11 +55,7 @@ pub each_right-same : (rights : Rights) (f g : Right → Bool) → ((right : Rig
 each_right-same rights f g same h = let all : g ≡ f = λ i. λ right. same right i in ap (each_right rights) all ∙ h
 
 pub all_at : {X : Type 0} (p : X → Bool) (xs : List X) (i : ℕ) (d : X) → i < length xs → list_all p xs ≡ true → p (get_or xs i d) ≡ true
-all_at p xs i d within all = by_test (p (get_or xs i d)) refl
-  where
-    by_test : (b : Bool) → p (get_or xs i d) ≡ b → b ≡ true
-    by_test true e = refl
-    by_test false e = absurd (true≢false (sym all ∙ list_all_at p xs i d within e))
+all_at p xs i d within all = grind (arith, list_all_at p xs i d within, list_all_at)
 
 pub SameRights-then : (a b c : Table) → SameRights a b → SameRights b c → SameRights a c
 SameRights-then a b c first then_ = record {

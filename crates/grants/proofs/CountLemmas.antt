@@ -1,5 +1,5 @@
 -- How many holds there are of a right, as holds come and go.
-use Rattle.std.proofs.Common.{◌≡◌, ℕ, zero, suc, ◌+◌, ◌<◌, ◌≤◌, Bool, true, false, ◌&&◌, ◌||◌, List, [], ◌∷◌, ◌++◌, filter, map, take, drop, get_or, length, Some, refl, sym, ap, ◌∙◌, arith, true≢false, append_assoc, append-nil, cond}
+use Rattle.std.proofs.Common.{[], ◌≡◌, ℕ, zero, suc, ◌+◌, ◌<◌, ◌≤◌, Bool, true, false, ◌&&◌, ◌||◌, List, ◌∷◌, ◌++◌, filter, map, take, drop, get_or, length, Some, refl, sym, ap, ◌∙◌, arith, append_assoc, append-nil, cond}
 use Rattle.std.specs.Prelude.{nat_lt, if◌then◌else◌}
 use Rattle.std.specs.List.{list_any}
 use Rattle.std.proofs.lemmas.List.{take_all, take_more, drop_more, map-append}
@@ -30,23 +30,14 @@ abbrev pub one_for : ClientId → Object → Right → Hold → ℕ
 one_for c o right h = one_if (is_hold_of c o right h)
 
 pub holds_of-one : (h : Hold) (c : ClientId) (o : Object) (right : Right) → holds_of (h ∷ []) c o right ≡ one_for c o right h
-holds_of-one h c o right = by_test (is_hold_of c o right h)
-  where
-    by_test : (b : Bool) → 0 + cond b 1 0 ≡ one_if b
-    by_test true = refl
-    by_test false = refl
+holds_of-one h c o right = grind arith
 
 pub holds_of-append : (xs ys : List Hold) (c : ClientId) (o : Object) (right : Right) → holds_of (xs ++ ys) c o right ≡ holds_of xs c o right + holds_of ys c o right
 holds_of-append xs ys c o right = sum_by-append (λ h. cond (is_hold_of c o right h) 1 0) xs ys
 
 pub holds_of-among : (before behind : List Hold) (h : Hold) (c : ClientId) (o : Object) (right : Right)
     → holds_of (before ++ h ∷ behind) c o right ≡ holds_of (before ++ behind) c o right + one_for c o right h
-holds_of-among before behind h c o right =
-    let a = holds_of-append before (h ∷ behind) c o right in
-    let b = holds_of-append (h ∷ []) behind c o right in
-    let e = holds_of-one h c o right in
-    let d = holds_of-append before behind c o right in
-    omega arith
+holds_of-among before behind h c o right = grind (arith, holds_of-append before (h ∷ behind) c o right, holds_of-append (h ∷ []) behind c o right, holds_of-one h c o right, holds_of-append before behind c o right, holds_of-append, holds_of-one)
 
 module _ (old new : Table) (h : Hold) where
   -- one more hold is counted
@@ -62,27 +53,16 @@ module _ (old new : Table) (h : Hold) where
   -- one hold is counted no more
   pub counted_fewer : (before behind : List Hold) → IsCounted old (before ++ h ∷ behind)
       → ((c : ClientId) (o : Object) (right : Right) → hold_count old c o right ≡ hold_count new c o right + one_for c o right h) → IsCounted new (before ++ behind)
-  counted_fewer before behind is fewer c o right =
-      let a = holds_of-among before behind h c o right in
-      let d = is c o right in
-      let e = fewer c o right in
-      omega arith
+  counted_fewer before behind is fewer = grind (arith, holds_of-among, fewer)
 
 -- a hold among others is counted
 pub once-counted : (table : Table) (before behind : List Hold) (h : Hold) → IsCounted table (before ++ h ∷ behind)
     → (right : Right) → one_for_right h.rights right ≤ hold_count table h.client h.object right
-once-counted table before behind h is right =
-    let a = holds_of-among before behind h h.client h.object right in
-    let d = is h.client h.object right in
-    let e : one_for h.client h.object right h ≡ one_for_right h.rights right = ap (λ (b : Bool). if b && has h.rights right then 1 else 0) (same_pair_itself h.client h.object) in
-    omega arith
+once-counted table before behind h is right = grind (arith, holds_of-among before behind h h.client h.object right, same_pair_itself h.client h.object, holds_of-among, same_pair_itself)
 
 -- there are no more holds of a right than there are holds
 pub counted-le : (table : Table) (holds : List Hold) → IsCounted table holds → (c : ClientId) (o : Object) (right : Right) → hold_count table c o right ≤ length holds
-counted-le table holds is c o right =
-    let a = is c o right in
-    let b = count_by-le-length (is_hold_of c o right) holds in
-    omega arith
+counted-le table holds is c o right = grind (arith, count_by-le-length (is_hold_of c o right) holds, count_by-le-length)
 
 -- ---- holds that are dropped one after another
 
@@ -92,8 +72,7 @@ module _ (keep : Hold → Bool) (holds : List Hold) where
   kept_to i = filter keep (take i holds) ++ drop i holds
 
   filter-one : (h : Hold) (b : Bool) → keep h ≡ b → filter keep (h ∷ []) ≡ (if b then h ∷ [] else [])
-  filter-one h true e = rw e refl
-  filter-one h false e = rw e refl
+  filter-one h b h3 = grind arith
 
   pub kept_to-here : (i : ℕ) (d : Hold) → i < length holds → kept_to i ≡ filter keep (take i holds) ++ get_or holds i d ∷ drop (i + 1) holds
   kept_to-here i d within = ap (λ xs. filter keep (take i holds) ++ xs) (drop_more holds i d within)
@@ -105,12 +84,10 @@ module _ (keep : Hold → Bool) (holds : List Hold) where
       ∙ append_assoc (filter keep (take i holds)) (filter keep (get_or holds i d ∷ [])) (drop (i + 1) holds)
 
   pub kept_to-kept : (i : ℕ) (d : Hold) → i < length holds → keep (get_or holds i d) ≡ true → kept_to (i + 1) ≡ kept_to i
-  kept_to-kept i d within keeps =
-      kept_to-next i d within ∙ ap (λ xs. filter keep (take i holds) ++ (xs ++ drop (i + 1) holds)) (filter-one (get_or holds i d) true keeps) ∙ sym (kept_to-here i d within)
+  kept_to-kept i d within keeps = grind (arith, kept_to-next i d within, filter-one (get_or holds i d) true keeps, kept_to-here i d within, kept_to-next, filter-one, kept_to-here)
 
   pub kept_to-dropped : (i : ℕ) (d : Hold) → i < length holds → keep (get_or holds i d) ≡ false → kept_to (i + 1) ≡ filter keep (take i holds) ++ drop (i + 1) holds
-  kept_to-dropped i d within drops =
-      kept_to-next i d within ∙ ap (λ xs. filter keep (take i holds) ++ (xs ++ drop (i + 1) holds)) (filter-one (get_or holds i d) false drops)
+  kept_to-dropped i d within drops = grind (arith, kept_to-next i d within, filter-one (get_or holds i d) false drops, kept_to-next, filter-one)
 
   pub kept_to-all : (i : ℕ) → length holds ≤ i → kept_to i ≡ filter keep holds
   kept_to-all i past = ap (λ xs. filter keep xs ++ drop i holds) (take_all i holds past) ∙ ap (λ xs. filter keep holds ++ xs) (drop_past i holds past) ∙ append-nil (filter keep holds)
@@ -131,40 +108,22 @@ put-more f first so_far more xs i d within e put =
 -- ---- no hold
 
 none_of : (packet pair right : Bool) → one_if (pair && right) ≡ 0 → ((packet && pair) && right) ≡ false
-none_of true true true h = absurd (omega (arith, h))
-none_of true true false h = refl
-none_of true false right h = refl
-none_of false pair right h = refl
+none_of packet pair right h4 = grind arith
 
 -- where no hold of a right is counted, no packet holds it
 pub held-uncounted : (holds : List Hold) (q : QueueId) (p : PacketId) (c : ClientId) (o : Object) (right : Right) → holds_of holds c o right ≡ 0 → is_held holds q p c o right ≡ false
 held-uncounted [] q p c o right h = refl
-held-uncounted (x ∷ xs) q p c o right h =
-    let parts = holds_of-append (x ∷ []) xs c o right in
-    let one = holds_of-one x c o right in
-    let rest : holds_of xs c o right ≡ 0 = omega arith in
-    let here : one_for c o right x ≡ 0 = omega arith in
-    rw (none_of (same_packet q p x.queue x.packet) (same_pair c o x.client x.object) (has x.rights right) here) (held-uncounted xs q p c o right rest)
+held-uncounted (x ∷ xs) q p c o right h = grind (arith, holds_of-append (x ∷ []) xs c o right, holds_of-one x c o right, none_of (same_packet q p x.queue x.packet) (same_pair c o x.client x.object) (has x.rights right), held-uncounted xs q p c o right, holds_of-append, holds_of-one, none_of)
 
 uncounted_and : (a : Bool) (n : ℕ) (b : Bool) → (n ≡ 0 → b ≡ false) → (a && nat_lt 0 n) ≡ false → (a && b) ≡ false
-uncounted_and false n b none h = refl
-uncounted_and true zero b none h = none refl
-uncounted_and true (suc n) b none h = absurd (true≢false (sym (lt-ltb 0 (suc n) (omega arith)) ∙ h))
+uncounted_and a n b h4 h5 = grind (arith, lt-ltb 0, h4, lt-ltb)
 
 any_less : (f g : Right → Bool) → ((r : Right) → f r ≡ false → g r ≡ false) → (xs : List Right) → list_any f xs ≡ false → list_any g xs ≡ false
 any_less f g less [] h = refl
-any_less f g less (x ∷ xs) h = by_test (f x) refl h (any_less f g less xs)
-  where
-    by_test : (b : Bool) → f x ≡ b → (b || list_any f xs) ≡ false → (list_any f xs ≡ false → list_any g xs ≡ false) → (g x || list_any g xs) ≡ false
-    by_test true e h rest = absurd (true≢false h)
-    by_test false e h rest = rw (less x e) (rest h)
+any_less f g less (x ∷ xs) h = grind (arith, any_less f g less xs)
 
 -- where no hold of any of some rights is counted, no packet holds one of them
 pub unheld : (table : Table) (holds : List Hold) → IsCounted table holds → (c : ClientId) (o : Object) (rights : Rights) (cell : Cell) → cell_of table c o ≡ Some cell
     → list_any (λ right. has rights right && nat_lt 0 (count_of cell.held right)) all_rights ≡ false
     → (q : QueueId) (p : PacketId) → list_any (λ right. has rights right && is_held holds q p c o right) all_rights ≡ false
-unheld table holds is c o rights cell at none q p =
-    any_less (λ right. has rights right && nat_lt 0 (count_of cell.held right)) (λ right. has rights right && is_held holds q p c o right)
-    (λ right. uncounted_and (has rights right) (count_of cell.held right) (is_held holds q p c o right)
-    (λ zero_is. held-uncounted holds q p c o right (sym (is c o right) ∙ ap (count_in right) at ∙ zero_is)))
-    all_rights none
+unheld table holds is c o rights cell at none q p = grind (arith, any_less (λ right. has rights right && nat_lt 0 (count_of cell.held right)) (λ right. has rights right && is_held holds q p c o right) (λ right. uncounted_and (has rights right) (count_of cell.held right) (is_held holds q p c o right) (λ zero_is. held-uncounted holds q p c o right (sym (is c o right) ∙ ap (count_in right) at ∙ zero_is))) all_rights none, uncounted_and, held-uncounted holds q p c o, any_less, held-uncounted)

@@ -1,5 +1,5 @@
 -- What the calls of grants leave, by the table and the list of holds.
-use Rattle.std.proofs.Common.{◌≡◌, ℕ, ◌+◌, ◌≤◌, Bool, true, false, List, length, ◌++◌, ◌&&◌, map, filter, not, Option, Some, None, refl, sym, ap, subst, ◌∙◌}
+use Rattle.std.proofs.Common.{◌≡◌, ℕ, ◌+◌, ◌≤◌, Bool, true, false, List, length, ◌++◌, ◌&&◌, map, filter, not, Option, Some, None, sym, ap, ◌∙◌, arith}
 use Rattle.std.specs.Option.{is_some}
 use Rattle.std.specs.Prelude.{nat_lt}
 use Rattle.std.specs.List.{list_any}
@@ -12,8 +12,7 @@ use Rattle.policy.specs.Rights.{has, all_rights}
 use Rattle.grants.specs.declared.hold.Hold.{Hold}
 use Rattle.grants.specs.declared.cell.Cell.{Cell}
 use Rattle.policy.specs.Rules.{knows_client, knows_object}
-use Rattle.grants.specs.Holders.{same_packet, IsFirstTo}
-use Rattle.grants.specs.Holds.{is_held}
+use Rattle.grants.specs.Holders.{IsFirstTo}
 use Rattle.grants.specs.inner.PacketHolds.{is_of, hold_of, holds_one}
 use Rattle.grants.specs.Cells.{Table, cell_of}
 use Rattle.grants.specs.inner.Counts.{SameRights, IsCounted, count_of}
@@ -27,51 +26,30 @@ abbrev pub ledger : Table → List Hold → ℕ → Ledger
 ledger table list room = record { table = table; list = list; room = room }
 
 and_comm : (a b : Bool) → (a && b) ≡ (b && a)
-and_comm true true = refl
-and_comm true false = refl
-and_comm false true = refl
-and_comm false false = refl
+and_comm a b = grind arith
 
 module _ (table : Table) (list : List Hold) (room : ℕ) (old : Ledger) (view : ledger table list room ≡ old) where
   -- holds behind the others are what the packet came to hold
   pub held_more : (c : ClientId) (q : QueueId) (p : PacketId) (rights : List (Object × Rights)) (after : Table) (more : List Hold) (left : ℕ)
       → SameRights table after → more ≡ list ++ map (hold_of q p c) rights → Holds old (ledger after more left) c q p rights
-  held_more c q p rights after more left same put =
-      let moved : Holds (ledger table list room) (ledger after more left) c q p rights = record {
-        held = λ q' p' c' o' right. ap (λ hs. is_held hs q' p' c' o' right) put ∙ held-pushed q p c rights q' p' c' o' right list;
-        same_rules = same.same_rules;
-        same_rights = same.same_rights;
-      } in subst (λ g. Holds g (ledger after more left) c q p rights) view moved
+  held_more c q p rights after more left same put = grind (arith, held-pushed q p c rights, held-pushed)
 
   -- without the packet's holds it holds nothing
   pub released : (q : QueueId) (p : PacketId) (after : Table) (rest : List Hold) (left : ℕ)
       → SameRights table after → rest ≡ filter (λ hold. not (is_of q p hold)) list → room ≤ left
       → length rest + left ≡ length list + room → Releases old (ledger after rest left) q p
-  released q p after rest left same dropped more places =
-      let moved : Releases (ledger table list room) (ledger after rest left) q p = record {
-        released = λ q' p' c' o' right. ap (λ hs. is_held hs q' p' c' o' right) dropped ∙ held-dropped q p q' p' c' o' right list
-            ∙ and_comm (not (same_packet q' p' q p)) (is_held list q' p' c' o' right);
-        same_rules = same.same_rules;
-        same_rights = same.same_rights;
-        room = more;
-        same_places = places;
-      } in subst (λ g. Releases g (ledger after rest left) q p) view moved
+  released q p after rest left same dropped more places = grind (arith, held-dropped q p, and_comm, held-dropped)
 
   -- a client and an object that have a cell are declared
   pub declared : (c : ClientId) (o : Object) (found : Option Cell) (cell : Cell) → is_some found ≡ (knows_client table.rules c && knows_object table.rules o) → found ≡ Some cell
       → (knows_client (rules_in old) c ≡ true) × (knows_object (rules_in old) o ≡ true)
-  declared c o found cell known is =
-      let parts = both (knows_client table.rules c) (knows_object table.rules o) (sym known ∙ ap is_some is) in
-      (sym (ap (λ g. knows_client (rules_in g) c) view) ∙ parts.0, sym (ap (λ g. knows_object (rules_in g) o) view) ∙ parts.1)
+  declared c o found cell known is = grind (arith, both (knows_client table.rules c) (knows_object table.rules o) (sym known ∙ ap is_some is), both)
 
   -- the first of the packets with a hold of one of the rights is the first that holds one of them
   pub holder_first : (c : ClientId) (o : Object) (rights : Rights) (first : Option (QueueId × PacketId)) → IsFirstTo (holds_one list c o rights) first → IsFirstTo (is_holder old c o rights) first
-  holder_first c o rights first h =
-      subst (λ g. IsFirstTo (is_holder g c o rights) first) view
-      (first_same (holds_one list c o rights) (is_holder (ledger table list room) c o rights) first (λ q p. holder list c o rights q p) h)
+  holder_first c o rights first h = grind (arith, first_same (holds_one list c o rights) (is_holder (ledger table list room) c o rights) first (λ q p. holder list c o rights q p) h, holder list c o rights, first_same, holder)
 
   -- where no hold of one of the rights is counted, no packet holds one of them
   pub none_holds : IsCounted table list → (c : ClientId) (o : Object) (rights : Rights) (cell : Cell) → cell_of table c o ≡ Some cell
       → list_any (λ right. has rights right && nat_lt 0 (count_of cell.held right)) all_rights ≡ false → IsFirstTo (is_holder old c o rights) None
-  none_holds counted c o rights cell at none =
-      subst (λ g. IsFirstTo (is_holder g c o rights) None) view (λ q p. unheld table list counted c o rights cell at none q p)
+  none_holds counted c o rights cell at none = grind (arith, unheld table list counted c o rights cell, unheld)

@@ -1,6 +1,6 @@
 -- A listing is the rows of its kinds, object by object.
-use Rattle.std.proofs.Common.{◌≡◌, ℕ, ◌+◌, Bool, List, [], ◌∷◌, ◌++◌, map, filter, sym, ap, ◌∙◌, arith, append_assoc, append-nil}
-use Rattle.std.specs.List.{list_any, range_with_len}
+use Rattle.std.proofs.Common.{[], ◌≡◌, ℕ, ◌+◌, Bool, List, ◌∷◌, ◌++◌, map, sym, ap, ◌∙◌, arith, append_assoc, append-nil}
+use Rattle.std.specs.List.{range_with_len}
 use Rattle.std.proofs.lemmas.List.{map-append}
 use Rattle.std.proofs.lemmas.List.Elements.{filter-append}
 use Rattle.std.proofs.lemmas.List.FromFn.{map-range_with_len_more}
@@ -9,15 +9,12 @@ use Rattle.policy.specs.declared.object.Object.{Object}
 use Rattle.policy.specs.declared.rights.Right.{Right}
 use Rattle.policy.specs.declared.rights.Rights.{Rights}
 use Rattle.policy.specs.Object.{object_of}
-use Rattle.policy.specs.Rights.{all_rights, rights_that}
 use Rattle.policy.specs.Listing.{listing_by}
 
 module _ (has_right : Object → Right → Bool) where
   listed-append : (xs ys : List Object) → listing_by has_right (xs ++ ys) ≡ listing_by has_right xs ++ listing_by has_right ys
   unfolding listing_by
-  listed-append xs ys =
-      ap (map (λ on. (on, rights_that (has_right on)))) (filter-append (λ on. list_any (has_right on) all_rights) xs ys)
-      ∙ map-append _ (filter (λ on. list_any (has_right on) all_rights) xs) (filter (λ on. list_any (has_right on) all_rights) ys)
+  listed-append xs ys = grind (arith, filter-append, map-append)
 
   -- no object, no row
   pub listed-none : (rows : List (Object × Rights)) → rows ≡ rows ++ listing_by has_right []

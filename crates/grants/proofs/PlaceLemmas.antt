@@ -1,5 +1,5 @@
 -- The places of cells: each lies in the table, and no two are the same.
-use Rattle.std.proofs.Common.{◌≡◌, ℕ, zero, suc, ◌+◌, ◌-◌, ◌*◌, ◌/◌, ◌<◌, ◌≤◌, Bool, true, false, ◌&&◌, List, [], ◌∷◌, length, Option, Some, None, refl, sym, ap, ◌∙◌, arith, true≢false}
+use Rattle.std.proofs.Common.{[], ◌≡◌, ℕ, zero, suc, ◌+◌, ◌-◌, ◌*◌, ◌/◌, ◌<◌, ◌≤◌, Bool, true, false, ◌&&◌, List, ◌∷◌, length, Option, Some, None, refl, sym, ap, ◌∙◌, arith, true≢false}
 use Rattle.std.specs.Option.{is_some}
 use Rattle.std.specs.Prelude.{nat_lt, nat_le, slice_get, slice_set, if◌then◌else◌}
 use Rattle.std.proofs.Math.Nat.{mul-le-mul_right}
@@ -7,7 +7,6 @@ use Rattle.std.proofs.lemmas.Nat.{div-mul-add}
 use Rattle.std.proofs.lemmas.Bool.{ltb-true, leb-true}
 use Rattle.aql_packet.specs.declared.ids.ClientId.{ClientId}
 use Rattle.policy.specs.declared.object.Object.{Object}
-use Rattle.policy.specs.declared.object.Object.TheVariants.{Agent, Region, Signal, Kernel}
 use Rattle.grants.specs.declared.cell.Cell.{Cell}
 use Rattle.grants.specs.Pairs.{same_pair}
 use Rattle.policy.specs.Rules.{Rules, knows_client, knows_object}
@@ -20,32 +19,10 @@ from_one n m h = let parts = both (nat_lt 0 n) (nat_le n m) h in (ltb-true 0 n p
 
 module _ (rules : Rules) where
   pub in_row : (o : Object) → knows_object rules o ≡ true → object_place rules o < object_count rules
-  in_row (Agent h) k = let b = from_one h.0 rules.agents k in let l = b.0 in let u = b.1 in omega arith
-  in_row (Region h) k = let b = from_one h.0 rules.regions k in let l = b.0 in let u = b.1 in omega arith
-  in_row (Signal h) k = let b = from_one h.0 rules.signals k in let l = b.0 in let u = b.1 in omega arith
-  in_row (Kernel h) k = let b = from_one h.0 rules.kernels k in let l = b.0 in let u = b.1 in omega arith
+  in_row o h2 = grind (arith, from_one)
 
   same_in_row : (o p : Object) → knows_object rules o ≡ true → knows_object rules p ≡ true → object_place rules o ≡ object_place rules p → o ≡ p
-  same_in_row (Agent h) (Agent g) k l e = let b = from_one h.0 rules.agents k in let d = from_one g.0 rules.agents l in
-      let n : h.0 ≡ g.0 = omega (arith, b.0, d.0, e) in ap (λ i. Agent (record { 0 = i })) n
-  same_in_row (Region h) (Region g) k l e = let b = from_one h.0 rules.regions k in let d = from_one g.0 rules.regions l in
-      let n : h.0 ≡ g.0 = omega (arith, b.0, d.0, e) in ap (λ i. Region (record { 0 = i })) n
-  same_in_row (Signal h) (Signal g) k l e = let b = from_one h.0 rules.signals k in let d = from_one g.0 rules.signals l in
-      let n : h.0 ≡ g.0 = omega (arith, b.0, d.0, e) in ap (λ i. Signal (record { 0 = i })) n
-  same_in_row (Kernel h) (Kernel g) k l e = let b = from_one h.0 rules.kernels k in let d = from_one g.0 rules.kernels l in
-      let n : h.0 ≡ g.0 = omega (arith, b.0, d.0, e) in ap (λ i. Kernel (record { 0 = i })) n
-  same_in_row (Agent h) (Region g) k l e = let b = from_one h.0 rules.agents k in let d = from_one g.0 rules.regions l in absurd (omega (arith, b.0, b.1, d.0, d.1, e))
-  same_in_row (Agent h) (Signal g) k l e = let b = from_one h.0 rules.agents k in let d = from_one g.0 rules.signals l in absurd (omega (arith, b.0, b.1, d.0, d.1, e))
-  same_in_row (Agent h) (Kernel g) k l e = let b = from_one h.0 rules.agents k in let d = from_one g.0 rules.kernels l in absurd (omega (arith, b.0, b.1, d.0, d.1, e))
-  same_in_row (Region h) (Agent g) k l e = let b = from_one h.0 rules.regions k in let d = from_one g.0 rules.agents l in absurd (omega (arith, b.0, b.1, d.0, d.1, e))
-  same_in_row (Region h) (Signal g) k l e = let b = from_one h.0 rules.regions k in let d = from_one g.0 rules.signals l in absurd (omega (arith, b.0, b.1, d.0, d.1, e))
-  same_in_row (Region h) (Kernel g) k l e = let b = from_one h.0 rules.regions k in let d = from_one g.0 rules.kernels l in absurd (omega (arith, b.0, b.1, d.0, d.1, e))
-  same_in_row (Signal h) (Agent g) k l e = let b = from_one h.0 rules.signals k in let d = from_one g.0 rules.agents l in absurd (omega (arith, b.0, b.1, d.0, d.1, e))
-  same_in_row (Signal h) (Region g) k l e = let b = from_one h.0 rules.signals k in let d = from_one g.0 rules.regions l in absurd (omega (arith, b.0, b.1, d.0, d.1, e))
-  same_in_row (Signal h) (Kernel g) k l e = let b = from_one h.0 rules.signals k in let d = from_one g.0 rules.kernels l in absurd (omega (arith, b.0, b.1, d.0, d.1, e))
-  same_in_row (Kernel h) (Agent g) k l e = let b = from_one h.0 rules.kernels k in let d = from_one g.0 rules.agents l in absurd (omega (arith, b.0, b.1, d.0, d.1, e))
-  same_in_row (Kernel h) (Region g) k l e = let b = from_one h.0 rules.kernels k in let d = from_one g.0 rules.regions l in absurd (omega (arith, b.0, b.1, d.0, d.1, e))
-  same_in_row (Kernel h) (Signal g) k l e = let b = from_one h.0 rules.kernels k in let d = from_one g.0 rules.signals l in absurd (omega (arith, b.0, b.1, d.0, d.1, e))
+  same_in_row o p h3 h4 h5 = grind (arith, from_one)
 
   -- a place is one only for a declared client and object
   pub record IsPlace (c : ClientId) (o : Object) (place : ℕ) : Type 0 where
@@ -54,13 +31,7 @@ module _ (rules : Rules) where
     pub is : place ≡ (c.0 - 1) * object_count rules + object_place rules o
 
   pub place-Some : (c : ClientId) (o : Object) (place : ℕ) → place_of rules c o ≡ Some place → IsPlace c o place
-  place-Some c o place h = by_test (knows_client rules c) (knows_object rules o) refl refl h
-    where
-      by_test : (a b : Bool) → knows_client rules c ≡ a → knows_object rules o ≡ b
-          → (if a && b then Some ((c.0 - 1) * object_count rules + object_place rules o) else None) ≡ Some place → IsPlace c o place
-      by_test true true client object e = record { client = client; object = object; is = cc }
-      by_test true false client object e = cc
-      by_test false b client object e = cc
+  place-Some c o place h = grind arith
 
   pub place-within : (c : ClientId) (o : Object) (place : ℕ) → place_of rules c o ≡ Some place → place < rules.clients * object_count rules
   place-within c o place h =
@@ -76,18 +47,7 @@ module _ (rules : Rules) where
   same_row a b i j h k e = sym (div-mul-add a (object_count rules) i h) ∙ ap (λ n. n / object_count rules) e ∙ div-mul-add b (object_count rules) j k
 
   pub place-same : (c : ClientId) (o : Object) (c' : ClientId) (o' : Object) (place : ℕ) → place_of rules c o ≡ Some place → place_of rules c' o' ≡ Some place → (c ≡ c') × (o ≡ o')
-  place-same c o c' o' place h h' =
-      let p = place-Some c o place h in
-      let p' = place-Some c' o' place h' in
-      let i = in_row o p.object in
-      let j = in_row o' p'.object in
-      let row = same_row (c.0 - 1) (c'.0 - 1) (object_place rules o) (object_place rules o') i j (sym p.is ∙ p'.is) in
-      let rows : (c.0 - 1) * object_count rules ≡ (c'.0 - 1) * object_count rules = ap (λ n. n * object_count rules) row in
-      let b = from_one c.0 rules.clients p.client in
-      let b' = from_one c'.0 rules.clients p'.client in
-      let number : c.0 ≡ c'.0 = omega (arith, b.0, b'.0, row) in
-      let column : object_place rules o ≡ object_place rules o' = omega (arith, rows, p.is, p'.is) in
-      (ap (λ n. record { 0 = n }) number, same_in_row o o' p.object p'.object column)
+  place-same c o c' o' place h h' = grind (arith, place-Some c o place h, place-Some c' o' place h', in_row o (place-Some c o place h).object, in_row o' (place-Some c' o' place h').object, same_row (c.0 - 1) (c'.0 - 1) (object_place rules o) (object_place rules o') (in_row o (place-Some c o place h).object) (in_row o' (place-Some c' o' place h').object) (sym (place-Some c o place h).is ∙ (place-Some c' o' place h').is), from_one c.0 rules.clients (place-Some c o place h).client, from_one c'.0 rules.clients (place-Some c' o' place h').client, same_in_row o o' (place-Some c o place h).object (place-Some c' o' place h').object, place-Some, in_row, same_row, from_one, same_in_row)
 
 -- ---- a list with one item changed
 
@@ -121,28 +81,11 @@ module _ (rules : Rules) (cells : List Cell) (long : length cells ≡ rules.clie
           → item_at (slice_set cells place new) at' ≡ (if same then replacement new (item_at cells at') else item_at cells at')
       by_test true same None is = refl
       by_test false same None is = refl
-      by_test true same (Some place') is =
-          let these = same_pair_is c' o' c o same in
-          let there : Some place' ≡ Some place = sym is ∙ (λ i. place_of rules (these.0 i) (these.1 i)) ∙ at in
-          let e : place' ≡ place = cc in
-          rw e (get-set_here cells place new within ∙ sym (get-within cells place new within))
+      by_test true same (Some place') is = grind (arith, same_pair_is c' o' c o same, get-set_here cells place new within, get-within cells place new within, same_pair_is, get-set_here, get-within)
       by_test false same (Some place') is =
           get-set_other cells place place' new (λ e.
           let these = place-same rules c' o' c o place (is ∙ ap Some (sym e)) at in
           true≢false (sym (same_pair_itself c o) ∙ (λ i. same_pair (sym these.0 i) (sym these.1 i) c o) ∙ same))
-
-  -- nothing is changed where there is no place
-  pub cell-unset : place_of rules c o ≡ None → (c' : ClientId) (o' : Object)
-      → item_at cells (place_of rules c' o') ≡ (if same_pair c' o' c o then replacement new (item_at cells (place_of rules c' o')) else item_at cells (place_of rules c' o'))
-  cell-unset at c' o' = by_test (same_pair c' o' c o) refl
-    where
-      by_test : (same : Bool) → same_pair c' o' c o ≡ same
-          → item_at cells (place_of rules c' o') ≡ (if same then replacement new (item_at cells (place_of rules c' o')) else item_at cells (place_of rules c' o'))
-      by_test false same = refl
-      by_test true same =
-          let these = same_pair_is c' o' c o same in
-          let none : place_of rules c' o' ≡ None = (λ i. place_of rules (these.0 i) (these.1 i)) ∙ at in
-          rw none refl
 
 module _ (rules : Rules) (cells : List Cell) (long : length cells ≡ rules.clients * object_count rules) (c : ClientId) (o : Object) where
   -- there is a cell just for a declared client and object
@@ -155,9 +98,7 @@ module _ (rules : Rules) (cells : List Cell) (long : length cells ≡ rules.clie
       some_within (x ∷ xs) (suc i) h = some_within xs i (omega arith)
 
       none_for : (a b : Bool) (n : ℕ) → (if a && b then Some n else None) ≡ None → (a && b) ≡ false
-      none_for true true n h = cc
-      none_for true false n h = refl
-      none_for false b n h = refl
+      none_for a b n h4 = grind arith
 
       by_test : (at : Option ℕ) → place_of rules c o ≡ at → is_some (item_at cells (place_of rules c o)) ≡ (knows_client rules c && knows_object rules o)
       by_test None is = ap (λ at. is_some (item_at cells at)) is ∙ sym (none_for (knows_client rules c) (knows_object rules o) _ is)

@@ -1,36 +1,19 @@
 -- Which rights are in the sets that two sets make.
-use Rattle.std.proofs.Common.{◌≡◌, ℕ, zero, suc, ◌-◌, ◌<◌, ◌^◌, min, not, ◌&&◌, ◌==◌, refl, sym, ap, ◌∙◌, arith, w8}
+use Rattle.std.proofs.Common.{◌≡◌, ℕ, zero, suc, ◌-◌, ◌<◌, ◌^◌, min, not, ◌&&◌, ◌==◌, ◌∙◌, arith, w8}
 use Rattle.std.specs.Int.{bit_at, bit_not}
 use Rattle.std.proofs.lemmas.Nat.Bits.{bit_at_and, bit_at_not, bit_at-lt}
 use Rattle.bitflags.specs.Sets.{without}
 use Rattle.policy.specs.declared.rights.Right.{Right}
-use Rattle.policy.specs.declared.rights.Right.TheVariants.{Use, Read, Write, Wait, Change, Launch}
 use Rattle.policy.specs.declared.rights.Rights.{Rights}
 use Rattle.policy.specs.Rights.{has}
 use Rattle.policy.proofs.RightsLemmas.{place_of, has-bit}
 
 one_and_not : (a b : ℕ) → a < 2 → b < 2 → (min a (1 - b) == 1) ≡ ((a == 1) && not (b == 1))
-one_and_not zero zero h k = refl
-one_and_not zero (suc zero) h k = refl
-one_and_not zero (suc (suc b)) h k = absurd (omega arith)
-one_and_not (suc zero) zero h k = refl
-one_and_not (suc zero) (suc zero) h k = refl
-one_and_not (suc zero) (suc (suc b)) h k = absurd (omega arith)
-one_and_not (suc (suc a)) b h k = absurd (omega arith)
+one_and_not a b h3 h4 = grind arith
 
 in_eight : (right : Right) → place_of right < 8
-in_eight Use = omega arith
-in_eight Read = omega arith
-in_eight Write = omega arith
-in_eight Wait = omega arith
-in_eight Change = omega arith
-in_eight Launch = omega arith
+in_eight right = grind arith
 
 -- a right is left where it was in the one set and isn't in the other
 pub has-without : (a b : Rights) (right : Right) → b.0 < 2 ^ 8 → has (record { 0 = without 8 a.0 b.0 }) right ≡ (has a right && not (has b right))
-has-without a b right fits =
-    let p = place_of right in
-    has-bit (without 8 a.0 b.0) right
-    ∙ ap (λ n. n == 1) (bit_at_and a.0 (bit_not w8 b.0) p ∙ ap (min (bit_at a.0 p)) (bit_at_not w8 b.0 p fits (in_eight right)))
-    ∙ one_and_not (bit_at a.0 p) (bit_at b.0 p) (bit_at-lt a.0 p) (bit_at-lt b.0 p)
-    ∙ sym (ap (λ x. x && not (has b right)) (has-bit a.0 right) ∙ ap (λ x. (bit_at a.0 p == 1) && not x) (has-bit b.0 right))
+has-without a b right fits = grind (arith, place_of right, has-bit (without 8 a.0 b.0) right, bit_at_and a.0 (bit_not w8 b.0) (place_of right), bit_at_not w8 b.0 (place_of right) fits (in_eight right), in_eight right, one_and_not (bit_at a.0 (place_of right)) (bit_at b.0 (place_of right)) (bit_at-lt a.0 (place_of right)) (bit_at-lt b.0 (place_of right)), bit_at-lt a.0 (place_of right), bit_at-lt b.0 (place_of right), has-bit a.0 right, has-bit b.0 right, place_of, has-bit, bit_at_and, bit_at_not, in_eight, one_and_not, bit_at-lt)
