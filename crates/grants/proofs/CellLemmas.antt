@@ -1,18 +1,8 @@
 -- Counts right by right, and what one changed cell leaves in the table.
 use Rattle.std.proofs.Common.{◌≡◌, ℕ, ◌<◌, ◌≤◌, List, length, get_or, Bool, true, false, Option, Some, refl, ap, ◌∙◌, arith}
 use Rattle.std.specs.Prelude.{if◌then◌else◌}
-use Rattle.std.specs.List.{list_all}
-use Rattle.std.proofs.lemmas.List.Folds.{list_all_at}
-use Rattle.aql_packet.specs.declared.ids.ClientId.{ClientId}
-use Rattle.policy.specs.declared.object.Object.{Object}
-use Rattle.policy.specs.declared.rights.Right.{Right}
-use Rattle.policy.specs.declared.rights.Rights.{Rights}
-use Rattle.policy.specs.Rights.{has, each_right}
-use Rattle.grants.specs.declared.cell.Cell.{Cell}
-use Rattle.grants.specs.Pairs.{same_pair}
-use Rattle.grants.specs.Cells.{Table, cell_of, has_right}
-use Rattle.grants.specs.inner.Counts.{SameRights, SameCounts, count_in, count_of, replacement}
-use Rattle.policy.proofs.PairLemmas.{same_pair_is}
+use Rattle.grants.proofs.Terms.{Cell, ClientId, Object, Right, Rights, SameCounts, SameRights, Table, cell_of, count_in, count_of, each_right, has, has_right, list_all, list_all_at}
+use Rattle.grants.proofs.Terms.{replacement, same_pair, same_pair_is}
 
 module _ (old : Table) (c : ClientId) (o : Object) (before : Option Cell) (is : cell_of old c o ≡ before) (P : Bool → Option Cell → Option Cell → Type 0) (others : (s : Option Cell) → P false s s) where
   -- what is so of the changed cell, and of all that didn't change, is so everywhere

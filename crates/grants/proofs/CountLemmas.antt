@@ -1,26 +1,10 @@
 -- How many holds there are of a right, as holds come and go.
 use Rattle.std.proofs.Common.{[], ◌≡◌, ℕ, zero, suc, ◌+◌, ◌<◌, ◌≤◌, Bool, true, false, ◌&&◌, ◌||◌, List, ◌∷◌, ◌++◌, filter, map, take, drop, get_or, length, Some, refl, sym, ap, ◌∙◌, arith, append_assoc, append-nil, cond}
-use Rattle.std.specs.Prelude.{nat_lt, if◌then◌else◌}
-use Rattle.std.specs.List.{list_any}
-use Rattle.std.proofs.lemmas.List.{take_all, take_more, drop_more, map-append}
-use Rattle.std.proofs.lemmas.List.Elements.{filter-append}
+use Rattle.std.specs.Prelude.{if◌then◌else◌}
+use Rattle.grants.proofs.Terms.{Cell, ClientId, IsCounted, Object, PacketId, QueueId, Right, Rights, Table, all_rights, cell_of, count_in, count_of, drop_more, filter-append, has}
+use Rattle.grants.proofs.Terms.{hold_count, holds_of, is_held, is_hold_of, list_any, lt-ltb, map-append, nat_lt, one_for_right, same_packet, same_pair, same_pair_itself, take_all, take_more}
 use Rattle.std.proofs.lemmas.List.Sums.{sum_by-append, count_by-le-length}
-use Rattle.aql_packet.specs.declared.ids.ClientId.{ClientId}
-use Rattle.aql_packet.specs.declared.ids.QueueId.{QueueId}
-use Rattle.aql_packet.specs.declared.ids.PacketId.{PacketId}
-use Rattle.policy.specs.declared.object.Object.{Object}
-use Rattle.policy.specs.declared.rights.Right.{Right}
-use Rattle.policy.specs.declared.rights.Rights.{Rights}
-use Rattle.policy.specs.Rights.{has, all_rights}
 use Rattle.grants.specs.declared.hold.Hold.{Hold}
-use Rattle.grants.specs.Pairs.{same_pair}
-use Rattle.grants.specs.Holders.{same_packet}
-use Rattle.grants.specs.Holds.{is_held}
-use Rattle.grants.specs.inner.Counts.{is_hold_of, holds_of, IsCounted, hold_count, count_in, count_of, one_for_right}
-use Rattle.grants.specs.declared.cell.Cell.{Cell}
-use Rattle.grants.specs.Cells.{Table, cell_of}
-use Rattle.std.proofs.lemmas.Bool.{lt-ltb}
-use Rattle.policy.proofs.PairLemmas.{same_pair_itself}
 
 abbrev one_if : Bool → ℕ
 one_if b = if b then 1 else 0

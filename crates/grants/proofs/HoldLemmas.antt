@@ -1,22 +1,10 @@
 -- Lists of holds, by what is found in them.
 use Rattle.std.proofs.Common.{[], ◌≡◌, ℕ, ◌+◌, ◌<◌, ◌⊎◌, Bool, true, false, not, ◌&&◌, ◌||◌, ◌==◌, List, ◌∷◌, ◌++◌, map, filter, take, get_or, length, Option, Some, None, refl, sym, ◌∙◌, arith}
-use Rattle.std.specs.List.{list_any}
-use Rattle.std.proofs.lemmas.List.Folds.{list_any-append, list_any_more}
+use Rattle.grants.proofs.Terms.{ClientId, IsFirstTo, IsUpTo, Object, PacketId, QueueId, Right, Rights, all_rights, both, has, have_common_right, hold_of, holds_one, is_held, is_hold, is_of}
+use Rattle.grants.proofs.Terms.{is_on, itself, list_any, list_any-append, list_any_more, same_number, same_packet, same_pair}
 use Rattle.std.proofs.lemmas.Map.Views.{any-filter_same}
-use Rattle.aql_packet.specs.declared.ids.ClientId.{ClientId}
-use Rattle.aql_packet.specs.declared.ids.QueueId.{QueueId}
-use Rattle.aql_packet.specs.declared.ids.PacketId.{PacketId}
-use Rattle.policy.specs.declared.object.Object.{Object}
-use Rattle.policy.specs.declared.rights.Right.{Right}
-use Rattle.policy.specs.declared.rights.Rights.{Rights}
-use Rattle.policy.specs.Rights.{has, all_rights}
 use Rattle.grants.specs.declared.hold.Hold.{Hold}
-use Rattle.grants.specs.Pairs.{same_pair}
-use Rattle.grants.specs.Holders.{same_packet, IsUpTo, IsFirstTo}
-use Rattle.grants.specs.Holds.{is_on, is_hold, is_held}
-use Rattle.grants.specs.inner.PacketHolds.{is_of, hold_of, have_common_right, holds_one}
 use Rattle.policy.proofs.ValueLemmas.{list_any-map}
-use Rattle.policy.proofs.PairLemmas.{both, same_number, itself}
 
 -- ---- tests
 

@@ -1,20 +1,9 @@
 -- What a call leads to, and what a list of calls leads to.
 use Rattle.std.proofs.Common.{[], ◌≡◌, Bool, true, false, not, ◌&&◌, ◌||◌, List, ◌∷◌, map, fold, refl, sym, ◌∙◌, true≢false, arith}
-use Rattle.std.specs.List.{list_any, list_all}
-use Rattle.std.proofs.lemmas.Bool.{false_from_ne_true}
-use Rattle.aql_packet.specs.declared.ids.ClientId.{ClientId}
-use Rattle.aql_packet.specs.declared.ids.QueueId.{QueueId}
-use Rattle.aql_packet.specs.declared.ids.PacketId.{PacketId}
-use Rattle.policy.specs.declared.object.Object.{Object}
-use Rattle.policy.specs.declared.rights.Right.{Right}
-use Rattle.policy.specs.declared.rights.Rights.{Rights}
-use Rattle.policy.specs.Rights.{has, all_rights, each_right}
-use Rattle.grants.specs.Pairs.{same_pair, is_one_of, is_named}
-use Rattle.grants.specs.Holders.{same_packet}
-use Rattle.grants.specs.Ledger.{Ledger, rules_in, in_force, holds}
+use Rattle.grants.proofs.Terms.{ClientId, Ledger, Object, PacketId, QueueId, Right, Rights, all_rights, both, each_right, each_right-has, false_from_ne_true, for_each_right, has, holds}
+use Rattle.grants.proofs.Terms.{in_force, is_named, is_one_of, list_all, list_any, rules_in, same_packet, same_pair, same_pair_is}
 use Rattle.grants.specs.Laws.{Call, LeadsTo, AreMade, last_ledger, in_force_after, holds_after, LawOfCalls}
 use Rattle.grants.specs.Laws.Call.{Grant, Revoke, Hold, Release}
-use Rattle.policy.proofs.PairLemmas.{both, same_pair_is, for_each_right, each_right-has}
 
 -- ---- one call
 

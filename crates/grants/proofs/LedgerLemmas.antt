@@ -1,23 +1,8 @@
 -- What the calls of grants leave, by the table and the list of holds.
 use Rattle.std.proofs.Common.{◌≡◌, ℕ, ◌+◌, ◌≤◌, Bool, true, false, List, length, ◌++◌, ◌&&◌, map, filter, not, Option, Some, None, sym, ap, ◌∙◌, arith}
-use Rattle.std.specs.Option.{is_some}
-use Rattle.std.specs.Prelude.{nat_lt}
-use Rattle.std.specs.List.{list_any}
-use Rattle.aql_packet.specs.declared.ids.ClientId.{ClientId}
-use Rattle.aql_packet.specs.declared.ids.QueueId.{QueueId}
-use Rattle.aql_packet.specs.declared.ids.PacketId.{PacketId}
-use Rattle.policy.specs.declared.object.Object.{Object}
-use Rattle.policy.specs.declared.rights.Rights.{Rights}
-use Rattle.policy.specs.Rights.{has, all_rights}
+use Rattle.grants.proofs.Terms.{Cell, ClientId, Holds, IsCounted, IsFirstTo, Ledger, Object, PacketId, QueueId, Releases, Rights, SameRights, Table, all_rights, both, cell_of, count_of, has}
+use Rattle.grants.proofs.Terms.{hold_of, holds_one, is_holder, is_of, is_some, knows_client, knows_object, list_any, nat_lt, rules_in}
 use Rattle.grants.specs.declared.hold.Hold.{Hold}
-use Rattle.grants.specs.declared.cell.Cell.{Cell}
-use Rattle.policy.specs.Rules.{knows_client, knows_object}
-use Rattle.grants.specs.Holders.{IsFirstTo}
-use Rattle.grants.specs.inner.PacketHolds.{is_of, hold_of, holds_one}
-use Rattle.grants.specs.Cells.{Table, cell_of}
-use Rattle.grants.specs.inner.Counts.{SameRights, IsCounted, count_of}
-use Rattle.grants.specs.Ledger.{Ledger, Holds, Releases, rules_in, is_holder}
-use Rattle.policy.proofs.PairLemmas.{both}
 use Rattle.grants.proofs.HoldLemmas.{held-pushed, held-dropped, holder, first_same}
 use Rattle.grants.proofs.CountLemmas.{unheld}
 

@@ -1,3 +1,4 @@
+pub mod Terms
 pub mod HoldLemmas
 pub mod SetLemmas
 pub mod PlaceLemmas

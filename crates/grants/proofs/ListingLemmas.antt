@@ -1,14 +1,8 @@
 -- A listing is the rows of its kinds, object by object.
 use Rattle.std.proofs.Common.{[], ◌≡◌, ℕ, ◌+◌, Bool, List, ◌∷◌, ◌++◌, map, sym, ap, ◌∙◌, arith, append_assoc, append-nil}
-use Rattle.std.specs.List.{range_with_len}
-use Rattle.std.proofs.lemmas.List.{map-append}
-use Rattle.std.proofs.lemmas.List.Elements.{filter-append}
+use Rattle.grants.proofs.Terms.{Object, Right, Rights, filter-append, map-append, object_of, range_with_len}
 use Rattle.std.proofs.lemmas.List.FromFn.{map-range_with_len_more}
 use Rattle.policy.specs.declared.object.Kind.{Kind}
-use Rattle.policy.specs.declared.object.Object.{Object}
-use Rattle.policy.specs.declared.rights.Right.{Right}
-use Rattle.policy.specs.declared.rights.Rights.{Rights}
-use Rattle.policy.specs.Object.{object_of}
 use Rattle.policy.specs.Listing.{listing_by}
 
 module _ (has_right : Object → Right → Bool) where

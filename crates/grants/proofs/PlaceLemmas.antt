@@ -1,18 +1,11 @@
 -- The places of cells: each lies in the table, and no two are the same.
 use Rattle.std.proofs.Common.{[], ◌≡◌, ℕ, zero, suc, ◌+◌, ◌-◌, ◌*◌, ◌/◌, ◌<◌, ◌≤◌, Bool, true, false, ◌&&◌, List, ◌∷◌, length, Option, Some, None, refl, sym, ap, ◌∙◌, arith, true≢false}
-use Rattle.std.specs.Option.{is_some}
-use Rattle.std.specs.Prelude.{nat_lt, nat_le, slice_get, slice_set, if◌then◌else◌}
+use Rattle.grants.proofs.Terms.{Cell, ClientId, Object, Rules, both, is_some, item_at, knows_client, knows_object, leb-true, ltb-true, nat_le, nat_lt, object_count, object_place}
+use Rattle.grants.proofs.Terms.{replacement, same_pair, same_pair_is, same_pair_itself, slice_get, slice_set}
+use Rattle.std.specs.Prelude.{if◌then◌else◌}
 use Rattle.std.proofs.Math.Nat.{mul-le-mul_right}
 use Rattle.std.proofs.lemmas.Nat.{div-mul-add}
-use Rattle.std.proofs.lemmas.Bool.{ltb-true, leb-true}
-use Rattle.aql_packet.specs.declared.ids.ClientId.{ClientId}
-use Rattle.policy.specs.declared.object.Object.{Object}
-use Rattle.grants.specs.declared.cell.Cell.{Cell}
-use Rattle.grants.specs.Pairs.{same_pair}
-use Rattle.policy.specs.Rules.{Rules, knows_client, knows_object}
-use Rattle.grants.specs.Cells.{object_count, object_place, place_of, item_at}
-use Rattle.grants.specs.inner.Counts.{replacement}
-use Rattle.policy.proofs.PairLemmas.{both, same_pair_is, same_pair_itself}
+use Rattle.grants.specs.Cells.{place_of}
 
 from_one : (n m : ℕ) → (nat_lt 0 n && nat_le n m) ≡ true → (0 < n) × (n ≤ m)
 from_one n m h = let parts = both (nat_lt 0 n) (nat_le n m) h in (ltb-true 0 n parts.0, leb-true n m parts.1)

@@ -2,11 +2,8 @@
 use Rattle.std.proofs.Common.{◌≡◌, ℕ, zero, suc, ◌-◌, ◌<◌, ◌^◌, min, not, ◌&&◌, ◌==◌, ◌∙◌, arith, w8}
 use Rattle.std.specs.Int.{bit_at, bit_not}
 use Rattle.std.proofs.lemmas.Nat.Bits.{bit_at_and, bit_at_not, bit_at-lt}
-use Rattle.bitflags.specs.Sets.{without}
-use Rattle.policy.specs.declared.rights.Right.{Right}
-use Rattle.policy.specs.declared.rights.Rights.{Rights}
-use Rattle.policy.specs.Rights.{has}
-use Rattle.policy.proofs.RightsLemmas.{place_of, has-bit}
+use Rattle.grants.proofs.Terms.{Right, Rights, has, has-bit, without}
+use Rattle.policy.proofs.RightsLemmas.{place_of}
 
 one_and_not : (a b : ℕ) → a < 2 → b < 2 → (min a (1 - b) == 1) ≡ ((a == 1) && not (b == 1))
 one_and_not a b h3 h4 = grind arith

@@ -1,12 +1,6 @@
 -- One hold more stands behind the others and is counted.
 use Rattle.std.proofs.Common.{◌∙◌, ◌+◌, arith, ap, sym, subst, get_or}
-use Rattle.policy.specs.declared.object.Object.{Object}
-use Rattle.policy.specs.declared.object.Object.TheVariants.{Agent}
-use Rattle.policy.specs.declared.rights.Rights.{Rights}
-use Rattle.policy.specs.Rights.{each_right}
-use Rattle.grants.specs.Cells.{in_table}
-use Rattle.grants.specs.inner.Counts.{IsCounted}
-use Rattle.grants.specs.inner.PacketHolds.{hold_of}
+use Rattle.grants.proofs.Terms.{Agent, IsCounted, Object, Rights, each_right, hold_of, in_table}
 use Rattle.grants.proofs.CellLemmas.{all_at, each_right-same, SameRights-then}
 use Rattle.grants.proofs.CountLemmas.{counted-le, counted_more, put-more}
 use Rattle.grants.proofs.counting.put_holds.Goals as goal

@@ -1,7 +1,6 @@
 -- The holds so far stand behind the others and are counted, and what is in force stays.
 use Rattle.std.proofs.Common.{◌≡◌, ◌+◌, ◌++◌, map, take, vec_len, vec_capacity}
-use Rattle.grants.specs.inner.Counts.{IsCounted, SameRights}
-use Rattle.grants.specs.inner.PacketHolds.{hold_of}
+use Rattle.grants.proofs.Terms.{IsCounted, SameRights, hold_of}
 use Rattle.grants.proofs.counting.put_holds.Given as goal
 
 abbrev pub invariant-loop-object : goal.invariant-loop-object

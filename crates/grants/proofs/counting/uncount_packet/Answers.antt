@@ -1,9 +1,7 @@
 -- A hold of the packet is counted no more, and the others stay.
 use Rattle.std.proofs.Common.{◌∙◌, ◌+◌, not, ap, sym, subst, filter, take, drop, get_or}
-use Rattle.policy.specs.declared.object.Object.TheVariants.{Agent}
+use Rattle.grants.proofs.Terms.{Agent, IsCounted, is_of}
 use Rattle.grants.specs.declared.hold.Hold.{Hold}
-use Rattle.grants.specs.inner.PacketHolds.{is_of}
-use Rattle.grants.specs.inner.Counts.{IsCounted}
 use Rattle.grants.proofs.CellLemmas.{SameRights-then}
 use Rattle.grants.proofs.CountLemmas.{kept_to-here, kept_to-kept, kept_to-dropped, kept_to-all, once-counted, counted_fewer}
 use Rattle.grants.proofs.counting.uncount_packet.Goals as goal

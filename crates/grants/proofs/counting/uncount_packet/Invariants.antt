@@ -1,7 +1,6 @@
 -- The holds that are left of those so far, and all behind them, are counted, and what is in force stays.
 use Rattle.std.proofs.Common.{not}
-use Rattle.grants.specs.inner.Counts.{IsCounted, SameRights}
-use Rattle.grants.specs.inner.PacketHolds.{is_of}
+use Rattle.grants.proofs.Terms.{IsCounted, SameRights, is_of}
 use Rattle.grants.proofs.CountLemmas.{kept_to}
 use Rattle.grants.proofs.counting.uncount_packet.Given as goal
 

@@ -1,7 +1,5 @@
 use Rattle.std.proofs.Common.{◌∙◌, ap, sym, subst, arith, take}
-use Rattle.std.proofs.lemmas.List.{take_all}
-use Rattle.grants.specs.Holders.{IsFirstTo}
-use Rattle.grants.specs.inner.PacketHolds.{holds_one}
+use Rattle.grants.proofs.Terms.{IsFirstTo, holds_one, take_all}
 use Rattle.grants.proofs.HoldLemmas.{first_same, first_of_none, first_of_some, holds_one-blocking, holds_one-passing}
 use Rattle.grants.proofs.hold.first_holder.Goals as goal
 use Rattle.grants.proofs.hold.first_holder.Goals.{then-blocks+in-Some, then-blocks+in-None, else-blocks}

@@ -1,6 +1,5 @@
 use Rattle.std.proofs.Common.{take}
-use Rattle.grants.specs.Holders.{IsFirstTo}
-use Rattle.grants.specs.inner.PacketHolds.{holds_one}
+use Rattle.grants.proofs.Terms.{IsFirstTo, holds_one}
 use Rattle.grants.proofs.hold.first_holder.Given as goal
 
 -- the first holder so far

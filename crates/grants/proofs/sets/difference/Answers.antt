@@ -1,7 +1,6 @@
 -- The rights of the one set that aren't in the other.
 use Rattle.std.proofs.Common.{◌≡◌, ap, ◌∙◌, ◌<◌, ◌^◌, rules}
-use Rattle.bitflags.specs.Sets.{without}
-use Rattle.policy.specs.Rights.{has}
+use Rattle.grants.proofs.Terms.{has, without}
 use Rattle.grants.proofs.SetLemmas.{has-without}
 use Rattle.grants.proofs.sets.difference.Goals as goal
 

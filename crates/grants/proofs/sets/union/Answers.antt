@@ -1,7 +1,6 @@
 -- The rights of both sets.
 use Rattle.std.proofs.Common.{◌≡◌, ap, ◌∙◌, bit_or}
-use Rattle.policy.specs.Rights.{has}
-use Rattle.policy.proofs.RightsLemmas.{has-or}
+use Rattle.grants.proofs.Terms.{has, has-or}
 use Rattle.grants.proofs.sets.union.Goals as goal
 
 pub returns : goal.returns

@@ -1,11 +1,7 @@
 -- One more hold of each of its rights is counted in the cell of its client and object, and nowhere else.
 use Rattle.std.proofs.Common.{◌≡◌, ◌∙◌, ◌+◌, ◌<◌, ◌&&◌, Bool, false, sym, ap, subst, Some, None, arith, true≢false}
 use Rattle.std.specs.Prelude.{if◌then◌else◌}
-use Rattle.std.proofs.lemmas.Bool.{false_from_ne_true}
-use Rattle.policy.specs.Rights.{has}
-use Rattle.grants.specs.Cells.{has_right, cell_of, in_table}
-use Rattle.grants.specs.inner.Counts.{count_in}
-use Rattle.policy.proofs.PairLemmas.{each_right-has}
+use Rattle.grants.proofs.Terms.{cell_of, count_in, each_right-has, false_from_ne_true, has, has_right, in_table}
 use Rattle.grants.proofs.CellLemmas.{at_each, at_each_same, same_granted}
 use Rattle.grants.proofs.cells.Cells.count_hold.Goals as goal
 

@@ -1,10 +1,6 @@
 -- There is a cell just for a declared client and object.
 use Rattle.std.proofs.Common.{◌∙◌, ap, sym, ◌&&◌}
-use Rattle.std.specs.Box.{boxed_slice_items}
-use Rattle.std.specs.Option.{is_some}
-use Rattle.std.specs.Prelude.{slice_get}
-use Rattle.policy.specs.Rules.{knows_client, knows_object}
-use Rattle.grants.specs.Cells.{item_at}
+use Rattle.grants.proofs.Terms.{boxed_slice_items, is_some, item_at, knows_client, knows_object, slice_get}
 use Rattle.grants.proofs.PlaceLemmas.{cell-declared}
 use Rattle.grants.proofs.cells.Cells.get.Goals as goal
 

@@ -1,7 +1,6 @@
 -- The rights come into force in the cell of the client and the object, and nowhere else.
 use Rattle.std.proofs.Common.{◌≡◌, ◌∙◌, ◌&&◌, ◌||◌, sym, Some}
-use Rattle.policy.specs.Rights.{has}
-use Rattle.grants.specs.Cells.{has_right}
+use Rattle.grants.proofs.Terms.{has, has_right}
 use Rattle.grants.proofs.HoldLemmas.{or-false}
 use Rattle.grants.proofs.CellLemmas.{at_each, same_held}
 use Rattle.grants.proofs.cells.Cells.put_in_force.Goals as goal

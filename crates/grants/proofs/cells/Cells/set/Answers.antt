@@ -1,10 +1,8 @@
 -- The changed cell is that of the client and the object alone.
 use Rattle.std.proofs.Common.{◌≡◌, ◌∙◌, sym, ap, subst, arith, Some}
-use Rattle.std.specs.Box.{boxed_slice_items}
+use Rattle.grants.proofs.Terms.{boxed_slice_items, cell_of, item_at, replacement, same_pair}
 use Rattle.std.specs.Prelude.{if◌then◌else◌}
-use Rattle.grants.specs.Pairs.{same_pair}
-use Rattle.grants.specs.Cells.{cell_of, item_at, place_of}
-use Rattle.grants.specs.inner.Counts.{replacement}
+use Rattle.grants.specs.Cells.{place_of}
 use Rattle.grants.proofs.PlaceLemmas.{cell-set, place-within}
 use Rattle.grants.proofs.cells.Cells.set.Goals as goal
 

@@ -1,7 +1,6 @@
 -- The rights go out of force in the cell of the client and the object, and nowhere else.
 use Rattle.std.proofs.Common.{◌≡◌, ◌∙◌, ◌&&◌, not, sym, refl, Some, None}
-use Rattle.policy.specs.Rights.{has}
-use Rattle.grants.specs.Cells.{has_right}
+use Rattle.grants.proofs.Terms.{has, has_right}
 use Rattle.grants.proofs.HoldLemmas.{and-true}
 use Rattle.grants.proofs.CellLemmas.{at_each, at_each_same, same_held}
 use Rattle.grants.proofs.cells.Cells.take_out_of_force.Goals as goal

@@ -1,9 +1,7 @@
 -- One hold less of each of its rights is counted in the cell of its client and object, and nowhere else.
 use Rattle.std.proofs.Common.{◌≡◌, ◌∙◌, ◌+◌, ◌≤◌, ◌&&◌, sym, subst, Some, None, arith}
 use Rattle.std.specs.Prelude.{if◌then◌else◌}
-use Rattle.policy.specs.Rights.{has}
-use Rattle.grants.specs.Cells.{cell_of}
-use Rattle.grants.specs.inner.Counts.{count_in, one_for_right}
+use Rattle.grants.proofs.Terms.{cell_of, count_in, has, one_for_right}
 use Rattle.grants.proofs.CellLemmas.{at_each, at_each_same, same_granted}
 use Rattle.grants.proofs.cells.Cells.uncount_hold.Goals as goal
 

@@ -1,11 +1,6 @@
 -- The set has the rights of the cell, and no other; without a cell, none.
 use Rattle.std.proofs.Common.{◌∙◌, ap, sym, Option}
-use Rattle.policy.specs.declared.rights.Rights.{Rights}
-use Rattle.policy.specs.Rights.{has, rights_that}
-use Rattle.policy.proofs.RightsLemmas.{has-rights_that}
-use Rattle.grants.specs.declared.cell.Cell.{Cell}
-use Rattle.grants.specs.Cells.{has_right}
-use Rattle.grants.specs.Ledger.{in_force, rights_on}
+use Rattle.grants.proofs.Terms.{Cell, Rights, has, has-rights_that, has_right, in_force, rights_on, rights_that}
 use Rattle.grants.proofs.grants.Grants.in_force.Goals as goal
 
 -- the rights of a cell, if there is one

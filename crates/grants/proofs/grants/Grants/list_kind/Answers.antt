@@ -1,10 +1,7 @@
 -- Each object puts its row behind those of the objects before.
 use Rattle.std.proofs.Common.{◌≡◌, ◌∙◌, ◌++◌, ap, map, arith}
-use Rattle.std.specs.List.{range_with_len}
-use Rattle.policy.specs.Object.{object_of}
-use Rattle.policy.specs.Rules.{count}
+use Rattle.grants.proofs.Terms.{count, in_force, object_of, range_with_len, rules_in}
 use Rattle.policy.specs.Listing.{listing_by}
-use Rattle.grants.specs.Ledger.{in_force, rules_in}
 use Rattle.grants.proofs.ListingLemmas.{listed-none, listed-more}
 use Rattle.grants.proofs.grants.Grants.list_kind.Goals as goal
 

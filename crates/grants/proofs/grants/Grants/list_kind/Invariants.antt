@@ -1,9 +1,7 @@
 -- The rows of the objects so far stand behind the others.
 use Rattle.std.proofs.Common.{◌≡◌, ◌++◌, map}
-use Rattle.std.specs.List.{range_with_len}
-use Rattle.policy.specs.Object.{object_of}
+use Rattle.grants.proofs.Terms.{in_force, object_of, range_with_len}
 use Rattle.policy.specs.Listing.{listing_by}
-use Rattle.grants.specs.Ledger.{in_force}
 use Rattle.grants.proofs.grants.Grants.list_kind.Given as goal
 
 abbrev pub invariant-loop-before : goal.invariant-loop-before

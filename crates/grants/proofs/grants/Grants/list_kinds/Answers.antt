@@ -1,9 +1,8 @@
 -- The rows of the four kinds are the listing.
 use Rattle.std.proofs.Common.{◌∙◌, ◌++◌, ap}
 use Rattle.policy.specs.declared.object.Kind.TheVariants as kind
-use Rattle.policy.specs.Listing.{objects_of_kind, listing_by}
-use Rattle.policy.specs.Rules.{count}
-use Rattle.grants.specs.Ledger.{in_force, rules_in}
+use Rattle.policy.specs.Listing.{listing_by}
+use Rattle.grants.proofs.Terms.{count, in_force, objects_of_kind, rules_in}
 use Rattle.grants.proofs.ListingLemmas.{listed-kinds}
 use Rattle.grants.proofs.grants.Grants.list_kinds.Goals as goal
 

@@ -1,8 +1,7 @@
 -- A client and an object that have a cell are declared; where a count isn't 0 the list of holds names the holder.
 use Rattle.std.proofs.Common.{◌∙◌, sym, subst, Some, None}
 use Rattle.std.specs.Prelude.{vec_len, vec_capacity, ◌-◌}
-use Rattle.grants.specs.Holders.{IsFirstTo}
-use Rattle.grants.specs.inner.PacketHolds.{holds_one}
+use Rattle.grants.proofs.Terms.{IsFirstTo, holds_one}
 use Rattle.grants.proofs.LedgerLemmas.{declared, holder_first, none_holds}
 use Rattle.grants.proofs.grants.Grants.may_revoke.Goals as goal
 
