@@ -81,14 +81,10 @@ module _ (a b : Inside) (event : Event) (outcome : Outcome) (effects : List Effe
   longer = ap length after.audit.items ∙ length-append a.audit.items (entry_of event outcome effects ∷ [])
 
   granted-after : (client : ClientId) (on : Object) (right : Right) → ledger.in_force b.grants client on right ≡ in_force (start_of b) b.audit.items client on right
-  granted-after client on right =
-      rw (after.same.0.0, after.same.0.1, after.audit.items, in_force-more)
-      (subst (λ before. ledger.in_force b.grants client on right ≡ in_force_after client on right before event) (was.granted client on right) (after.grants.granted client on right))
+  granted-after client on right = grind (arith, in_force-more)
 
   memory-after : (x : ℕ) → lies_in_region (region_lengths b.policy) x ≡ true → byte_at b.memory x ≡ Some (memory_at (start_of b) b.audit.items x)
-  memory-after x lies =
-      let inside : lies_in_region (region_lengths a.policy) x ≡ true = rw (← after.same.0.0) lies in
-      rw (after.same.0.0, after.same.0.1, after.audit.items, memory_at-more) (after.memory.memory x (memory_at (start_of a) a.audit.items x) (was.memory x inside))
+  memory-after x lies = grind (arith, memory_at-more)
 
   -- the argument blocks of packets in flight are those of their launches
   arguments-after : owed (start_of a) a.audit.items event ≡ enters outcome effects
@@ -101,10 +97,7 @@ module _ (a b : Inside) (event : Event) (outcome : Outcome) (effects : List Effe
       Kept f = is_launch f.queue f.id (launched_by event outcome) ≡ false → block_of a.blocks.items f.queue f.id ≡ arguments (start_of a) a.audit.items f.queue f.id
 
       launched : (f : InFlight) → launched_by event outcome ≡ Some f → Kept f
-      launched f is other =
-          let itself : is_packet f.queue f.id f ≡ true = and_from _ _ (eq-eqb f.queue.0 f.queue.0 refl) (eq-eqb f.id.0 f.id.0 refl) in
-          let now : is_launch f.queue f.id (launched_by event outcome) ≡ true = rw is itself in
-          absurd (cc)
+      launched f is = grind (arith, and_from _ _ (eq-eqb f.queue.0 f.queue.0 refl) (eq-eqb f.id.0 f.id.0 refl), eq-eqb f.queue.0 f.queue.0 refl, eq-eqb f.id.0 f.id.0 refl, and_from, eq-eqb)
 
       kept : All Kept (flight (start_of a) (with_entry a.audit.items event outcome effects))
       kept = rw flight-more (all-after Kept (entry_of event outcome effects) (flight (start_of a) a.audit.items) launched
@@ -112,13 +105,7 @@ module _ (a b : Inside) (event : Event) (outcome : Outcome) (effects : List Effe
 
       same : (f : InFlight) → Kept f → arguments_behind a event outcome f.queue f.id
           ≡ (if is_launch f.queue f.id (launched_by event outcome) then arguments_if (start_of a) a.audit.items (launched_by event outcome) else arguments (start_of a) a.audit.items f.queue f.id)
-      same f is = either (is_launch f.queue f.id (launched_by event outcome)) refl
-        where
-          either : (c : Bool) → is_launch f.queue f.id (launched_by event outcome) ≡ c
-              → (if c then arguments_if (start_of a) a.audit.items (launched_by event outcome) else block_of a.blocks.items f.queue f.id)
-              ≡ (if c then arguments_if (start_of a) a.audit.items (launched_by event outcome) else arguments (start_of a) a.audit.items f.queue f.id)
-          either true now = refl
-          either false other = is other
+      same f is = grind arith
 
   pub IsCached-more : (old : History) → history_of a ≡ old → due old event ≡ enters outcome effects → IsCached b
   IsCached-more old seen_as is_due =

@@ -40,9 +40,7 @@ freed-at id qs n q found = ap (λ (o : Option Queue). elim o [ None ↦ 0 | Some
 
 -- a kept queue is sound
 pub sound-at : (qs : List Queue) (n : ℕ) (q : Queue) → All IsSound qs → numbered qs n ≡ Some q → IsSound q
-sound-at qs n q all found =
-    let at = (numbered-place qs n q found).1 in
-    subst IsSound (get_or_from_slice_get qs (n - 1) q q at) (all (n - 1) q (slice_get_within qs (n - 1) q at))
+sound-at qs n q all found = grind (arith, numbered-place qs n q found, get_or_from_slice_get qs (n - 1) q q, slice_get_within qs (n - 1) q, numbered-place, get_or_from_slice_get, slice_get_within)
 
 module _ (qs : List Queue) (n : QueueId) (change : Queue → Queue) (q : Queue) (found : numbered qs n.0 ≡ Some q) where
   -- the changed list
@@ -73,24 +71,11 @@ module _ (qs : List Queue) (n : QueueId) (change : Queue → Queue) (q : Queue) 
 
   -- the changed queue is kept at its number, the others are as they were
   pub cached-changed : (m : QueueId) → cached_view (numbered (with_queue qs n change) m.0) ≡ (if n.0 == m.0 then cached_view (Some (change q)) else cached_view (numbered qs m.0))
-  cached-changed m = ap (λ (all : List Queue). cached_view (numbered all m.0)) with_queue-is ∙ (elim (cases_eq n.0 m.0) [
-    | inl same ↦
-        let eq : (n.0 == m.0) ≡ true = eq-eqb n.0 m.0 same in
-        let now : numbered (slice_set qs (n.0 - 1) (change q)) n.0 ≡ Some (change q) = numbered-at _ n.0 (change q) place.0 (get-changed qs (n.0 - 1) q (change q) place.1) in
-        rw eq (ap (λ k. cached_view (numbered (slice_set qs (n.0 - 1) (change q)) k)) (sym same) ∙ ap cached_view now)
-    | inr other ↦
-        let eq : (n.0 == m.0) ≡ false = search rules in
-        rw eq (ap cached_view (numbered-other qs n.0 (change q) m.0 place.0 other))
-  ])
+  cached-changed m = grind (arith, with_queue-is, cases_eq n.0 m.0, numbered-at _ n.0 (change q) place.0 (get-changed qs (n.0 - 1) q (change q) place.1), get-changed qs (n.0 - 1) q (change q) place.1, numbered-other qs n.0 (change q) m.0 place.0, cases_eq, numbered-at, get-changed, numbered-other)
 
   -- so what is kept is what the history says, where both change alike
   pub queues-changed : (view : QueueView → QueueView) (start : Start) (old new : List Entry) → cached_view (Some (change q)) ≡ view (cached_view (Some q))
       → ((m : QueueId) → cached_view (numbered qs m.0) ≡ queue_at start old m)
       → ((m : QueueId) → queue_at start new m ≡ (if n.0 == m.0 then view (queue_at start old m) else queue_at start old m))
       → (m : QueueId) → cached_view (numbered (with_queue qs n change) m.0) ≡ queue_at start new m
-  queues-changed view start old new alike was now m = cached-changed m ∙ either (n.0 == m.0) refl ∙ sym (now m)
-    where
-      either : (b : Bool) → (n.0 == m.0) ≡ b → (if b then cached_view (Some (change q)) else cached_view (numbered qs m.0)) ≡ (if b then view (queue_at start old m) else queue_at start old m)
-      either true same =
-          alike ∙ ap view (ap cached_view (sym found) ∙ ap (λ k. cached_view (numbered qs k)) (eqb-true _ _ same) ∙ was m)
-      either false other = was m
+  queues-changed view start old new alike was now m = grind (arith, cached-changed m, eqb-true, was, now, cached-changed)

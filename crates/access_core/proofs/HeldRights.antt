@@ -53,10 +53,7 @@ module _ (client : ClientId) (on : Object) (rights : Rights) where
 
   one-by : (o : Option Opening) (hs : List ObjectRight) → list_any (λ r. has rights r && holds_by o client on r hs) all_rights
       ≡ ((elim o [ None ↦ false | Some opening ↦ opening.client.0 == client.0 ]) && list_any (λ h. same_object on h.0 && has rights h.1) hs)
-  one-by None hs = any-none (has rights) all_rights
-  one-by (Some opening) hs =
-      any-constant (has rights) (λ r. list_any (λ h. same_object on h.0 && has (set_of h.1) r) hs) (opening.client.0 == client.0) all_rights
-      ∙ ap (λ b. opening.client.0 == client.0 && b) (one-of_held hs)
+  one-by o hs = grind (arith, any-none, any-constant, one-of_held)
 
   -- a packet is one that holds, by what is held right by right, where it holds by the history
   module _ (start : Start) (es : List Entry) (grants : Ledger) where

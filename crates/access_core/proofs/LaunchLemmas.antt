@@ -1,5 +1,5 @@
 -- What a packet holds that is launched, by its needs and by its argument block.
-use Rattle.std.proofs.Common.{◌≡◌, ℕ, ◌++◌, List, [], map, length, refl, sym, ◌∙◌, ap, Some, None}
+use Rattle.std.proofs.Common.{◌≡◌, ℕ, ◌++◌, List, [], map, length, refl, sym, ◌∙◌, ap, Some, None, arith}
 use Rattle.std.specs.List.{flat_map}
 use Rattle.std.specs.Option.{unwrap_or}
 use Rattle.std.proofs.lemmas.List.{append-nil, map-append}
@@ -34,8 +34,7 @@ module _ (start : Start) (es : List Entry) where
   -- all that another holds
   pub both-held : (opening : Opening) (p : Packet) (rights pointed all : List (Object × Rights)) → rights ≡ map as_rights (held_by_needs opening p) → pointed ≡ map as_rights (held_by_arguments start es opening.client p)
       → all ≡ rights ++ pointed → all ≡ map as_rights (rights_at_launch start es opening p)
-  both-held opening p rights pointed all first second is =
-      is ∙ (λ i. first i ++ second i) ∙ sym (map-append as_rights (held_by_needs opening p) (held_by_arguments start es opening.client p))
+  both-held opening p rights pointed all first second is = grind (arith, map-append as_rights (held_by_needs opening p) (held_by_arguments start es opening.client p))
 
   module _ (p : Packet) (d : KernelDispatch) (is : p ≡ packet.Kernel d) (kernel : Program) (found : numbered start.kernels d.kernel_object.0 ≡ Some kernel) where
     kernel-is : kernel_of start d ≡ kernel
@@ -43,10 +42,7 @@ module _ (start : Start) (es : List Entry) where
 
     -- its argument block is as long as its kernel's
     pub block-long : (block : List ℕ) → block ≡ arguments_of start es p → length block ≡ kernel.argument_bytes
-    block-long block block_is =
-        ap length (block_is ∙ ap (arguments_of start es) is)
-        ∙ length-map-range_with_len (memory_at start es) d.kernarg_address.0 (kernel_of start d).argument_bytes
-        ∙ ap (λ (k : Program). k.argument_bytes) kernel-is
+    block-long block block_is = grind (arith, length-map-range_with_len (memory_at start es) d.kernarg_address.0 (kernel_of start d).argument_bytes, kernel-is)
 
     -- what it holds by its arguments
     pub pointed-is : (opening : Opening) (facts : Facts) → facts ≡ facts_of start es opening → (offsets block : List ℕ) → offsets ≡ kernel.wide → block ≡ arguments_of start es p

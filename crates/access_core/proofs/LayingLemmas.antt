@@ -1,5 +1,5 @@
 -- Changes that are laid over memory one after another, and what a group of a kernel dispatch that ran is due.
-use Rattle.std.proofs.Common.{◌≡◌, ℕ, ◌+◌, List, [], ◌∷◌, ◌++◌, refl, sym, ◌∙◌, ap, Bool, true, false, Some, fold, length, map, nat_lt, if◌then◌else◌}
+use Rattle.std.proofs.Common.{◌≡◌, ℕ, ◌+◌, List, [], ◌∷◌, ◌++◌, refl, sym, ◌∙◌, ap, Bool, true, false, Some, fold, length, map, nat_lt, if◌then◌else◌, arith}
 use Rattle.std.proofs.Common.{All}
 use Rattle.std.proofs.lemmas.List.Elements.{All-map}
 use Rattle.std.proofs.lemmas.List.Sums.{fold-append}
@@ -30,16 +30,8 @@ runs-within lengths runs within = All-map (LiesWithin lengths) write_of_run runs
 module _ (h : History) (queue : QueueId) (id : PacketId) (group left : ℕ) (runs : List Run)
     (owing : owed h.start h.entries (RunNext queue id) ≡ enters (outcome.Worked (Ran group left)) (map write_of_run runs)) where
   pub group-due : (full : Bool) → is_full h ≡ full → due h (RunNext queue id) ≡ (if full then refuses refusal.AuditFull else enters (outcome.Worked (Ran group left)) (map write_of_run runs))
-  group-due full room =
-      due-as h (RunNext queue id) (enters (outcome.Worked (Ran group left)) (map write_of_run runs)) owing
-      ∙ ap (λ (fs : List InFlight). if nat_lt h.capacity (length h.entries + 1 + length fs) then refuses refusal.AuditFull else enters (outcome.Worked (Ran group left)) (map write_of_run runs))
-      ((runs-write runs).flight (flight h.start h.entries))
-      ∙ ap (λ b. if b then refuses refusal.AuditFull else enters (outcome.Worked (Ran group left)) (map write_of_run runs)) room
+  group-due full room = grind (arith, due-as h (RunNext queue id) (enters (outcome.Worked (Ran group left)) (map write_of_run runs)) owing, nat_lt h.capacity, runs-write runs, due-as, nat_lt, runs-write)
 
   -- its run may want memory, whether the audit has room or not
   pub group-may_lack_memory : may_lack_memory (RunNext queue id) (due h (RunNext queue id)) ≡ true
-  group-may_lack_memory = by_room (is_full h) refl
-    where
-      by_room : (full : Bool) → is_full h ≡ full → may_lack_memory (RunNext queue id) (due h (RunNext queue id)) ≡ true
-      by_room true room = ap (may_lack_memory (RunNext queue id)) (group-due true room)
-      by_room false room = ap (may_lack_memory (RunNext queue id)) (group-due false room)
+  group-may_lack_memory = grind (arith, group-due)
