@@ -1,6 +1,6 @@
 -- What is cached stays what the history says when an entry is put behind it and the fields follow.
 use Rattle.std.proofs.Common.{◌≡◌, ℕ, ◌+◌, ◌<◌, ◌≤◌, List, [], ◌∷◌, length, sym, ◌∙◌, ap, subst, refl, true, false, Some, None, arith, length-append, map, fold}
-use Rattle.std.proofs.Common.{All, Bool, get_or, if◌then◌else◌}
+use Rattle.std.proofs.Common.{All, get_or, if◌then◌else◌}
 use Rattle.std.proofs.lemmas.List.Elements.{All-weaker}
 use Rattle.std.proofs.lemmas.Bool.{and_from, eq-eqb, ltb-false}
 use Rattle.core_model.specs.Queues.{opening_of}
@@ -14,7 +14,7 @@ use Rattle.access_core.proofs.HeldMore.{arguments-more}
 use Rattle.access_core.proofs.QueueAt.{IsQuiet, flight-quiet, queue_at-quiet}
 use Rattle.access_core.proofs.Terms.{ClientId, Effect, Event, History, InFlight, Inside, IsCached, IsEntered, IsSound, Ledger, Object, Outcome, Owed, PacketId}
 use Rattle.access_core.proofs.Terms.{QUEUES, Queue, QueueId, Right, Start, byte_after, byte_at, cached_view, cached_opening, due, enters, entry_of, flight}
-use Rattle.access_core.proofs.Terms.{flight-more, history_of, in_force, in_force-more, in_force_after, is_packet, lacks_room, launched_by, lengths_of, lies_in_region}
+use Rattle.access_core.proofs.Terms.{flight-more, history_of, in_force, in_force-more, in_force_after, lacks_room, launched_by, lengths_of, lies_in_region}
 use Rattle.access_core.proofs.Terms.{lies_in_regions, memory_at, memory_at-more, numbered, openings-more, owed, owner, packet_holds, queue_at, region_lengths}
 use Rattle.access_core.proofs.Terms.{signals-more, signals_after, start_of, with_entry, with_some}
 use Rattle.grants.specs.Ledger as ledger

@@ -1,6 +1,6 @@
 -- One queue of the list changed: what is kept of it, and of the others.
-use Rattle.std.proofs.Common.{◌≡◌, ℕ, zero, suc, ◌-◌, ◌<◌, List, [], ◌∷◌, length, map, All, get_or, refl, sym, ◌∙◌, ap, subst, rules, Bool, true, false, Option}
-use Rattle.std.proofs.Common.{Some, None, arith, inl, inr, eq-eqb, length-set, lt-length-set, get_or-set_same, ◌==◌, slice_get, slice_set, if◌then◌else◌}
+use Rattle.std.proofs.Common.{◌≡◌, ℕ, zero, suc, ◌-◌, ◌<◌, List, [], ◌∷◌, length, map, All, get_or, refl, sym, ◌∙◌, ap, Option}
+use Rattle.std.proofs.Common.{Some, None, arith, length-set, lt-length-set, get_or-set_same, ◌==◌, slice_get, slice_set, if◌then◌else◌}
 use Rattle.std.proofs.lemmas.Bool.{cases_eq, eqb-true, lt-ltb}
 use Rattle.std.proofs.lemmas.List.Elements.{All-set}
 use Rattle.std.proofs.lemmas.Option.{get_or_from_slice_get, slice_get-get_or, slice_get_within}

@@ -1,12 +1,12 @@
 -- What a grant and a revocation are owed, by the grants that are cached.
-use Rattle.std.proofs.Common.{◌≡◌, refl, sym, ◌∙◌, ap, Bool, true, false, Option, Some, None, Ok, Err, ◌&&◌, [], Result, if◌then◌else◌, not, arith}
+use Rattle.std.proofs.Common.{◌≡◌, sym, ◌∙◌, ap, Bool, Option, Some, None, Ok, Err, ◌&&◌, [], Result, if◌then◌else◌, not, arith}
 use Rattle.grants.specs.declared.refusal.GrantRefusal.{GrantRefusal as Why}
 use Rattle.core_model.specs.Owed.{owed}
 use Rattle.access_core.proofs.Calls.{due-by}
 use Rattle.access_core.proofs.HeldRights.{is_holder-history}
 use Rattle.access_core.proofs.Least.{passes, least-none, least-first}
 use Rattle.access_core.proofs.Terms.{ClientId, Grant, History, InFlight, Inside, IsCached, IsFirstTo, Object, PacketId, QueueId, Revoke, RevokeAnswers, Rights}
-use Rattle.access_core.proofs.Terms.{Rules, are_allowed, due, enters, flight, grant_due, history_of, holder, holds_one_of, is_full}
+use Rattle.access_core.proofs.Terms.{Rules, are_allowed, due, enters, flight, grant_due, history_of, holds_one_of, is_full}
 use Rattle.access_core.proofs.Terms.{is_holder, is_queue_of, knows_object, knows_client, refusal_of, refuse_unless, refuses, rules_in, rules_of, start_of}
 use Rattle.policy.specs.Rules as rules_kept
 use Rattle.grants.specs.declared.refusal.GrantRefusal.TheVariants as why

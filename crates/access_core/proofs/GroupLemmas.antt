@@ -24,7 +24,7 @@ use Rattle.core_model.specs.declared.limits.TheConstants.{MOST_SEGMENT_BYTES}
 use Rattle.access_core.proofs.LaunchLemmas.{block-long}
 use Rattle.access_core.proofs.Terms.{numbered, numbered-map}
 use Rattle.access_core.specs.inner.InPlace.{IsSized}
-use Rattle.access_core.proofs.Terms.{Entry, InFlight, IsLegal, Packet, PacketId, QueueId, Start, facts_of, flight, in_flight, is_packet, needs}
+use Rattle.access_core.proofs.Terms.{Entry, InFlight, IsLegal, PacketId, QueueId, Start, facts_of, flight, in_flight, is_packet, needs}
 
 -- what is known of sizes that may be
 pub record AreSizes (d : KernelDispatch) : Type 0 where

@@ -12,7 +12,6 @@ use Rattle.executor.specs.Results.{FailsAs, GroupResult, group_result, wrote}
 use Rattle.executor.specs.Runs.{GroupInput, IsRunnable, input_of}
 use Rattle.executor.specs.declared.dispatch.Dispatch.{Dispatch}
 use Rattle.executor.specs.declared.fault.RunFault.{RunFault}
-use Rattle.executor.specs.declared.fault.RunFault.TheVariants.{Fault, OutOfMemory}
 use Rattle.executor.specs.declared.run.Run.{Run}
 use Rattle.executor.specs.declared.view.HeldRegion.{HeldRegion}
 use Rattle.kernel_check.specs.Programs.{Program, group_bytes_of}

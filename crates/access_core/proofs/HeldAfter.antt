@@ -13,7 +13,6 @@ use Rattle.aql_packet.specs.declared.ids.AgentHandle.{AgentHandle}
 use Rattle.core_model.proofs.Holding.{owner-more}
 use Rattle.packet_processor.specs.Holding.{as_rights}
 use Rattle.access_core.proofs.CachedMore.{GrantsAfter}
-use Rattle.std.proofs.lemmas.List.Elements.{All-weaker}
 use Rattle.std.proofs.lemmas.List.Sums.{fold-append}
 use Rattle.core_model.proofs.Holding.{holding-legal}
 use Rattle.core_model.proofs.Lists.{filter-passes}

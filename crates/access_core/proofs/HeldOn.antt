@@ -1,12 +1,12 @@
 -- The rights that a packet in flight holds on an object: those of the grants are those of the history.
-use Rattle.std.proofs.Common.{◌≡◌, List, [], ◌∷◌, refl, ◌∙◌, ap, Bool, true, false, Option, Some, arith, ◌&&◌, ◌==◌, find}
+use Rattle.std.proofs.Common.{◌≡◌, List, [], ◌∷◌, refl, ◌∙◌, Bool, true, Some, arith, ◌&&◌, ◌==◌, find}
 use Rattle.std.specs.List.{list_any}
 use Rattle.std.proofs.lemmas.Bool.{and_parts, eqb-true}
 use Rattle.policy.specs.Object.{same_object}
 use Rattle.core_model.specs.Holds.{packet_rights}
 use Rattle.core_model.specs.View.{rights_held}
 use Rattle.policy.specs.Rights.{set_of}
-use Rattle.access_core.proofs.Terms.{ObjectRight, InFlight, Inside, IsCached, Object, Opening, PacketId, QueueId, Right}
+use Rattle.access_core.proofs.Terms.{InFlight, Inside, IsCached, Object, Opening, PacketId, QueueId, Right}
 use Rattle.access_core.proofs.Terms.{bit_of, flight, has, holds_by, in_flight, is_packet, owner, rights_that, start_of}
 use Rattle.grants.specs.Ledger as ledger
 

@@ -1,12 +1,12 @@
 -- Groups of kernel dispatches: what they are lent, what they are owed, and what their writes leave.
-use Rattle.std.proofs.Common.{◌≡◌, ℕ, List, [], ◌∷◌, length, map, replicate, refl, sym, ◌∙◌, ap, Bool, true, false, nat_le, if◌then◌else◌, arith}
+use Rattle.std.proofs.Common.{◌≡◌, ℕ, List, [], ◌∷◌, length, map, replicate, refl, ◌∙◌, Bool, true, nat_le, if◌then◌else◌, arith}
 use Rattle.std.proofs.lemmas.List.{length-replicate}
 use Rattle.std.proofs.lemmas.List.FromFn.{length-map-range_with_len}
 use Rattle.aql_packet.specs.declared.packet.KernelDispatch.{KernelDispatch}
 use Rattle.aql_packet.specs.declared.packet.Packet.TheVariants as packet
 use Rattle.policy.specs.declared.rights.Right.TheVariants.{Read}
 use Rattle.executor.specs.Laws.{AreLentAlike, IsLentAlike}
-use Rattle.executor.specs.Results.{GroupResult, broke_rule, group_result, wrote}
+use Rattle.executor.specs.Results.{GroupResult, group_result}
 use Rattle.executor.specs.declared.run.Run.{Run}
 use Rattle.core_model.specs.declared.outcome.Worked.TheVariants.{Done, Faulted, Ran}
 use Rattle.core_model.specs.Owed.{group_owed, owed}
@@ -18,8 +18,8 @@ use Rattle.access_core.proofs.RunLemmas.{OnlyWrites, one_group}
 use Rattle.core_model.specs.Legal.{may_lack_memory}
 use Rattle.access_core.proofs.Calls.{due-as}
 use Rattle.access_core.proofs.WorkLemmas.{fault-releases, owed-in_place, release-due}
-use Rattle.access_core.proofs.Terms.{Entry, ObjectRight, History, IsInPlace, PacketId, Place, QueueId, RunNext, Start, answers, has, memory_at, memory_from, owed_group}
-use Rattle.access_core.proofs.Terms.{Effect, Inside, IsCached, Outcome, QueueError, due, enters, history_of, refuses, within_room}
+use Rattle.access_core.proofs.Terms.{Entry, ObjectRight, History, IsInPlace, PacketId, Place, QueueId, RunNext, Start, answers, has, memory_from, owed_group}
+use Rattle.access_core.proofs.Terms.{Inside, IsCached, QueueError, due, enters, history_of}
 use Rattle.core_model.specs.declared.entry.Effect.TheVariants as effect
 use Rattle.core_model.specs.declared.refusal.Refusal.TheVariants as refusal
 use Rattle.core_model.specs.declared.outcome.Outcome.TheVariants as outcome

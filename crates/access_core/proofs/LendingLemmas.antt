@@ -1,7 +1,7 @@
 -- The regions that a packet in flight holds, as they are lent one after another.
-use Rattle.std.proofs.Common.{◌≡◌, ℕ, zero, suc, ◌+◌, ◌*◌, ◌%◌, ◌^◌, ◌<◌, ◌≤◌, List, [], ◌∷◌, ◌++◌, length, get_or, refl, sym, ◌∙◌, ap, subst, Bool, true, false, Option, Some, None, arith, append_assoc, if◌then◌else◌}
+use Rattle.std.proofs.Common.{◌≡◌, ℕ, zero, suc, ◌+◌, ◌*◌, ◌%◌, ◌^◌, ◌<◌, ◌≤◌, List, [], ◌∷◌, ◌++◌, length, get_or, refl, sym, ◌∙◌, ap, subst, true, false, Option, Some, arith, append_assoc, if◌then◌else◌}
 use Rattle.std.proofs.Common.{All, map, filter, not, ◌==◌, ◌&&◌, nat_le, nat_lt, cond, option_map, option_to_list}
-use Rattle.std.specs.List.{list_all, range_with_len, zip}
+use Rattle.std.specs.List.{range_with_len, zip}
 use Rattle.std.proofs.lemmas.Bool.{and_parts, leb-true}
 use Rattle.std.proofs.lemmas.Bool.Decides.{nat_tests}
 use Rattle.std.proofs.lemmas.List.{length-append, map-append}
@@ -9,23 +9,13 @@ use Rattle.std.proofs.lemmas.List.Elements.{All-filter, All-map}
 use Rattle.std.proofs.lemmas.List.FromFn.{filter_of_map_range_with_len_more, get_or-range_with_len, length-range_with_len}
 use Rattle.executor.specs.Items.{LentRegion, lent_region}
 use Rattle.executor.specs.declared.view.HeldRegion.{HeldRegion as Borrowed}
-use Rattle.aql_packet.specs.Memory.{is_region_length}
 use Rattle.regions.specs.Memory.{region_length}
 use Rattle.core_model.specs.View.{RegionRights, held_region, rights_held}
 use Rattle.access_core.specs.inner.Running.{lent_if_held, lent_whole, region_numbered, view_whole}
-use Rattle.access_core.proofs.Terms.{Entry, ObjectRight, Rights, Start, are_region_lengths, is_within, memory_from, region_lengths, region_of}
+use Rattle.access_core.proofs.Terms.{Entry, ObjectRight, Rights, Start, are_region_lengths, is_within, memory_from, region_lengths}
 use Rattle.policy.specs.declared.object.Object.TheVariants as object
 
 -- ---- lengths of regions
-
-some-at : (lengths : List ℕ) → list_all is_region_length lengths ≡ true → (k : ℕ) → k < length lengths → 0 < get_or lengths k 0
-some-at [] all k below = absurd (omega arith)
-some-at (x ∷ xs) all zero below = grind (arith, and_parts (is_region_length x) (list_all is_region_length xs) all, leb-true 1 x (and_parts (nat_le 1 x) _ (and_parts (is_region_length x) (list_all is_region_length xs) all).0).0, and_parts (nat_le 1 x) _ (and_parts (is_region_length x) (list_all is_region_length xs) all).0, nat_le 1 x, and_parts, leb-true, nat_le)
-some-at (x ∷ xs) all (suc k) below = some-at xs (and_parts (is_region_length x) (list_all is_region_length xs) all).1 k (omega (arith, below))
-
--- each region that there is has bytes
-pub has-bytes : (lengths : List ℕ) → are_region_lengths lengths ≡ true → (k : ℕ) → k < length lengths → 0 < region_length lengths (k + 1)
-has-bytes lengths fit k below = grind (arith, some-at lengths (and_parts (nat_le (length lengths) 64) _ fit).1 k below, and_parts (nat_le (length lengths) 64) _ fit, nat_le (length lengths) 64, some-at, and_parts, nat_le)
 
 -- there are at most 64 regions
 pub few-regions : (lengths : List ℕ) → are_region_lengths lengths ≡ true → length lengths ≤ 64

@@ -3,9 +3,8 @@ use Rattle.core_model.specs.Kernels.{segments_of}
 use Rattle.policy.specs.Policy.{Declared, initial_values, region_lengths}
 use Rattle.access_core.specs.declared.access.OpenFault.TheVariants as fault
 use Rattle.access_core.specs.declared.kernel.Kernel.{Kernel}
-use Rattle.std.proofs.Common.{List, Option, Some, ◌∷◌, ap, length, ◌==◌}
-use Rattle.std.proofs.lemmas.List.Elements.{All-cons}
-use Rattle.std.proofs.Common.{All, map, ◌≡◌, ℕ, ◌≤◌, [], ◌∙◌, Bool, true, false, None, arith, refl, ◌-◌, slice_get, nat_lt, if◌then◌else◌}
+use Rattle.std.proofs.Common.{List, ◌∷◌, ap, length, ◌==◌}
+use Rattle.std.proofs.Common.{All, map, ◌≡◌, ℕ, ◌≤◌, [], ◌∙◌, true, None, arith, refl, ◌-◌, nat_lt, if◌then◌else◌}
 use Rattle.std.proofs.lemmas.List.Elements.{All-nil}
 use Rattle.std.proofs.lemmas.Bool.Decides.{nat_tests}
 use Rattle.regions.proofs.Laws.{lengths_of-zeros, byte_at-zeros}
@@ -14,7 +13,7 @@ use Rattle.core_model.specs.Grants.{in_force}
 use Rattle.core_model.specs.Memory.{memory_at, signals}
 use Rattle.core_model.specs.Queues.{openings, next_id, errors, is_stopped}
 use Rattle.core_model.specs.Flight.{flight}
-use Rattle.access_core.specs.Opening.{fault_behind, first_missing, has_entry, is_capacity, open_fault, program_of}
+use Rattle.access_core.specs.Opening.{first_missing, has_entry, is_capacity, open_fault, program_of}
 use Rattle.access_core.proofs.Terms.{Inside, IsCached, IsNew, IsSound, MOST_ENTRIES, Queue, numbered, rules_in, rules_of, zeros}
 
 -- no queue has a number where there is none

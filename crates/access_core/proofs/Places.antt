@@ -1,5 +1,5 @@
 -- A call that takes no memory leaves the places of the tables as they are.
-use Rattle.std.proofs.Common.{◌≡◌, ◌+◌, ◌<◌, ◌∷◌, [], length, length-append, map, ap, ◌∙◌, arith, vec_capacity}
+use Rattle.std.proofs.Common.{◌≡◌, ◌+◌, ◌<◌, ◌∷◌, [], length-append, map, ◌∙◌, arith, vec_capacity}
 use Rattle.std.specs.Global.{Vec}
 use Rattle.sequences.specs.Room.{Roomy}
 use Rattle.access_core.specs.Cores.{Core, places_of}

@@ -1,12 +1,10 @@
 -- Groups that ran: what their writes leave, and how many there can be.
-use Rattle.std.proofs.Common.{◌≡◌, ℕ, ◌+◌, ◌^◌, List, [], ◌++◌, length, refl, sym, ◌∙◌, ap, Bool, true, false, Option, Some, None, ℤ, ◌==◌, ◌%◌, fold, nat_le, nat_lt, arith}
-use Rattle.std.proofs.Common.{replicate, if◌then◌else◌}
-use Rattle.std.specs.Int.{w64, to_le_bytes}
+use Rattle.std.proofs.Common.{◌≡◌, ℕ, ◌+◌, ◌^◌, List, [], ◌++◌, length, refl, ◌∙◌, ap, Bool, true, false, Option, ℤ, ◌==◌, ◌%◌, fold, nat_le, nat_lt, arith}
+use Rattle.std.proofs.Common.{if◌then◌else◌}
 use Rattle.std.proofs.lemmas.List.Sums.{fold-append}
 use Rattle.aql_packet.specs.declared.packet.AgentDispatch.{AgentDispatch}
 use Rattle.core_model.specs.declared.outcome.Worked.TheVariants.{Done, Ran}
 use Rattle.core_model.specs.declared.need.AgentFunction.{AgentFunction}
-use Rattle.core_model.specs.declared.need.AgentFunction.TheVariants.{Fill, Copy, Add64}
 use Rattle.core_model.specs.Owed.{owed}
 use Rattle.aql_packet.specs.declared.packet.Packet.TheVariants as packet
 use Rattle.core_model.specs.View.{GivenAtLaunch, given_at_launch}
@@ -14,8 +12,8 @@ use Rattle.access_core.proofs.Calls.{due-as}
 use Rattle.access_core.proofs.QueueAt.{IsAdvance}
 use Rattle.access_core.proofs.WorkLemmas.{owed-in_place}
 use Rattle.access_core.proofs.Terms.{Effect, Entry, History, InFlight, Inside, IsInPlace, RefusedAt, PacketId, Place, Progress, QueueId}
-use Rattle.access_core.proofs.Terms.{Refusal, RunNext, Start, agent_writes, due, enters, flight, flight_after_effect, function_of, function_result}
-use Rattle.access_core.proofs.Terms.{function_writes, history_of, is_full, memory_from, number_in_memory, owed_group, refuses}
+use Rattle.access_core.proofs.Terms.{Refusal, RunNext, Start, agent_writes, due, enters, flight, flight_after_effect, function_of}
+use Rattle.access_core.proofs.Terms.{function_writes, history_of, is_full, owed_group, refuses}
 use Rattle.access_core.proofs.Terms.{answers, result_writes, signals_after, start_of, write_of}
 use Rattle.core_model.specs.declared.outcome.Outcome.TheVariants as outcome
 use Rattle.core_model.specs.declared.refusal.Refusal.TheVariants as refusal

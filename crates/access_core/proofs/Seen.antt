@@ -1,5 +1,5 @@
 -- What a core's value says of its history.
-use Rattle.std.proofs.Common.{◌≡◌, ap, arith}
+use Rattle.std.proofs.Common.{◌≡◌, ap}
 use Rattle.access_core.specs.Cores.{Core}
 
 -- equal cores have equal histories

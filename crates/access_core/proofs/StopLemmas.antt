@@ -14,7 +14,7 @@ use Rattle.access_core.proofs.TakeLemmas.{IsOpen, is-open, owner-kept, queues-af
 use Rattle.access_core.proofs.WorkLemmas.{freed-below, in-place, queues-released, release-room, sound-released}
 use Rattle.access_core.proofs.Terms.{Effect, History, InFlight, Inside, IsCached, IsSound, Ledger, Outcome, PacketId, Place, Queue, QueueId, QueueView}
 use Rattle.access_core.proofs.Terms.{Releases, Stop, byte_after, cached_opening, due, enters, entry_of, flight_of, freed_by, history_of, is_place_of, is_barrier}
-use Rattle.access_core.proofs.Terms.{is_full, is_stopped, lacks_room, numbered, place_of, queue_at, refuses, release_of, signals_after, start_of}
+use Rattle.access_core.proofs.Terms.{is_full, lacks_room, numbered, place_of, queue_at, refuses, release_of, signals_after, start_of}
 use Rattle.access_core.proofs.Terms.{with_queue, with_stop, without_one}
 use Rattle.core_model.specs.declared.entry.Effect.TheVariants as effect
 use Rattle.core_model.specs.declared.outcome.Outcome.TheVariants as outcome

@@ -13,7 +13,7 @@ use Rattle.core_model.specs.declared.need.Need.{Need}
 use Rattle.core_model.specs.LaunchRules.{cause_to_wait}
 use Rattle.packet_processor.specs.inner.FieldRules.{later_failing, rules_of_fields}
 use Rattle.core_model.specs.Owed.{owed}
-use Rattle.std.proofs.Common.{◌⊎◌, inl, inr, not}
+use Rattle.std.proofs.Common.{◌⊎◌, not}
 use Rattle.std.proofs.lemmas.Bool.{or_right}
 use Rattle.std.proofs.lemmas.List.Elements.{All-head, All-tail}
 use Rattle.aql_packet.specs.declared.packet.Packet.TheVariants as packet
@@ -25,7 +25,7 @@ use Rattle.core_model.proofs.Meeting.{entered-owed}
 use Rattle.core_model.specs.Headline.{MayReach, MayReachRange, argument_ranges}
 use Rattle.core_model.specs.Holds.{held_by_arguments, held_by_needs}
 use Rattle.core_model.specs.Kernels.{kernel_of}
-use Rattle.core_model.specs.LaunchRules.{has_form, meets_rule}
+use Rattle.core_model.specs.LaunchRules.{meets_rule}
 use Rattle.access_core.specs.inner.Deciding.{IsBlockPlaced}
 use Rattle.access_core.specs.inner.QueueChanges.{with_launched}
 use Rattle.access_core.proofs.CachedMore.{QueuesAfter, none-launched}
@@ -34,7 +34,7 @@ use Rattle.access_core.proofs.ChangedQueue.{length-changed, openings-changed, qu
 use Rattle.access_core.proofs.Terms.{IsInPlace, in_force, due, enters, is_placed, CanFail, ClientId, Denied, Effect, Entry, Event, Facts, ObjectRight, History, InFlight, Inside, IsCached, IsSound}
 use Rattle.access_core.proofs.Terms.{Launched, Opening, Outcome, Packet, PacketId, Place, Queue, QueueError, QueueId, QueueView, SLOTS, Start, Take}
 use Rattle.access_core.proofs.Terms.{TakesNext, right_needed, as_launched, barrier_bit, cached_view, cached_opening, owed_verdict, decoded, entry_of, error_without_place, errors}
-use Rattle.access_core.proofs.Terms.{facts_of, first_failing_rule, flight, flight_of, hands_over_packet_of, rights_at_launch, history_of, need_is_met, is_stopped, lacks_room}
+use Rattle.access_core.proofs.Terms.{facts_of, first_failing_rule, flight, flight_of, hands_over_packet_of, rights_at_launch, history_of, need_is_met, lacks_room}
 use Rattle.access_core.proofs.Terms.{launched_by, lies_in_regions, lies_whole, memory_needs, needs, numbered, numbered-map, owner, place_of, queue_at}
 use Rattle.access_core.proofs.Terms.{refuse_unless, refuses, region_lengths, start_of, with_denied, with_entry, with_queue, with_some}
 use Rattle.queue_error.specs.declared.rule.Rule.TheVariants as rule

@@ -1,5 +1,5 @@
 -- Memory that is read and written, as the history has it.
-use Rattle.std.proofs.Common.{◌≡◌, ℕ, ◌+◌, ◌-◌, ◌<◌, ◌≤◌, ◌^◌, List, length, refl, sym, ◌∙◌, ap, subst, true, false, Some, arith, ◌≢◌, ◌==◌, slice_get}
+use Rattle.std.proofs.Common.{◌≡◌, ℕ, ◌+◌, ◌-◌, ◌<◌, ◌≤◌, ◌^◌, List, length, refl, sym, ◌∙◌, true, false, Some, arith, ◌≢◌, ◌==◌, slice_get}
 use Rattle.std.proofs.Common.{slice_index, if◌then◌else◌}
 use Rattle.std.proofs.lemmas.Bool.{lt-ltb}
 use Rattle.std.proofs.lemmas.List.{same_lists}
@@ -8,7 +8,7 @@ use Rattle.std.proofs.lemmas.Option.{slice_get-get_or, get_or_from_slice_get}
 use Rattle.regions.proofs.Laws.{IsWithin-from_test, length-region_bytes, length-bytes_from, slice_get-bytes_from}
 use Rattle.regions.proofs.Lookups.{region_length-is}
 use Rattle.access_core.proofs.Terms.{History, Inside, IsCached, IsChanged, IsMemory, IsWithin, IsWritten, byte_at, bytes_from, covers, history_of, is_placed}
-use Rattle.access_core.proofs.Terms.{is_within, lengths_of, lies_in_region, memory_at, memory_from, offset_of, region_bytes, region_lengths, region_of}
+use Rattle.access_core.proofs.Terms.{is_within, lengths_of, lies_in_region, memory_at, memory_from, region_lengths, region_of}
 use Rattle.access_core.proofs.Terms.{start_of, write_of}
 
 -- each address of a range that lies whole in a region lies in it
