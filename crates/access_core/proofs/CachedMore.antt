@@ -1,22 +1,18 @@
 -- What is cached stays what the history says when an entry is put behind it and the fields follow.
 use Rattle.std.proofs.Common.{◌≡◌, ℕ, ◌+◌, ◌<◌, ◌≤◌, List, [], ◌∷◌, length, sym, ◌∙◌, ap, subst, refl, true, false, Some, None, arith, length-append, map, fold}
 use Rattle.std.proofs.Common.{All, get_or, if◌then◌else◌}
-use Rattle.std.proofs.lemmas.List.Elements.{All-weaker}
-use Rattle.std.proofs.lemmas.Bool.{and_from, eq-eqb, ltb-false}
+use Rattle.access_core.proofs.Terms.{All-weaker, AreBlocksOf, ArgumentBlock, ClientId, Effect, Event, History, InFlight, Inside, IsCached, IsEntered, IsSound, Ledger, Object, Outcome, Owed}
+use Rattle.access_core.proofs.Terms.{PacketId, QUEUES, Queue, QueueId, Right, Start, and_from, arguments_if, block_of, byte_after, byte_at, cached_opening, cached_view, due, entered-owed}
+use Rattle.access_core.proofs.Terms.{enters, entry_of, flight, flight-more, history_of, in_force, in_force-more, in_force_after, is_launch, lacks_room, launched_by, lengths_of}
+use Rattle.access_core.proofs.Terms.{lies_in_region, lies_in_regions, ltb-false, memory_at, memory_at-more, numbered, openings-more, owed, owner, packet_holds, packet_rights, queue_at}
+use Rattle.access_core.proofs.Terms.{region_lengths, signals-more, signals_after, start_of, with_entry, with_some}
+use Rattle.std.proofs.lemmas.Bool.{eq-eqb}
 use Rattle.core_model.specs.Queues.{opening_of}
-use Rattle.core_model.proofs.Meeting.{entered-owed}
 use Rattle.core_model.proofs.Flying.{all-after}
 use Rattle.core_model.proofs.Legality.{IsLegal-more}
-use Rattle.core_model.specs.Holds.{arguments, arguments_if, packet_rights, is_launch}
-use Rattle.access_core.specs.inner.ArgumentBlocks.{AreBlocksOf, block_of}
-use Rattle.access_core.specs.declared.argument_blocks.ArgumentBlock.{ArgumentBlock}
+use Rattle.core_model.specs.Holds.{arguments}
 use Rattle.access_core.proofs.HeldMore.{arguments-more}
 use Rattle.access_core.proofs.QueueAt.{IsQuiet, flight-quiet, queue_at-quiet}
-use Rattle.access_core.proofs.Terms.{ClientId, Effect, Event, History, InFlight, Inside, IsCached, IsEntered, IsSound, Ledger, Object, Outcome, Owed, PacketId}
-use Rattle.access_core.proofs.Terms.{QUEUES, Queue, QueueId, Right, Start, byte_after, byte_at, cached_view, cached_opening, due, enters, entry_of, flight}
-use Rattle.access_core.proofs.Terms.{flight-more, history_of, in_force, in_force-more, in_force_after, lacks_room, launched_by, lengths_of, lies_in_region}
-use Rattle.access_core.proofs.Terms.{lies_in_regions, memory_at, memory_at-more, numbered, openings-more, owed, owner, packet_holds, queue_at, region_lengths}
-use Rattle.access_core.proofs.Terms.{signals-more, signals_after, start_of, with_entry, with_some}
 use Rattle.grants.specs.Ledger as ledger
 
 -- the argument block of a packet behind an entry: what its launch gives it, or the block that is kept

@@ -1,7 +1,6 @@
 -- What is due to a call, by what the fields say that it is owed, and how it meets that.
 use Rattle.std.proofs.Common.{◌≡◌, List, refl, sym, ◌∙◌, ap, Ok, Err, arith}
-use Rattle.access_core.proofs.Terms.{Effect, Entry, Event, History, Inside, Meets, Outcome, Owed, Refusal, due, enters, history_of, owed, refuses, start_of}
-use Rattle.access_core.proofs.Terms.{with_entry, within_room}
+use Rattle.access_core.proofs.Terms.{Effect, Entry, Event, History, Inside, Meets, Outcome, Owed, Refusal, due, enters, history_of, owed, refuses, start_of, with_entry, within_room}
 
 -- what is owed is due, if there is room for it
 pub due-as : (history : History) (event : Event) (owing : Owed) → owed history.start history.entries event ≡ owing → due history event ≡ within_room history event owing

@@ -1,13 +1,10 @@
 -- One queue of the list changed: what is kept of it, and of the others.
 use Rattle.std.proofs.Common.{◌≡◌, ℕ, zero, suc, ◌-◌, ◌<◌, List, [], ◌∷◌, length, map, All, get_or, refl, sym, ◌∙◌, ap, Option}
 use Rattle.std.proofs.Common.{Some, None, arith, length-set, lt-length-set, get_or-set_same, ◌==◌, slice_get, slice_set, if◌then◌else◌}
-use Rattle.std.proofs.lemmas.Bool.{cases_eq, eqb-true, lt-ltb}
-use Rattle.std.proofs.lemmas.List.Elements.{All-set}
-use Rattle.std.proofs.lemmas.Option.{get_or_from_slice_get, slice_get-get_or, slice_get_within}
+use Rattle.std.proofs.lemmas.Bool.{eqb-true}
+use Rattle.access_core.proofs.Terms.{All-set, Entry, IsSound, PacketId, Queue, QueueId, QueueView, Start, cached_opening, cached_view, cases_eq, error_places, freed_by}
+use Rattle.access_core.proofs.Terms.{get_or_from_slice_get, lt-ltb, numbered, places_freed, queue_at, slice_get-get_or, slice_get_within, with_queue}
 use Rattle.std.proofs.Math.Seq.{map-set_same}
-use Rattle.access_core.specs.inner.Cached.{error_places}
-use Rattle.access_core.proofs.Terms.{Entry, IsSound, PacketId, Queue, QueueId, QueueView, Start, cached_view, cached_opening, places_freed, freed_by, numbered, queue_at}
-use Rattle.access_core.proofs.Terms.{with_queue}
 
 get-changed : (qs : List Queue) (i : ℕ) (q v : Queue) → slice_get qs i ≡ Some q → slice_get (slice_set qs i v) i ≡ Some v
 get-changed qs i q v at =

@@ -1,30 +1,17 @@
 -- How many work-groups kernel dispatches have, and what is known of them in flight.
 use Rattle.std.proofs.Common.{List, ◌≡◌, ◌<◌, ◌≤◌, ◌^◌, ◌&&◌, true, arith, nat_le}
-use Rattle.std.proofs.lemmas.Bool.{and_parts, ltb-true}
-use Rattle.std.proofs.lemmas.Bool.Decides.{nat_tests}
-use Rattle.aql_packet.specs.declared.packet.KernelDispatch.{KernelDispatch}
+use Rattle.access_core.proofs.Terms.{Entry, Facts, HoldsInForce, InFlight, IsLegal, IsSized, KernelDispatch, MOST_SEGMENT_BYTES, PacketId, Program, QueueId, Start, and_parts, arguments_of}
+use Rattle.access_core.proofs.Terms.{asks_for_known_work, facts_of, flight, found-all, found-passes, grid_size, group_bytes_of, group_size, has_dimensions, has_segments, has_sizes}
+use Rattle.access_core.proofs.Terms.{holding-legal, in_flight, is_packet, kernel_passes, leb-true, list_all, ltb-true, nat_tests, need_is_met, needs, numbered, numbered-map, segments_of}
 use Rattle.executor.specs.Locations.{count_of, groups_of}
-use Rattle.core_model.specs.Kernels.{grid_size, group_size, segments_of}
-use Rattle.core_model.specs.LaunchRules.{Facts, asks_for_known_work, has_dimensions, has_segments, has_sizes, need_is_met}
 use Rattle.core_model.specs.declared.kernel.KernelSegments.{KernelSegments}
 use Rattle.std.proofs.Common.{Option, Some, None, sym, ap, ◌∙◌, subst, refl, false, option_map}
-use Rattle.std.specs.List.{list_all}
 use Rattle.aql_packet.specs.declared.packet.Packet.TheVariants as packet
 use Rattle.queue_error.specs.declared.rule.Rule.TheVariants as rule
-use Rattle.core_model.proofs.Holding.{holding-legal}
-use Rattle.core_model.proofs.Lists.{found-all}
-use Rattle.core_model.specs.Headline.{HoldsInForce}
 use Rattle.std.proofs.Common.{Bool, length, ◌==◌}
-use Rattle.std.proofs.lemmas.Bool.{eqb-true, leb-true}
-use Rattle.kernel_check.specs.Programs.{Program, group_bytes_of}
-use Rattle.core_model.proofs.Lists.{found-passes}
-use Rattle.core_model.specs.Holds.{arguments, arguments_of}
-use Rattle.core_model.specs.LaunchRules.{kernel_passes}
-use Rattle.core_model.specs.declared.limits.TheConstants.{MOST_SEGMENT_BYTES}
+use Rattle.std.proofs.lemmas.Bool.{eqb-true}
+use Rattle.core_model.specs.Holds.{arguments}
 use Rattle.access_core.proofs.LaunchLemmas.{block-long}
-use Rattle.access_core.proofs.Terms.{numbered, numbered-map}
-use Rattle.access_core.specs.inner.InPlace.{IsSized}
-use Rattle.access_core.proofs.Terms.{Entry, InFlight, IsLegal, PacketId, QueueId, Start, facts_of, flight, in_flight, is_packet, needs}
 
 -- what is known of sizes that may be
 pub record AreSizes (d : KernelDispatch) : Type 0 where

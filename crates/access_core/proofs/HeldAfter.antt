@@ -1,32 +1,18 @@
 -- What packets hold moves along with what is in flight.
 use Rattle.std.proofs.Common.{◌≡◌, List, [], ◌∷◌, ◌++◌, refl, sym, ◌∙◌, ap, Bool, true, false, Option, Some, None, arith, All, ℕ, ◌&&◌, ◌||◌, ◌==◌, not, map}
 use Rattle.std.proofs.Common.{filter, fold, get_or, if◌then◌else◌}
-use Rattle.std.specs.List.{list_all, list_any}
-use Rattle.std.proofs.lemmas.List.{map-append}
-use Rattle.std.proofs.lemmas.List.Elements.{All-head, All-tail}
+use Rattle.access_core.proofs.Terms.{AgentHandle, All-head, All-tail, AreBlocksOf, ArgumentBlock, ClientId, Effect, Entry, Event, Holds, HoldsInForce, InFlight, Inside, IsCached, Ledger}
+use Rattle.access_core.proofs.Terms.{Object, ObjectRight, OpenQueue, Opening, Outcome, Packet, PacketId, QueueId, Releases, Right, Rights, Start, are_in_force, arguments_of, as_rights}
+use Rattle.access_core.proofs.Terms.{bit_of, block_behind, block_of, each_right, entry_of, filter-passes, flight, fold-append, has, holding-legal, holds_by, in_force, in_force_after}
+use Rattle.access_core.proofs.Terms.{is_block, is_packet, launched_by, list_all, list_any, map-append, name_of, numbered, openings, openings-more, owner, owner-more, packet_holds, packet_of}
+use Rattle.access_core.proofs.Terms.{packet_rights, same_object, same_packet, start_of, with_entry, with_some}
 use Rattle.std.proofs.lemmas.List.Folds.{list_any-append}
-use Rattle.policy.specs.Object.{same_object}
-use Rattle.aql_packet.specs.Ids.{same_packet}
 use Rattle.grants.specs.Pairs.{is_named}
 use Rattle.core_model.specs.Queues.{opening_of}
-use Rattle.aql_packet.specs.declared.ids.AgentHandle.{AgentHandle}
-use Rattle.core_model.proofs.Holding.{owner-more}
-use Rattle.packet_processor.specs.Holding.{as_rights}
 use Rattle.access_core.proofs.CachedMore.{GrantsAfter}
-use Rattle.std.proofs.lemmas.List.Sums.{fold-append}
-use Rattle.core_model.proofs.Holding.{holding-legal}
-use Rattle.core_model.proofs.Lists.{filter-passes}
-use Rattle.core_model.specs.Headline.{HoldsInForce}
-use Rattle.core_model.specs.Holds.{arguments_of, packet_rights}
-use Rattle.access_core.specs.inner.ArgumentBlocks.{AreBlocksOf, block_behind, block_of, is_block, name_of, packet_of}
-use Rattle.access_core.specs.declared.argument_blocks.ArgumentBlock.{ArgumentBlock}
 use Rattle.access_core.proofs.CachedMore.{arguments_behind}
 use Rattle.access_core.proofs.HeldMore.{held-kept, held-unlaunched}
 use Rattle.access_core.proofs.HeldRights.{any-before}
-use Rattle.access_core.proofs.Terms.{ClientId, Effect, Entry, Event, ObjectRight, Holds, InFlight, Inside, IsCached, Ledger, Object, OpenQueue, Opening}
-use Rattle.access_core.proofs.Terms.{Outcome, Packet, PacketId, QueueId, Releases, Right, Rights, Start, are_in_force, bit_of, each_right, entry_of, flight}
-use Rattle.access_core.proofs.Terms.{has, holds_by, in_force, in_force_after, is_packet, launched_by, numbered, openings, openings-more, owner, packet_holds}
-use Rattle.access_core.proofs.Terms.{start_of, with_entry, with_some}
 use Rattle.grants.specs.Ledger as ledger
 
 -- ---- an entry that opens no queue

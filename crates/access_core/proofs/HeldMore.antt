@@ -1,12 +1,10 @@
 -- What their launches gave packets stays as it was, whatever entry comes behind.
 use Rattle.std.proofs.Common.{◌≡◌, ◌<◌, ◌==◌, List, [], ◌∷◌, ◌++◌, refl, ◌∙◌, ap, Bool, true, false, Option, Some, None, arith, if◌then◌else◌}
-use Rattle.std.proofs.lemmas.Bool.{and_from, and_parts, eq-eqb, eqb-true}
-use Rattle.core_model.proofs.Holding.{from_launch-kept, from_launch-launch, from_launch-other, holds-from, was-launched}
-use Rattle.core_model.proofs.Launches.{launched_by-is, was_launched, IsNext-from_owed, AreBelowNext-legal}
-use Rattle.core_model.specs.Headline.{HoldsInForce}
-use Rattle.core_model.specs.Holds.{arguments, arguments_if, packet_rights}
-use Rattle.access_core.proofs.Terms.{Entry, InFlight, IsLegal, Opening, PacketId, QueueId, Start, enters, rights_at_launch, is_launch, launched_by}
-use Rattle.access_core.proofs.Terms.{next_id, owed, owner}
+use Rattle.std.proofs.lemmas.Bool.{eq-eqb, eqb-true}
+use Rattle.access_core.proofs.Terms.{AreBelowNext-legal, Entry, HoldsInForce, InFlight, IsLegal, IsNext-from_owed, Opening, PacketId, QueueId, Start, and_from, and_parts, arguments_if}
+use Rattle.access_core.proofs.Terms.{enters, from_launch-kept, from_launch-launch, from_launch-other, holds-from, is_launch, launched_by, launched_by-is, next_id, owed, owner, packet_rights}
+use Rattle.access_core.proofs.Terms.{rights_at_launch, was-launched, was_launched}
+use Rattle.core_model.specs.Holds.{arguments}
 
 module _ (start : Start) (es : List Entry) (e : Entry) where
   abbrev later : List Entry

@@ -1,13 +1,8 @@
 -- The rights that a packet in flight holds on an object: those of the grants are those of the history.
 use Rattle.std.proofs.Common.{◌≡◌, List, [], ◌∷◌, refl, ◌∙◌, Bool, true, Some, arith, ◌&&◌, ◌==◌, find}
-use Rattle.std.specs.List.{list_any}
-use Rattle.std.proofs.lemmas.Bool.{and_parts, eqb-true}
-use Rattle.policy.specs.Object.{same_object}
-use Rattle.core_model.specs.Holds.{packet_rights}
-use Rattle.core_model.specs.View.{rights_held}
-use Rattle.policy.specs.Rights.{set_of}
-use Rattle.access_core.proofs.Terms.{InFlight, Inside, IsCached, Object, Opening, PacketId, QueueId, Right}
-use Rattle.access_core.proofs.Terms.{bit_of, flight, has, holds_by, in_flight, is_packet, owner, rights_that, start_of}
+use Rattle.access_core.proofs.Terms.{InFlight, Inside, IsCached, Object, Opening, PacketId, QueueId, Right, and_parts, bit_of, flight, has, holds_by, in_flight, is_packet, list_any, owner}
+use Rattle.access_core.proofs.Terms.{packet_rights, rights_held, rights_that, same_object, set_of, start_of}
+use Rattle.std.proofs.lemmas.Bool.{eqb-true}
 use Rattle.grants.specs.Ledger as ledger
 
 -- the set of a right has another just where they are the same

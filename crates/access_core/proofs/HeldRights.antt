@@ -1,11 +1,7 @@
 -- Tests of rights that packets hold, taken right by right or packet by packet.
 use Rattle.std.proofs.Common.{arith, ◌≡◌, List, [], ◌∷◌, refl, ◌∙◌, ap, Bool, false, Option, Some, None, ◌&&◌, ◌||◌, ◌==◌}
-use Rattle.std.specs.List.{list_any}
-use Rattle.policy.specs.Object.{same_object}
-use Rattle.policy.specs.Rights.{set_of}
-use Rattle.core_model.specs.Holds.{packet_rights}
-use Rattle.access_core.proofs.Terms.{ClientId, Entry, ObjectRight, InFlight, Ledger, Object, Opening, PacketId, QueueId, Right, Rights, Start}
-use Rattle.access_core.proofs.Terms.{all_rights, has, holds, holds_by, holds_one_of, is_holder, is_queue_of, is_packet, owner, packet_holds}
+use Rattle.access_core.proofs.Terms.{ClientId, Entry, InFlight, Ledger, Object, ObjectRight, Opening, PacketId, QueueId, Right, Rights, Start, all_rights, has, holds, holds_by, holds_one_of}
+use Rattle.access_core.proofs.Terms.{is_holder, is_packet, is_queue_of, list_any, owner, packet_holds, packet_rights, same_object, set_of}
 
 -- ---- tests of lists
 

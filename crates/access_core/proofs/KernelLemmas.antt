@@ -1,25 +1,16 @@
 -- Groups of kernel dispatches: what they are lent, what they are owed, and what their writes leave.
 use Rattle.std.proofs.Common.{◌≡◌, ℕ, List, [], ◌∷◌, length, map, replicate, refl, ◌∙◌, Bool, true, nat_le, if◌then◌else◌, arith}
-use Rattle.std.proofs.lemmas.List.{length-replicate}
-use Rattle.std.proofs.lemmas.List.FromFn.{length-map-range_with_len}
-use Rattle.aql_packet.specs.declared.packet.KernelDispatch.{KernelDispatch}
+use Rattle.access_core.proofs.Terms.{AreLentAlike, Done, Entry, Faulted, GroupResult, History, Inside, IsCached, IsInPlace, IsLentAlike, KernelDispatch, ObjectRight, PacketId, Place}
+use Rattle.access_core.proofs.Terms.{QueueError, QueueId, Ran, Read, RegionRights, Run, RunNext, Start, answers, as_lent, due, enters, first_address, given_at_launch, group_count}
+use Rattle.access_core.proofs.Terms.{group_input, group_owed, group_result, has, held_regions, history_of, length-map-range_with_len, length-replicate, lent_whole, may_lack_memory}
+use Rattle.access_core.proofs.Terms.{memory_from, owed_group, view_whole, write_of_run}
 use Rattle.aql_packet.specs.declared.packet.Packet.TheVariants as packet
-use Rattle.policy.specs.declared.rights.Right.TheVariants.{Read}
-use Rattle.executor.specs.Laws.{AreLentAlike, IsLentAlike}
-use Rattle.executor.specs.Results.{GroupResult, group_result}
-use Rattle.executor.specs.declared.run.Run.{Run}
-use Rattle.core_model.specs.declared.outcome.Worked.TheVariants.{Done, Faulted, Ran}
-use Rattle.core_model.specs.Owed.{group_owed, owed}
-use Rattle.core_model.specs.View.{RegionRights, first_address, given_at_launch, group_input, held_regions, as_lent, view}
-use Rattle.core_model.specs.Work.{group_count, write_of_run}
-use Rattle.access_core.specs.inner.Running.{lent_whole, view_whole}
+use Rattle.core_model.specs.Owed.{owed}
+use Rattle.core_model.specs.View.{view}
 use Rattle.access_core.proofs.QueueAt.{IsAdvance}
 use Rattle.access_core.proofs.RunLemmas.{OnlyWrites, one_group}
-use Rattle.core_model.specs.Legal.{may_lack_memory}
 use Rattle.access_core.proofs.Calls.{due-as}
 use Rattle.access_core.proofs.WorkLemmas.{fault-releases, owed-in_place, release-due}
-use Rattle.access_core.proofs.Terms.{Entry, ObjectRight, History, IsInPlace, PacketId, Place, QueueId, RunNext, Start, answers, has, memory_from, owed_group}
-use Rattle.access_core.proofs.Terms.{Inside, IsCached, QueueError, due, enters, history_of}
 use Rattle.core_model.specs.declared.entry.Effect.TheVariants as effect
 use Rattle.core_model.specs.declared.refusal.Refusal.TheVariants as refusal
 use Rattle.core_model.specs.declared.outcome.Outcome.TheVariants as outcome

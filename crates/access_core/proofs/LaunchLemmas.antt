@@ -1,16 +1,9 @@
 -- What a packet holds that is launched, by its needs and by its argument block.
 use Rattle.std.proofs.Common.{◌≡◌, ℕ, ◌++◌, List, [], map, length, refl, sym, ◌∙◌, ap, Some, None, arith}
-use Rattle.std.specs.List.{flat_map}
-use Rattle.std.specs.Option.{unwrap_or}
-use Rattle.std.proofs.lemmas.List.{append-nil, map-append}
-use Rattle.std.proofs.lemmas.List.FromFn.{length-map-range_with_len}
-use Rattle.aql_packet.specs.declared.packet.KernelDispatch.{KernelDispatch}
+use Rattle.access_core.proofs.Terms.{ClientId, Entry, Facts, KernelDispatch, Object, Opening, Packet, Program, Rights, Start, append-nil, arguments_of, as_rights, facts_of, flat_map}
+use Rattle.access_core.proofs.Terms.{held_by_arguments, held_by_needs, held_by_pointer, kernel_of, length-map-range_with_len, map-append, memory_at, no_kernel, numbered, rights_at_launch}
+use Rattle.access_core.proofs.Terms.{unwrap_or, wide_arguments}
 use Rattle.aql_packet.specs.declared.packet.Packet.TheVariants as packet
-use Rattle.kernel_check.specs.Programs.{Program}
-use Rattle.core_model.specs.Holds.{arguments_of, held_by_arguments, held_by_needs, held_by_pointer}
-use Rattle.core_model.specs.Kernels.{kernel_of, no_kernel, wide_arguments}
-use Rattle.packet_processor.specs.Holding.{as_rights}
-use Rattle.access_core.proofs.Terms.{ClientId, Entry, Facts, Object, Opening, Packet, Rights, Start, facts_of, rights_at_launch, memory_at, numbered}
 
 module _ (start : Start) (es : List Entry) where
   -- only kernel dispatches hold anything by arguments

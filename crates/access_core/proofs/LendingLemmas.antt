@@ -1,18 +1,11 @@
 -- The regions that a packet in flight holds, as they are lent one after another.
 use Rattle.std.proofs.Common.{◌≡◌, ℕ, zero, suc, ◌+◌, ◌*◌, ◌%◌, ◌^◌, ◌<◌, ◌≤◌, List, [], ◌∷◌, ◌++◌, length, get_or, refl, sym, ◌∙◌, ap, subst, true, false, Option, Some, arith, append_assoc, if◌then◌else◌}
 use Rattle.std.proofs.Common.{All, map, filter, not, ◌==◌, ◌&&◌, nat_le, nat_lt, cond, option_map, option_to_list}
-use Rattle.std.specs.List.{range_with_len, zip}
-use Rattle.std.proofs.lemmas.Bool.{and_parts, leb-true}
-use Rattle.std.proofs.lemmas.Bool.Decides.{nat_tests}
-use Rattle.std.proofs.lemmas.List.{length-append, map-append}
-use Rattle.std.proofs.lemmas.List.Elements.{All-filter, All-map}
-use Rattle.std.proofs.lemmas.List.FromFn.{filter_of_map_range_with_len_more, get_or-range_with_len, length-range_with_len}
-use Rattle.executor.specs.Items.{LentRegion, lent_region}
+use Rattle.access_core.proofs.Terms.{All-filter, All-map, Entry, LentRegion, ObjectRight, RegionRights, Rights, Start, and_parts, are_region_lengths, filter_of_map_range_with_len_more}
+use Rattle.access_core.proofs.Terms.{get_or-range_with_len, held_region, is_within, leb-true, length-range_with_len, lent_if_held, lent_region, lent_whole, map-append, memory_from}
+use Rattle.access_core.proofs.Terms.{nat_tests, range_with_len, region_length, region_lengths, region_numbered, rights_held, view_whole, zip}
+use Rattle.std.proofs.lemmas.List.{length-append}
 use Rattle.executor.specs.declared.view.HeldRegion.{HeldRegion as Borrowed}
-use Rattle.regions.specs.Memory.{region_length}
-use Rattle.core_model.specs.View.{RegionRights, held_region, rights_held}
-use Rattle.access_core.specs.inner.Running.{lent_if_held, lent_whole, region_numbered, view_whole}
-use Rattle.access_core.proofs.Terms.{Entry, ObjectRight, Rights, Start, are_region_lengths, is_within, memory_from, region_lengths}
 use Rattle.policy.specs.declared.object.Object.TheVariants as object
 
 -- ---- lengths of regions

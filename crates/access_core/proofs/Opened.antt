@@ -1,20 +1,14 @@
 -- What is kept of a core in which nothing has happened.
-use Rattle.core_model.specs.Kernels.{segments_of}
-use Rattle.policy.specs.Policy.{Declared, initial_values, region_lengths}
+use Rattle.access_core.proofs.Terms.{All-nil, Declared, Inside, IsCached, IsNew, IsSound, Kernel, MOST_ENTRIES, Queue, byte_at-zeros, first_missing, has_entry, initial_values, is_capacity}
+use Rattle.access_core.proofs.Terms.{lengths_of-zeros, nat_tests, numbered, open_fault, program_of, region_lengths, rules_in, rules_of, segments_of, zeros}
 use Rattle.access_core.specs.declared.access.OpenFault.TheVariants as fault
-use Rattle.access_core.specs.declared.kernel.Kernel.{Kernel}
 use Rattle.std.proofs.Common.{List, ◌∷◌, ap, length, ◌==◌}
 use Rattle.std.proofs.Common.{All, map, ◌≡◌, ℕ, ◌≤◌, [], ◌∙◌, true, None, arith, refl, ◌-◌, nat_lt, if◌then◌else◌}
-use Rattle.std.proofs.lemmas.List.Elements.{All-nil}
-use Rattle.std.proofs.lemmas.Bool.Decides.{nat_tests}
-use Rattle.regions.proofs.Laws.{lengths_of-zeros, byte_at-zeros}
 use Rattle.core_model.specs.History.{effects_of}
 use Rattle.core_model.specs.Grants.{in_force}
 use Rattle.core_model.specs.Memory.{memory_at, signals}
 use Rattle.core_model.specs.Queues.{openings, next_id, errors, is_stopped}
 use Rattle.core_model.specs.Flight.{flight}
-use Rattle.access_core.specs.Opening.{first_missing, has_entry, is_capacity, open_fault, program_of}
-use Rattle.access_core.proofs.Terms.{Inside, IsCached, IsNew, IsSound, MOST_ENTRIES, Queue, numbered, rules_in, rules_of, zeros}
 
 -- no queue has a number where there is none
 numbered-none : (n : ℕ) → numbered {X = Queue} [] n ≡ None

@@ -1,11 +1,7 @@
 -- A call that takes no memory leaves the places of the tables as they are.
 use Rattle.std.proofs.Common.{◌≡◌, ◌+◌, ◌<◌, ◌∷◌, [], length-append, map, ◌∙◌, arith, vec_capacity}
 use Rattle.std.specs.Global.{Vec}
-use Rattle.sequences.specs.Room.{Roomy}
-use Rattle.access_core.specs.Cores.{Core, places_of}
-use Rattle.access_core.specs.declared.argument_blocks.ArgumentBlock.{ArgumentBlock}
-use Rattle.access_core.specs.inner.Cached.{core_of, error_places, table_places}
-use Rattle.access_core.proofs.Terms.{Entry, Inside, IsEntered, Ledger, PacketId, Queue, QueueError, with_failure}
+use Rattle.access_core.proofs.Terms.{ArgumentBlock, Core, Entry, Inside, IsEntered, Ledger, PacketId, Queue, QueueError, Roomy, core_of, error_places, places_of, table_places, with_failure}
 use Rattle.grants.specs.Ledger as ledger
 
 -- an entry takes a place that was free

@@ -1,16 +1,11 @@
 -- What the history says of a queue, with one entry more.
 use Rattle.std.proofs.Common.{◌≡◌, ℕ, ◌+◌, ◌<◌, subst, eq-eqb, eqb-true, List, [], ◌∷◌, ◌++◌, length, map, All, refl, sym, ◌∙◌, ap, Bool, true, false, Some}
 use Rattle.std.proofs.Common.{None, arith, ◌==◌, ◌&&◌, filter, fold, not, if◌then◌else◌}
-use Rattle.std.proofs.lemmas.List.{append-nil, map-append}
-use Rattle.std.proofs.lemmas.List.Elements.{All-head, All-tail, filter-append}
-use Rattle.queue_error.specs.declared.rule.Rule.{Rule}
-use Rattle.aql_packet.specs.Ids.{same_packet}
+use Rattle.access_core.proofs.Terms.{All-head, All-tail, Denied, Effect, Entry, Event, InFlight, LAUNCH_PROGRESS, Launched, Outcome, Packet, PacketId, Place, Progress, QueueError, QueueId}
+use Rattle.access_core.proofs.Terms.{QueueView, Rule, Start, Take, append-nil, as_launched, decoded, entry_of, error_of, error_without_place, errors-more, filter-append, flight, flight-more}
+use Rattle.access_core.proofs.Terms.{flight_after_effect, flight_of, hands_over_packet_of, is_packet, is_stopped-more, launched_by, map-append, next_id, next_id-more, place_of, progress}
+use Rattle.access_core.proofs.Terms.{progress-more, progress_after, queue_at, same_packet, stops_queue, with_entry, with_error, with_progress, without_packet}
 use Rattle.core_model.specs.Flight.{with_launched}
-use Rattle.access_core.proofs.Terms.{Denied, Effect, Entry, Event, InFlight, Launched, Outcome, Packet, PacketId, Place, Progress, QueueError, QueueId}
-use Rattle.core_model.specs.declared.flight.TheConstants.{LAUNCH_PROGRESS}
-use Rattle.access_core.proofs.Terms.{QueueView, Start, Take, as_launched, decoded, entry_of, error_without_place, error_of, errors-more, flight}
-use Rattle.access_core.proofs.Terms.{flight-more, flight_after_effect, flight_of, hands_over_packet_of, is_packet, is_stopped-more, launched_by, next_id, next_id-more}
-use Rattle.access_core.proofs.Terms.{place_of, progress, progress-more, progress_after, queue_at, stops_queue, with_entry, with_error, with_progress, without_packet}
 use Rattle.core_model.specs.declared.outcome.Outcome.TheVariants as outcome
 
 -- ---- lists of packets

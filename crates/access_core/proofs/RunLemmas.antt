@@ -1,20 +1,16 @@
 -- Groups that ran: what their writes leave, and how many there can be.
 use Rattle.std.proofs.Common.{◌≡◌, ℕ, ◌+◌, ◌^◌, List, [], ◌++◌, length, refl, ◌∙◌, ap, Bool, true, false, Option, ℤ, ◌==◌, ◌%◌, fold, nat_le, nat_lt, arith}
 use Rattle.std.proofs.Common.{if◌then◌else◌}
-use Rattle.std.proofs.lemmas.List.Sums.{fold-append}
+use Rattle.access_core.proofs.Terms.{Done, Effect, Entry, GivenAtLaunch, History, InFlight, Inside, IsInPlace, PacketId, Place, Progress, QueueId, Ran, Refusal, RefusedAt, RunNext, Start}
+use Rattle.access_core.proofs.Terms.{agent_writes, answers, due, enters, flight, flight_after_effect, fold-append, function_of, function_writes, given_at_launch, history_of, is_full}
+use Rattle.access_core.proofs.Terms.{owed_group, refuses, result_writes, signals_after, start_of, write_of}
 use Rattle.aql_packet.specs.declared.packet.AgentDispatch.{AgentDispatch}
-use Rattle.core_model.specs.declared.outcome.Worked.TheVariants.{Done, Ran}
 use Rattle.core_model.specs.declared.need.AgentFunction.{AgentFunction}
 use Rattle.core_model.specs.Owed.{owed}
 use Rattle.aql_packet.specs.declared.packet.Packet.TheVariants as packet
-use Rattle.core_model.specs.View.{GivenAtLaunch, given_at_launch}
 use Rattle.access_core.proofs.Calls.{due-as}
 use Rattle.access_core.proofs.QueueAt.{IsAdvance}
 use Rattle.access_core.proofs.WorkLemmas.{owed-in_place}
-use Rattle.access_core.proofs.Terms.{Effect, Entry, History, InFlight, Inside, IsInPlace, RefusedAt, PacketId, Place, Progress, QueueId}
-use Rattle.access_core.proofs.Terms.{Refusal, RunNext, Start, agent_writes, due, enters, flight, flight_after_effect, function_of}
-use Rattle.access_core.proofs.Terms.{function_writes, history_of, is_full, owed_group, refuses}
-use Rattle.access_core.proofs.Terms.{answers, result_writes, signals_after, start_of, write_of}
 use Rattle.core_model.specs.declared.outcome.Outcome.TheVariants as outcome
 use Rattle.core_model.specs.declared.refusal.Refusal.TheVariants as refusal
 

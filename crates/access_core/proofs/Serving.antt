@@ -1,8 +1,6 @@
 -- Requests that are served one behind the other.
 use Rattle.std.proofs.Common.{List, [], ◌∷◌, ◌++◌, refl, subst, Result, arith}
-use Rattle.core_model.specs.declared.event.Query.{Query}
-use Rattle.core_model.specs.declared.event.Request.{Request}
-use Rattle.access_core.proofs.Terms.{AreReplies, Event, History, IsServed, MeetsOrLacks, Outcome, Refusal, RepliesOrLacks, AnswerOrRefusal, as_reply}
+use Rattle.access_core.proofs.Terms.{AnswerOrRefusal, AreReplies, Event, History, IsServed, MeetsOrLacks, Outcome, Query, Refusal, RepliesOrLacks, Request, as_reply}
 use Rattle.core_model.specs.declared.event.Request.TheVariants as request
 
 -- an event that got what was due, or wanted memory, was served

@@ -1,12 +1,13 @@
 -- What is owed to a packet that is handed over, by what is kept.
 use Rattle.std.proofs.Common.{◌≡◌, ℕ, ◌<◌, ◌≤◌, ◌^◌, List, [], ◌∷◌, ◌++◌, length, refl, sym, ◌∙◌, ap, Bool, true, false, Option, Some, None, arith, ◌+◌}
 use Rattle.std.proofs.Common.{length-append, subst, nat_lt, All, ◌||◌, ◌==◌, map, option_map, if◌then◌else◌}
-use Rattle.std.specs.List.{list_all}
-use Rattle.std.proofs.lemmas.List.Sums.{count_by-le-length}
-use Rattle.std.proofs.lemmas.Bool.{and_parts, lt-ltb}
-use Rattle.std.proofs.lemmas.List.Elements.{All-push, All-weaker}
-use Rattle.std.proofs.lemmas.List.{length-map}
-use Rattle.queue_error.specs.declared.rule.Rule.{Rule}
+use Rattle.access_core.proofs.Terms.{All-head, All-push, All-tail, All-weaker, CanFail, ClientId, Denied, Effect, Entry, Event, Facts, History, InFlight, Inside, IsBlockPlaced, IsCached}
+use Rattle.access_core.proofs.Terms.{IsInPlace, IsSound, Launched, MayReach, MayReachRange, ObjectRight, Opening, Outcome, Packet, PacketId, Place, Queue, QueueError, QueueId, QueueView}
+use Rattle.access_core.proofs.Terms.{Read, Rule, SLOTS, Start, Take, TakesNext, and_parts, argument_ranges, arguments-held, as_launched, barrier_bit, cached_opening, cached_view}
+use Rattle.access_core.proofs.Terms.{count_by-le-length, decoded, due, entered-owed, enters, entry_of, error_without_place, errors, facts_of, first_failing_rule, flight, flight_of}
+use Rattle.access_core.proofs.Terms.{hands_over_packet_of, held_by_arguments, held_by_needs, history_of, in_force, is_placed, kernel_of, lacks_room, launched_by, length-map, lies_in_regions}
+use Rattle.access_core.proofs.Terms.{lies_whole, list_all, lt-ltb, meets_rule, memory_needs, need_is_met, needs, none-passes, numbered, numbered-map, or_right, owed_verdict, owner, place_of}
+use Rattle.access_core.proofs.Terms.{queue_at, refuse_unless, refuses, region_lengths, right_needed, rights_at_launch, start_of, with_denied, with_entry, with_queue, with_some}
 use Rattle.packet_processor.proofs.FirstFailing.{first_failing-decoded}
 use Rattle.core_model.specs.Queues.{opening_of, next_id}
 use Rattle.core_model.specs.declared.need.Need.{Need}
@@ -14,29 +15,12 @@ use Rattle.core_model.specs.LaunchRules.{cause_to_wait}
 use Rattle.packet_processor.specs.inner.FieldRules.{later_failing, rules_of_fields}
 use Rattle.core_model.specs.Owed.{owed}
 use Rattle.std.proofs.Common.{◌⊎◌, not}
-use Rattle.std.proofs.lemmas.Bool.{or_right}
-use Rattle.std.proofs.lemmas.List.Elements.{All-head, All-tail}
 use Rattle.aql_packet.specs.declared.packet.Packet.TheVariants as packet
-use Rattle.policy.specs.declared.rights.Right.TheVariants.{Read}
-use Rattle.core_model.proofs.Holding.{arguments-held}
 use Rattle.core_model.proofs.Launching.{launch-granted}
-use Rattle.core_model.proofs.Lists.{none-passes}
-use Rattle.core_model.proofs.Meeting.{entered-owed}
-use Rattle.core_model.specs.Headline.{MayReach, MayReachRange, argument_ranges}
-use Rattle.core_model.specs.Holds.{held_by_arguments, held_by_needs}
-use Rattle.core_model.specs.Kernels.{kernel_of}
-use Rattle.core_model.specs.LaunchRules.{meets_rule}
-use Rattle.access_core.specs.inner.Deciding.{IsBlockPlaced}
 use Rattle.access_core.specs.inner.QueueChanges.{with_launched}
 use Rattle.access_core.proofs.CachedMore.{QueuesAfter, none-launched}
 use Rattle.access_core.proofs.QueueAt.{flight-launched, flight-unlaunched, map-map, denied, launched, queue_at-denied, queue_at-launched}
 use Rattle.access_core.proofs.ChangedQueue.{length-changed, openings-changed, queues-changed, sound-at, sound-changed}
-use Rattle.access_core.proofs.Terms.{IsInPlace, in_force, due, enters, is_placed, CanFail, ClientId, Denied, Effect, Entry, Event, Facts, ObjectRight, History, InFlight, Inside, IsCached, IsSound}
-use Rattle.access_core.proofs.Terms.{Launched, Opening, Outcome, Packet, PacketId, Place, Queue, QueueError, QueueId, QueueView, SLOTS, Start, Take}
-use Rattle.access_core.proofs.Terms.{TakesNext, right_needed, as_launched, barrier_bit, cached_view, cached_opening, owed_verdict, decoded, entry_of, error_without_place, errors}
-use Rattle.access_core.proofs.Terms.{facts_of, first_failing_rule, flight, flight_of, hands_over_packet_of, rights_at_launch, history_of, need_is_met, lacks_room}
-use Rattle.access_core.proofs.Terms.{launched_by, lies_in_regions, lies_whole, memory_needs, needs, numbered, numbered-map, owner, place_of, queue_at}
-use Rattle.access_core.proofs.Terms.{refuse_unless, refuses, region_lengths, start_of, with_denied, with_entry, with_queue, with_some}
 use Rattle.queue_error.specs.declared.rule.Rule.TheVariants as rule
 use Rattle.core_model.specs.declared.refusal.Refusal.TheVariants as refusal
 use Rattle.core_model.specs.declared.outcome.Outcome.TheVariants as outcome

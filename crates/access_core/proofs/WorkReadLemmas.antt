@@ -1,15 +1,9 @@
 -- Memory that is read and written, as the history has it.
 use Rattle.std.proofs.Common.{◌≡◌, ℕ, ◌+◌, ◌-◌, ◌<◌, ◌≤◌, ◌^◌, List, length, refl, sym, ◌∙◌, true, false, Some, arith, ◌≢◌, ◌==◌, slice_get}
 use Rattle.std.proofs.Common.{slice_index, if◌then◌else◌}
-use Rattle.std.proofs.lemmas.Bool.{lt-ltb}
-use Rattle.std.proofs.lemmas.List.{same_lists}
-use Rattle.std.proofs.lemmas.List.FromFn.{length-map-range_with_len, get_or-map-range_with_len}
-use Rattle.std.proofs.lemmas.Option.{slice_get-get_or, get_or_from_slice_get}
-use Rattle.regions.proofs.Laws.{IsWithin-from_test, length-region_bytes, length-bytes_from, slice_get-bytes_from}
-use Rattle.regions.proofs.Lookups.{region_length-is}
-use Rattle.access_core.proofs.Terms.{History, Inside, IsCached, IsChanged, IsMemory, IsWithin, IsWritten, byte_at, bytes_from, covers, history_of, is_placed}
-use Rattle.access_core.proofs.Terms.{is_within, lengths_of, lies_in_region, memory_at, memory_from, region_lengths, region_of}
-use Rattle.access_core.proofs.Terms.{start_of, write_of}
+use Rattle.access_core.proofs.Terms.{History, Inside, IsCached, IsChanged, IsMemory, IsWithin, IsWithin-from_test, IsWritten, byte_at, bytes_from, covers, get_or-map-range_with_len}
+use Rattle.access_core.proofs.Terms.{get_or_from_slice_get, history_of, is_placed, is_within, length-bytes_from, length-map-range_with_len, length-region_bytes, lengths_of, lies_in_region}
+use Rattle.access_core.proofs.Terms.{lt-ltb, memory_at, memory_from, region_length-is, region_lengths, region_of, same_lists, slice_get-bytes_from, slice_get-get_or, start_of, write_of}
 
 -- each address of a range that lies whole in a region lies in it
 lies-within : (regions : List (List ℕ)) (address size k : ℕ) → IsMemory regions → IsWithin regions address size → k < size → lies_in_region (lengths_of regions) (address + k) ≡ true
