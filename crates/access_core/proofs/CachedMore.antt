@@ -1,22 +1,18 @@
 -- What is cached stays what the history says when an entry is put behind it and the fields follow.
 use Rattle.std.proofs.Common.{◌≡◌, ℕ, ◌+◌, ◌<◌, ◌≤◌, List, [], ◌∷◌, length, sym, ◌∙◌, ap, subst, refl, true, false, Some, None, arith, length-append, map, fold}
-use Rattle.std.proofs.Common.{All, Bool, get_or, if◌then◌else◌}
-use Rattle.std.proofs.lemmas.List.Elements.{All-weaker}
-use Rattle.std.proofs.lemmas.Bool.{and_from, eq-eqb, ltb-false}
+use Rattle.std.proofs.Common.{All, get_or, if◌then◌else◌}
+use Rattle.access_core.proofs.Terms.{All-weaker, AreBlocksOf, ArgumentBlock, ClientId, Effect, Event, History, InFlight, Inside, IsCached, IsEntered, IsSound, Ledger, Object, Outcome, Owed}
+use Rattle.access_core.proofs.Terms.{PacketId, QUEUES, Queue, QueueId, Right, Start, and_from, arguments_if, block_of, byte_after, byte_at, cached_opening, cached_view, due, entered-owed}
+use Rattle.access_core.proofs.Terms.{enters, entry_of, flight, flight-more, history_of, in_force, in_force-more, in_force_after, is_launch, lacks_room, launched_by, lengths_of}
+use Rattle.access_core.proofs.Terms.{lies_in_region, lies_in_regions, ltb-false, memory_at, memory_at-more, numbered, openings-more, owed, owner, packet_holds, packet_rights, queue_at}
+use Rattle.access_core.proofs.Terms.{region_lengths, signals-more, signals_after, start_of, with_entry, with_some}
+use Rattle.std.proofs.lemmas.Bool.{eq-eqb}
 use Rattle.core_model.specs.Queues.{opening_of}
-use Rattle.core_model.proofs.Meeting.{entered-owed}
 use Rattle.core_model.proofs.Flying.{all-after}
 use Rattle.core_model.proofs.Legality.{IsLegal-more}
-use Rattle.core_model.specs.Holds.{arguments, arguments_if, packet_rights, is_launch}
-use Rattle.access_core.specs.inner.ArgumentBlocks.{AreBlocksOf, block_of}
-use Rattle.access_core.specs.declared.argument_blocks.ArgumentBlock.{ArgumentBlock}
+use Rattle.core_model.specs.Holds.{arguments}
 use Rattle.access_core.proofs.HeldMore.{arguments-more}
 use Rattle.access_core.proofs.QueueAt.{IsQuiet, flight-quiet, queue_at-quiet}
-use Rattle.access_core.proofs.Terms.{ClientId, Effect, Event, History, InFlight, Inside, IsCached, IsEntered, IsSound, Ledger, Object, Outcome, Owed, PacketId}
-use Rattle.access_core.proofs.Terms.{QUEUES, Queue, QueueId, Right, Start, byte_after, byte_at, cached_view, cached_opening, due, enters, entry_of, flight}
-use Rattle.access_core.proofs.Terms.{flight-more, history_of, in_force, in_force-more, in_force_after, is_packet, lacks_room, launched_by, lengths_of, lies_in_region}
-use Rattle.access_core.proofs.Terms.{lies_in_regions, memory_at, memory_at-more, numbered, openings-more, owed, owner, packet_holds, queue_at, region_lengths}
-use Rattle.access_core.proofs.Terms.{signals-more, signals_after, start_of, with_entry, with_some}
 use Rattle.grants.specs.Ledger as ledger
 
 -- the argument block of a packet behind an entry: what its launch gives it, or the block that is kept
@@ -81,14 +77,10 @@ module _ (a b : Inside) (event : Event) (outcome : Outcome) (effects : List Effe
   longer = ap length after.audit.items ∙ length-append a.audit.items (entry_of event outcome effects ∷ [])
 
   granted-after : (client : ClientId) (on : Object) (right : Right) → ledger.in_force b.grants client on right ≡ in_force (start_of b) b.audit.items client on right
-  granted-after client on right =
-      rw (after.same.0.0, after.same.0.1, after.audit.items, in_force-more)
-      (subst (λ before. ledger.in_force b.grants client on right ≡ in_force_after client on right before event) (was.granted client on right) (after.grants.granted client on right))
+  granted-after client on right = grind (arith, in_force-more)
 
   memory-after : (x : ℕ) → lies_in_region (region_lengths b.policy) x ≡ true → byte_at b.memory x ≡ Some (memory_at (start_of b) b.audit.items x)
-  memory-after x lies =
-      let inside : lies_in_region (region_lengths a.policy) x ≡ true = rw (← after.same.0.0) lies in
-      rw (after.same.0.0, after.same.0.1, after.audit.items, memory_at-more) (after.memory.memory x (memory_at (start_of a) a.audit.items x) (was.memory x inside))
+  memory-after x lies = grind (arith, memory_at-more)
 
   -- the argument blocks of packets in flight are those of their launches
   arguments-after : owed (start_of a) a.audit.items event ≡ enters outcome effects
@@ -101,10 +93,7 @@ module _ (a b : Inside) (event : Event) (outcome : Outcome) (effects : List Effe
       Kept f = is_launch f.queue f.id (launched_by event outcome) ≡ false → block_of a.blocks.items f.queue f.id ≡ arguments (start_of a) a.audit.items f.queue f.id
 
       launched : (f : InFlight) → launched_by event outcome ≡ Some f → Kept f
-      launched f is other =
-          let itself : is_packet f.queue f.id f ≡ true = and_from _ _ (eq-eqb f.queue.0 f.queue.0 refl) (eq-eqb f.id.0 f.id.0 refl) in
-          let now : is_launch f.queue f.id (launched_by event outcome) ≡ true = rw is itself in
-          absurd (cc)
+      launched f is = grind (arith, and_from _ _ (eq-eqb f.queue.0 f.queue.0 refl) (eq-eqb f.id.0 f.id.0 refl), eq-eqb f.queue.0 f.queue.0 refl, eq-eqb f.id.0 f.id.0 refl, and_from, eq-eqb)
 
       kept : All Kept (flight (start_of a) (with_entry a.audit.items event outcome effects))
       kept = rw flight-more (all-after Kept (entry_of event outcome effects) (flight (start_of a) a.audit.items) launched
@@ -112,13 +101,7 @@ module _ (a b : Inside) (event : Event) (outcome : Outcome) (effects : List Effe
 
       same : (f : InFlight) → Kept f → arguments_behind a event outcome f.queue f.id
           ≡ (if is_launch f.queue f.id (launched_by event outcome) then arguments_if (start_of a) a.audit.items (launched_by event outcome) else arguments (start_of a) a.audit.items f.queue f.id)
-      same f is = either (is_launch f.queue f.id (launched_by event outcome)) refl
-        where
-          either : (c : Bool) → is_launch f.queue f.id (launched_by event outcome) ≡ c
-              → (if c then arguments_if (start_of a) a.audit.items (launched_by event outcome) else block_of a.blocks.items f.queue f.id)
-              ≡ (if c then arguments_if (start_of a) a.audit.items (launched_by event outcome) else arguments (start_of a) a.audit.items f.queue f.id)
-          either true now = refl
-          either false other = is other
+      same f is = grind arith
 
   pub IsCached-more : (old : History) → history_of a ≡ old → due old event ≡ enters outcome effects → IsCached b
   IsCached-more old seen_as is_due =

@@ -1,7 +1,6 @@
 -- What is due to a call, by what the fields say that it is owed, and how it meets that.
-use Rattle.std.proofs.Common.{◌≡◌, List, refl, sym, ◌∙◌, ap, Ok, Err}
-use Rattle.access_core.proofs.Terms.{Effect, Entry, Event, History, Inside, Meets, Outcome, Owed, Refusal, due, enters, history_of, owed, refuses, start_of}
-use Rattle.access_core.proofs.Terms.{with_entry, within_room}
+use Rattle.std.proofs.Common.{◌≡◌, List, refl, sym, ◌∙◌, ap, Ok, Err, arith}
+use Rattle.access_core.proofs.Terms.{Effect, Entry, Event, History, Inside, Meets, Outcome, Owed, Refusal, due, enters, history_of, owed, refuses, start_of, with_entry, within_room}
 
 -- what is owed is due, if there is room for it
 pub due-as : (history : History) (event : Event) (owing : Owed) → owed history.start history.entries event ≡ owing → due history event ≡ within_room history event owing
@@ -17,7 +16,4 @@ met-refusal event old why is = record { reply_is = rw is refl; history_is = rw i
 
 pub met-entry : (a : Inside) (old : History) → history_of a ≡ old → (event : Event) (outcome : Outcome) (effects : List Effect) (entries : List Entry) → due old event ≡ enters outcome effects
     → entries ≡ with_entry a.audit.items event outcome effects → Meets event old (record { start = start_of a; capacity = a.capacity; entries = entries }) (Ok outcome)
-met-entry a old seen_as event outcome effects entries is same =
-    let left : record { start = start_of a; capacity = a.capacity; entries = entries } ≡ record old { entries = with_entry old.entries event outcome effects } =
-    ap (λ (es : List Entry). record { start = start_of a; capacity = a.capacity; entries = es }) same ∙ ap (λ (h : History). record h { entries = with_entry h.entries event outcome effects }) seen_as in
-    record { reply_is = rw is refl; history_is = rw is left }
+met-entry a old seen_as event outcome effects entries is same = grind arith

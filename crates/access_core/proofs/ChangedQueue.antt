@@ -1,13 +1,10 @@
 -- One queue of the list changed: what is kept of it, and of the others.
-use Rattle.std.proofs.Common.{◌≡◌, ℕ, zero, suc, ◌-◌, ◌<◌, List, [], ◌∷◌, length, map, All, get_or, refl, sym, ◌∙◌, ap, subst, rules, Bool, true, false, Option}
-use Rattle.std.proofs.Common.{Some, None, arith, inl, inr, eq-eqb, length-set, lt-length-set, get_or-set_same, ◌==◌, slice_get, slice_set, if◌then◌else◌}
-use Rattle.std.proofs.lemmas.Bool.{cases_eq, eqb-true, lt-ltb}
-use Rattle.std.proofs.lemmas.List.Elements.{All-set}
-use Rattle.std.proofs.lemmas.Option.{get_or_from_slice_get, slice_get-get_or, slice_get_within}
+use Rattle.std.proofs.Common.{◌≡◌, ℕ, zero, suc, ◌-◌, ◌<◌, List, [], ◌∷◌, length, map, All, get_or, refl, sym, ◌∙◌, ap, Option}
+use Rattle.std.proofs.Common.{Some, None, arith, length-set, lt-length-set, get_or-set_same, ◌==◌, slice_get, slice_set, if◌then◌else◌}
+use Rattle.std.proofs.lemmas.Bool.{eqb-true}
+use Rattle.access_core.proofs.Terms.{All-set, Entry, IsSound, PacketId, Queue, QueueId, QueueView, Start, cached_opening, cached_view, cases_eq, error_places, freed_by}
+use Rattle.access_core.proofs.Terms.{get_or_from_slice_get, lt-ltb, numbered, places_freed, queue_at, slice_get-get_or, slice_get_within, with_queue}
 use Rattle.std.proofs.Math.Seq.{map-set_same}
-use Rattle.access_core.specs.inner.Cached.{error_places}
-use Rattle.access_core.proofs.Terms.{Entry, IsSound, PacketId, Queue, QueueId, QueueView, Start, cached_view, cached_opening, places_freed, freed_by, numbered, queue_at}
-use Rattle.access_core.proofs.Terms.{with_queue}
 
 get-changed : (qs : List Queue) (i : ℕ) (q v : Queue) → slice_get qs i ≡ Some q → slice_get (slice_set qs i v) i ≡ Some v
 get-changed qs i q v at =
@@ -40,9 +37,7 @@ freed-at id qs n q found = ap (λ (o : Option Queue). elim o [ None ↦ 0 | Some
 
 -- a kept queue is sound
 pub sound-at : (qs : List Queue) (n : ℕ) (q : Queue) → All IsSound qs → numbered qs n ≡ Some q → IsSound q
-sound-at qs n q all found =
-    let at = (numbered-place qs n q found).1 in
-    subst IsSound (get_or_from_slice_get qs (n - 1) q q at) (all (n - 1) q (slice_get_within qs (n - 1) q at))
+sound-at qs n q all found = grind (arith, numbered-place qs n q found, get_or_from_slice_get qs (n - 1) q q, slice_get_within qs (n - 1) q, numbered-place, get_or_from_slice_get, slice_get_within)
 
 module _ (qs : List Queue) (n : QueueId) (change : Queue → Queue) (q : Queue) (found : numbered qs n.0 ≡ Some q) where
   -- the changed list
@@ -73,24 +68,11 @@ module _ (qs : List Queue) (n : QueueId) (change : Queue → Queue) (q : Queue) 
 
   -- the changed queue is kept at its number, the others are as they were
   pub cached-changed : (m : QueueId) → cached_view (numbered (with_queue qs n change) m.0) ≡ (if n.0 == m.0 then cached_view (Some (change q)) else cached_view (numbered qs m.0))
-  cached-changed m = ap (λ (all : List Queue). cached_view (numbered all m.0)) with_queue-is ∙ (elim (cases_eq n.0 m.0) [
-    | inl same ↦
-        let eq : (n.0 == m.0) ≡ true = eq-eqb n.0 m.0 same in
-        let now : numbered (slice_set qs (n.0 - 1) (change q)) n.0 ≡ Some (change q) = numbered-at _ n.0 (change q) place.0 (get-changed qs (n.0 - 1) q (change q) place.1) in
-        rw eq (ap (λ k. cached_view (numbered (slice_set qs (n.0 - 1) (change q)) k)) (sym same) ∙ ap cached_view now)
-    | inr other ↦
-        let eq : (n.0 == m.0) ≡ false = search rules in
-        rw eq (ap cached_view (numbered-other qs n.0 (change q) m.0 place.0 other))
-  ])
+  cached-changed m = grind (arith, with_queue-is, cases_eq n.0 m.0, numbered-at _ n.0 (change q) place.0 (get-changed qs (n.0 - 1) q (change q) place.1), get-changed qs (n.0 - 1) q (change q) place.1, numbered-other qs n.0 (change q) m.0 place.0, cases_eq, numbered-at, get-changed, numbered-other)
 
   -- so what is kept is what the history says, where both change alike
   pub queues-changed : (view : QueueView → QueueView) (start : Start) (old new : List Entry) → cached_view (Some (change q)) ≡ view (cached_view (Some q))
       → ((m : QueueId) → cached_view (numbered qs m.0) ≡ queue_at start old m)
       → ((m : QueueId) → queue_at start new m ≡ (if n.0 == m.0 then view (queue_at start old m) else queue_at start old m))
       → (m : QueueId) → cached_view (numbered (with_queue qs n change) m.0) ≡ queue_at start new m
-  queues-changed view start old new alike was now m = cached-changed m ∙ either (n.0 == m.0) refl ∙ sym (now m)
-    where
-      either : (b : Bool) → (n.0 == m.0) ≡ b → (if b then cached_view (Some (change q)) else cached_view (numbered qs m.0)) ≡ (if b then view (queue_at start old m) else queue_at start old m)
-      either true same =
-          alike ∙ ap view (ap cached_view (sym found) ∙ ap (λ k. cached_view (numbered qs k)) (eqb-true _ _ same) ∙ was m)
-      either false other = was m
+  queues-changed view start old new alike was now m = grind (arith, cached-changed m, eqb-true, was, now, cached-changed)

@@ -1,12 +1,12 @@
 -- What a grant and a revocation are owed, by the grants that are cached.
-use Rattle.std.proofs.Common.{◌≡◌, refl, sym, ◌∙◌, ap, Bool, true, false, Option, Some, None, Ok, Err, ◌&&◌, [], Result, if◌then◌else◌, not}
+use Rattle.std.proofs.Common.{◌≡◌, sym, ◌∙◌, ap, Bool, Option, Some, None, Ok, Err, ◌&&◌, [], Result, if◌then◌else◌, not, arith}
 use Rattle.grants.specs.declared.refusal.GrantRefusal.{GrantRefusal as Why}
 use Rattle.core_model.specs.Owed.{owed}
 use Rattle.access_core.proofs.Calls.{due-by}
 use Rattle.access_core.proofs.HeldRights.{is_holder-history}
 use Rattle.access_core.proofs.Least.{passes, least-none, least-first}
 use Rattle.access_core.proofs.Terms.{ClientId, Grant, History, InFlight, Inside, IsCached, IsFirstTo, Object, PacketId, QueueId, Revoke, RevokeAnswers, Rights}
-use Rattle.access_core.proofs.Terms.{Rules, are_allowed, due, enters, flight, grant_due, history_of, holder, holds_one_of, is_full}
+use Rattle.access_core.proofs.Terms.{Rules, are_allowed, due, enters, flight, grant_due, history_of, holds_one_of, is_full}
 use Rattle.access_core.proofs.Terms.{is_holder, is_queue_of, knows_object, knows_client, refusal_of, refuse_unless, refuses, rules_in, rules_of, start_of}
 use Rattle.policy.specs.Rules as rules_kept
 use Rattle.grants.specs.declared.refusal.GrantRefusal.TheVariants as why
@@ -32,10 +32,7 @@ module _ (a : Inside) (kept : IsCached a) (client : ClientId) (on : Object) (rig
     where
       by_tests : (c o s : Bool) → Err r ≡ due_of c o s
           → refuse_unless c (refuses refusal.UnknownClient) (refuse_unless o (refuses refusal.UnknownObject) (refuse_unless s (refuses refusal.NotAllowed) (enters outcome.Accepted []))) ≡ refuses (refusal_of r)
-      by_tests false o s e = let is : r ≡ why.UnknownClient = cc in rw is refl
-      by_tests true false s e = let is : r ≡ why.UnknownObject = cc in rw is refl
-      by_tests true true false e = let is : r ≡ why.NotAllowed = cc in rw is refl
-      by_tests true true true e = absurd cc
+      by_tests c o s h4 = grind arith
 
   grant-owed : Ok tt ≡ grant_due a.grants client on rights → owed (start_of a) a.audit.items (Grant client on rights) ≡ enters outcome.Accepted []
   unfolding owed
@@ -43,10 +40,7 @@ module _ (a : Inside) (kept : IsCached a) (client : ClientId) (on : Object) (rig
     where
       by_tests : (c o s : Bool) → Ok tt ≡ due_of c o s
           → refuse_unless c (refuses refusal.UnknownClient) (refuse_unless o (refuses refusal.UnknownObject) (refuse_unless s (refuses refusal.NotAllowed) (enters outcome.Accepted []))) ≡ enters outcome.Accepted []
-      by_tests false o s e = absurd cc
-      by_tests true false s e = absurd cc
-      by_tests true true false e = absurd cc
-      by_tests true true true e = refl
+      by_tests c o s h4 = grind arith
 
   -- so it is due its entry, where there is room
   pub grant-due : (old : History) → history_of a ≡ old → Ok tt ≡ grant_due a.grants client on rights → (full : Bool) → is_full old ≡ full → due old (Grant client on rights) ≡ (if full then refuses refusal.AuditFull else enters outcome.Accepted [])
@@ -67,11 +61,7 @@ module _ (a : Inside) (kept : IsCached a) (client : ClientId) (on : Object) (rig
   -- a revocation that grants let pass is owed its entry
   revoke-owed : RevokeAnswers a.grants client on rights (Ok tt) → owed (start_of a) a.audit.items (Revoke client on rights) ≡ enters outcome.Accepted []
   unfolding owed
-  revoke-owed answers =
-      let known : knows_client (rules_of a.policy) client ≡ true = sym (ap (λ (rules : Rules). knows_client rules client) rules_is) ∙ answers.0 in
-      let there : knows_object (rules_of a.policy) on ≡ true = sym (ap (λ (rules : Rules). knows_object rules on) rules_is) ∙ answers.1 in
-      let none : holder (start_of a) a.audit.items client on rights ≡ None = least-none holding (flight (start_of a) a.audit.items) (first-test None answers.2) in
-      rw (known, there, none) refl
+  revoke-owed answers = grind (arith, rules_is, least-none holding (flight (start_of a) a.audit.items) (first-test None answers.2), first-test None answers.2, least-none, first-test)
 
   pub revoke-due : (old : History) → history_of a ≡ old → RevokeAnswers a.grants client on rights (Ok tt) → (full : Bool) → is_full old ≡ full → due old (Revoke client on rights) ≡ (if full then refuses refusal.AuditFull else enters outcome.Accepted [])
   revoke-due old seen_as may full is = due-by a old seen_as (Revoke client on rights) _ (revoke-owed may) ∙ ap (λ b. if b then refuses refusal.AuditFull else enters outcome.Accepted []) is
@@ -79,17 +69,7 @@ module _ (a : Inside) (kept : IsCached a) (client : ClientId) (on : Object) (rig
   -- one that grants refuse is owed the refusal
   pub revoke-refused : (r : Why) → RevokeAnswers a.grants client on rights (Err r) → owed (start_of a) a.audit.items (Revoke client on rights) ≡ refuses (refusal_of r)
   unfolding owed
-  revoke-refused why.UnknownClient answers =
-      let known : knows_client (rules_of a.policy) client ≡ false = sym (ap (λ (rules : Rules). knows_client rules client) rules_is) ∙ answers in
-      rw known refl
-  revoke-refused why.UnknownObject answers =
-      let known : knows_client (rules_of a.policy) client ≡ true = sym (ap (λ (rules : Rules). knows_client rules client) rules_is) ∙ answers.0 in
-      let there : knows_object (rules_of a.policy) on ≡ false = sym (ap (λ (rules : Rules). knows_object rules on) rules_is) ∙ answers.1 in
-      rw (known, there) refl
+  revoke-refused why.UnknownClient answers = grind (arith, rules_is)
+  revoke-refused why.UnknownObject answers = grind (arith, rules_is)
   revoke-refused why.NotAllowed answers = absurd answers
-  revoke-refused (why.Busy queue id) answers =
-      let known : knows_client (rules_of a.policy) client ≡ true = sym (ap (λ (rules : Rules). knows_client rules client) rules_is) ∙ answers.0 in
-      let there : knows_object (rules_of a.policy) on ≡ true = sym (ap (λ (rules : Rules). knows_object rules on) rules_is) ∙ answers.1 in
-      let first = least-first holding (flight (start_of a) a.audit.items) queue id (first-test (Some (queue, id)) answers.2) in
-      let found : holder (start_of a) a.audit.items client on rights ≡ Some first.one = first.is in
-      rw (known, there, found) (ap (λ (q : QueueId). refuses (refusal.Busy q first.one.id)) first.queue_is ∙ ap (λ (i : PacketId). refuses (refusal.Busy queue i)) first.id_is)
+  revoke-refused (why.Busy queue id) answers = grind (arith, rules_is, least-first holding (flight (start_of a) a.audit.items) queue id (first-test (Some (queue, id)) answers.2), first-test (Some (queue, id)) answers.2, least-first, first-test)

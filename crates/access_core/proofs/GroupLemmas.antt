@@ -1,30 +1,17 @@
 -- How many work-groups kernel dispatches have, and what is known of them in flight.
 use Rattle.std.proofs.Common.{List, ◌≡◌, ◌<◌, ◌≤◌, ◌^◌, ◌&&◌, true, arith, nat_le}
-use Rattle.std.proofs.lemmas.Bool.{and_parts, ltb-true}
-use Rattle.std.proofs.lemmas.Bool.Decides.{nat_tests}
-use Rattle.aql_packet.specs.declared.packet.KernelDispatch.{KernelDispatch}
+use Rattle.access_core.proofs.Terms.{Entry, Facts, HoldsInForce, InFlight, IsLegal, IsSized, KernelDispatch, MOST_SEGMENT_BYTES, PacketId, Program, QueueId, Start, and_parts, arguments_of}
+use Rattle.access_core.proofs.Terms.{asks_for_known_work, facts_of, flight, found-all, found-passes, grid_size, group_bytes_of, group_size, has_dimensions, has_segments, has_sizes}
+use Rattle.access_core.proofs.Terms.{holding-legal, in_flight, is_packet, kernel_passes, leb-true, list_all, ltb-true, nat_tests, need_is_met, needs, numbered, numbered-map, segments_of}
 use Rattle.executor.specs.Locations.{count_of, groups_of}
-use Rattle.core_model.specs.Kernels.{grid_size, group_size, segments_of}
-use Rattle.core_model.specs.LaunchRules.{Facts, asks_for_known_work, has_dimensions, has_segments, has_sizes, need_is_met}
 use Rattle.core_model.specs.declared.kernel.KernelSegments.{KernelSegments}
 use Rattle.std.proofs.Common.{Option, Some, None, sym, ap, ◌∙◌, subst, refl, false, option_map}
-use Rattle.std.specs.List.{list_all}
 use Rattle.aql_packet.specs.declared.packet.Packet.TheVariants as packet
 use Rattle.queue_error.specs.declared.rule.Rule.TheVariants as rule
-use Rattle.core_model.proofs.Holding.{holding-legal}
-use Rattle.core_model.proofs.Lists.{found-all}
-use Rattle.core_model.specs.Headline.{HoldsInForce}
 use Rattle.std.proofs.Common.{Bool, length, ◌==◌}
-use Rattle.std.proofs.lemmas.Bool.{eqb-true, leb-true}
-use Rattle.kernel_check.specs.Programs.{Program, group_bytes_of}
-use Rattle.core_model.proofs.Lists.{found-passes}
-use Rattle.core_model.specs.Holds.{arguments, arguments_of}
-use Rattle.core_model.specs.LaunchRules.{kernel_passes}
-use Rattle.core_model.specs.declared.limits.TheConstants.{MOST_SEGMENT_BYTES}
+use Rattle.std.proofs.lemmas.Bool.{eqb-true}
+use Rattle.core_model.specs.Holds.{arguments}
 use Rattle.access_core.proofs.LaunchLemmas.{block-long}
-use Rattle.access_core.proofs.Terms.{numbered, numbered-map}
-use Rattle.access_core.specs.inner.InPlace.{IsSized}
-use Rattle.access_core.proofs.Terms.{Entry, InFlight, IsLegal, Packet, PacketId, QueueId, Start, facts_of, flight, in_flight, is_packet, needs}
 
 -- what is known of sizes that may be
 pub record AreSizes (d : KernelDispatch) : Type 0 where
@@ -71,13 +58,7 @@ module _ (start : Start) (es : List Entry) (legal : IsLegal start es) (queue : Q
 
   -- so a kernel dispatch has sizes that may be
   pub sized : IsSized f.packet
-  sized = by_packet f.packet asks-known
-    where
-      by_packet : (p : Packet) → asks_for_known_work p ≡ true → IsSized p
-      by_packet (packet.Kernel d) is = is
-      by_packet (packet.Agent _) is = tt
-      by_packet (packet.BarrierAnd _) is = tt
-      by_packet (packet.BarrierOr _) is = tt
+  sized = grind (arith, asks-known)
 
   -- and segments as it needs them
   pub segmented : (d : KernelDispatch) → f.packet ≡ packet.Kernel d → has_segments (facts_of start launch-of.launch.before launch-of.launch.opening) (packet.Kernel d) ≡ true
@@ -99,11 +80,7 @@ pub record CanRun (start : Start) (es : List Entry) (queue : QueueId) (id : Pack
 module _ (start : Start) (es : List Entry) (legal : IsLegal start es) (queue : QueueId) (id : PacketId) (f : InFlight) (found : in_flight start es queue id ≡ Some f) where
   -- its arguments are those of its launch
   arguments-launched : arguments start es queue id ≡ arguments_of start (launch-of start es legal queue id f found).launch.before f.packet
-  arguments-launched =
-      let both = and_parts (f.queue.0 == queue.0) (f.id.0 == id.0) (found-passes (is_packet queue id) (flight start es) f found) in
-      let queues : f.queue ≡ queue = ap (λ n. record { 0 = n }) (eqb-true _ _ both.0) in
-      let ids : f.id ≡ id = ap (λ n. record { 0 = n }) (eqb-true _ _ both.1) in
-      (λ i. arguments start es (sym queues i) (sym ids i)) ∙ (launch-of start es legal queue id f found).arguments_are
+  arguments-launched = grind (arith, and_parts (f.queue.0 == queue.0) (f.id.0 == id.0) (found-passes (is_packet queue id) (flight start es) f found), found-passes (is_packet queue id) (flight start es) f found, eqb-true _ _ (and_parts (f.queue.0 == queue.0) (f.id.0 == id.0) (found-passes (is_packet queue id) (flight start es) f found)).0, eqb-true _ _ (and_parts (f.queue.0 == queue.0) (f.id.0 == id.0) (found-passes (is_packet queue id) (flight start es) f found)).1, launch-of start es legal queue id f found, and_parts, found-passes, eqb-true, launch-of)
 
   pub can-run : (d : KernelDispatch) → f.packet ≡ packet.Kernel d → CanRun start es queue id d
   can-run d is = by_kernel (numbered start.kernels d.kernel_object.0) refl
@@ -118,9 +95,7 @@ module _ (start : Start) (es : List Entry) (legal : IsLegal start es) (queue : Q
       fits = kernel_passes facts d (λ kernel. nat_le kernel.group d.group_segment_size)
 
       passes : (fits ≡ true) × (nat_le d.group_segment_size MOST_SEGMENT_BYTES ≡ true)
-      passes =
-          let both = and_parts (fits && nat_le d.group_segment_size MOST_SEGMENT_BYTES) (nat_le d.private_segment_size MOST_SEGMENT_BYTES) (segmented start es legal queue id f found d is) in
-          and_parts fits (nat_le d.group_segment_size MOST_SEGMENT_BYTES) both.0
+      passes = grind (arith, and_parts (fits && nat_le d.group_segment_size MOST_SEGMENT_BYTES) (nat_le d.private_segment_size MOST_SEGMENT_BYTES) (segmented start es legal queue id f found d is), nat_le d.group_segment_size MOST_SEGMENT_BYTES, nat_le d.private_segment_size MOST_SEGMENT_BYTES, segmented start es legal queue id f found d is, and_parts fits (nat_le d.group_segment_size MOST_SEGMENT_BYTES) (and_parts (fits && nat_le d.group_segment_size MOST_SEGMENT_BYTES) (nat_le d.private_segment_size MOST_SEGMENT_BYTES) (segmented start es legal queue id f found d is)).0, and_parts, nat_le, segmented)
 
       by_kernel : (o : Option Program) → numbered start.kernels d.kernel_object.0 ≡ o → CanRun start es queue id d
       by_kernel None none =

@@ -1,43 +1,22 @@
 -- Groups of kernel dispatches in flight: that they can be run, and that what they come to is what the history says.
 use Rattle.std.proofs.Common.{◌≡◌, ℕ, ◌-◌, ◌<◌, ◌≤◌, List, length, get_or, refl, sym, ◌∙◌, ap, subst, true, Option, Some, None, arith, All, map, option_map, slice_get, ◌==◌}
-use Rattle.std.specs.Option.{unwrap_or}
-use Rattle.std.proofs.lemmas.Bool.{and_parts, eqb-true, ltb-true}
-use Rattle.std.proofs.lemmas.List.Elements.{All-weaker}
-use Rattle.std.proofs.lemmas.Option.{get_or_from_slice_get, slice_get-get_or, slice_get_within}
-use Rattle.aql_packet.specs.declared.packet.KernelDispatch.{KernelDispatch}
+use Rattle.access_core.proofs.Terms.{All-weaker, AreLentAlike, Dispatch, FailsAs, FaultsAs, GroupInput, GroupResult, HeldRegion, History, HoldsInForce, InFlight, Inside, IsCached, IsInPlace}
+use Rattle.access_core.proofs.Terms.{IsLegal, IsNumber, IsRunnable, Kernel, KernelDispatch, LentRegion, PacketId, Place, Program, QueueId, Run, and_parts, are_region_lengths, block_of}
+use Rattle.access_core.proofs.Terms.{flight, found-all, found-passes, get_or_from_slice_get, given_at_launch, grid_size, group_bytes_of, group_count, group_input, group_result, group_size}
+use Rattle.access_core.proofs.Terms.{has_entry, history_of, input_of, is_packet, is_within, kernel_of, lent_region, ltb-true, no_kernel, numbered, numbered-map, packet_rights, program_of}
+use Rattle.access_core.proofs.Terms.{region_lengths, slice_get-get_or, slice_get_within, unwrap_or, view_whole, wrote}
+use Rattle.std.proofs.lemmas.Bool.{eqb-true}
 use Rattle.aql_packet.specs.declared.packet.Packet.TheVariants as packet
-use Rattle.executor.specs.Items.{LentRegion, lent_region}
-use Rattle.executor.specs.Laws.{AreLentAlike}
-use Rattle.executor.specs.Results.{FailsAs, GroupResult, group_result, wrote}
-use Rattle.executor.specs.Runs.{GroupInput, IsRunnable, input_of}
-use Rattle.executor.specs.declared.dispatch.Dispatch.{Dispatch}
 use Rattle.executor.specs.declared.fault.RunFault.{RunFault}
-use Rattle.executor.specs.declared.fault.RunFault.TheVariants.{Fault, OutOfMemory}
-use Rattle.executor.specs.declared.run.Run.{Run}
-use Rattle.executor.specs.declared.view.HeldRegion.{HeldRegion}
-use Rattle.kernel_check.specs.Programs.{Program, group_bytes_of}
-use Rattle.core_model.proofs.Lists.{found-all, found-passes}
 use Rattle.core_model.proofs.Viewing.{IsWithinGrant, runs-granted}
 use Rattle.core_model.specs.Grants.{in_force}
-use Rattle.core_model.specs.Headline.{HoldsInForce}
-use Rattle.core_model.specs.Holds.{arguments, packet_rights}
-use Rattle.core_model.specs.Kernels.{grid_size, group_size, kernel_of, no_kernel}
-use Rattle.core_model.specs.View.{given_at_launch, group_input}
-use Rattle.core_model.specs.Work.{group_count}
-use Rattle.access_core.specs.inner.ArgumentBlocks.{block_of}
-use Rattle.access_core.specs.Opening.{IsNumber, has_entry, program_of}
-use Rattle.access_core.specs.declared.kernel.Kernel.{Kernel}
-use Rattle.access_core.specs.inner.Running.{FaultsAs, view_whole}
+use Rattle.core_model.specs.Holds.{arguments}
 use Rattle.access_core.proofs.GroupLemmas.{CanRun, can-run, launch-of}
 use Rattle.access_core.proofs.KernelLemmas.{views-alike}
-use Rattle.access_core.proofs.Terms.{History, InFlight, Inside, IsCached, IsInPlace, IsLegal, PacketId, Place, QueueId, are_region_lengths, flight, history_of, is_packet, is_within}
-use Rattle.access_core.proofs.Terms.{numbered, numbered-map, region_lengths}
 
 -- what is known of all of a list is known of the one of a number
 numbered-all : {X : Type 0} (P : X → Type 0) (xs : List X) (n : ℕ) (x : X) → All P xs → numbered xs n ≡ Some x → P x
-numbered-all P xs n x all found =
-    let at : slice_get xs (n - 1) ≡ Some x = grind arith in
-    subst P (get_or_from_slice_get xs (n - 1) x x at) (all (n - 1) x (slice_get_within xs (n - 1) x at))
+numbered-all P xs n x all found = grind (arith, get_or_from_slice_get xs (n - 1) x x, slice_get_within xs (n - 1) x, get_or_from_slice_get, slice_get_within)
 
 -- the program at a kernel's index
 abbrev pub program_at : Kernel → Program
@@ -49,8 +28,7 @@ ReadsWhereItMay = (input : GroupInput) (others : List LentRegion) → AreLentAli
 
 -- what is said of a fault is said of what the history says
 pub faults-as : (i : GroupInput) (came : GroupResult) → came ≡ group_result i → (why : RunFault) → FailsAs i why → FaultsAs came why
-faults-as i came is OutOfMemory fails = tt
-faults-as i came is (Fault f) fails = is ∙ fails.1
+faults-as i came h3 why h5 = grind arith
 
 -- What the executor is asked to run is what a dispatch asks for, with this argument block.
 pub record IsAsked (asked : Dispatch) (d : KernelDispatch) (block : List ℕ) : Type 0 where
@@ -68,9 +46,7 @@ module _ (a : Inside) (kept : IsCached a) (old : History) (seen_as : history_of 
 
   -- the packet that was found has the queue and the id
   named : (found.flying.queue ≡ queue) × (found.flying.id ≡ id)
-  named =
-      let both = and_parts (found.flying.queue.0 == queue.0) (found.flying.id.0 == id.0) (found-passes (is_packet queue id) (flight old.start old.entries) found.flying found.found) in
-      (ap (λ n. record { 0 = n }) (eqb-true _ _ both.0), ap (λ n. record { 0 = n }) (eqb-true _ _ both.1))
+  named = grind (arith, and_parts (found.flying.queue.0 == queue.0) (found.flying.id.0 == id.0) (found-passes (is_packet queue id) (flight old.start old.entries) found.flying found.found), found-passes (is_packet queue id) (flight old.start old.entries) found.flying found.found, eqb-true _ _ (and_parts (found.flying.queue.0 == queue.0) (found.flying.id.0 == id.0) (found-passes (is_packet queue id) (flight old.start old.entries) found.flying found.found)).0, eqb-true _ _ (and_parts (found.flying.queue.0 == queue.0) (found.flying.id.0 == id.0) (found-passes (is_packet queue id) (flight old.start old.entries) found.flying found.found)).1, and_parts, found-passes, eqb-true)
 
   kernels-are : (n : ℕ) → numbered old.start.kernels n ≡ option_map program_of (numbered a.kernels.items n)
   kernels-are n = ap (λ (h : History). numbered h.start.kernels n) (sym seen_as) ∙ numbered-map program_of a.kernels.items n

@@ -1,33 +1,18 @@
 -- What packets hold moves along with what is in flight.
 use Rattle.std.proofs.Common.{◌≡◌, List, [], ◌∷◌, ◌++◌, refl, sym, ◌∙◌, ap, Bool, true, false, Option, Some, None, arith, All, ℕ, ◌&&◌, ◌||◌, ◌==◌, not, map}
 use Rattle.std.proofs.Common.{filter, fold, get_or, if◌then◌else◌}
-use Rattle.std.specs.List.{list_all, list_any}
-use Rattle.std.proofs.lemmas.List.{map-append}
-use Rattle.std.proofs.lemmas.List.Elements.{All-head, All-tail}
+use Rattle.access_core.proofs.Terms.{AgentHandle, All-head, All-tail, AreBlocksOf, ArgumentBlock, ClientId, Effect, Entry, Event, Holds, HoldsInForce, InFlight, Inside, IsCached, Ledger}
+use Rattle.access_core.proofs.Terms.{Object, ObjectRight, OpenQueue, Opening, Outcome, Packet, PacketId, QueueId, Releases, Right, Rights, Start, are_in_force, arguments_of, as_rights}
+use Rattle.access_core.proofs.Terms.{bit_of, block_behind, block_of, each_right, entry_of, filter-passes, flight, fold-append, has, holding-legal, holds_by, in_force, in_force_after}
+use Rattle.access_core.proofs.Terms.{is_block, is_packet, launched_by, list_all, list_any, map-append, name_of, numbered, openings, openings-more, owner, owner-more, packet_holds, packet_of}
+use Rattle.access_core.proofs.Terms.{packet_rights, same_object, same_packet, start_of, with_entry, with_some}
 use Rattle.std.proofs.lemmas.List.Folds.{list_any-append}
-use Rattle.policy.specs.Object.{same_object}
-use Rattle.aql_packet.specs.Ids.{same_packet}
 use Rattle.grants.specs.Pairs.{is_named}
 use Rattle.core_model.specs.Queues.{opening_of}
-use Rattle.aql_packet.specs.declared.ids.AgentHandle.{AgentHandle}
-use Rattle.core_model.proofs.Holding.{owner-more}
-use Rattle.packet_processor.specs.Holding.{as_rights}
 use Rattle.access_core.proofs.CachedMore.{GrantsAfter}
-use Rattle.std.proofs.lemmas.List.Elements.{All-weaker}
-use Rattle.std.proofs.lemmas.List.Sums.{fold-append}
-use Rattle.core_model.proofs.Holding.{holding-legal}
-use Rattle.core_model.proofs.Lists.{filter-passes}
-use Rattle.core_model.specs.Headline.{HoldsInForce}
-use Rattle.core_model.specs.Holds.{arguments_of, packet_rights}
-use Rattle.access_core.specs.inner.ArgumentBlocks.{AreBlocksOf, block_behind, block_of, is_block, name_of, packet_of}
-use Rattle.access_core.specs.declared.argument_blocks.ArgumentBlock.{ArgumentBlock}
 use Rattle.access_core.proofs.CachedMore.{arguments_behind}
 use Rattle.access_core.proofs.HeldMore.{held-kept, held-unlaunched}
 use Rattle.access_core.proofs.HeldRights.{any-before}
-use Rattle.access_core.proofs.Terms.{ClientId, Effect, Entry, Event, ObjectRight, Holds, InFlight, Inside, IsCached, Ledger, Object, OpenQueue, Opening}
-use Rattle.access_core.proofs.Terms.{Outcome, Packet, PacketId, QueueId, Releases, Right, Rights, Start, are_in_force, bit_of, each_right, entry_of, flight}
-use Rattle.access_core.proofs.Terms.{has, holds_by, in_force, in_force_after, is_packet, launched_by, numbered, openings, openings-more, owner, packet_holds}
-use Rattle.access_core.proofs.Terms.{start_of, with_entry, with_some}
 use Rattle.grants.specs.Ledger as ledger
 
 -- ---- an entry that opens no queue
@@ -39,10 +24,7 @@ owners-still a event outcome effects none = openings-more (start_of a) a.audit.i
 pub held-still : (a : Inside) → IsCached a → (event : Event) (outcome : Outcome) (effects : List Effect) → opening_of event ≡ None → launched_by event outcome ≡ None → flight (start_of a) (with_entry a.audit.items event outcome effects) ≡ flight (start_of a) a.audit.items
     → (queue : QueueId) (id : PacketId) (client : ClientId) (on : Object) (right : Right)
     → ledger.holds a.grants queue id client on right ≡ packet_holds (owner (start_of a) (with_entry a.audit.items event outcome effects)) (packet_rights (start_of a) (with_entry a.audit.items event outcome effects)) (flight (start_of a) (with_entry a.audit.items event outcome effects)) queue id client on right
-held-still a kept event outcome effects none launches same queue id client on right =
-    kept.held queue id client on right
-    ∙ (λ i. packet_holds (λ (q : QueueId). numbered (sym (owners-still a event outcome effects none) i) q.0)
-    (λ q n. sym (held-unlaunched (start_of a) a.audit.items (entry_of event outcome effects) launches q n) i) (sym same i) queue id client on right)
+held-still a kept event outcome effects none launches same queue id client on right = grind (arith, owners-still a event outcome effects none, held-unlaunched (start_of a) a.audit.items (entry_of event outcome effects) launches)
 
 -- ---- argument blocks
 
@@ -59,15 +41,11 @@ block-without_packet q i f other found (b ∷ bs) = either (is_block q i b) refl
         → fold (block_behind f.queue f.id) found (if not c then b ∷ filter (λ x. not (is_block q i x)) bs else filter (λ x. not (is_block q i x)) bs)
         ≡ fold (block_behind f.queue f.id) (block_behind f.queue f.id found b) bs
     either false is rest = rest (block_behind f.queue f.id found b)
-    either true is rest =
-        let another : is_block f.queue f.id b ≡ false = grind arith in
-        rw another (rest found)
+    either true is rest = grind arith
 
 blocks-dropped : (a : Inside) (event : Event) (outcome : Outcome) → launched_by event outcome ≡ None → (q : QueueId) (i : PacketId) (fs : List InFlight)
     → All (λ f. block_of (filter (λ b. not (is_block q i b)) a.blocks.items) f.queue f.id ≡ arguments_behind a event outcome f.queue f.id) (filter (λ f. not (is_packet q i f)) fs)
-blocks-dropped a event outcome launches q i fs =
-    All-weaker (λ f. not (is_packet q i f) ≡ true) (λ f. block_of (filter (λ b. not (is_block q i b)) a.blocks.items) f.queue f.id ≡ arguments_behind a event outcome f.queue f.id)
-    (λ f other. rw launches (block-without_packet q i f other [] a.blocks.items)) (filter (λ f. not (is_packet q i f)) fs) (filter-passes (λ f. not (is_packet q i f)) fs)
+blocks-dropped a event outcome launches q i fs = grind (arith, arguments_behind a event outcome, block-without_packet q i, filter-passes (λ f. not (is_packet q i f)) fs)
 
 -- a packet that is launched has its block behind the others
 blocks-launched : (a : Inside) (event : Event) (outcome : Outcome) (q : QueueId) (i : PacketId) (p : Packet) (bytes : List ℕ) → launched_by event outcome ≡ Some (record { queue = q; id = i; packet = p }) → bytes ≡ arguments_of (start_of a) a.audit.items p
@@ -92,10 +70,7 @@ blocks-left q i fs bs are = map-left packet_of stays bs ∙ ap (filter stays) ar
 -- and where one is launched, its block comes behind the others
 blocks-with : (q : QueueId) (i : PacketId) (p : Packet) (bytes : List ℕ) (fs : List InFlight) (bs : List ArgumentBlock) → AreBlocksOf fs bs
     → AreBlocksOf (fs ++ record { queue = q; id = i; packet = p } ∷ []) (bs ++ record { queue = q; packet = i; bytes = bytes } ∷ [])
-blocks-with q i p bytes fs bs are =
-    map-append packet_of bs (record { queue = q; packet = i; bytes = bytes } ∷ [])
-    ∙ ap (λ (named : List (QueueId × PacketId)). named ++ (q, i) ∷ []) are
-    ∙ sym (map-append name_of fs (record { queue = q; id = i; packet = p } ∷ []))
+blocks-with q i p bytes fs bs are = grind (arith, map-append packet_of bs (record { queue = q; packet = i; bytes = bytes } ∷ []), map-append name_of fs (record { queue = q; id = i; packet = p } ∷ []))
 
 -- so a call that doesn't touch the grants leaves them as the history says
 pub grants-still : (a : Inside) → IsCached a → (event : Event) (outcome : Outcome) (effects : List Effect) → opening_of event ≡ None → launched_by event outcome ≡ None → ((client : ClientId) (on : Object) (right : Right) (b : Bool) → in_force_after client on right b event ≡ b)
@@ -116,21 +91,7 @@ left_out k p s x r one two = grind arith
 module _ (owners : QueueId → Option Opening) (helds : QueueId → PacketId → List ObjectRight) (q : QueueId) (i : PacketId) (queue : QueueId) (id : PacketId) (client : ClientId) (on : Object) (right : Right) where
   pub held-without_packet : (fs : List InFlight) → packet_holds owners helds (filter (λ f. not (is_packet q i f)) fs) queue id client on right ≡ (packet_holds owners helds fs queue id client on right && not (same_packet queue id q i))
   held-without_packet [] = refl
-  held-without_packet (f ∷ fs) =
-      either (not (is_packet q i f))
-      ∙ ap (λ rest. if not (is_packet q i f) then ((is_packet queue id f && holds_by (owners f.queue) client on right (helds f.queue f.id)) || rest) else rest) (held-without_packet fs)
-      ∙ left_out (is_packet q i f) (is_packet queue id f) (same_packet queue id q i) (holds_by (owners f.queue) client on right (helds f.queue f.id)) (packet_holds owners helds fs queue id client on right) named other
-    where
-      either : (b : Bool) → packet_holds owners helds (if b then f ∷ filter (λ g. not (is_packet q i g)) fs else filter (λ g. not (is_packet q i g)) fs) queue id client on right
-          ≡ (if b then ((is_packet queue id f && holds_by (owners f.queue) client on right (helds f.queue f.id)) || packet_holds owners helds (filter (λ g. not (is_packet q i g)) fs) queue id client on right) else packet_holds owners helds (filter (λ g. not (is_packet q i g)) fs) queue id client on right)
-      either true = refl
-      either false = refl
-
-      named : is_packet q i f ≡ true → is_packet queue id f ≡ same_packet queue id q i
-      named is = grind arith
-
-      other : is_packet q i f ≡ false → (is_packet queue id f && same_packet queue id q i) ≡ false
-      other is = grind arith
+  held-without_packet (f ∷ fs) = grind (arith, left_out, held-without_packet fs)
 
 -- ---- a packet that is launched
 
@@ -150,26 +111,14 @@ names-held client c on right hs =
 
     mapped : (hs : List ObjectRight) → list_any (λ (named : Object × Rights). (client.0 == c.0 && same_object on named.0) && has named.1 right) (map as_rights hs) ≡ list_any (λ (h : ObjectRight). client.0 == c.0 && (same_object on h.0 && has (as_rights h).1 right)) hs
     mapped [] = refl
-    mapped (h ∷ hs) = ap (λ b. b || list_any (λ (named : Object × Rights). (client.0 == c.0 && same_object on named.0) && has named.1 right) (map as_rights hs)) (turned (client.0 == c.0) (same_object on h.0) (has (as_rights h).1 right))
-        ∙ ap (λ rest. (client.0 == c.0 && (same_object on h.0 && has (as_rights h).1 right)) || rest) (mapped hs)
+    mapped (h ∷ hs) = grind (arith, mapped hs)
 
 -- the packets in flight hold what they held, and the one that is launched what its launch gives it
 pub held-with : (owners : QueueId → Option Opening) (helds : QueueId → PacketId → List ObjectRight) (fs : List InFlight) (opening : Opening) (q : QueueId) (i : PacketId) (p : Packet) (hs : List ObjectRight) → owners q ≡ Some opening → helds q i ≡ hs
     → (queue : QueueId) (id : PacketId) (client : ClientId) (on : Object) (right : Right)
     → (packet_holds owners helds fs queue id client on right || (same_packet queue id q i && is_named (map as_rights hs) opening.client client on right))
     ≡ packet_holds owners helds (fs ++ (record { queue = q; id = i; packet = p }) ∷ []) queue id client on right
-held-with owners helds fs opening q i p hs is gives queue id client on right =
-    ap (λ b. packet_holds owners helds fs queue id client on right || b) (launched ∙ sym (or-false _))
-    ∙ sym (list_any-append (λ (f : InFlight). is_packet queue id f && holds_by (owners f.queue) client on right (helds f.queue f.id)) fs ((record { queue = q; id = i; packet = p }) ∷ []))
-  where
-    launched : (same_packet queue id q i && is_named (map as_rights hs) opening.client client on right) ≡ (is_packet queue id ((record { queue = q; id = i; packet = p })) && holds_by (owners q) client on right (helds q i))
-    launched =
-        ap (λ b. b && is_named (map as_rights hs) opening.client client on right) numbers
-        ∙ ap (λ b. is_packet queue id ((record { queue = q; id = i; packet = p })) && b)
-        (names-held opening.client client on right hs ∙ (λ j. holds_by (sym is j) client on right (sym gives j)))
-      where
-        numbers : same_packet queue id q i ≡ is_packet queue id ((record { queue = q; id = i; packet = p }))
-        numbers = grind arith
+held-with owners helds fs opening q i p hs is gives queue id client on right = grind (arith, or-false, list_any-append (λ (f : InFlight). is_packet queue id f && holds_by (owners f.queue) client on right (helds f.queue f.id)) fs ((record { queue = q; id = i; packet = p }) ∷ []), names-held opening.client client)
 
 -- one entry more leaves what packets in flight hold
 held-left : (start : Start) (es : List Entry) (e : Entry) (owners : QueueId → Option Opening) (queue : QueueId) (id : PacketId) (client : ClientId) (on : Object) (right : Right) (fs : List InFlight) → All (HoldsInForce start es) fs
@@ -237,32 +186,13 @@ each-one one test = grind arith
 
 all-in_force : (grants : Ledger) (client : ClientId) (hs : List ObjectRight) → are_in_force grants client (map as_rights hs) ≡ list_all (λ h. ledger.in_force grants client h.0 h.1) hs
 all-in_force grants client [] = refl
-all-in_force grants client (h ∷ hs) =
-    ap (λ b. b && are_in_force grants client (map as_rights hs)) (each-one h.1 (ledger.in_force grants client h.0))
-    ∙ ap (λ rest. ledger.in_force grants client h.0 h.1 && rest) (all-in_force grants client hs)
+all-in_force grants client (h ∷ hs) = grind (arith, each-one h.1 (ledger.in_force grants client h.0), all-in_force grants client hs)
 
 -- what a packet that is launched will hold is in force
 pub launch-in_force : (a : Inside) → IsCached a → (old : Ledger) (client : ClientId) (rights : List (Object × Rights)) (hs : List ObjectRight) → old ≡ record a.grants { room = old.room } → rights ≡ map as_rights hs
     → list_all (λ h. in_force (start_of a) a.audit.items client h.0 h.1) hs ≡ true → are_in_force old client rights ≡ true
-launch-in_force a kept old client rights hs same are forced =
-    ap (λ (g : Ledger). are_in_force g client rights) same
-    ∙ ap (are_in_force a.grants client) are
-    ∙ all-in_force a.grants client hs
-    ∙ (λ i. list_all (λ (h : ObjectRight). kept.granted client h.0 h.1 i) hs)
-    ∙ forced
+launch-in_force a kept old client rights hs same are forced = grind (arith, all-in_force a.grants client hs)
 
 -- a queue that is opened leaves the grants as the history says
 pub grants-opened : (a : Inside) → IsCached a → (client : ClientId) (agent : AgentHandle) (size : ℕ) (told : Outcome) → flight (start_of a) (with_entry a.audit.items (OpenQueue client agent size) told []) ≡ flight (start_of a) a.audit.items → GrantsAfter a a.grants a.blocks.items (OpenQueue client agent size) told []
-grants-opened a kept opener agent size told flying =
-    let e = entry_of (OpenQueue opener agent size) told [] in
-    record {
-      granted = λ client on right. refl;
-      rules = refl;
-      held = λ queue id client on right.
-          kept.held queue id client on right
-          ∙ held-opened (start_of a) a.audit.items e queue id client on right (flight (start_of a) a.audit.items) (holding-legal (start_of a) a.audit.items kept.legal)
-          ∙ (λ j. packet_holds (owner (start_of a) (with_entry a.audit.items (OpenQueue opener agent size) told []))
-          (λ n m. sym (held-unlaunched (start_of a) a.audit.items e refl n m) j) (sym flying j) queue id client on right);
-      blocks_are = rw flying kept.blocks_are;
-      arguments = blocks-still a (OpenQueue opener agent size) told refl _;
-    }
+grants-opened a kept opener agent size told flying = grind (arith, held-opened (start_of a) a.audit.items (entry_of (OpenQueue opener agent size) told []), holding-legal (start_of a) a.audit.items kept.legal, held-unlaunched (start_of a) a.audit.items (entry_of (OpenQueue opener agent size) told []) refl, blocks-still a (OpenQueue opener agent size) told refl)

@@ -1,12 +1,10 @@
 -- What their launches gave packets stays as it was, whatever entry comes behind.
-use Rattle.std.proofs.Common.{◌≡◌, ◌<◌, ◌==◌, List, [], ◌∷◌, ◌++◌, refl, ◌∙◌, ap, subst, Bool, true, false, Option, Some, None, arith, if◌then◌else◌}
-use Rattle.std.proofs.lemmas.Bool.{and_from, and_parts, eq-eqb, eqb-true}
-use Rattle.core_model.proofs.Holding.{from_launch-kept, from_launch-launch, from_launch-other, holds-from, was-launched}
-use Rattle.core_model.proofs.Launches.{launched_by-is, was_launched, IsNext-from_owed, AreBelowNext-legal}
-use Rattle.core_model.specs.Headline.{HoldsInForce}
-use Rattle.core_model.specs.Holds.{arguments, arguments_if, packet_rights, rights_of_launch}
-use Rattle.access_core.proofs.Terms.{Entry, InFlight, IsLegal, Opening, PacketId, QueueId, Start, enters, rights_at_launch, is_launch, is_packet, launched_by}
-use Rattle.access_core.proofs.Terms.{next_id, owed, owner}
+use Rattle.std.proofs.Common.{◌≡◌, ◌<◌, ◌==◌, List, [], ◌∷◌, ◌++◌, refl, ◌∙◌, ap, Bool, true, false, Option, Some, None, arith, if◌then◌else◌}
+use Rattle.std.proofs.lemmas.Bool.{eq-eqb, eqb-true}
+use Rattle.access_core.proofs.Terms.{AreBelowNext-legal, Entry, HoldsInForce, InFlight, IsLegal, IsNext-from_owed, Opening, PacketId, QueueId, Start, and_from, and_parts, arguments_if}
+use Rattle.access_core.proofs.Terms.{enters, from_launch-kept, from_launch-launch, from_launch-other, holds-from, is_launch, launched_by, launched_by-is, next_id, owed, owner, packet_rights}
+use Rattle.access_core.proofs.Terms.{rights_at_launch, was-launched, was_launched}
+use Rattle.core_model.specs.Holds.{arguments}
 
 module _ (start : Start) (es : List Entry) (e : Entry) where
   abbrev later : List Entry
@@ -20,9 +18,7 @@ module _ (start : Start) (es : List Entry) (e : Entry) where
 
   -- a packet in flight holds what it held
   pub held-kept : (f : InFlight) → HoldsInForce start es f → packet_rights start later f.queue f.id ≡ packet_rights start es f.queue f.id
-  held-kept f h =
-      from_launch-kept (holds-from start f.queue) [] es (e ∷ []) f.queue f.id
-      (was-launched start es e f.queue f.id h.launch.before h.launch.opening f.packet h.held_is)
+  held-kept f h = grind (arith, from_launch-kept (holds-from start f.queue) [] es (e ∷ []) f.queue f.id (was-launched start es e f.queue f.id h.launch.before h.launch.opening f.packet h.held_is), holds-from start f.queue, was-launched start es e f.queue f.id h.launch.before h.launch.opening f.packet h.held_is, from_launch-kept, holds-from, was-launched)
 
   -- ---- an entry of a legal history
 
@@ -40,25 +36,13 @@ module _ (start : Start) (es : List Entry) (e : Entry) where
 
     none-at : (queue : QueueId) (id : PacketId) (o : Option InFlight) → launched_by e.event e.outcome ≡ o → is_launch queue id o ≡ true → was_launched es queue id ≡ false
     none-at queue id None is launches = absurd cc
-    none-at queue id (Some f) is launches =
-        let both = and_parts (f.queue.0 == queue.0) (f.id.0 == id.0) launches in
-        let queues : f.queue ≡ queue = ap (λ n. record { 0 = n }) (eqb-true _ _ both.0) in
-        let ids : f.id ≡ id = ap (λ n. record { 0 = n }) (eqb-true _ _ both.1) in
-        subst (λ (q : QueueId). was_launched es q id ≡ false) queues (subst (λ (i : PacketId). was_launched es f.queue i ≡ false) ids (none-before f is))
+    none-at queue id (Some f) is launches = grind (arith, and_parts (f.queue.0 == queue.0) (f.id.0 == id.0) launches, eqb-true _ _ (and_parts (f.queue.0 == queue.0) (f.id.0 == id.0) launches).0, eqb-true _ _ (and_parts (f.queue.0 == queue.0) (f.id.0 == id.0) launches).1, was_launched es, was_launched es f.queue, none-before f is, and_parts, eqb-true, was_launched, none-before)
 
     -- a packet that is launched holds what its launch gives it
     pub held-launched : (f : InFlight) (opening : Opening) → launched_by e.event e.outcome ≡ Some f → owner start es f.queue ≡ Some opening → packet_rights start later f.queue f.id ≡ rights_at_launch start es opening f.packet
-    held-launched f opening is owned =
-        let itself : is_packet f.queue f.id f ≡ true = and_from _ _ (eq-eqb f.queue.0 f.queue.0 refl) (eq-eqb f.id.0 f.id.0 refl) in
-        let now : is_launch f.queue f.id (launched_by e.event e.outcome) ≡ true = rw is itself in
-        ◌∙◌ {b = rights_of_launch start es (owner start es f.queue) (launched_by e.event e.outcome)}
-        (from_launch-launch (holds-from start f.queue) [] es e f.queue f.id (none-before f is) now) (λ i. rights_of_launch start es (owned i) (is i))
+    held-launched f opening is owned = grind (arith, and_from _ _ (eq-eqb f.queue.0 f.queue.0 refl) (eq-eqb f.id.0 f.id.0 refl), eq-eqb f.queue.0 f.queue.0 refl, eq-eqb f.id.0 f.id.0 refl, from_launch-launch (holds-from start f.queue) [] es e f.queue f.id (none-before f is), holds-from start f.queue, none-before f is, and_from, eq-eqb, from_launch-launch, holds-from, none-before)
 
     -- the arguments of a packet are those of its launch
     pub arguments-more : (queue : QueueId) (id : PacketId) → arguments start later queue id
         ≡ (if is_launch queue id (launched_by e.event e.outcome) then arguments_if start es (launched_by e.event e.outcome) else arguments start es queue id)
-    arguments-more queue id = either (is_launch queue id (launched_by e.event e.outcome)) refl
-      where
-        either : (b : Bool) → is_launch queue id (launched_by e.event e.outcome) ≡ b → arguments start later queue id ≡ (if b then arguments_if start es (launched_by e.event e.outcome) else arguments start es queue id)
-        either true is = from_launch-launch (arguments_if start) [] es e queue id (none-at queue id (launched_by e.event e.outcome) refl is) is
-        either false is = from_launch-other (arguments_if start) [] es e queue id is
+    arguments-more queue id = grind (arith, from_launch-launch (arguments_if start) [] es e queue id, none-at queue id (launched_by e.event e.outcome) refl, from_launch-other (arguments_if start) [] es e queue id, from_launch-launch, none-at, from_launch-other)

@@ -1,13 +1,8 @@
 -- The rights that a packet in flight holds on an object: those of the grants are those of the history.
-use Rattle.std.proofs.Common.{◌≡◌, List, [], ◌∷◌, refl, ◌∙◌, ap, Bool, true, false, Option, Some, arith, ◌&&◌, ◌==◌, find}
-use Rattle.std.specs.List.{list_any}
-use Rattle.std.proofs.lemmas.Bool.{and_parts, eqb-true}
-use Rattle.policy.specs.Object.{same_object}
-use Rattle.core_model.specs.Holds.{packet_rights}
-use Rattle.core_model.specs.View.{rights_held}
-use Rattle.policy.specs.Rights.{set_of}
-use Rattle.access_core.proofs.Terms.{ObjectRight, InFlight, Inside, IsCached, Object, Opening, PacketId, QueueId, Right}
-use Rattle.access_core.proofs.Terms.{bit_of, flight, has, holds_by, in_flight, is_packet, owner, rights_that, start_of}
+use Rattle.std.proofs.Common.{◌≡◌, List, [], ◌∷◌, refl, ◌∙◌, Bool, true, Some, arith, ◌&&◌, ◌==◌, find}
+use Rattle.access_core.proofs.Terms.{InFlight, Inside, IsCached, Object, Opening, PacketId, QueueId, Right, and_parts, bit_of, flight, has, holds_by, in_flight, is_packet, list_any, owner}
+use Rattle.access_core.proofs.Terms.{packet_rights, rights_held, rights_that, same_object, set_of, start_of}
+use Rattle.std.proofs.lemmas.Bool.{eqb-true}
 use Rattle.grants.specs.Ledger as ledger
 
 -- the set of a right has another just where they are the same
@@ -17,15 +12,7 @@ one-has one other = grind arith
 -- what is asked of all packets of one queue and id is asked once, if there is one
 module _ (queue : QueueId) (id : PacketId) (test : QueueId → PacketId → Bool) where
   at-packet : (f : InFlight) → (is_packet queue id f && test f.queue f.id) ≡ (is_packet queue id f && test queue id)
-  at-packet f = either (is_packet queue id f) refl
-    where
-      either : (b : Bool) → is_packet queue id f ≡ b → (b && test f.queue f.id) ≡ (b && test queue id)
-      either false is = refl
-      either true is =
-          let both = and_parts (f.queue.0 == queue.0) (f.id.0 == id.0) is in
-          let queues : f.queue ≡ queue = ap (λ n. record { 0 = n }) (eqb-true _ _ both.0) in
-          let ids : f.id ≡ id = ap (λ n. record { 0 = n }) (eqb-true _ _ both.1) in
-          λ i. test (queues i) (ids i)
+  at-packet f = grind (arith, and_parts (f.queue.0 == queue.0) (f.id.0 == id.0), eqb-true, and_parts)
 
   any-packet : (fs : List InFlight) → list_any (λ f. is_packet queue id f && test f.queue f.id) fs ≡ (list_any (is_packet queue id) fs && test queue id)
   any-packet [] = refl
@@ -38,15 +25,7 @@ found-one test (y ∷ ys) x found = grind (arith, found-one test ys x)
 -- so a packet in flight holds by the grants what it holds by the history
 pub holds-is : (a : Inside) → IsCached a → (queue : QueueId) (id : PacketId) (opening : Opening) (f : InFlight) → owner (start_of a) a.audit.items queue ≡ Some opening → in_flight (start_of a) a.audit.items queue id ≡ Some f
     → (on : Object) (one : Right) → ledger.holds a.grants queue id opening.client on one ≡ list_any (λ h. same_object on h.0 && (bit_of h.1 == bit_of one)) (packet_rights (start_of a) a.audit.items queue id)
-holds-is a kept queue id opening f owned found on one =
-    let there = found-one (is_packet queue id) (flight (start_of a) a.audit.items) f found in
-    let itself : (opening.client.0 == opening.client.0) ≡ true = grind arith in
-    kept.held queue id opening.client on one
-    ∙ any-packet queue id (λ q i. holds_by (owner (start_of a) a.audit.items q) opening.client on one (packet_rights (start_of a) a.audit.items q i)) (flight (start_of a) a.audit.items)
-    ∙ ap (λ b. b && holds_by (owner (start_of a) a.audit.items queue) opening.client on one (packet_rights (start_of a) a.audit.items queue id)) there
-    ∙ ap (λ (o : Option Opening). holds_by o opening.client on one (packet_rights (start_of a) a.audit.items queue id)) owned
-    ∙ ap (λ b. b && list_any (λ (h : ObjectRight). same_object on h.0 && has (set_of h.1) one) (packet_rights (start_of a) a.audit.items queue id)) itself
-    ∙ (λ i. list_any (λ (h : ObjectRight). same_object on h.0 && one-has h.1 one i) (packet_rights (start_of a) a.audit.items queue id))
+holds-is a kept queue id opening f owned found on one = grind (arith, found-one (is_packet queue id) (flight (start_of a) a.audit.items) f found, any-packet queue id (λ q i. holds_by (owner (start_of a) a.audit.items q) opening.client on one (packet_rights (start_of a) a.audit.items q i)) (flight (start_of a) a.audit.items), one-has, found-one, any-packet)
 
 -- and the same rights
 pub rights-are : (a : Inside) → IsCached a → (queue : QueueId) (id : PacketId) (opening : Opening) (f : InFlight) → owner (start_of a) a.audit.items queue ≡ Some opening → in_flight (start_of a) a.audit.items queue id ≡ Some f

@@ -1,11 +1,7 @@
 -- Tests of rights that packets hold, taken right by right or packet by packet.
 use Rattle.std.proofs.Common.{arith, ◌≡◌, List, [], ◌∷◌, refl, ◌∙◌, ap, Bool, false, Option, Some, None, ◌&&◌, ◌||◌, ◌==◌}
-use Rattle.std.specs.List.{list_any}
-use Rattle.policy.specs.Object.{same_object}
-use Rattle.policy.specs.Rights.{set_of}
-use Rattle.core_model.specs.Holds.{packet_rights}
-use Rattle.access_core.proofs.Terms.{ClientId, Entry, ObjectRight, InFlight, Ledger, Object, Opening, PacketId, QueueId, Right, Rights, Start}
-use Rattle.access_core.proofs.Terms.{all_rights, has, holds, holds_by, holds_one_of, is_holder, is_queue_of, is_packet, owner, packet_holds}
+use Rattle.access_core.proofs.Terms.{ClientId, Entry, InFlight, Ledger, Object, ObjectRight, Opening, PacketId, QueueId, Right, Rights, Start, all_rights, has, holds, holds_by, holds_one_of}
+use Rattle.access_core.proofs.Terms.{is_holder, is_packet, is_queue_of, list_any, owner, packet_holds, packet_rights, same_object, set_of}
 
 -- ---- tests of lists
 
@@ -53,10 +49,7 @@ module _ (client : ClientId) (on : Object) (rights : Rights) where
 
   one-by : (o : Option Opening) (hs : List ObjectRight) → list_any (λ r. has rights r && holds_by o client on r hs) all_rights
       ≡ ((elim o [ None ↦ false | Some opening ↦ opening.client.0 == client.0 ]) && list_any (λ h. same_object on h.0 && has rights h.1) hs)
-  one-by None hs = any-none (has rights) all_rights
-  one-by (Some opening) hs =
-      any-constant (has rights) (λ r. list_any (λ h. same_object on h.0 && has (set_of h.1) r) hs) (opening.client.0 == client.0) all_rights
-      ∙ ap (λ b. opening.client.0 == client.0 && b) (one-of_held hs)
+  one-by o hs = grind (arith, any-none, any-constant, one-of_held)
 
   -- a packet is one that holds, by what is held right by right, where it holds by the history
   module _ (start : Start) (es : List Entry) (grants : Ledger) where

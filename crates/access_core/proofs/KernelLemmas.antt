@@ -1,25 +1,16 @@
 -- Groups of kernel dispatches: what they are lent, what they are owed, and what their writes leave.
-use Rattle.std.proofs.Common.{◌≡◌, ℕ, List, [], ◌∷◌, length, map, replicate, refl, sym, ◌∙◌, ap, Bool, true, false, nat_le, if◌then◌else◌}
-use Rattle.std.proofs.lemmas.List.{length-replicate}
-use Rattle.std.proofs.lemmas.List.FromFn.{length-map-range_with_len}
-use Rattle.aql_packet.specs.declared.packet.KernelDispatch.{KernelDispatch}
+use Rattle.std.proofs.Common.{◌≡◌, ℕ, List, [], ◌∷◌, length, map, replicate, refl, ◌∙◌, Bool, true, nat_le, if◌then◌else◌, arith}
+use Rattle.access_core.proofs.Terms.{AreLentAlike, Done, Entry, Faulted, GroupResult, History, Inside, IsCached, IsInPlace, IsLentAlike, KernelDispatch, ObjectRight, PacketId, Place}
+use Rattle.access_core.proofs.Terms.{QueueError, QueueId, Ran, Read, RegionRights, Run, RunNext, Start, answers, as_lent, due, enters, first_address, given_at_launch, group_count}
+use Rattle.access_core.proofs.Terms.{group_input, group_owed, group_result, has, held_regions, history_of, length-map-range_with_len, length-replicate, lent_whole, may_lack_memory}
+use Rattle.access_core.proofs.Terms.{memory_from, owed_group, view_whole, write_of_run}
 use Rattle.aql_packet.specs.declared.packet.Packet.TheVariants as packet
-use Rattle.policy.specs.declared.rights.Right.TheVariants.{Read}
-use Rattle.executor.specs.Laws.{AreLentAlike, IsLentAlike}
-use Rattle.executor.specs.Results.{GroupResult, broke_rule, group_result, wrote}
-use Rattle.executor.specs.declared.run.Run.{Run}
-use Rattle.core_model.specs.declared.outcome.Worked.TheVariants.{Done, Faulted, Ran}
-use Rattle.core_model.specs.Owed.{group_owed, owed}
-use Rattle.core_model.specs.View.{RegionRights, first_address, given_at_launch, group_input, held_regions, as_lent, view}
-use Rattle.core_model.specs.Work.{group_count, write_of_run}
-use Rattle.access_core.specs.inner.Running.{lent_whole, view_whole}
+use Rattle.core_model.specs.Owed.{owed}
+use Rattle.core_model.specs.View.{view}
 use Rattle.access_core.proofs.QueueAt.{IsAdvance}
 use Rattle.access_core.proofs.RunLemmas.{OnlyWrites, one_group}
-use Rattle.core_model.specs.Legal.{may_lack_memory}
 use Rattle.access_core.proofs.Calls.{due-as}
 use Rattle.access_core.proofs.WorkLemmas.{fault-releases, owed-in_place, release-due}
-use Rattle.access_core.proofs.Terms.{Entry, ObjectRight, History, IsInPlace, PacketId, Place, QueueId, RunNext, Start, answers, has, memory_at, memory_from, owed_group}
-use Rattle.access_core.proofs.Terms.{Effect, Inside, IsCached, Outcome, QueueError, due, enters, history_of, refuses, within_room}
 use Rattle.core_model.specs.declared.entry.Effect.TheVariants as effect
 use Rattle.core_model.specs.declared.refusal.Refusal.TheVariants as refusal
 use Rattle.core_model.specs.declared.outcome.Outcome.TheVariants as outcome
@@ -36,8 +27,7 @@ module _ (start : Start) (es : List Entry) where
   }
     where
       by_test : (b : Bool) → length (if b then memory_from start es (first_address region) region.size else replicate region.size 0) ≡ length (memory_from start es (first_address region) region.size)
-      by_test true = refl
-      by_test false = length-replicate region.size 0 ∙ sym (length-map-range_with_len (memory_at start es) (first_address region) region.size)
+      by_test b = grind (arith, length-replicate, length-map-range_with_len)
 
   all-alike : (regions : List RegionRights) → AreLentAlike (map (as_lent start es) regions) (map (lent_whole start es) regions)
   all-alike [] = tt
@@ -53,37 +43,23 @@ pub kernel-owed : (h : History) (queue : QueueId) (id : PacketId) (place : Place
     → owed h.start h.entries (RunNext queue id)
     ≡ (if ran then answers (outcome.Worked Done) else group_owed queue id d place.progress.groups_run (group_result (group_input h.start h.entries (given_at_launch h.start h.entries queue id) d place.progress.groups_run)))
 unfolding owed
-kernel-owed h queue id place found d packet_is ran is =
-    owed-in_place h queue id place found (owed_group h.start h.entries queue id (given_at_launch h.start h.entries queue id))
-    ∙ ap (λ p. owed_group h.start h.entries queue id (given_at_launch h.start h.entries queue id) p place.progress) packet_is
-    ∙ ap (λ b. if b then answers (outcome.Worked Done) else group_owed queue id d place.progress.groups_run (group_result (group_input h.start h.entries (given_at_launch h.start h.entries queue id) d place.progress.groups_run))) is
+kernel-owed h queue id place found d packet_is ran is = grind (arith, owed-in_place h queue id place found (owed_group h.start h.entries queue id (given_at_launch h.start h.entries queue id)), owed-in_place)
 
 -- a group that breaks a rule always finds room for its entry
 pub fault-due : (a : Inside) → IsCached a → (old : History) → history_of a ≡ old → (queue : QueueId) (id : PacketId) (place : Place) → IsInPlace old queue id place → (error : QueueError)
     → owed old.start old.entries (RunNext queue id) ≡ enters (outcome.Worked (Faulted error)) (effect.Release queue id ∷ []) → due old (RunNext queue id) ≡ enters (outcome.Worked (Faulted error)) (effect.Release queue id ∷ [])
-fault-due a kept old seen_as queue id place found error owing =
-    release-due a kept old seen_as queue id place found (RunNext queue id) (outcome.Worked (Faulted error)) (effect.Release queue id ∷ []) (fault-releases queue id error) owing
+fault-due a kept old seen_as queue id place found error owing = grind (arith, release-due a kept old seen_as queue id place found (RunNext queue id) (outcome.Worked (Faulted error)) (effect.Release queue id ∷ []) (fault-releases queue id error) owing, fault-releases queue id error, release-due, fault-releases)
 
 -- whatever it comes to, its run may want memory
 pub group-lacks : (h : History) (queue : QueueId) (id : PacketId) (d : KernelDispatch) (group : ℕ) (came : GroupResult) → owed h.start h.entries (RunNext queue id) ≡ group_owed queue id d group came
     → may_lack_memory (RunNext queue id) (due h (RunNext queue id)) ≡ true
-group-lacks h queue id d group came owing = ap (may_lack_memory (RunNext queue id)) (due-as h (RunNext queue id) _ owing) ∙ by_result came
-  where
-    by_room : (full : Bool) (told : Outcome) (effects : List Effect) → may_lack_memory (RunNext queue id) (if full then refuses refusal.AuditFull else enters told effects) ≡ true
-    by_room true told effects = refl
-    by_room false told effects = refl
-
-    by_result : (r : GroupResult) → may_lack_memory (RunNext queue id) (within_room h (RunNext queue id) (group_owed queue id d group r)) ≡ true
-    by_result (wrote runs) = by_room _ _ _
-    by_result (broke_rule item line rule) = by_room _ _ _
+group-lacks h queue id d group came owing = grind (arith, due-as h (RunNext queue id) _ owing, due-as)
 
 -- ---- what its writes leave
 
 pub runs-write : (runs : List Run) → OnlyWrites (map write_of_run runs)
 runs-write [] = record { flight = λ flying. refl; signals = λ values. refl }
-runs-write (run ∷ runs) =
-    let rest = runs-write runs in
-    record { flight = λ flying. rest.flight flying; signals = λ values. rest.signals values }
+runs-write (run ∷ runs) = grind (arith, runs-write runs)
 
 -- by the entry of a group the packet comes one group further
 pub kernel-advances : (queue : QueueId) (id : PacketId) (group left : ℕ) (runs : List Run) → IsAdvance queue id one_group (RunNext queue id) (outcome.Worked (Ran group left)) (map write_of_run runs)

@@ -1,16 +1,9 @@
 -- What a packet holds that is launched, by its needs and by its argument block.
-use Rattle.std.proofs.Common.{◌≡◌, ℕ, ◌++◌, List, [], map, length, refl, sym, ◌∙◌, ap, Some, None}
-use Rattle.std.specs.List.{flat_map}
-use Rattle.std.specs.Option.{unwrap_or}
-use Rattle.std.proofs.lemmas.List.{append-nil, map-append}
-use Rattle.std.proofs.lemmas.List.FromFn.{length-map-range_with_len}
-use Rattle.aql_packet.specs.declared.packet.KernelDispatch.{KernelDispatch}
+use Rattle.std.proofs.Common.{◌≡◌, ℕ, ◌++◌, List, [], map, length, refl, sym, ◌∙◌, ap, Some, None, arith}
+use Rattle.access_core.proofs.Terms.{ClientId, Entry, Facts, KernelDispatch, Object, Opening, Packet, Program, Rights, Start, append-nil, arguments_of, as_rights, facts_of, flat_map}
+use Rattle.access_core.proofs.Terms.{held_by_arguments, held_by_needs, held_by_pointer, kernel_of, length-map-range_with_len, map-append, memory_at, no_kernel, numbered, rights_at_launch}
+use Rattle.access_core.proofs.Terms.{unwrap_or, wide_arguments}
 use Rattle.aql_packet.specs.declared.packet.Packet.TheVariants as packet
-use Rattle.kernel_check.specs.Programs.{Program}
-use Rattle.core_model.specs.Holds.{arguments_of, held_by_arguments, held_by_needs, held_by_pointer}
-use Rattle.core_model.specs.Kernels.{kernel_of, no_kernel, wide_arguments}
-use Rattle.packet_processor.specs.Holding.{as_rights}
-use Rattle.access_core.proofs.Terms.{ClientId, Entry, Facts, Object, Opening, Packet, Rights, Start, facts_of, rights_at_launch, memory_at, numbered}
 
 module _ (start : Start) (es : List Entry) where
   -- only kernel dispatches hold anything by arguments
@@ -34,8 +27,7 @@ module _ (start : Start) (es : List Entry) where
   -- all that another holds
   pub both-held : (opening : Opening) (p : Packet) (rights pointed all : List (Object × Rights)) → rights ≡ map as_rights (held_by_needs opening p) → pointed ≡ map as_rights (held_by_arguments start es opening.client p)
       → all ≡ rights ++ pointed → all ≡ map as_rights (rights_at_launch start es opening p)
-  both-held opening p rights pointed all first second is =
-      is ∙ (λ i. first i ++ second i) ∙ sym (map-append as_rights (held_by_needs opening p) (held_by_arguments start es opening.client p))
+  both-held opening p rights pointed all first second is = grind (arith, map-append as_rights (held_by_needs opening p) (held_by_arguments start es opening.client p))
 
   module _ (p : Packet) (d : KernelDispatch) (is : p ≡ packet.Kernel d) (kernel : Program) (found : numbered start.kernels d.kernel_object.0 ≡ Some kernel) where
     kernel-is : kernel_of start d ≡ kernel
@@ -43,10 +35,7 @@ module _ (start : Start) (es : List Entry) where
 
     -- its argument block is as long as its kernel's
     pub block-long : (block : List ℕ) → block ≡ arguments_of start es p → length block ≡ kernel.argument_bytes
-    block-long block block_is =
-        ap length (block_is ∙ ap (arguments_of start es) is)
-        ∙ length-map-range_with_len (memory_at start es) d.kernarg_address.0 (kernel_of start d).argument_bytes
-        ∙ ap (λ (k : Program). k.argument_bytes) kernel-is
+    block-long block block_is = grind (arith, length-map-range_with_len (memory_at start es) d.kernarg_address.0 (kernel_of start d).argument_bytes, kernel-is)
 
     -- what it holds by its arguments
     pub pointed-is : (opening : Opening) (facts : Facts) → facts ≡ facts_of start es opening → (offsets block : List ℕ) → offsets ≡ kernel.wide → block ≡ arguments_of start es p

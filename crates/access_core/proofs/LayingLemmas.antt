@@ -1,16 +1,10 @@
 -- Changes that are laid over memory one after another, and what a group of a kernel dispatch that ran is due.
-use Rattle.std.proofs.Common.{◌≡◌, ℕ, ◌+◌, List, [], ◌∷◌, ◌++◌, refl, sym, ◌∙◌, ap, Bool, true, false, Some, fold, length, map, nat_lt, if◌then◌else◌}
+use Rattle.std.proofs.Common.{◌≡◌, ℕ, ◌+◌, List, [], ◌∷◌, ◌++◌, sym, ◌∙◌, ap, Bool, true, Some, fold, length, map, nat_lt, if◌then◌else◌, arith}
 use Rattle.std.proofs.Common.{All}
-use Rattle.std.proofs.lemmas.List.Elements.{All-map}
-use Rattle.std.proofs.lemmas.List.Sums.{fold-append}
-use Rattle.executor.specs.declared.run.Run.{Run}
-use Rattle.core_model.specs.declared.outcome.Worked.TheVariants.{Ran}
-use Rattle.core_model.specs.Legal.{may_lack_memory}
-use Rattle.core_model.specs.Work.{write_of_run}
-use Rattle.access_core.specs.inner.Laying.{LiesWithin}
+use Rattle.access_core.proofs.Terms.{All-map, Effect, History, IsChanged, LiesWithin, PacketId, QueueId, Ran, Run, RunNext, byte_after, due, enters, fold-append, is_full, is_within}
+use Rattle.access_core.proofs.Terms.{may_lack_memory, owed, refuses, write_of_run}
 use Rattle.access_core.proofs.Calls.{due-as}
 use Rattle.access_core.proofs.KernelLemmas.{runs-write}
-use Rattle.access_core.proofs.Terms.{Effect, History, InFlight, IsChanged, PacketId, QueueId, RunNext, byte_after, due, enters, flight, is_full, is_within, owed, refuses}
 use Rattle.core_model.specs.declared.outcome.Outcome.TheVariants as outcome
 use Rattle.core_model.specs.declared.refusal.Refusal.TheVariants as refusal
 
@@ -30,16 +24,8 @@ runs-within lengths runs within = All-map (LiesWithin lengths) write_of_run runs
 module _ (h : History) (queue : QueueId) (id : PacketId) (group left : ℕ) (runs : List Run)
     (owing : owed h.start h.entries (RunNext queue id) ≡ enters (outcome.Worked (Ran group left)) (map write_of_run runs)) where
   pub group-due : (full : Bool) → is_full h ≡ full → due h (RunNext queue id) ≡ (if full then refuses refusal.AuditFull else enters (outcome.Worked (Ran group left)) (map write_of_run runs))
-  group-due full room =
-      due-as h (RunNext queue id) (enters (outcome.Worked (Ran group left)) (map write_of_run runs)) owing
-      ∙ ap (λ (fs : List InFlight). if nat_lt h.capacity (length h.entries + 1 + length fs) then refuses refusal.AuditFull else enters (outcome.Worked (Ran group left)) (map write_of_run runs))
-      ((runs-write runs).flight (flight h.start h.entries))
-      ∙ ap (λ b. if b then refuses refusal.AuditFull else enters (outcome.Worked (Ran group left)) (map write_of_run runs)) room
+  group-due full room = grind (arith, due-as h (RunNext queue id) (enters (outcome.Worked (Ran group left)) (map write_of_run runs)) owing, nat_lt h.capacity, runs-write runs, due-as, nat_lt, runs-write)
 
   -- its run may want memory, whether the audit has room or not
   pub group-may_lack_memory : may_lack_memory (RunNext queue id) (due h (RunNext queue id)) ≡ true
-  group-may_lack_memory = by_room (is_full h) refl
-    where
-      by_room : (full : Bool) → is_full h ≡ full → may_lack_memory (RunNext queue id) (due h (RunNext queue id)) ≡ true
-      by_room true room = ap (may_lack_memory (RunNext queue id)) (group-due true room)
-      by_room false room = ap (may_lack_memory (RunNext queue id)) (group-due false room)
+  group-may_lack_memory = grind (arith, group-due)

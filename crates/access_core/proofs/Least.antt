@@ -1,11 +1,9 @@
 -- The least of the packets that pass a test is the first to pass it by queue and id.
-use Rattle.std.proofs.Common.{◌≡◌, inl, inr, List, [], ◌∷◌, refl, sym, ◌∙◌, ap, Bool, true, false, Some, None, arith, All, ◌&&◌, ◌||◌, ◌==◌, filter, find}
+use Rattle.std.proofs.Common.{◌≡◌, List, [], ◌∷◌, refl, ◌∙◌, ap, Bool, true, false, Some, None, arith, All, ◌&&◌, ◌||◌, ◌==◌, filter, find}
 use Rattle.std.proofs.Common.{if◌then◌else◌}
-use Rattle.std.specs.List.{list_all, list_any}
-use Rattle.std.proofs.lemmas.Bool.{and_parts, or_parts, or_right, eqb-true, lt-ltb}
-use Rattle.std.proofs.lemmas.List.Elements.{All-nil, All-cons, All-head, All-tail}
-use Rattle.core_model.proofs.Lists.{all-from_list_all, found-all, found-passes}
-use Rattle.access_core.proofs.Terms.{InFlight, IsFirstTo, IsUpTo, PacketId, QueueId, is_packet, is_up_to, least_in_flight}
+use Rattle.access_core.proofs.Terms.{All-head, All-nil, All-tail, InFlight, IsFirstTo, IsUpTo, PacketId, QueueId, all-from_list_all, and_parts, found-all, found-passes, is_packet, is_up_to}
+use Rattle.access_core.proofs.Terms.{least_in_flight, list_all, list_any, lt-ltb, or_parts, or_right}
+use Rattle.std.proofs.lemmas.Bool.{eqb-true}
 
 -- ---- what is found in a list
 
@@ -38,8 +36,7 @@ is_packet-itself f = grind arith
 
 -- a packet that comes up to one by its numbers comes up to it
 up_to-test : (f g : InFlight) → IsUpTo f.queue f.id g.queue g.id → is_up_to f g ≡ true
-up_to-test f g (inl less) = rw (lt-ltb f.queue.0 g.queue.0 less) refl
-up_to-test f g (inr same) = grind arith
+up_to-test f g h3 = grind (arith, lt-ltb f.queue.0 g.queue.0, lt-ltb)
 
 module _ (test : InFlight → Bool) where
   -- whether a packet of the list with this queue and id passes
@@ -56,20 +53,12 @@ module _ (test : InFlight → Bool) where
   -- what holds of all that pass by queue and id holds of each of the list that passes
   all-passing : (P : QueueId → PacketId → Type 0) (fs : List InFlight) → ((queue : QueueId) (id : PacketId) → passes fs queue id ≡ true → P queue id) → All (λ f. P f.queue f.id) (filter test fs)
   all-passing P [] step = All-nil (λ f. P f.queue f.id)
-  all-passing P (f ∷ fs) step = either (test f) refl (all-passing P fs (λ queue id is. step queue id (later-passes f fs queue id is)))
-    where
-      either : (b : Bool) → test f ≡ b → All (λ g. P g.queue g.id) (filter test fs) → All (λ g. P g.queue g.id) (if b then f ∷ filter test fs else filter test fs)
-      either true is rest = All-cons (λ g. P g.queue g.id) f (filter test fs) (step f.queue f.id (itself-passes f fs is)) rest
-      either false is rest = rest
+  all-passing P (f ∷ fs) step = grind (arith, all-passing P fs (λ queue id is. step queue id (later-passes f fs queue id is)), later-passes f fs, itself-passes f fs, later-passes, itself-passes)
 
   -- none passes
   none-passing : (fs : List InFlight) → ((queue : QueueId) (id : PacketId) → passes fs queue id ≡ false) → filter test fs ≡ []
   none-passing [] none = refl
-  none-passing (f ∷ fs) none = either (test f) refl (none-passing fs (λ queue id. (or_parts (is_packet queue id f && test f) (passes fs queue id) (none queue id)).1))
-    where
-      either : (b : Bool) → test f ≡ b → filter test fs ≡ [] → (if b then f ∷ filter test fs else filter test fs) ≡ []
-      either true is rest = let e : true ≡ false = sym (itself-passes f fs is) ∙ none f.queue f.id in absurd cc
-      either false is rest = rest
+  none-passing (f ∷ fs) none = grind (arith, none-passing fs (λ queue id. (or_parts (is_packet queue id f && test f) (passes fs queue id) (none queue id)).1), or_parts, itself-passes f fs, itself-passes)
 
   -- one that passes by its queue and id is found among those that pass
   passing-found : (fs : List InFlight) (queue : QueueId) (id : PacketId) → passes fs queue id ≡ true → list_any (is_packet queue id) (filter test fs) ≡ true
@@ -115,5 +104,4 @@ module _ (test : InFlight → Bool) (fs : List InFlight) where
       }
     where
       lowered : (queue : QueueId) (id : PacketId) (f g : InFlight) → f.queue.0 ≡ queue.0 → f.id.0 ≡ id.0 → IsUpTo queue id g.queue g.id → IsUpTo f.queue f.id g.queue g.id
-      lowered queue id f g a b (inl less) = inl (omega (arith, a, less))
-      lowered queue id f g a b (inr same) = inr (a ∙ same.0, omega (arith, b, same.1))
+      lowered queue_0 id_1 f g h5 h6 h7 = grind arith

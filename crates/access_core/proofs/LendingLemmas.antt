@@ -1,36 +1,14 @@
 -- The regions that a packet in flight holds, as they are lent one after another.
-use Rattle.std.proofs.Common.{◌≡◌, ℕ, zero, suc, ◌+◌, ◌*◌, ◌%◌, ◌^◌, ◌<◌, ◌≤◌, List, [], ◌∷◌, ◌++◌, length, get_or, refl, sym, ◌∙◌, ap, subst, Bool, true, false, Option, Some, None, arith, append_assoc, if◌then◌else◌}
+use Rattle.std.proofs.Common.{◌≡◌, ℕ, zero, suc, ◌+◌, ◌*◌, ◌%◌, ◌^◌, ◌<◌, ◌≤◌, List, [], ◌∷◌, ◌++◌, length, get_or, refl, sym, ◌∙◌, ap, subst, true, false, Option, Some, arith, append_assoc, if◌then◌else◌}
 use Rattle.std.proofs.Common.{All, map, filter, not, ◌==◌, ◌&&◌, nat_le, nat_lt, cond, option_map, option_to_list}
-use Rattle.std.specs.List.{list_all, range_with_len, zip}
-use Rattle.std.proofs.lemmas.Bool.{and_parts, leb-true}
-use Rattle.std.proofs.lemmas.Bool.Decides.{nat_tests}
-use Rattle.std.proofs.lemmas.List.{length-append, map-append}
-use Rattle.std.proofs.lemmas.List.Elements.{All-filter, All-map}
-use Rattle.std.proofs.lemmas.List.FromFn.{filter_of_map_range_with_len_more, get_or-range_with_len, length-range_with_len}
-use Rattle.executor.specs.Items.{LentRegion, lent_region}
+use Rattle.access_core.proofs.Terms.{All-filter, All-map, Entry, LentRegion, ObjectRight, RegionRights, Rights, Start, and_parts, are_region_lengths, filter_of_map_range_with_len_more}
+use Rattle.access_core.proofs.Terms.{get_or-range_with_len, held_region, is_within, leb-true, length-range_with_len, lent_if_held, lent_region, lent_whole, map-append, memory_from}
+use Rattle.access_core.proofs.Terms.{nat_tests, range_with_len, region_length, region_lengths, region_numbered, rights_held, view_whole, zip}
+use Rattle.std.proofs.lemmas.List.{length-append}
 use Rattle.executor.specs.declared.view.HeldRegion.{HeldRegion as Borrowed}
-use Rattle.aql_packet.specs.Memory.{is_region_length}
-use Rattle.regions.specs.Memory.{region_length}
-use Rattle.core_model.specs.View.{RegionRights, held_region, rights_held}
-use Rattle.access_core.specs.inner.Running.{lent_if_held, lent_whole, region_numbered, view_whole}
-use Rattle.access_core.proofs.Terms.{Entry, ObjectRight, Rights, Start, are_region_lengths, is_within, memory_from, region_lengths, region_of}
 use Rattle.policy.specs.declared.object.Object.TheVariants as object
 
 -- ---- lengths of regions
-
-some-at : (lengths : List ℕ) → list_all is_region_length lengths ≡ true → (k : ℕ) → k < length lengths → 0 < get_or lengths k 0
-some-at [] all k below = absurd (omega arith)
-some-at (x ∷ xs) all zero below =
-    let both = and_parts (is_region_length x) (list_all is_region_length xs) all in
-    let least : 1 ≤ x = leb-true 1 x (and_parts (nat_le 1 x) _ both.0).0 in
-    omega (arith, least)
-some-at (x ∷ xs) all (suc k) below = some-at xs (and_parts (is_region_length x) (list_all is_region_length xs) all).1 k (omega (arith, below))
-
--- each region that there is has bytes
-pub has-bytes : (lengths : List ℕ) → are_region_lengths lengths ≡ true → (k : ℕ) → k < length lengths → 0 < region_length lengths (k + 1)
-has-bytes lengths fit k below =
-    let place : k + 1 ≡ suc k = omega arith in
-    subst (λ n. 0 < region_length lengths n) (sym place) (some-at lengths (and_parts (nat_le (length lengths) 64) _ fit).1 k below)
 
 -- there are at most 64 regions
 pub few-regions : (lengths : List ℕ) → are_region_lengths lengths ≡ true → length lengths ≤ 64
@@ -38,13 +16,7 @@ few-regions lengths fit = leb-true _ _ (and_parts (nat_le (length lengths) 64) _
 
 -- the bytes of a whole region lie within it
 pub whole-within : (lengths : List ℕ) (number size : ℕ) → size ≡ region_length lengths number → 0 < region_length lengths number → is_within lengths (number * 2 ^ 32) size ≡ true
-whole-within lengths number size is some =
-    let which : region_of (number * 2 ^ 32) ≡ number = omega arith in
-    let first : (number * 2 ^ 32) % 2 ^ 32 ≡ 0 = omega arith in
-    let at : region_length lengths (region_of (number * 2 ^ 32)) ≡ size = ap (region_length lengths) which ∙ sym is in
-    let above : 0 < size = omega (arith, is, some) in
-    let holds : (nat_lt 0 size && nat_le (0 + size) size) ≡ true = grind (arith, nat_tests, above) in
-    rw (at, first) holds
+whole-within lengths number size is some = grind (arith, nat_lt 0 size, nat_le (0 + size) size, nat_tests, nat_lt, nat_le)
 
 -- ---- regions by number
 
@@ -69,42 +41,21 @@ module _ (start : Start) (es : List Entry) (all : List ObjectRight) where
 
   -- the next region is lent behind the others, if it is held
   pub lent-next : (count : ℕ) → lent_so_far (count + 1) ≡ lent_so_far count ++ option_to_list (lent_if_held start es (region_numbered start all (count + 1)))
-  lent-next count =
-      let next : RegionRights = region_numbered start all (count + 1) in
-      let held : RegionRights → Bool = λ region. not (region.rights.0 == 0) in
-      let before = filter (λ (region : RegionRights). not (region.rights.0 == 0)) (map (region_numbered start all) (range_with_len 1 count)) in
-      ap (map (lent_whole start es)) (filter_of_map_range_with_len_more (λ (region : RegionRights). not (region.rights.0 == 0)) (region_numbered start all) 1 count (count + 1) (omega arith))
-      ∙ map-append (lent_whole start es) before (cond (not (next.rights.0 == 0)) (next ∷ []) [])
-      ∙ ap (λ xs. map (lent_whole start es) before ++ xs) (by_test next (next.rights.0 == 0) refl)
-    where
-      by_test : (region : RegionRights) (b : Bool) → (region.rights.0 == 0) ≡ b → map (lent_whole start es) (cond (not (region.rights.0 == 0)) (region ∷ []) []) ≡ option_to_list (lent_if_held start es region)
-      by_test region true is = rw is refl
-      by_test region false is = rw is refl
+  lent-next count = grind (arith, filter_of_map_range_with_len_more (λ (region : RegionRights). not (region.rights.0 == 0)) (region_numbered start all) 1 count (count + 1), map-append (lent_whole start es) (filter (λ (region : RegionRights). not (region.rights.0 == 0)) (map (region_numbered start all) (range_with_len 1 count))) (cond (not ((region_numbered start all (count + 1)).rights.0 == 0)) ((region_numbered start all (count + 1)) ∷ []) []), filter_of_map_range_with_len_more, map-append)
 
   -- so it is behind those that were lent before
   pub lent-behind : (count : ℕ) (before after : List Borrowed) (next : Option Borrowed) → map lent_region before ≡ lent_so_far count → option_map lent_region next ≡ lent_if_held start es (region_numbered start all (count + 1))
       → after ≡ before ++ option_to_list next → map lent_region after ≡ lent_so_far (count + 1)
-  lent-behind count before after next are is behind =
-      ap (map lent_region) behind ∙ map-append lent_region before (option_to_list next) ∙ ap (λ xs. map lent_region before ++ xs) (one next)
-      ∙ (λ i. are i ++ option_to_list (is i)) ∙ sym (lent-next count)
-    where
-      one : (o : Option Borrowed) → map lent_region (option_to_list o) ≡ option_to_list (option_map lent_region o)
-      one None = refl
-      one (Some r) = refl
+  lent-behind count before after next are is behind = grind (arith, map-append lent_region before (option_to_list next), lent-next count, map-append, lent-next)
 
   -- all regions are those that the history tells
   pub lent-all : lent_so_far (length (region_lengths start.policy)) ≡ view_whole start es all
-  lent-all =
-      ap (λ (regions : List RegionRights). map (lent_whole start es) (filter (λ region. not (region.rights.0 == 0)) regions))
-      (sym (rows-are (held_region all) (0 ∷ []) (region_lengths start.policy) 1 refl))
+  lent-all = grind (arith, rows-are (held_region all) (0 ∷ []) (region_lengths start.policy) 1 refl, rows-are)
 
   -- a region that is held, with its bytes, is lent so
   pub lent-held : (number : ℕ) (rights : Rights) (bytes : List ℕ) → rights ≡ rights_held all (object.Region (record { 0 = number })) → (rights.0 == 0) ≡ false
       → bytes ≡ memory_from start es (number * 2 ^ 32) (region_length (region_lengths start.policy) number) → Some (record { number = number; rights = rights; bytes = bytes }) ≡ lent_if_held start es (region_numbered start all number)
-  lent-held number rights bytes are some is =
-      let known : ((rights_held all (object.Region (record { 0 = number }))).0 == 0) ≡ false = ap (λ (r : Rights). r.0 == 0) (sym are) ∙ some in
-      let there : Some (record { number = number; rights = rights; bytes = bytes }) ≡ Some (lent_whole start es (region_numbered start all number)) = λ i. Some (record { number = number; rights = are i; bytes = is i }) in
-      there ∙ sym (ap (λ (b : Bool). if b then None else Some (lent_whole start es (region_numbered start all number))) known)
+  lent-held number rights bytes are some is = grind arith
 
   -- those that were lent so far have the numbers up to theirs
   pub lent-below : (count : ℕ) (before : List Borrowed) → map lent_region before ≡ lent_so_far count → All (λ region. region.handle.0 < count + 1) before
@@ -115,9 +66,7 @@ module _ (start : Start) (es : List Entry) (all : List ObjectRight) where
       (All-map (λ (region : RegionRights). region.number < count + 1) (region_numbered start all) (range_with_len 1 count) up_to))))
     where
       up_to : All (λ number. number < count + 1) (range_with_len 1 count)
-      up_to i d known =
-          let inside : i < count = omega (arith, known, length-range_with_len 1 count) in
-          omega (arith, inside, get_or-range_with_len 1 count i d inside)
+      up_to = grind (arith, length-range_with_len, get_or-range_with_len)
 
       numbers : (regions : List Borrowed) → All (λ region. region.number < count + 1) (map lent_region regions) → All (λ region. region.handle.0 < count + 1) regions
       numbers [] below i d known = absurd (omega (arith, known))
@@ -126,12 +75,4 @@ module _ (start : Start) (es : List Entry) (all : List ObjectRight) where
 
   -- a region that is lent has its number
   pub lent-number : (number : ℕ) (held : Borrowed) → Some (lent_region held) ≡ lent_if_held start es (region_numbered start all number) → held.handle.0 ≡ number
-  lent-number number held is = ap number_or is ∙ by_test (region_numbered start all number) ((region_numbered start all number).rights.0 == 0) refl refl
-    where
-      number_or : Option LentRegion → ℕ
-      number_or None = number
-      number_or (Some region) = region.number
-
-      by_test : (region : RegionRights) (b : Bool) → (region.rights.0 == 0) ≡ b → region.number ≡ number → number_or (lent_if_held start es region) ≡ number
-      by_test region true none is = rw none refl
-      by_test region false some is = rw some is
+  lent-number number held is = grind arith

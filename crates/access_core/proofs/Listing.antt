@@ -1,8 +1,7 @@
 -- A client's listing, by the grants that are kept.
-use Rattle.std.proofs.Common.{◌≡◌, List, ◌∙◌, ap, true, Ok}
+use Rattle.std.proofs.Common.{◌≡◌, List, ◌∙◌, true, Ok, arith}
 use Rattle.core_model.specs.Queries.{query_answer}
-use Rattle.access_core.proofs.Terms.{ClientId, History, Inside, IsCached, Object, Rights, Rules, all_objects, count, history_of, knows_client, listing, listing_by, rules_of}
-use Rattle.access_core.proofs.Terms.{start_of}
+use Rattle.access_core.proofs.Terms.{ClientId, History, Inside, IsCached, Object, Rights, history_of, knows_client, listing, rules_of, start_of}
 use Rattle.policy.specs.Rules as rules_kept
 use Rattle.grants.specs.Ledger as ledger
 use Rattle.core_model.specs.declared.answer.Answer.TheVariants as answer
@@ -10,13 +9,10 @@ use Rattle.core_model.specs.declared.event.Query.TheVariants as query
 
 module _ (a : Inside) (kept : IsCached a) (client : ClientId) where
   listing-kept : ledger.listing a.grants client ≡ listing (start_of a) a.audit.items client
-  listing-kept =
-      ap (λ (rules : Rules). listing_by (ledger.in_force a.grants client) (all_objects (rules_kept.count rules))) kept.rules
-      ∙ (λ i. listing_by (λ on right. kept.granted client on right i) (all_objects (count (rules_of a.policy))))
+  listing-kept = grind arith
 
   -- a client that is declared is told the listing
   pub listing-replied : (old : History) → history_of a ≡ old → (rows : List (Object × Rights)) → rows ≡ ledger.listing a.grants client → knows_client (rules_of old.start.policy) client ≡ true
       → Ok (answer.Listing rows) ≡ query_answer old.start old.entries (query.List client)
   unfolding query_answer
-  listing-replied old seen_as rows are declared =
-      rw declared (ap (λ (l : List (Object × Rights)). Ok (answer.Listing l)) (are ∙ listing-kept ∙ ap (λ (h : History). listing h.start h.entries client) seen_as))
+  listing-replied old seen_as rows are declared = grind (arith, listing-kept)

@@ -1,29 +1,18 @@
 -- What is kept of a core in which nothing has happened.
-use Rattle.core_model.specs.Kernels.{segments_of}
-use Rattle.policy.specs.Policy.{Declared, initial_values, region_lengths}
+use Rattle.access_core.proofs.Terms.{All-nil, Declared, Inside, IsCached, IsNew, IsSound, Kernel, MOST_ENTRIES, Queue, byte_at-zeros, first_missing, has_entry, initial_values, is_capacity}
+use Rattle.access_core.proofs.Terms.{lengths_of-zeros, nat_tests, numbered, open_fault, program_of, region_lengths, rules_in, rules_of, segments_of, zeros}
 use Rattle.access_core.specs.declared.access.OpenFault.TheVariants as fault
-use Rattle.access_core.specs.declared.kernel.Kernel.{Kernel}
-use Rattle.std.proofs.Common.{List, Option, Some, ◌∷◌, ap, length, ◌==◌}
-use Rattle.std.proofs.lemmas.List.Elements.{All-cons}
-use Rattle.std.proofs.Common.{All, map, ◌≡◌, ℕ, ◌≤◌, [], ◌∙◌, Bool, true, false, None, arith, refl, ◌-◌, slice_get, nat_lt, if◌then◌else◌}
-use Rattle.std.proofs.lemmas.List.Elements.{All-nil}
-use Rattle.std.proofs.lemmas.Bool.Decides.{nat_tests}
-use Rattle.regions.proofs.Laws.{lengths_of-zeros, byte_at-zeros}
+use Rattle.std.proofs.Common.{List, ◌∷◌, ap, length, ◌==◌}
+use Rattle.std.proofs.Common.{All, map, ◌≡◌, ℕ, ◌≤◌, [], ◌∙◌, true, None, arith, refl, ◌-◌, nat_lt, if◌then◌else◌}
 use Rattle.core_model.specs.History.{effects_of}
 use Rattle.core_model.specs.Grants.{in_force}
 use Rattle.core_model.specs.Memory.{memory_at, signals}
 use Rattle.core_model.specs.Queues.{openings, next_id, errors, is_stopped}
 use Rattle.core_model.specs.Flight.{flight}
-use Rattle.access_core.specs.Opening.{fault_behind, first_missing, has_entry, is_capacity, open_fault, program_of}
-use Rattle.access_core.proofs.Terms.{Inside, IsCached, IsNew, IsSound, MOST_ENTRIES, Queue, numbered, rules_in, rules_of, zeros}
 
 -- no queue has a number where there is none
 numbered-none : (n : ℕ) → numbered {X = Queue} [] n ≡ None
-numbered-none n = either (nat_lt 0 n)
-  where
-    either : (b : Bool) → (if b then slice_get {X = Queue} [] (n - 1) else None) ≡ None
-    either true = refl
-    either false = refl
+numbered-none n = grind (arith, nat_lt 0 n, nat_lt)
 
 -- what is kept where nothing has happened is what the empty audit says
 pub IsCached-opened : (a : Inside) → IsNew a.grants → rules_in a.grants ≡ rules_of a.policy → a.memory ≡ zeros (region_lengths a.policy) → a.signals ≡ initial_values a.policy
@@ -59,16 +48,8 @@ few_places capacity is = grind (arith, nat_tests)
 -- where no kernel is missing, each has its checked kernel
 none-missing : (kernels : List Kernel) → first_missing kernels ≡ None → All (λ kernel. has_entry kernel ≡ true) kernels
 none-missing [] none = All-nil (λ kernel. has_entry kernel ≡ true)
-none-missing (kernel ∷ kernels) none =
-    let this : has_entry kernel ≡ true = grind arith in
-    let rest : first_missing kernels ≡ None = grind arith in
-    All-cons (λ k. has_entry k ≡ true) kernel kernels this (none-missing kernels rest)
+none-missing (kernel ∷ kernels) none = grind (arith, none-missing kernels)
 
 -- so it is where a core can be opened
 pub entries-there : (policy : Declared) (kernels : List Kernel) (capacity : ℕ) → open_fault policy kernels capacity ≡ None → All (λ kernel. has_entry kernel ≡ true) kernels
-entries-there policy kernels capacity is = none-missing kernels (either (length kernels == length policy.kernels) (first_missing kernels) refl is)
-  where
-    either : (b : Bool) (o : Option ℕ) → first_missing kernels ≡ o → (if b then fault_behind capacity o else Some fault.KernelCount) ≡ None → first_missing kernels ≡ None
-    either true None found none = found
-    either true (Some i) found none = absurd cc
-    either false o found none = absurd cc
+entries-there policy kernels capacity is = grind (arith, none-missing kernels, none-missing)

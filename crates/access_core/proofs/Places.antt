@@ -1,30 +1,20 @@
 -- A call that takes no memory leaves the places of the tables as they are.
-use Rattle.std.proofs.Common.{◌≡◌, ◌+◌, ◌<◌, ◌∷◌, [], length, length-append, map, ap, ◌∙◌, arith, vec_capacity}
+use Rattle.std.proofs.Common.{◌≡◌, ◌+◌, ◌<◌, ◌∷◌, [], length-append, map, ◌∙◌, arith, vec_capacity}
 use Rattle.std.specs.Global.{Vec}
-use Rattle.sequences.specs.Room.{Roomy}
-use Rattle.access_core.specs.Cores.{Core, places_of}
-use Rattle.access_core.specs.declared.argument_blocks.ArgumentBlock.{ArgumentBlock}
-use Rattle.access_core.specs.inner.Cached.{core_of, error_places, table_places}
-use Rattle.access_core.proofs.Terms.{Entry, Inside, IsEntered, Ledger, PacketId, Queue, QueueError, with_failure}
+use Rattle.access_core.proofs.Terms.{ArgumentBlock, Core, Entry, Inside, IsEntered, Ledger, PacketId, Queue, QueueError, Roomy, core_of, error_places, places_of, table_places, with_failure}
 use Rattle.grants.specs.Ledger as ledger
 
 -- an entry takes a place that was free
 entered-places : (old new : Roomy Entry) (entry : Entry) → IsEntered old new entry → places_of new ≡ places_of old
-entered-places old new entry is =
-    let longer : length new.items ≡ length old.items + 1 = ap length is.items ∙ length-append old.items (entry ∷ []) in
-    omega (arith, longer, is.room)
+entered-places old new entry is = grind (arith, length-append old.items (entry ∷ []), length-append)
 
 -- and so does an error
 pub failed-places : (q : Queue) (id : PacketId) (error : QueueError) → 0 < q.errors.room → error_places (with_failure id error q) ≡ error_places q
-failed-places q id error some =
-    let longer : length (with_failure id error q).errors.items ≡ length q.errors.items + 1 = length-append q.errors.items (error ∷ []) in
-    omega (arith, longer, some)
+failed-places q id error some = grind (arith, length-append q.errors.items (error ∷ []), length-append)
 
 module _ (a : Inside) (core : Core) (seen_as : core_of a ≡ core) where
   -- the audit has an entry more, and each other table as many places as before
   pub places-kept : (queues : Vec Queue) (grants : Ledger) (blocks : Roomy ArgumentBlock) (audit : Roomy Entry) (entry : Entry) → vec_capacity queues ≡ vec_capacity a.queues
       → map error_places queues.items ≡ map error_places a.queues.items → ledger.places grants ≡ ledger.places a.grants → places_of blocks ≡ places_of a.blocks → IsEntered a.audit audit entry
       → table_places a.kernels a.segments queues grants blocks audit ≡ core.places
-  places-kept queues grants blocks audit entry of_queues of_errors of_holds of_blocks is =
-      (λ i. record { kernel_places = vec_capacity a.kernels; segment_places = vec_capacity a.segments; queue_places = of_queues i; error_places = of_errors i; hold_places = of_holds i; block_places = of_blocks i; audit_places = entered-places a.audit audit entry is i })
-      ∙ ap (λ (c : Core). c.places) seen_as
+  places-kept queues grants blocks audit entry of_queues of_errors of_holds of_blocks is = grind (arith, entered-places a.audit audit entry is, entered-places)

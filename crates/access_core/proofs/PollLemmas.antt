@@ -1,11 +1,10 @@
 -- Packets in flight that are polled: the entry of what is seen.
-use Rattle.std.proofs.Common.{◌≡◌, ◌∙◌, ap, sym, refl, Bool, true, false, []}
+use Rattle.std.proofs.Common.{◌≡◌, ◌∙◌, refl, Bool, true, false, [], arith}
 use Rattle.core_model.specs.declared.outcome.Satisfied.{Satisfied}
 use Rattle.core_model.specs.Owed.{owed}
 use Rattle.access_core.proofs.WorkLemmas.{owed-in_place}
 use Rattle.access_core.proofs.QueueAt.{IsAdvance}
-use Rattle.access_core.proofs.Terms.{History, Inside, IsCached, IsInPlace, Owed, PacketId, Place, Poll, Progress, QueueId, history_of, owed_poll, satisfied_by_either}
-use Rattle.access_core.proofs.Terms.{sight, signals}
+use Rattle.access_core.proofs.Terms.{History, Inside, IsCached, IsInPlace, Owed, PacketId, Place, Poll, Progress, QueueId, history_of, owed_poll, satisfied_by_either, sight, signals}
 use Rattle.core_model.specs.declared.outcome.Outcome.TheVariants as outcome
 
 -- how far a packet has come once it has seen this
@@ -21,6 +20,4 @@ sight-advances queue id false new = record { launches = refl; progress = λ q i 
 pub poll-owed : (a : Inside) → IsCached a → (old : History) → history_of a ≡ old → (queue : QueueId) (id : PacketId) (place : Place) → IsInPlace old queue id place → (owing : Owed)
     → owed_poll a.signals queue id place.packet place.progress ≡ owing → owed old.start old.entries (Poll queue id) ≡ owing
 unfolding owed
-poll-owed a kept old seen_as queue id place found owing is =
-    owed-in_place old queue id place found (owed_poll (signals old.start old.entries) queue id)
-    ∙ ap (λ values. owed_poll values queue id place.packet place.progress) (sym (kept.values ∙ ap (λ h. signals h.start h.entries) seen_as)) ∙ is
+poll-owed a kept old seen_as queue id place found owing is = grind (arith, owed-in_place old queue id place found (owed_poll (signals old.start old.entries) queue id), owed-in_place)

@@ -1,16 +1,11 @@
 -- What the history says of a queue, with one entry more.
 use Rattle.std.proofs.Common.{◌≡◌, ℕ, ◌+◌, ◌<◌, subst, eq-eqb, eqb-true, List, [], ◌∷◌, ◌++◌, length, map, All, refl, sym, ◌∙◌, ap, Bool, true, false, Some}
 use Rattle.std.proofs.Common.{None, arith, ◌==◌, ◌&&◌, filter, fold, not, if◌then◌else◌}
-use Rattle.std.proofs.lemmas.List.{append-nil, map-append}
-use Rattle.std.proofs.lemmas.List.Elements.{All-head, All-tail, filter-append}
-use Rattle.queue_error.specs.declared.rule.Rule.{Rule}
-use Rattle.aql_packet.specs.Ids.{same_packet}
+use Rattle.access_core.proofs.Terms.{All-head, All-tail, Denied, Effect, Entry, Event, InFlight, LAUNCH_PROGRESS, Launched, Outcome, Packet, PacketId, Place, Progress, QueueError, QueueId}
+use Rattle.access_core.proofs.Terms.{QueueView, Rule, Start, Take, append-nil, as_launched, decoded, entry_of, error_of, error_without_place, errors-more, filter-append, flight, flight-more}
+use Rattle.access_core.proofs.Terms.{flight_after_effect, flight_of, hands_over_packet_of, is_packet, is_stopped-more, launched_by, map-append, next_id, next_id-more, place_of, progress}
+use Rattle.access_core.proofs.Terms.{progress-more, progress_after, queue_at, same_packet, stops_queue, with_entry, with_error, with_progress, without_packet}
 use Rattle.core_model.specs.Flight.{with_launched}
-use Rattle.access_core.proofs.Terms.{Denied, Effect, Entry, Event, InFlight, Launched, Outcome, Packet, PacketId, Place, Progress, QueueError, QueueId}
-use Rattle.core_model.specs.declared.flight.TheConstants.{LAUNCH_PROGRESS}
-use Rattle.access_core.proofs.Terms.{QueueView, Start, Take, as_launched, decoded, entry_of, error_without_place, error_of, errors-more, flight}
-use Rattle.access_core.proofs.Terms.{flight-more, flight_after_effect, flight_of, hands_over_packet_of, is_packet, is_stopped-more, launched_by, next_id, next_id-more}
-use Rattle.access_core.proofs.Terms.{place_of, progress, progress-more, progress_after, queue_at, stops_queue, with_entry, with_error, with_progress, without_packet}
 use Rattle.core_model.specs.declared.outcome.Outcome.TheVariants as outcome
 
 -- ---- lists of packets
@@ -133,21 +128,7 @@ module _ (start : Start) (es : List Entry) (event : Event) (told : Outcome) (eff
       where
         comes : (f : InFlight) → further m event told (place_of start es m f)
             ≡ (if q.0 == m.0 then with_progress id so_far (place_of start es m f) else place_of start es m f)
-        comes f =
-            let turned : (id.0 == f.id.0) ≡ (f.id.0 == id.0) = grind arith in
-            (λ i. record { id = f.id; packet = f.packet; progress = is.progress m f.id (progress start es m f.id) i })
-            ∙ (λ i. record { id = f.id; packet = f.packet; progress = (if q.0 == m.0 && turned i then g (progress start es m f.id) else progress start es m f.id) })
-            ∙ at (q.0 == m.0) (f.id.0 == id.0) refl refl
-          where
-            at : (b c : Bool) → (q.0 == m.0) ≡ b → (f.id.0 == id.0) ≡ c
-                → record { id = f.id; packet = f.packet; progress = (if b && c then g (progress start es m f.id) else progress start es m f.id) }
-                ≡ (if b then (if c then record { id = f.id; packet = f.packet; progress = so_far } else place_of start es m f) else place_of start es m f)
-            at true true same this =
-                let queues : q ≡ m = ap (λ n. record { 0 = n }) (eqb-true _ _ same) in
-                let ids : id ≡ f.id = ap (λ n. record { 0 = n }) (sym (eqb-true _ _ this)) in
-                λ i. record { id = f.id; packet = f.packet; progress = sym (new ∙ (λ j. g (progress start es (queues j) (ids j)))) i }
-            at true false same this = refl
-            at false c same this = refl
+        comes f = grind (arith, eqb-true)
 
         either : (b : Bool)
             → record (queue_at start es m) { places = map (λ f. if b then with_progress id so_far (place_of start es m f) else place_of start es m f) (flight_of start es m) }
@@ -162,22 +143,13 @@ module _ (start : Start) (es : List Entry) (event : Event) (told : Outcome) (eff
     pub queue_at-released : (m : QueueId)
         → queue_at start (with_entry es event told effects) m
         ≡ after m event told (queue_at start es m) (if q.0 == m.0 then without_packet id (queue_at start es m).places else (queue_at start es m).places)
-    queue_at-released m =
-        queue_at-more start es event told effects m _ flight-released
-        ∙ ap (after m event told (queue_at start es m)) (still is.progress m _ ∙ released-in id.0 (place_of start es m) q.0 m.0 (flight start es) (λ f. refl))
+    queue_at-released m = grind (arith, queue_at-more start es event told effects m _ flight-released, flight-released, still is.progress m, released-in id.0 (place_of start es m) q.0 m.0 (flight start es) (λ f. refl), queue_at-more, still, released-in)
 
 module _ (start : Start) (es : List Entry) (q : QueueId) (id : PacketId) (bytes : List ℕ) where
   -- a packet is denied
   pub queue_at-denied : (rule : Rule) (m : QueueId) → queue_at start (with_entry es (Take q id bytes) (outcome.Taken (Denied (error_without_place q id.0 rule))) []) m
       ≡ (if q.0 == m.0 then denied (error_without_place q id.0 rule) (queue_at start es m) else queue_at start es m)
-  queue_at-denied rule m =
-      queue_at-more start es (Take q id bytes) (outcome.Taken (Denied (error_without_place q id.0 rule))) [] m (flight start es) (flight-unlaunched start es _ _ [] refl)
-      ∙ either (q.0 == m.0) (queue_at start es m)
-    where
-      either : (b : Bool) (v : QueueView)
-          → record v { next = (if b then v.next + 1 else v.next); errors = (if b then v.errors ++ error_without_place q id.0 rule ∷ [] else v.errors) }
-          ≡ (if b then denied (error_without_place q id.0 rule) v else v)
-      either b v = grind arith
+  queue_at-denied rule m = grind (arith, queue_at-more, flight-unlaunched)
 
   -- a packet is launched
   module _ (p : Packet) (reads : decoded bytes ≡ Some p) where

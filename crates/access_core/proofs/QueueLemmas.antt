@@ -1,7 +1,6 @@
 -- Lists of queues: one more, or one changed.
 use Rattle.std.proofs.Common.{◌≡◌, ℕ, zero, suc, ◌-◌, ◌<◌, ◌≤◌, length, length-append, arith, List, [], ◌∷◌, ◌++◌, refl, Option, Some, None, slice_get}
-use Rattle.std.proofs.lemmas.List.{length-map}
-use Rattle.access_core.proofs.Terms.{Inside, IsCached, QUEUES, Queue, numbered, openings, start_of}
+use Rattle.access_core.proofs.Terms.{Inside, IsCached, QUEUES, Queue, length-map, numbered, openings, start_of}
 
 slice_get-push : {X : Type 0} (f : Option Queue → X) (queues : List Queue) (q : Queue) → f (Some q) ≡ f None → (k : ℕ) → f (slice_get (queues ++ q ∷ []) k) ≡ f (slice_get queues k)
 slice_get-push f [] q fresh zero = fresh

@@ -1,22 +1,16 @@
 -- Groups that ran: what their writes leave, and how many there can be.
-use Rattle.std.proofs.Common.{◌≡◌, ℕ, ◌+◌, ◌^◌, List, [], ◌++◌, length, refl, sym, ◌∙◌, ap, Bool, true, false, Option, Some, None, ℤ, ◌==◌, ◌%◌, fold, nat_le, nat_lt}
-use Rattle.std.proofs.Common.{replicate, if◌then◌else◌}
-use Rattle.std.specs.Int.{w64, to_le_bytes}
-use Rattle.std.proofs.lemmas.List.Sums.{fold-append}
+use Rattle.std.proofs.Common.{◌≡◌, ℕ, ◌+◌, ◌^◌, List, [], ◌++◌, length, refl, ◌∙◌, ap, Bool, true, false, Option, ℤ, ◌==◌, ◌%◌, fold, nat_le, nat_lt, arith}
+use Rattle.std.proofs.Common.{if◌then◌else◌}
+use Rattle.access_core.proofs.Terms.{Done, Effect, Entry, GivenAtLaunch, History, InFlight, Inside, IsInPlace, PacketId, Place, Progress, QueueId, Ran, Refusal, RefusedAt, RunNext, Start}
+use Rattle.access_core.proofs.Terms.{agent_writes, answers, due, enters, flight, flight_after_effect, fold-append, function_of, function_writes, given_at_launch, history_of, is_full}
+use Rattle.access_core.proofs.Terms.{owed_group, refuses, result_writes, signals_after, start_of, write_of}
 use Rattle.aql_packet.specs.declared.packet.AgentDispatch.{AgentDispatch}
-use Rattle.core_model.specs.declared.outcome.Worked.TheVariants.{Done, Ran}
 use Rattle.core_model.specs.declared.need.AgentFunction.{AgentFunction}
-use Rattle.core_model.specs.declared.need.AgentFunction.TheVariants.{Fill, Copy, Add64}
 use Rattle.core_model.specs.Owed.{owed}
 use Rattle.aql_packet.specs.declared.packet.Packet.TheVariants as packet
-use Rattle.core_model.specs.View.{GivenAtLaunch, given_at_launch}
 use Rattle.access_core.proofs.Calls.{due-as}
 use Rattle.access_core.proofs.QueueAt.{IsAdvance}
 use Rattle.access_core.proofs.WorkLemmas.{owed-in_place}
-use Rattle.access_core.proofs.Terms.{Effect, Entry, History, InFlight, Inside, IsInPlace, RefusedAt, PacketId, Place, Progress, QueueId}
-use Rattle.access_core.proofs.Terms.{Refusal, RunNext, Start, agent_writes, due, enters, flight, flight_after_effect, function_of, function_result}
-use Rattle.access_core.proofs.Terms.{function_writes, history_of, is_full, memory_from, number_in_memory, owed_group, refuses}
-use Rattle.access_core.proofs.Terms.{answers, result_writes, signals_after, start_of, write_of}
 use Rattle.core_model.specs.declared.outcome.Outcome.TheVariants as outcome
 use Rattle.core_model.specs.declared.refusal.Refusal.TheVariants as refusal
 
@@ -37,22 +31,16 @@ both-write xs ys first second = record {
 }
 
 if-writes : (b : Bool) (xs ys : List Effect) → OnlyWrites xs → OnlyWrites ys → OnlyWrites (if b then xs else ys)
-if-writes true xs ys first second = first
-if-writes false xs ys first second = second
+if-writes b xs ys h4 h5 = grind arith
 
 one-writes : (address : ℕ) (bytes : List ℕ) → OnlyWrites (write_of address bytes)
 one-writes address bytes = if-writes (length bytes == 0) _ _ none-writes (record { flight = λ flying. refl; signals = λ values. refl })
 
 function-writes : (start : Start) (entries : List Entry) (function : Option AgentFunction) → OnlyWrites (function_writes start entries function)
-function-writes start entries None = none-writes
-function-writes start entries (Some (Fill target byte)) = one-writes target.address.0 (replicate target.size byte)
-function-writes start entries (Some (Copy source target)) = one-writes target.address.0 (memory_from start entries source.address.0 source.size)
-function-writes start entries (Some (Add64 number addend)) =
-    one-writes number.address.0 (to_le_bytes w64 ((number_in_memory start entries number.address.0 + addend) % 2 ^ 64))
+function-writes start entries function = grind (arith, none-writes, one-writes)
 
 pub agent-writes : (start : Start) (entries : List Entry) (dispatch : AgentDispatch) → OnlyWrites (agent_writes start entries dispatch)
-agent-writes start entries dispatch =
-    both-write _ _ (function-writes start entries (function_of dispatch)) (if-writes (dispatch.return_address.0 == 0) _ _ none-writes (one-writes dispatch.return_address.0 (to_le_bytes w64 (function_result start entries (function_of dispatch)))))
+agent-writes start entries dispatch = grind (arith, both-write, function-writes, if-writes, none-writes, one-writes)
 
 -- how far a packet has come once a group more has run
 abbrev pub one_group : Progress → Progress
@@ -72,10 +60,7 @@ run-advances queue id start entries dispatch = record {
 module _ (a : Inside) (old : History) (seen_as : history_of a ≡ old) where
   pub pieces-inside : (dispatch : AgentDispatch) (target place : ℕ) (bytes result : List ℕ) → write_of target bytes ≡ function_writes old.start old.entries (function_of dispatch) → write_of place result ≡ result_writes old.start old.entries dispatch →
       write_of target bytes ++ write_of place result ≡ agent_writes (start_of a) a.audit.items dispatch
-  pieces-inside dispatch target place bytes result first second =
-      ap (λ xs. xs ++ write_of place result) first
-      ∙ ap (λ ys. function_writes old.start old.entries (function_of dispatch) ++ ys) second
-      ∙ ap (λ h. agent_writes h.start h.entries dispatch) (sym seen_as)
+  pieces-inside dispatch target place bytes result first second = grind arith
 
 -- ---- what the group of an agent dispatch is due
 
@@ -83,29 +68,19 @@ module _ (h : History) (queue : QueueId) (id : PacketId) (place : Place) (found 
   agent-owed : (ran : Bool) → nat_le 1 place.progress.groups_run ≡ ran → owed h.start h.entries (RunNext queue id)
       ≡ (if ran then answers (outcome.Worked Done) else enters (outcome.Worked (Ran 0 0)) (agent_writes h.start h.entries d))
   unfolding owed
-  agent-owed ran is =
-      owed-in_place h queue id place found (owed_group h.start h.entries queue id (given_at_launch h.start h.entries queue id))
-      ∙ ap (λ p. owed_group h.start h.entries queue id (given_at_launch h.start h.entries queue id) p place.progress) packet_is
-      ∙ ap (λ b. if b then answers (outcome.Worked Done) else enters (outcome.Worked (Ran 0 0)) (agent_writes h.start h.entries d)) is
+  agent-owed ran is = grind (arith, owed-in_place h queue id place found (owed_group h.start h.entries queue id (given_at_launch h.start h.entries queue id)), owed-in_place)
 
   pub agent-done : nat_le 1 place.progress.groups_run ≡ true → due h (RunNext queue id) ≡ answers (outcome.Worked Done)
   agent-done ran = due-as h (RunNext queue id) (answers (outcome.Worked Done)) (agent-owed true ran)
 
   pub agent-due : nat_le 1 place.progress.groups_run ≡ false → (full : Bool) → is_full h ≡ full
       → due h (RunNext queue id) ≡ (if full then refuses refusal.AuditFull else enters (outcome.Worked (Ran 0 0)) (agent_writes h.start h.entries d))
-  agent-due ran full room =
-      let writes = agent_writes h.start h.entries d in
-      due-as h (RunNext queue id) (enters (outcome.Worked (Ran 0 0)) writes) (agent-owed false ran)
-      ∙ ap (λ (fs : List InFlight). if nat_lt h.capacity (length h.entries + 1 + length fs) then refuses refusal.AuditFull else enters (outcome.Worked (Ran 0 0)) writes)
-      ((agent-writes h.start h.entries d).flight (flight h.start h.entries))
-      ∙ ap (λ b. if b then refuses refusal.AuditFull else enters (outcome.Worked (Ran 0 0)) writes) room
+  agent-due ran full room = grind (arith, due-as h (RunNext queue id) (enters (outcome.Worked (Ran 0 0)) (agent_writes h.start h.entries d)) (agent-owed false ran), agent-owed false ran, nat_lt h.capacity, agent-writes h.start h.entries d, due-as, agent-owed, nat_lt, agent-writes)
 
 -- barrier packets have no groups
 pub no-groups : (h : History) (queue : QueueId) (id : PacketId) (place : Place) → IsInPlace h queue id place → ((own : GivenAtLaunch) → owed_group h.start h.entries queue id own place.packet place.progress ≡ refuses refusal.NotInFlight) → due h (RunNext queue id) ≡ refuses refusal.NotInFlight
 unfolding owed
-no-groups h queue id place found is =
-    due-as h (RunNext queue id) (refuses refusal.NotInFlight)
-    (owed-in_place h queue id place found (owed_group h.start h.entries queue id (given_at_launch h.start h.entries queue id)) ∙ is (given_at_launch h.start h.entries queue id))
+no-groups h queue id place found is = grind (arith, due-as h (RunNext queue id) (refuses refusal.NotInFlight) (owed-in_place h queue id place found (owed_group h.start h.entries queue id (given_at_launch h.start h.entries queue id)) ∙ is (given_at_launch h.start h.entries queue id)), owed-in_place h queue id place found (owed_group h.start h.entries queue id (given_at_launch h.start h.entries queue id)), is, due-as, owed-in_place)
 
 -- a packet that isn't in flight is refused
 pub run-refused : (h : History) (queue : QueueId) (id : PacketId) (why : Refusal) → RefusedAt h queue id why → due h (RunNext queue id) ≡ refuses why

@@ -1,8 +1,6 @@
 -- Requests that are served one behind the other.
-use Rattle.std.proofs.Common.{List, [], ◌∷◌, ◌++◌, refl, subst, Result}
-use Rattle.core_model.specs.declared.event.Query.{Query}
-use Rattle.core_model.specs.declared.event.Request.{Request}
-use Rattle.access_core.proofs.Terms.{AreReplies, Event, History, IsServed, MeetsOrLacks, Outcome, Refusal, RepliesOrLacks, AnswerOrRefusal, as_reply}
+use Rattle.std.proofs.Common.{List, [], ◌∷◌, ◌++◌, refl, subst, Result, arith}
+use Rattle.access_core.proofs.Terms.{AnswerOrRefusal, AreReplies, Event, History, IsServed, MeetsOrLacks, Outcome, Query, Refusal, RepliesOrLacks, Request, as_reply}
 use Rattle.core_model.specs.declared.event.Request.TheVariants as request
 
 -- an event that got what was due, or wanted memory, was served
@@ -17,7 +15,6 @@ served-query asked old reply got = (got, refl)
 pub AreReplies-more : (old mid new : History) (requests : List Request) (replies : List AnswerOrRefusal) (asked : Request) (reply : AnswerOrRefusal)
     → AreReplies old requests replies mid → IsServed mid asked reply new → AreReplies old (requests ++ asked ∷ []) (replies ++ reply ∷ []) new
 AreReplies-more old mid new [] [] asked reply so_far served = (new, subst (λ h. IsServed h asked reply new) so_far served, refl)
-AreReplies-more old mid new (r ∷ requests) (p ∷ replies) asked reply so_far served =
-    (so_far.0, so_far.1, AreReplies-more so_far.0 mid new requests replies asked reply so_far.2 served)
+AreReplies-more old mid new (r ∷ requests) (p ∷ replies) asked reply so_far served = grind (arith, AreReplies-more so_far.0 mid new requests replies asked reply so_far.2 served)
 AreReplies-more old mid new [] (p ∷ replies) asked reply so_far served = absurd so_far
 AreReplies-more old mid new (r ∷ requests) [] asked reply so_far served = absurd so_far

@@ -1,21 +1,17 @@
 -- Stops of queues: what is owed by what is kept, and the room that is left.
 use Rattle.std.proofs.Common.{filter, ◌≡◌, ℕ, ◌-◌, ◌≤◌, List, [], ◌∷◌, length, map, refl, sym, ◌∙◌, ap, subst, Bool, true, false, Option, Some, None, arith, ℤ, ◌==◌}
 use Rattle.std.proofs.Common.{IfNone, IfSome, find, fold, is_some, not, option_map, if◌then◌else◌}
-use Rattle.std.proofs.lemmas.Bool.{le-ltb}
+use Rattle.access_core.proofs.Terms.{ArgumentBlock, Effect, History, InFlight, Inside, IsCached, IsSound, Ledger, Outcome, PacketId, Place, Queue, QueueId, QueueView, Releases, Stop}
+use Rattle.access_core.proofs.Terms.{byte_after, cached_opening, due, enters, entry_of, flight_of, freed_by, history_of, is_barrier, is_block, is_full, is_place_of, lacks_room, le-ltb}
+use Rattle.access_core.proofs.Terms.{numbered, place_of, queue_at, refuses, release_of, signals_after, start_of, with_queue, with_stop, without_one}
 use Rattle.core_model.specs.Owed.{owed}
 use Rattle.access_core.proofs.Calls.{due-by}
 use Rattle.access_core.proofs.HeldAfter.{grants-released, grants-still}
-use Rattle.access_core.specs.inner.ArgumentBlocks.{is_block}
-use Rattle.access_core.specs.declared.argument_blocks.ArgumentBlock.{ArgumentBlock}
 use Rattle.access_core.proofs.CachedMore.{GrantsAfter, QueuesAfter, none-launched}
 use Rattle.access_core.proofs.QueueAt.{IsRelease, flight-released, flight-unlaunched, queue_at-more}
 use Rattle.access_core.proofs.ChangedQueue.{freed-at}
 use Rattle.access_core.proofs.TakeLemmas.{IsOpen, is-open, owner-kept, queues-after, view-kept}
 use Rattle.access_core.proofs.WorkLemmas.{freed-below, in-place, queues-released, release-room, sound-released}
-use Rattle.access_core.proofs.Terms.{Effect, History, InFlight, Inside, IsCached, IsSound, Ledger, Outcome, PacketId, Place, Queue, QueueId, QueueView}
-use Rattle.access_core.proofs.Terms.{Releases, Stop, byte_after, cached_opening, due, enters, entry_of, flight_of, freed_by, history_of, is_place_of, is_barrier}
-use Rattle.access_core.proofs.Terms.{is_full, is_stopped, lacks_room, numbered, place_of, queue_at, refuses, release_of, signals_after, start_of}
-use Rattle.access_core.proofs.Terms.{with_queue, with_stop, without_one}
 use Rattle.core_model.specs.declared.entry.Effect.TheVariants as effect
 use Rattle.core_model.specs.declared.outcome.Outcome.TheVariants as outcome
 use Rattle.core_model.specs.declared.refusal.Refusal.TheVariants as refusal
@@ -37,10 +33,7 @@ found-by_id test (p ∷ ps) id found = first (test p) (is_place_of id p) refl fo
   where
     first : (b c : Bool) → is_place_of id p ≡ c → option_map (λ (p : Place). p.id) (if b then Some p else find test ps) ≡ Some id → (option_map (λ (p : Place). p.id) (find test ps) ≡ Some id → FoundById id ps) → FoundById id (p ∷ ps)
     first b true is found more = record { place = p; is = rw is refl }
-    first true false is found more = absurd (let same : p.id ≡ id = cc in let yes_it : is_place_of id p ≡ true = rw same (itself id) in cc (is, yes_it))
-      where
-        itself : (id : PacketId) → (id.0 == id.0) ≡ true
-        itself id = grind arith
+    first true false is found more = grind arith
     first false false is found more = let later = more found in record { place = later.place; is = rw is later.is }
 
 -- ---- a stop, as the history has it
@@ -53,12 +46,10 @@ is_release queue id = record { launches = refl; progress = λ q i so_far. refl; 
 
 -- a release changes neither memory nor signals
 pub memory-released : (queue : QueueId) (barrier : Option PacketId) (x byte : ℕ) → fold (byte_after x) byte (release_of queue barrier) ≡ byte
-memory-released queue None x byte = refl
-memory-released queue (Some id) x byte = refl
+memory-released queue barrier x byte = grind arith
 
 pub values-released : (queue : QueueId) (barrier : Option PacketId) (values : List ℤ) → fold signals_after values (release_of queue barrier) ≡ values
-values-released queue None values = refl
-values-released queue (Some id) values = refl
+values-released queue barrier values = grind arith
 
 module _ (a : Inside) (kept : IsCached a) (queue : QueueId) where
   -- no queue has the number
@@ -68,36 +59,27 @@ module _ (a : Inside) (kept : IsCached a) (queue : QueueId) where
 
   barrier-is : (q : Queue) → numbered a.queues.items queue.0 ≡ Some q → option_map (λ (p : Place). p.id) (find (λ (p : Place). is_barrier p.packet) q.places)
       ≡ option_map (λ (f : InFlight). f.id) (find (λ (f : InFlight). is_barrier f.packet) (flight_of (start_of a) a.audit.items queue))
-  barrier-is q some =
-      ap (λ (v : QueueView). option_map (λ (p : Place). p.id) (find (λ (p : Place). is_barrier p.packet) v.places)) (view-kept a queue q kept some)
-      ∙ barrier-placed (place_of (start_of a) a.audit.items queue) (flight_of (start_of a) a.audit.items queue) (λ f. refl) (λ f. refl)
+  barrier-is q some = grind (arith, view-kept a queue q kept some, barrier-placed (place_of (start_of a) a.audit.items queue) (flight_of (start_of a) a.audit.items queue) (λ f. refl) (λ f. refl), view-kept, barrier-placed)
 
   -- the queue is kept
   pub stop-known : (q : Queue) → numbered a.queues.items queue.0 ≡ Some q →
       owed (start_of a) a.audit.items (Stop queue) ≡ (if q.stopped then refuses refusal.QueueDown else enters outcome.Accepted (release_of queue (option_map (λ (p : Place). p.id) (find (λ (p : Place). is_barrier p.packet) q.places))))
   unfolding owed
-  stop-known q some =
-      let stops : is_stopped (start_of a) a.audit.items queue ≡ q.stopped = ap (λ (v : QueueView). v.stopped) (sym (view-kept a queue q kept some)) in
-      rw (owner-kept a queue kept, some, stops, barrier-is q some) refl
+  stop-known q some = grind (arith, view-kept a queue q kept some, owner-kept a queue kept, barrier-is q some, view-kept, owner-kept, barrier-is)
 
   open-at : (q : Queue) → numbered a.queues.items queue.0 ≡ Some q → IsOpen a queue
   open-at q some = is-open a kept queue (cached_opening q) (owner-kept a queue kept ∙ ap (option_map cached_opening) some)
 
   -- a queue whose stop is entered is kept
   pub stop-open : (told : Outcome) (effects : List Effect) → owed (start_of a) a.audit.items (Stop queue) ≡ enters told effects → IsOpen a queue
-  stop-open told effects owing = either (numbered a.queues.items queue.0) refl
-    where
-      either : (o : Option Queue) → numbered a.queues.items queue.0 ≡ o → IsOpen a queue
-      either None is = let same : refuses refusal.UnknownQueue ≡ enters told effects = sym (stop-unknown is) ∙ owing in absurd cc
-      either (Some q) is = open-at q is
+  stop-open told effects owing = grind (arith, stop-unknown, open-at)
 
   module _ (at : IsOpen a queue) where
     freed-none : freed_by None a.queues.items queue ≡ 0
     freed-none = let freed-now = freed-at None a.queues.items queue at.q at.found in omega (arith, freed-now)
 
     pub freed-stopped : (barrier : Option PacketId) → freed_by barrier a.queues.items queue ≤ a.flying
-    freed-stopped None = omega (arith, freed-none)
-    freed-stopped (Some id) = freed-below a kept queue id at
+    freed-stopped barrier = grind (arith, freed-none, freed-below a kept queue, freed-below)
 
     -- how the queues move along
     pub queues-stopped : (barrier : Option PacketId) → QueuesAfter a (with_queue a.queues.items queue (with_stop barrier)) (a.flying - freed_by barrier a.queues.items queue) (Stop queue) outcome.Accepted (release_of queue barrier)
@@ -119,13 +101,8 @@ module _ (a : Inside) (kept : IsCached a) (queue : QueueId) where
   -- how the grants do
   pub grants-stopped : (barrier : Option PacketId) (new : Ledger) (blocks : List ArgumentBlock) → IfSome barrier (λ id. Releases a.grants new queue id) → IfSome barrier (λ id. blocks ≡ filter (λ b. not (is_block queue id b)) a.blocks.items)
       → IfNone barrier (new ≡ a.grants) → IfNone barrier (blocks ≡ a.blocks.items) → GrantsAfter a new blocks (Stop queue) outcome.Accepted (release_of queue barrier)
-  grants-stopped None new blocks released dropped same same_blocks =
-      subst (λ g. GrantsAfter a g blocks (Stop queue) outcome.Accepted []) (sym same)
-      (subst (λ bs. GrantsAfter a a.grants bs (Stop queue) outcome.Accepted []) (sym same_blocks)
-      (grants-still a kept (Stop queue) outcome.Accepted [] refl refl (λ client on right b. refl) (flight-unlaunched (start_of a) a.audit.items (Stop queue) outcome.Accepted [] refl)))
-  grants-stopped (Some id) new blocks released dropped same same_blocks =
-      grants-released a kept (Stop queue) outcome.Accepted (effect.Release queue id ∷ []) refl refl (λ client on right b. refl) new blocks queue id
-      (flight-released (start_of a) a.audit.items _ _ _ queue id (is_release queue id)) released dropped
+  grants-stopped None new blocks released dropped same same_blocks = grind (arith, grants-still a kept (Stop queue) outcome.Accepted [] refl refl (λ client on right b. refl) (flight-unlaunched (start_of a) a.audit.items (Stop queue) outcome.Accepted [] refl), flight-unlaunched (start_of a) a.audit.items (Stop queue) outcome.Accepted [] refl, grants-still, flight-unlaunched)
+  grants-stopped (Some id) new blocks released dropped same same_blocks = grind (arith, grants-released a kept (Stop queue) outcome.Accepted (effect.Release queue id ∷ []) refl refl (λ client on right b. refl) new blocks queue id (flight-released (start_of a) a.audit.items _ _ _ queue id (is_release queue id)) released dropped, flight-released (start_of a) a.audit.items _ _ _ queue id (is_release queue id), is_release queue id, grants-released, flight-released, is_release)
 
   -- a stop is due its entry where a barrier packet leaves flight for it, or the audit has room
   pub may-stop : (q : Queue) (barrier : Option PacketId) (none : Bool) (old : History) → history_of a ≡ old → numbered a.queues.items queue.0 ≡ Some q → q.stopped ≡ false
@@ -139,15 +116,9 @@ module _ (a : Inside) (kept : IsCached a) (queue : QueueId) where
           lacks_room (history_of a) (entry_of (Stop queue) outcome.Accepted (release_of queue o)) ≡ false
       left None true is which room = room refl
       left None false is which room = absurd cc
-      left (Some id) b is which room =
-          let by_id = found-by_id (λ (p : Place). is_barrier p.packet) q.places id (sym is) in
-          let found = in-place a kept queue id q some by_id.place by_id.is in
-          le-ltb _ _ (release-room a kept queue id found.flying found.found)
+      left (Some id) b is which room = grind (arith, found-by_id (λ (p : Place). is_barrier p.packet) q.places id (sym is), in-place a kept queue id q some (found-by_id (λ (p : Place). is_barrier p.packet) q.places id (sym is)).place (found-by_id (λ (p : Place). is_barrier p.packet) q.places id (sym is)).is, le-ltb _ _ (release-room a kept queue id (in-place a kept queue id q some (found-by_id (λ (p : Place). is_barrier p.packet) q.places id (sym is)).place (found-by_id (λ (p : Place). is_barrier p.packet) q.places id (sym is)).is).flying (in-place a kept queue id q some (found-by_id (λ (p : Place). is_barrier p.packet) q.places id (sym is)).place (found-by_id (λ (p : Place). is_barrier p.packet) q.places id (sym is)).is).found), release-room a kept queue id (in-place a kept queue id q some (found-by_id (λ (p : Place). is_barrier p.packet) q.places id (sym is)).place (found-by_id (λ (p : Place). is_barrier p.packet) q.places id (sym is)).is).flying (in-place a kept queue id q some (found-by_id (λ (p : Place). is_barrier p.packet) q.places id (sym is)).place (found-by_id (λ (p : Place). is_barrier p.packet) q.places id (sym is)).is).found, found-by_id, in-place, le-ltb, release-room)
 
   -- a stop without a barrier packet is refused where the audit has none
   pub stop-full : (q : Queue) (barrier : Option PacketId) (old : History) → history_of a ≡ old → numbered a.queues.items queue.0 ≡ Some q → q.stopped ≡ false
       → barrier ≡ option_map (λ (p : Place). p.id) (find (λ (p : Place). is_barrier p.packet) q.places) → is_some barrier ≡ false → is_full old ≡ true → due old (Stop queue) ≡ refuses refusal.AuditFull
-  stop-full q None old seen_as some goes is none =
-      subst (λ h. is_full h ≡ true → due h (Stop queue) ≡ refuses refusal.AuditFull) seen_as
-      (λ lacks. due-by a (history_of a) refl (Stop queue) (enters outcome.Accepted []) (stop-known q some ∙ (rw (goes, ← is) refl)) ∙ (rw lacks refl))
-  stop-full q (Some id) old seen_as some goes is none = absurd cc
+  stop-full q barrier old h4 h5 h6 h7 h8 h9 = grind (arith, due-by a (history_of a) refl (Stop queue) (enters outcome.Accepted []), stop-known q, due-by, stop-known)

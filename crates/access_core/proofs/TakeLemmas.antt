@@ -1,42 +1,26 @@
 -- What is owed to a packet that is handed over, by what is kept.
 use Rattle.std.proofs.Common.{◌≡◌, ℕ, ◌<◌, ◌≤◌, ◌^◌, List, [], ◌∷◌, ◌++◌, length, refl, sym, ◌∙◌, ap, Bool, true, false, Option, Some, None, arith, ◌+◌}
 use Rattle.std.proofs.Common.{length-append, subst, nat_lt, All, ◌||◌, ◌==◌, map, option_map, if◌then◌else◌}
-use Rattle.std.specs.List.{list_all}
-use Rattle.std.proofs.lemmas.List.Sums.{count_by-le-length}
-use Rattle.std.proofs.lemmas.Bool.{and_parts, lt-ltb}
-use Rattle.std.proofs.lemmas.List.Elements.{All-push, All-weaker}
-use Rattle.std.proofs.lemmas.List.{length-map}
-use Rattle.queue_error.specs.declared.rule.Rule.{Rule}
+use Rattle.access_core.proofs.Terms.{All-head, All-push, All-tail, All-weaker, CanFail, ClientId, Denied, Effect, Entry, Event, Facts, History, InFlight, Inside, IsBlockPlaced, IsCached}
+use Rattle.access_core.proofs.Terms.{IsInPlace, IsSound, Launched, MayReach, MayReachRange, ObjectRight, Opening, Outcome, Packet, PacketId, Place, Queue, QueueError, QueueId, QueueView}
+use Rattle.access_core.proofs.Terms.{Read, Rule, SLOTS, Start, Take, TakesNext, and_parts, argument_ranges, arguments-held, as_launched, barrier_bit, cached_opening, cached_view}
+use Rattle.access_core.proofs.Terms.{count_by-le-length, decoded, due, entered-owed, enters, entry_of, error_without_place, errors, facts_of, first_failing_rule, flight, flight_of}
+use Rattle.access_core.proofs.Terms.{hands_over_packet_of, held_by_arguments, held_by_needs, history_of, in_force, is_placed, kernel_of, lacks_room, launched_by, length-map, lies_in_regions}
+use Rattle.access_core.proofs.Terms.{lies_whole, list_all, lt-ltb, meets_rule, memory_needs, need_is_met, needs, none-passes, numbered, numbered-map, or_right, owed_verdict, owner, place_of}
+use Rattle.access_core.proofs.Terms.{queue_at, refuse_unless, refuses, region_lengths, right_needed, rights_at_launch, start_of, with_denied, with_entry, with_queue, with_some}
 use Rattle.packet_processor.proofs.FirstFailing.{first_failing-decoded}
 use Rattle.core_model.specs.Queues.{opening_of, next_id}
 use Rattle.core_model.specs.declared.need.Need.{Need}
 use Rattle.core_model.specs.LaunchRules.{cause_to_wait}
 use Rattle.packet_processor.specs.inner.FieldRules.{later_failing, rules_of_fields}
 use Rattle.core_model.specs.Owed.{owed}
-use Rattle.std.proofs.Common.{◌⊎◌, inl, inr, not}
-use Rattle.std.proofs.lemmas.Bool.{or_right}
-use Rattle.std.proofs.lemmas.List.Elements.{All-head, All-tail}
+use Rattle.std.proofs.Common.{◌⊎◌, not}
 use Rattle.aql_packet.specs.declared.packet.Packet.TheVariants as packet
-use Rattle.policy.specs.declared.rights.Right.TheVariants.{Read}
-use Rattle.core_model.proofs.Holding.{arguments-held}
 use Rattle.core_model.proofs.Launching.{launch-granted}
-use Rattle.core_model.proofs.Lists.{none-passes}
-use Rattle.core_model.proofs.Meeting.{entered-owed}
-use Rattle.core_model.specs.Headline.{MayReach, MayReachRange, argument_ranges}
-use Rattle.core_model.specs.Holds.{held_by_arguments, held_by_needs}
-use Rattle.core_model.specs.Kernels.{kernel_of}
-use Rattle.core_model.specs.LaunchRules.{has_form, meets_rule}
-use Rattle.access_core.specs.inner.Deciding.{IsBlockPlaced}
 use Rattle.access_core.specs.inner.QueueChanges.{with_launched}
 use Rattle.access_core.proofs.CachedMore.{QueuesAfter, none-launched}
 use Rattle.access_core.proofs.QueueAt.{flight-launched, flight-unlaunched, map-map, denied, launched, queue_at-denied, queue_at-launched}
 use Rattle.access_core.proofs.ChangedQueue.{length-changed, openings-changed, queues-changed, sound-at, sound-changed}
-use Rattle.access_core.proofs.Terms.{IsInPlace, in_force, due, enters, is_placed, CanFail, ClientId, Denied, Effect, Entry, Event, Facts, ObjectRight, History, InFlight, Inside, IsCached, IsSound}
-use Rattle.access_core.proofs.Terms.{Launched, Opening, Outcome, Packet, PacketId, Place, Queue, QueueError, QueueId, QueueView, SLOTS, Start, Take}
-use Rattle.access_core.proofs.Terms.{TakesNext, right_needed, as_launched, barrier_bit, cached_view, cached_opening, owed_verdict, decoded, entry_of, error_without_place, errors}
-use Rattle.access_core.proofs.Terms.{facts_of, first_failing_rule, flight, flight_of, hands_over_packet_of, rights_at_launch, history_of, need_is_met, is_stopped, lacks_room}
-use Rattle.access_core.proofs.Terms.{launched_by, lies_in_regions, lies_whole, memory_needs, needs, numbered, numbered-map, owner, place_of, queue_at}
-use Rattle.access_core.proofs.Terms.{refuse_unless, refuses, region_lengths, start_of, with_denied, with_entry, with_queue, with_some}
 use Rattle.queue_error.specs.declared.rule.Rule.TheVariants as rule
 use Rattle.core_model.specs.declared.refusal.Refusal.TheVariants as refusal
 use Rattle.core_model.specs.declared.outcome.Outcome.TheVariants as outcome
@@ -56,9 +40,7 @@ view-kept a queue q kept some = ap cached_view (sym some) ∙ kept.queues queue
 
 -- its packets in flight are those of the history
 pub packets-kept : (a : Inside) (queue : QueueId) (q : Queue) → IsCached a → numbered a.queues.items queue.0 ≡ Some q → map (λ (f : InFlight). f.packet) (flight_of (start_of a) a.audit.items queue) ≡ map (λ (p : Place). p.packet) q.places
-packets-kept a queue q kept some =
-    sym (map-map (λ (p : Place). p.packet) (place_of (start_of a) a.audit.items queue) (flight_of (start_of a) a.audit.items queue))
-    ∙ ap (λ (v : QueueView). map (λ (p : Place). p.packet) v.places) (sym (view-kept a queue q kept some))
+packets-kept a queue q kept some = grind (arith, map-map (λ (p : Place). p.packet) (place_of (start_of a) a.audit.items queue) (flight_of (start_of a) a.audit.items queue), view-kept a queue q kept some, map-map, view-kept)
 
 module _ (a : Inside) (kept : IsCached a) (queue : QueueId) (id : PacketId) (bytes : List ℕ) where
   -- no queue has the number
@@ -73,12 +55,7 @@ module _ (a : Inside) (kept : IsCached a) (queue : QueueId) (id : PacketId) (byt
       else refuse_unless (id.0 == q.next) (refuses (refusal.OutOfStep q.next))
       (owed_verdict queue id.0 (cause_to_wait (map (λ (p : Place). p.packet) q.places) (barrier_bit bytes)) (first_failing_rule (facts_of (start_of a) a.audit.items (cached_opening q)) bytes)))
   unfolding owed
-  take-known q some =
-      let view = view-kept a queue q kept some in
-      let next : next_id (start_of a) a.audit.items queue ≡ q.next = ap (λ (v : QueueView). v.next) (sym view) in
-      let errs : errors (start_of a) a.audit.items queue ≡ q.errors.items = ap (λ (v : QueueView). v.errors) (sym view) in
-      let stopped : is_stopped (start_of a) a.audit.items queue ≡ q.stopped = ap (λ (v : QueueView). v.stopped) (sym view) in
-      rw (owner-kept a queue kept, some, errs, stopped, next, packets-kept a queue q kept some) refl
+  take-known q some = grind (arith, view-kept a queue q kept some, owner-kept a queue kept, packets-kept a queue q kept some, view-kept, owner-kept, packets-kept)
 
 -- the rules that ask for rights
 pub record PassesRights (facts : Facts) (p : Packet) : Type 0 where
@@ -90,47 +67,21 @@ pub record PassesRights (facts : Facts) (p : Packet) : Type 0 where
 
 -- a packet that no rule refuses passes them
 passed-rights : (facts : Facts) (p : Packet) → later_failing facts p ≡ None → PassesRights facts p
-passed-rights facts p none =
-    let met = none-passes (λ r. not (meets_rule facts p r)) rules_of_fields none in
-    record {
-      agent = (passed rule.L4 (met 0 rule.L4 (omega arith)));
-      kernel = (passed rule.L6 (met 2 rule.L6 (omega arith)));
-      memory = (passed rule.L8 (met 4 rule.L8 (omega arith)));
-      waits = (passed rule.L9 (met 5 rule.L9 (omega arith)));
-      completes = (passed rule.L10 (met 6 rule.L10 (omega arith)));
-    }
-  where
-    passed : (r : Rule) → not (meets_rule facts p r) ≡ false → list_all (need_is_met facts) (needs r facts.agent p) ≡ true
-    passed r is = (and_parts (has_form facts p r) (list_all (need_is_met facts) (needs r facts.agent p)) (from_not (meets_rule facts p r) is)).1
-      where
-        from_not : (b : Bool) → not b ≡ false → b ≡ true
-        from_not true e = refl
-        from_not false e = absurd cc
+passed-rights facts p none = grind (arith, none-passes (λ r. not (meets_rule facts p r)) rules_of_fields none, and_parts, none-passes)
 
 -- what is needed and met is in force
 held-met : (facts : Facts) (all : List Need) (rest : List ObjectRight) → list_all (need_is_met facts) all ≡ true → list_all (λ h. facts.in_force h.0 h.1) rest ≡ true → list_all (λ h. facts.in_force h.0 h.1) (map right_needed all ++ rest) ≡ true
 held-met facts [] rest met others = others
-held-met facts (need ∷ all) rest met others =
-    let both = and_parts (need_is_met facts need) (list_all (need_is_met facts) all) met in
-    let forced = and_parts (lies_whole facts.lengths need.subject) _ both.0 in
-    rw (forced.1, held-met facts all rest both.1 others) refl
+held-met facts (need ∷ all) rest met others = grind (arith, and_parts (need_is_met facts need) (list_all (need_is_met facts) all) met, and_parts (lies_whole facts.lengths need.subject) _ (and_parts (need_is_met facts need) (list_all (need_is_met facts) all) met).0, held-met facts all rest (and_parts (need_is_met facts need) (list_all (need_is_met facts) all) met).1 others, and_parts)
 
 -- so all that a packet will hold by its needs is in force
 held-passed : (facts : Facts) (p : Packet) (client : ClientId) → PassesRights facts p → list_all (λ h. facts.in_force h.0 h.1) (held_by_needs (record { client = client; agent = facts.agent }) p) ≡ true
-held-passed facts p client passes =
-    held-met facts (needs rule.L4 facts.agent p) _ passes.agent
-    (held-met facts (needs rule.L6 facts.agent p) _ passes.kernel
-    (held-met facts (memory_needs p) _ passes.memory
-    (held-met facts (needs rule.L9 facts.agent p) _ passes.waits
-    (held-met facts (needs rule.L10 facts.agent p) [] passes.completes refl))))
+held-passed facts p client passes = grind (arith, held-met facts (needs rule.L4 facts.agent p) _ passes.agent (held-met facts (needs rule.L6 facts.agent p) _ passes.kernel (held-met facts (memory_needs p) _ passes.memory (held-met facts (needs rule.L9 facts.agent p) _ passes.waits (held-met facts (needs rule.L10 facts.agent p) [] passes.completes refl)))), held-met facts (needs rule.L6 facts.agent p) _ passes.kernel (held-met facts (memory_needs p) _ passes.memory (held-met facts (needs rule.L9 facts.agent p) _ passes.waits (held-met facts (needs rule.L10 facts.agent p) [] passes.completes refl))), held-met facts (memory_needs p) _ passes.memory (held-met facts (needs rule.L9 facts.agent p) _ passes.waits (held-met facts (needs rule.L10 facts.agent p) [] passes.completes refl)), held-met facts (needs rule.L9 facts.agent p) _ passes.waits (held-met facts (needs rule.L10 facts.agent p) [] passes.completes refl), held-met facts (needs rule.L10 facts.agent p) [] passes.completes refl, held-met)
 
 -- what is needed and met lies whole in regions
 lies-met : (facts : Facts) (all : List Need) → list_all (need_is_met facts) all ≡ true → list_all (λ need. lies_whole facts.lengths need.subject) all ≡ true
 lies-met facts [] met = refl
-lies-met facts (need ∷ all) met =
-    let both = and_parts (need_is_met facts need) (list_all (need_is_met facts) all) met in
-    let lies = and_parts (lies_whole facts.lengths need.subject) _ both.0 in
-    rw (lies.0, lies-met facts all both.1) refl
+lies-met facts (need ∷ all) met = grind (arith, and_parts (need_is_met facts need) (list_all (need_is_met facts) all) met, and_parts (lies_whole facts.lengths need.subject) _ (and_parts (need_is_met facts need) (list_all (need_is_met facts) all) met).0, lies-met facts all (and_parts (need_is_met facts need) (list_all (need_is_met facts) all) met).1, and_parts)
 
 -- a packet that is launched has all its ranges within regions
 pub within-launched : (start : Start) (es : List Entry) (opening : Opening) (bytes : List ℕ) (p : Packet) → decoded bytes ≡ Some p → first_failing_rule (facts_of start es opening) bytes ≡ None → lies_in_regions (region_lengths start.policy) p ≡ true
@@ -141,9 +92,7 @@ within-launched start es opening bytes p found none =
 all-behind : {X : Type 0} (test : X → Bool) (xs ys : List X) → list_all test xs ≡ true → All (λ x. test x ≡ true) ys → list_all test (xs ++ ys) ≡ true
 all-behind test [] [] met all = refl
 all-behind test [] (y ∷ ys) met all = rw (All-head (λ x. test x ≡ true) y ys all) (all-behind test [] ys refl (All-tail (λ x. test x ≡ true) y ys all))
-all-behind test (x ∷ xs) ys met all =
-    let both = and_parts (test x) (list_all test xs) met in
-    rw both.0 (all-behind test xs ys both.1 all)
+all-behind test (x ∷ xs) ys met all = grind (arith, and_parts (test x) (list_all test xs) met, all-behind test xs ys (and_parts (test x) (list_all test xs) met).1 all, and_parts)
 
 -- a packet that is launched may hold what it needs, and what its arguments have it hold
 pub may-hold : (start : Start) (es : List Entry) (e : Entry) (opening : Opening) (bytes : List ℕ) (p : Packet) → decoded bytes ≡ Some p → first_failing_rule (facts_of start es opening) bytes ≡ None
@@ -161,17 +110,13 @@ placed-block h client (packet.Kernel d) all = reached (All-head (MayReachRange h
     size = (kernel_of h.start d).argument_bytes
 
     reached : (size ≡ 0) ⊎ MayReach h.start h.entries client Read d.kernarg_address.0 size → is_placed (region_lengths h.start.policy) d.kernarg_address.0 size ≡ true
-    reached (inl empty) = rw empty refl
-    reached (inr reach) = or_right (size == 0) _ reach.lies_whole
+    reached h1 = grind (arith, or_right (size == 0), or_right)
 placed-block h client (packet.Agent _) all = tt
 placed-block h client (packet.BarrierAnd _) all = tt
 placed-block h client (packet.BarrierOr _) all = tt
 
 pub block-placed : (h : History) (queue : QueueId) (id : PacketId) (bytes : List ℕ) (p : Packet) → due h (Take queue id bytes) ≡ enters (outcome.Taken Launched) [] → decoded bytes ≡ Some p → IsBlockPlaced h p
-block-placed h queue id bytes p is found =
-    let granted = launch-granted h.start h.entries queue id bytes [] (entered-owed h (Take queue id bytes) (outcome.Taken Launched) [] is).0 in
-    let same : Some granted.packet ≡ Some p = sym granted.allowed.is_read ∙ found in
-    subst (IsBlockPlaced h) (cc) (placed-block h granted.opening.client granted.packet granted.allowed.arguments)
+block-placed h queue id bytes p is found = grind (arith, launch-granted h.start h.entries queue id bytes [] (entered-owed h (Take queue id bytes) (outcome.Taken Launched) [] is).0, entered-owed h (Take queue id bytes) (outcome.Taken Launched) [] is, placed-block h (launch-granted h.start h.entries queue id bytes [] (entered-owed h (Take queue id bytes) (outcome.Taken Launched) [] is).0).opening.client (launch-granted h.start h.entries queue id bytes [] (entered-owed h (Take queue id bytes) (outcome.Taken Launched) [] is).0).packet (launch-granted h.start h.entries queue id bytes [] (entered-owed h (Take queue id bytes) (outcome.Taken Launched) [] is).0).allowed.arguments, launch-granted, entered-owed, placed-block)
 
 -- a launch has room where there is some for an entry and one packet more in flight
 pub room-launched : (h : History) (queue : QueueId) (id : PacketId) (bytes : List ℕ) (p : Packet) → decoded bytes ≡ Some p
@@ -185,15 +130,7 @@ may_start-few ps barrier none = grind arith
 
 -- a queue that is kept, and not down, and where a packet may start takes its next packet
 pub takes-next : (a : Inside) (kept : IsCached a) (queue : QueueId) (q : Queue) (barrier : Bool) → numbered a.queues.items queue.0 ≡ Some q → (nat_lt 0 (length q.errors.items) || q.stopped) ≡ false → cause_to_wait (map (λ (p : Place). p.packet) q.places) barrier ≡ None → TakesNext (history_of a) queue
-takes-next a kept queue q barrier some down starts =
-    let view = view-kept a queue q kept some in
-    let count = length-map (flight_of (start_of a) a.audit.items queue) (λ (f : InFlight). f.packet) in
-    let few = may_start-few (map (λ (f : InFlight). f.packet) (flight_of (start_of a) a.audit.items queue)) barrier (ap (λ ps. cause_to_wait ps barrier) (packets-kept a queue q kept some) ∙ starts) in (
-      cached_opening q,
-      owner-kept a queue kept ∙ ap (option_map cached_opening) some,
-      ap (λ (v : QueueView). nat_lt 0 (length v.errors) || v.stopped) (sym view) ∙ down,
-      omega (arith, count, few),
-    )
+takes-next a kept queue q barrier some down starts = grind (arith, view-kept a queue q kept some, length-map (flight_of (start_of a) a.audit.items queue) (λ (f : InFlight). f.packet), may_start-few (map (λ (f : InFlight). f.packet) (flight_of (start_of a) a.audit.items queue)) barrier (ap (λ ps. cause_to_wait ps barrier) (packets-kept a queue q kept some) ∙ starts), packets-kept a queue q kept some, owner-kept a queue kept, nat_lt 0, view-kept, length-map, may_start-few, packets-kept, owner-kept, nat_lt)
 
 none_opening : (o : Opening) → None ≡ Some o → ⊥
 none_opening o e = cc
@@ -216,15 +153,7 @@ pub record IsOpen (a : Inside) (queue : QueueId) : Type 0 where
   pub small : q.next < 2 ^ 63
 
 pub is-open : (a : Inside) (kept : IsCached a) (queue : QueueId) (opening : Opening) → owner (start_of a) a.audit.items queue ≡ Some opening → IsOpen a queue
-is-open a kept queue opening owned = either (numbered a.queues.items queue.0) refl
-  where
-    either : (o : Option Queue) → numbered a.queues.items queue.0 ≡ o → IsOpen a queue
-    either None is = absurd (none_opening opening (sym (ap (option_map cached_opening) is) ∙ sym (owner-kept a queue kept) ∙ owned))
-    either (Some q) is =
-        let view = view-kept a queue q kept is in
-        let next : q.next ≡ next_id (start_of a) a.audit.items queue = ap (λ (v : QueueView). v.next) view in
-        let few : next_id (start_of a) a.audit.items queue ≤ length a.audit.items = next_id-le (start_of a) a.audit.items queue in
-        record { q = q; found = is; view = view; sound = sound-at a.queues.items queue.0 q kept.sound is; small = omega (arith, kept.room, kept.few, next, few) }
+is-open a kept queue opening owned = grind (arith, none_opening opening, owner-kept a queue kept, view-kept a queue, next_id-le (start_of a) a.audit.items queue, sound-at a.queues.items queue.0, none_opening, owner-kept, view-kept, next_id-le, sound-at)
 
 -- the queue of a packet in its place is open
 pub open-of : (a : Inside) (kept : IsCached a) (old : History) → history_of a ≡ old → (queue : QueueId) (id : PacketId) (place : Place)
@@ -264,29 +193,17 @@ queues-after a kept queue at change view count event told effects none same soun
 module _ (a : Inside) (kept : IsCached a) (queue : QueueId) (id : PacketId) (bytes : List ℕ) (can : CanTake a queue) where
   -- there is room for an error
   pub can-deny : CanFail a.queues.items queue
-  can-deny =
-      let none : length can.opened.q.errors.items ≡ 0 = ap length can.none in
-      (can.opened.q, can.opened.found, omega (arith, none, can.opened.sound.room), can.opened.small)
+  can-deny = grind arith
 
   sound-denied : (error : QueueError) → IsSound (with_denied error can.opened.q)
-  sound-denied error =
-      let q = can.opened.q in
-      let none : length q.errors.items ≡ 0 = ap length can.none in
-      let longer = length-append q.errors.items (error ∷ []) in
-      record {
-        room = omega (arith, none, longer, can.opened.sound.room);
-        free = omega (arith, none, longer, can.few);
-        below = All-weaker (λ (p : Place). p.id.0 < q.next) (λ p. p.id.0 < q.next + 1) (λ p below. omega (arith, below)) q.places can.opened.sound.below;
-      }
+  sound-denied error = grind (arith, length-append (can.opened.q).errors.items (error ∷ []), length-append)
 
   pub flight-denied : (rule : Rule) → flight (start_of a) (with_entry a.audit.items (Take queue id bytes) (outcome.Taken (Denied (error_without_place queue id.0 rule))) []) ≡ flight (start_of a) a.audit.items
   flight-denied rule = flight-unlaunched (start_of a) a.audit.items (Take queue id bytes) (outcome.Taken (Denied (error_without_place queue id.0 rule))) [] refl
 
   -- it is denied
   pub queues-denied : (rule : Rule) → QueuesAfter a (with_queue a.queues.items queue (with_denied (error_without_place queue id.0 rule))) a.flying (Take queue id bytes) (outcome.Taken (Denied (error_without_place queue id.0 rule))) []
-  queues-denied rule =
-      queues-after a kept queue can.opened (with_denied (error_without_place queue id.0 rule)) (denied (error_without_place queue id.0 rule)) a.flying _ _ _ refl refl (sound-denied (error_without_place queue id.0 rule)) refl
-      (λ m. queue_at-denied (start_of a) a.audit.items queue id bytes rule m) (kept.flying ∙ ap length (sym (flight-denied rule))) (none-launched (Take queue id bytes) (outcome.Taken (Denied (error_without_place queue id.0 rule))) refl (start_of a))
+  queues-denied rule = grind (arith, queues-after a kept queue can.opened (with_denied (error_without_place queue id.0 rule)) (denied (error_without_place queue id.0 rule)) a.flying _ _ _ refl refl (sound-denied (error_without_place queue id.0 rule)) refl (λ m. queue_at-denied (start_of a) a.audit.items queue id bytes rule m) (kept.flying ∙ ap length (sym (flight-denied rule))) (none-launched (Take queue id bytes) (outcome.Taken (Denied (error_without_place queue id.0 rule))) refl (start_of a)), denied (error_without_place queue id.0 rule), sound-denied (error_without_place queue id.0 rule), queue_at-denied (start_of a) a.audit.items queue id bytes rule, flight-denied rule, none-launched (Take queue id bytes) (outcome.Taken (Denied (error_without_place queue id.0 rule))) refl (start_of a), queues-after, denied, sound-denied, queue_at-denied, flight-denied, none-launched)
 
   -- it is launched
   module _ (p : Packet) (reads : decoded bytes ≡ Some p) (next : id.0 ≡ next_id (start_of a) a.audit.items queue) where
@@ -310,10 +227,7 @@ module _ (a : Inside) (kept : IsCached a) (queue : QueueId) (id : PacketId) (byt
         }
 
     pub flying-launched : a.flying + 1 ≡ length (flight (start_of a) (with_entry a.audit.items (Take queue id bytes) (outcome.Taken Launched) []))
-    flying-launched =
-        let longer = length-append (flight (start_of a) a.audit.items) (record { queue = queue; id = id; packet = p } ∷ []) in
-        let now = ap length (flight-launched (start_of a) a.audit.items queue id bytes p reads) in
-        omega (arith, longer, now, kept.flying)
+    flying-launched = grind (arith, length-append (flight (start_of a) a.audit.items) (record { queue = queue; id = id; packet = p } ∷ []), flight-launched (start_of a) a.audit.items queue id bytes p reads, length-append, flight-launched)
 
     pub queues-launched : lies_in_regions (region_lengths a.policy) p ≡ true → QueuesAfter a (with_queue a.queues.items queue (with_launched id p)) (a.flying + 1) (Take queue id bytes) (outcome.Taken Launched) []
     queues-launched within =
@@ -321,7 +235,4 @@ module _ (a : Inside) (kept : IsCached a) (queue : QueueId) (id : PacketId) (byt
         (λ m. queue_at-launched (start_of a) a.audit.items queue id bytes p reads below-id m) flying-launched packet-within
       where
         packet-within : (f : InFlight) → launched_by (Take queue id bytes) (outcome.Taken Launched) ≡ Some f → lies_in_regions (region_lengths a.policy) f.packet ≡ true
-        packet-within f is =
-            let made : Some (record { queue = queue; id = id; packet = p }) ≡ Some f = ap (option_map (λ (x : Packet). record { queue = queue; id = id; packet = x })) (sym reads) ∙ is in
-            let same : record { queue = queue; id = id; packet = p } ≡ f = cc in
-            subst (λ (x : Packet). lies_in_regions (region_lengths a.policy) x ≡ true) (ap (λ (g : InFlight). g.packet) same) within
+        packet-within f is = grind arith

@@ -1,28 +1,19 @@
 -- Packets in flight and their completion: what an entry changes beside them, and how many are left.
-use Rattle.std.proofs.Common.{◌≡◌, ℕ, ◌+◌, ◌-◌, ◌<◌, ◌≤◌, List, [], ◌∷◌, ◌++◌, length, refl, sym, subst, ◌∙◌, ap, Bool, true, false, Option, Some, None, arith}
+use Rattle.std.proofs.Common.{◌≡◌, ℕ, ◌+◌, ◌-◌, ◌<◌, ◌≤◌, List, [], ◌∷◌, ◌++◌, length, refl, sym, subst, ◌∙◌, ap, Bool, true, false, Some, None, arith}
 use Rattle.std.proofs.Common.{get_or, length-append, ℤ, filter, find, fold, nat_lt, not, ◌==◌, if◌then◌else◌, ◌&&◌, option_map, map}
-use Rattle.std.proofs.lemmas.Bool.{and_parts, eqb-true, le-ltb}
-use Rattle.std.proofs.lemmas.List.{length-map}
-use Rattle.std.proofs.lemmas.List.Elements.{All-filter, All-map}
-use Rattle.aql_packet.specs.declared.ids.SignalHandle.{SignalHandle}
-use Rattle.core_model.specs.Flight.{with_launched}
+use Rattle.std.proofs.lemmas.Bool.{eqb-true}
+use Rattle.access_core.proofs.Terms.{All-filter, All-map, B1, CanFail, Effect, Event, Failed, Faulted, Finish, History, InFlight, Inside, IsCached, IsInPlace, IsSound, Outcome, Owed, Packet}
+use Rattle.access_core.proofs.Terms.{PacketId, Place, Poll, Progress, Queue, QueueError, QueueId, QueueView, RefusedAt, RunNext, SignalHandle, and_parts, byte_after, cached_opening}
+use Rattle.access_core.proofs.Terms.{cached_view, completion_of, completion_signal, due, enters, error_without_place, finish_owed, flight, flight_after_effect, for_packet, found-all}
+use Rattle.access_core.proofs.Terms.{found-passes, freed_by, history_of, in_flight, is_packet, is_place_of, le-ltb, length-map, lies_in_regions, numbered, owed, owner, place_of, progress}
+use Rattle.access_core.proofs.Terms.{queue_at, region_lengths, signal_decrement, signals, start_of, with_advance, with_failure, with_progress, with_queue, with_release, without_packet}
 use Rattle.core_model.specs.Queues.{opening_of}
-use Rattle.core_model.specs.declared.outcome.Polled.TheVariants.{Failed}
-use Rattle.core_model.specs.declared.outcome.Worked.TheVariants.{Faulted}
-use Rattle.queue_error.specs.declared.rule.Rule.TheVariants.{B1}
-use Rattle.core_model.proofs.Lists.{found-all, found-passes}
 use Rattle.access_core.proofs.Calls.{due-as}
 use Rattle.access_core.proofs.CachedMore.{QueuesAfter, none-launched}
 use Rattle.access_core.proofs.QueueAt.{after as after_entry, of_queue, released-count, released-of, IsAdvance, IsRelease, advanced, flight-advanced}
 use Rattle.access_core.proofs.QueueAt.{flight-released, queue_at-advanced, queue_at-released}
 use Rattle.access_core.proofs.ChangedQueue.{freed-at}
 use Rattle.access_core.proofs.TakeLemmas.{IsOpen, owner-kept, queues-after, view-kept}
-use Rattle.access_core.proofs.Terms.{CanFail, Effect, Event, Finish, History, InFlight, Inside, IsCached, IsInPlace, IsSound, Outcome, Owed, Packet, PacketId}
-use Rattle.access_core.proofs.Terms.{Place, Poll, Progress, RunNext, Queue, QueueError, QueueId, QueueView, RefusedAt, byte_after, cached_view, cached_opening}
-use Rattle.access_core.proofs.Terms.{signal_decrement, completion_signal, completion_of, due, enters, entry_of, error_without_place, finish_owed, flight, flight_after}
-use Rattle.access_core.proofs.Terms.{flight_after_effect, for_packet, freed_by, history_of, in_flight, is_place_of, is_packet, lacks_room, lies_in_regions, numbered}
-use Rattle.access_core.proofs.Terms.{owed, owner, place_of, progress, queue_at, refuses, region_lengths, signals, start_of}
-use Rattle.access_core.proofs.Terms.{with_advance, with_failure, with_progress, with_queue, with_release, without_packet}
 use Rattle.core_model.specs.declared.entry.Effect.TheVariants as effect
 use Rattle.core_model.specs.declared.refusal.Refusal.TheVariants as refusal
 use Rattle.core_model.specs.declared.outcome.Outcome.TheVariants as outcome
@@ -57,8 +48,7 @@ owed-in_place history queue id place found rest = rw (found.owner_is, found.foun
 -- a completion that is due, by the values that are cached
 pub finish-due : (a : Inside) → IsCached a → (old : History) → history_of a ≡ old → (event : Event) (queue : QueueId) (id : PacketId) (p : Packet) →
     due old event ≡ finish_owed old queue id p → due old event ≡ enters outcome.Accepted (completion_of a.signals queue id p)
-finish-due a kept old seen_as event queue id p is =
-    is ∙ ap (λ values. enters outcome.Accepted (completion_of values queue id p)) (sym (kept.values ∙ ap (λ h. signals h.start h.entries) seen_as))
+finish-due a kept old seen_as event queue id p is = grind arith
 
 -- a place that is found is one by the fields
 pub place-inside : (a : Inside) (old : History) → history_of a ≡ old → (queue : QueueId) (id : PacketId) (place : Place) → IsInPlace old queue id place → IsInPlace (history_of a) queue id place
@@ -86,22 +76,14 @@ module _ (a : Inside) (kept : IsCached a) (queue : QueueId) (id : PacketId) wher
 
   -- as many are in flight after a release as are left
   pub flying-released : IsOpen a queue → a.flying - freed_by (Some id) a.queues.items queue ≡ length others
-  flying-released at =
-      let count = released-count id.0 queue.0 flying in
-      let freed-now = freed-is at in
-      omega (arith, count, freed-now, kept.flying)
+  flying-released at = grind (arith, released-count id.0 queue.0 flying, freed-is, released-count)
 
   pub freed-below : IsOpen a queue → freed_by (Some id) a.queues.items queue ≤ a.flying
-  freed-below at =
-      let freed-now = freed-is at in
-      let less = filter-not_more (of_queue queue.0) flying in
-      omega (arith, freed-now, less, kept.flying)
+  freed-below at = grind (arith, freed-is, filter-not_more (of_queue queue.0) flying, of_queue queue.0, filter-not_more, of_queue)
 
   -- a packet that leaves flight leaves room for an entry
   pub release-room : (f : InFlight) → in_flight (start_of a) a.audit.items queue id ≡ Some f → length a.audit.items + 1 + length others ≤ a.capacity
-  release-room f found =
-      let fewer = filter-fewer (is_packet queue id) (λ (g : InFlight). not (is_packet queue id g)) flying f found (ap (λ (b : Bool). not b) (found-passes (is_packet queue id) flying f found)) in
-      omega (arith, kept.room, kept.flying, fewer)
+  release-room f found = grind (arith, filter-fewer (is_packet queue id) (λ (g : InFlight). not (is_packet queue id g)) flying f found (ap (λ (b : Bool). not b) (found-passes (is_packet queue id) flying f found)), found-passes (is_packet queue id) flying f found, filter-fewer, found-passes)
 
   -- how the queues move along with it
   pub queues-released : (event : Event) (told : Outcome) (effects : List Effect) → IsRelease queue id event told effects → opening_of event ≡ None → (at : IsOpen a queue) (change : Queue → Queue) (view : QueueView → QueueView)
@@ -130,59 +112,29 @@ module _ (a : Inside) (kept : IsCached a) (queue : QueueId) (id : PacketId) (q :
   owned = owner-kept a queue kept ∙ ap (option_map cached_opening) some
 
   pub sought : find (is_place_of id) q.places ≡ option_map (place_of (start_of a) a.audit.items queue) (in_flight (start_of a) a.audit.items queue id)
-  sought =
-      ap (λ (v : QueueView). find (is_place_of id) v.places) (view-kept a queue q kept some)
-      ∙ find-placed (place_of (start_of a) a.audit.items queue) queue.0 id.0 (flight (start_of a) a.audit.items) (λ f. refl)
+  sought = grind (arith, view-kept a queue q kept some, find-placed (place_of (start_of a) a.audit.items queue) queue.0 id.0 (flight (start_of a) a.audit.items) (λ f. refl), view-kept, find-placed)
 
   -- where one is found, it is in flight
   pub in-place : (place : Place) → find (is_place_of id) q.places ≡ Some place → IsInPlace (history_of a) queue id place
-  in-place place is = either (in_flight (start_of a) a.audit.items queue id) refl (sym sought ∙ is)
-    where
-      none_place : None ≡ Some place → ⊥
-      none_place e = cc
-
-      either : (o : Option InFlight) → in_flight (start_of a) a.audit.items queue id ≡ o → option_map (place_of (start_of a) a.audit.items queue) o ≡ Some place → IsInPlace (history_of a) queue id place
-      either None found e = absurd (none_place e)
-      either (Some f) found e =
-          let same : place_of (start_of a) a.audit.items queue f ≡ place = cc in
-          let both = and_parts (f.queue.0 == queue.0) _ (found-passes (is_packet queue id) (flight (start_of a) a.audit.items) f found) in
-          let ids : f.id ≡ id = ap (λ n. record { 0 = n }) (eqb-true _ _ both.1) in
-          record {
-            opening = cached_opening q;
-            owner_is = owned;
-            flying = f;
-            found = found;
-            packet_is = ap (λ (p : Place). p.packet) same;
-            progress_is = ap (progress (start_of a) a.audit.items queue) (sym ids) ∙ ap (λ (p : Place). p.progress) same;
-          }
+  in-place place is = grind (arith, sought, and_parts, found-passes (is_packet queue id) (flight (start_of a) a.audit.items), eqb-true, owned, found-passes)
 
   -- where none is found, a call about it is refused
   pub none-in-place : find (is_place_of id) q.places ≡ None → RefusedAt (history_of a) queue id refusal.NotInFlight
-  none-in-place is rest = either (in_flight (start_of a) a.audit.items queue id) refl (sym sought ∙ is)
-    where
-      either : (o : Option InFlight) → in_flight (start_of a) a.audit.items queue id ≡ o → option_map (place_of (start_of a) a.audit.items queue) o ≡ None → for_packet (start_of a) a.audit.items queue id rest ≡ refuses refusal.NotInFlight
-      either None found e = rw (owned, found) refl
-      either (Some f) found e = absurd cc
+  none-in-place is = grind (arith, sought, owned)
 
 -- a packet in its place reaches only what lies whole in a region
 pub reaches-in_place : (a : Inside) (kept : IsCached a) (queue : QueueId) (id : PacketId) (place : Place) → IsInPlace (history_of a) queue id place → lies_in_regions (region_lengths a.policy) place.packet ≡ true
-reaches-in_place a kept queue id place found =
-    ap (lies_in_regions (region_lengths a.policy)) (sym found.packet_is)
-    ∙ found-all (λ (f : InFlight). lies_in_regions (region_lengths a.policy) f.packet ≡ true) (is_packet queue id) (flight (start_of a) a.audit.items) found.flying kept.within found.found
+reaches-in_place a kept queue id place found = grind (arith, found-all (λ (f : InFlight). lies_in_regions (region_lengths a.policy) f.packet ≡ true) (is_packet queue id) (flight (start_of a) a.audit.items) found.flying kept.within found.found, found-all)
 
 -- ---- a packet fails
 
 module _ (a : Inside) (kept : IsCached a) (queue : QueueId) (id : PacketId) (at : IsOpen a queue) where
   fewer-places : (f : InFlight) → in_flight (start_of a) a.audit.items queue id ≡ Some f → length (without_packet id at.q.places) + 1 ≤ length at.q.places
-  fewer-places f found =
-      let there : find (is_place_of id) at.q.places ≡ Some (place_of (start_of a) a.audit.items queue f) = sought a kept queue id at.q at.found ∙ ap (option_map (place_of (start_of a) a.audit.items queue)) found in
-      filter-fewer (is_place_of id) (λ (p : Place). not (is_place_of id p)) at.q.places _ there (ap (λ (b : Bool). not b) (found-passes (is_place_of id) at.q.places _ there))
+  fewer-places f found = grind (arith, sought a kept queue id at.q at.found, filter-fewer (is_place_of id) (λ (p : Place). not (is_place_of id p)) at.q.places _ (sought a kept queue id at.q at.found ∙ ap (option_map (place_of (start_of a) a.audit.items queue)) found) (ap (λ (b : Bool). not b) (found-passes (is_place_of id) at.q.places _ (sought a kept queue id at.q at.found ∙ ap (option_map (place_of (start_of a) a.audit.items queue)) found))), found-passes (is_place_of id) at.q.places _ (sought a kept queue id at.q at.found ∙ ap (option_map (place_of (start_of a) a.audit.items queue)) found), sought, filter-fewer, found-passes)
 
   -- its queue has room for an error
   pub can-fail : (f : InFlight) → in_flight (start_of a) a.audit.items queue id ≡ Some f → CanFail a.queues.items queue
-  can-fail f found =
-      let fewer = fewer-places f found in
-      (at.q, at.found, omega (arith, fewer, at.sound.room, at.sound.free), at.small)
+  can-fail f found = grind (arith, fewer-places f found, fewer-places)
 
   -- and is sound after it
   pub sound-failed : (error : QueueError) (f : InFlight) → in_flight (start_of a) a.audit.items queue id ≡ Some f → IsSound (with_failure id error at.q)
@@ -230,16 +182,4 @@ fault-releases queue id error = record { launches = refl; progress = λ q i so_f
 
 pub release-due : (a : Inside) → IsCached a → (old : History) → history_of a ≡ old → (queue : QueueId) (id : PacketId) (place : Place) → IsInPlace old queue id place → (event : Event) (told : Outcome) (effects : List Effect)
     → IsRelease queue id event told effects → owed old.start old.entries event ≡ enters told effects → due old event ≡ enters told effects
-release-due a kept old seen_as queue id place placed event told effects is owing = due-as old event _ owing ∙ (rw room refl)
-  where
-    flew : List InFlight
-    flew = flight (start_of a) a.audit.items
-
-    left : flight_after flew (entry_of event told effects) ≡ filter (λ f. not (is_packet queue id f)) flew
-    left = ap (λ (o : Option InFlight). fold flight_after_effect (with_launched flew o) effects) is.launches ∙ is.releases flew
-
-    room : lacks_room old (entry_of event told effects) ≡ false
-    room =
-        let found = place-inside a old seen_as queue id place placed in
-        subst (λ h. lacks_room h (entry_of event told effects) ≡ false) seen_as
-        (ap (λ (fs : List InFlight). nat_lt a.capacity (length a.audit.items + 1 + length fs)) left ∙ le-ltb _ _ (release-room a kept queue id found.flying found.found))
+release-due a kept old seen_as queue id place placed event told effects is owing = grind (arith, due-as old event _ owing, place-inside a old seen_as queue id place placed, nat_lt a.capacity, le-ltb _ _ (release-room a kept queue id (place-inside a old seen_as queue id place placed).flying (place-inside a old seen_as queue id place placed).found), release-room a kept queue id (place-inside a old seen_as queue id place placed).flying (place-inside a old seen_as queue id place placed).found, due-as, place-inside, nat_lt, le-ltb, release-room)

@@ -1,27 +1,13 @@
 -- Memory that is read and written, as the history has it.
-use Rattle.std.proofs.Common.{◌≡◌, ℕ, ◌+◌, ◌-◌, ◌<◌, ◌≤◌, ◌^◌, List, length, refl, sym, ◌∙◌, ap, subst, true, false, Some, arith, ◌≢◌, ◌==◌, slice_get}
+use Rattle.std.proofs.Common.{◌≡◌, ℕ, ◌+◌, ◌-◌, ◌<◌, ◌≤◌, ◌^◌, List, length, refl, sym, ◌∙◌, true, false, Some, arith, ◌≢◌, ◌==◌, slice_get}
 use Rattle.std.proofs.Common.{slice_index, if◌then◌else◌}
-use Rattle.std.proofs.lemmas.Bool.{lt-ltb}
-use Rattle.std.proofs.lemmas.List.{same_lists}
-use Rattle.std.proofs.lemmas.List.FromFn.{length-map-range_with_len, get_or-map-range_with_len}
-use Rattle.std.proofs.lemmas.Option.{slice_get-get_or, get_or_from_slice_get}
-use Rattle.regions.proofs.Laws.{IsWithin-from_test, length-region_bytes, length-bytes_from, slice_get-bytes_from}
-use Rattle.regions.proofs.Lookups.{region_length-is}
-use Rattle.access_core.proofs.Terms.{History, Inside, IsCached, IsChanged, IsMemory, IsWithin, IsWritten, byte_at, bytes_from, covers, history_of, is_placed}
-use Rattle.access_core.proofs.Terms.{is_within, lengths_of, lies_in_region, memory_at, memory_from, offset_of, region_bytes, region_lengths, region_of}
-use Rattle.access_core.proofs.Terms.{start_of, write_of}
+use Rattle.access_core.proofs.Terms.{History, Inside, IsCached, IsChanged, IsMemory, IsWithin, IsWithin-from_test, IsWritten, byte_at, bytes_from, covers, get_or-map-range_with_len}
+use Rattle.access_core.proofs.Terms.{get_or_from_slice_get, history_of, is_placed, is_within, length-bytes_from, length-map-range_with_len, length-region_bytes, lengths_of, lies_in_region}
+use Rattle.access_core.proofs.Terms.{lt-ltb, memory_at, memory_from, region_length-is, region_lengths, region_of, same_lists, slice_get-bytes_from, slice_get-get_or, start_of, write_of}
 
 -- each address of a range that lies whole in a region lies in it
 lies-within : (regions : List (List ℕ)) (address size k : ℕ) → IsMemory regions → IsWithin regions address size → k < size → lies_in_region (lengths_of regions) (address + k) ≡ true
-lies-within regions address size k memory within below =
-    let own = region_bytes regions (region_of address) in
-    let bound : length own ≤ 2 ^ 24 = length-region_bytes regions (region_of address) memory in
-    let ends : offset_of address + size ≤ length own = within.ends in
-    let region : region_of (address + k) ≡ region_of address = omega (arith, bound, ends, below) in
-    let offset : offset_of (address + k) ≡ offset_of address + k = omega (arith, bound, ends, below) in
-    let same : length (region_bytes regions (region_of (address + k))) ≡ length own = ap (λ (n : ℕ). length (region_bytes regions n)) region in
-    let e = region_length-is regions (region_of (address + k)) in
-    lt-ltb _ _ (omega (arith, e, same, offset, ends, below))
+lies-within regions address size k memory within below = grind (arith, length-region_bytes regions (region_of address) memory, region_length-is regions (region_of (address + k)), lt-ltb, length-region_bytes, region_length-is)
 
 -- what is read is what the history has there
 read-kept : (a : Inside) (kept : IsCached a) → IsMemory a.memory → (address size : ℕ) → is_within (region_lengths a.policy) address size ≡ true → bytes_from a.memory address size ≡ memory_from (start_of a) a.audit.items address size
@@ -37,8 +23,7 @@ read-kept a kept memory address size test =
     ∙ sym (get_or-map-range_with_len (memory_at (start_of a) a.audit.items) address size k (address + k) d below refl))
 
 pub read-inside : (a : Inside) (kept : IsCached a) (old : History) (seen_as : history_of a ≡ old) → IsMemory a.memory → (address size : ℕ) → is_within (region_lengths old.start.policy) address size ≡ true → bytes_from a.memory address size ≡ memory_from old.start old.entries address size
-read-inside a kept old seen_as memory address size =
-    subst (λ h. is_within (region_lengths h.start.policy) address size ≡ true → bytes_from a.memory address size ≡ memory_from h.start h.entries address size) seen_as (read-kept a kept memory address size)
+read-inside a kept old seen_as memory address size = grind (arith, read-kept a kept memory address size, read-kept)
 
 -- bytes that have their place, and are some, lie whole in a region
 pub placed-within : (lengths : List ℕ) (address size : ℕ) → is_placed lengths address size ≡ true → (size ≢ 0) → is_within lengths address size ≡ true

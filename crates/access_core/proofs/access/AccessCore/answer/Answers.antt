@@ -1,8 +1,7 @@
 -- The audit's entries are answered as they are.
 use Rattle.std.proofs.Common.{◌∙◌, List, ap, inl, inr, refl, Ok, Err, subst, sym}
-use Rattle.core_model.specs.declared.event.Query.{Query}
+use Rattle.access_core.proofs.Terms.{Entry, Query, RepliesOrLacks}
 use Rattle.core_model.specs.Queries.{query_answer}
-use Rattle.access_core.proofs.Terms.{Entry, RepliesOrLacks}
 use Rattle.core_model.specs.declared.answer.Answer.TheVariants as answer
 use Rattle.core_model.specs.declared.refusal.Refusal.TheVariants as refusal
 use Rattle.access_core.proofs.access.AccessCore.answer.Goals as goal

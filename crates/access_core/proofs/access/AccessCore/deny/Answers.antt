@@ -1,13 +1,12 @@
 -- The queue has its first error, and the entry tells it.
 use Rattle.std.proofs.Common.{◌≡◌, ◌<◌, ◌+◌, ◌∷◌, refl, sym, subst, [], ap, arith, length, length-append, map, ◌∙◌}
-use Rattle.access_core.specs.inner.Cached.{error_places}
+use Rattle.access_core.proofs.Terms.{Denied, Queue, QueueError, Take, TakesNext, error_places, error_without_place, with_denied}
 use Rattle.access_core.proofs.ChangedQueue.{errors-changed}
 use Rattle.access_core.proofs.Places.{places-kept}
 use Rattle.access_core.proofs.Seen.{seen}
 use Rattle.access_core.proofs.HeldAfter.{grants-still}
 use Rattle.access_core.proofs.CachedMore.{IsCached-more, memory-still}
 use Rattle.access_core.proofs.TakeLemmas.{can-deny, can-take, flight-denied, queues-denied}
-use Rattle.access_core.proofs.Terms.{Denied, Take, Queue, QueueError, TakesNext, error_without_place, with_denied}
 use Rattle.core_model.specs.declared.outcome.Outcome.TheVariants as outcome
 use Rattle.access_core.proofs.access.AccessCore.deny.Goals as goal
 

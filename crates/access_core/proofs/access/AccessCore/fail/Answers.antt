@@ -1,8 +1,6 @@
 -- What is kept moves along with the failure, which always finds room: a packet leaves flight for its entry.
 use Rattle.std.proofs.Common.{arith, ◌++◌, refl, [], ◌∷◌, ap, map, ◌∙◌}
-use Rattle.queue_error.specs.declared.rule.Rule.TheVariants.{B1}
-use Rattle.core_model.specs.declared.outcome.Polled.TheVariants.{Failed}
-use Rattle.access_core.specs.inner.Cached.{error_places}
+use Rattle.access_core.proofs.Terms.{B1, Failed, PacketId, Poll, QueueId, QueueView, error_places, error_without_place, start_of, with_failure, without_packet}
 use Rattle.access_core.proofs.Places.{failed-places, places-kept}
 use Rattle.access_core.proofs.ChangedQueue.{errors-changed}
 use Rattle.access_core.proofs.Seen.{seen}
@@ -11,7 +9,6 @@ use Rattle.access_core.proofs.CachedMore.{IsCached-more, has_place, memory-still
 use Rattle.access_core.proofs.QueueAt.{flight-released}
 use Rattle.access_core.proofs.TakeLemmas.{is-open, open-of}
 use Rattle.access_core.proofs.WorkLemmas.{failure-releases, can-fail, freed-below, place-inside, queues-released, sound-failed}
-use Rattle.access_core.proofs.Terms.{PacketId, Poll, QueueId, QueueView, error_without_place, start_of, with_failure, without_packet}
 use Rattle.core_model.specs.declared.entry.Effect.TheVariants as effect
 use Rattle.core_model.specs.declared.outcome.Outcome.TheVariants as outcome
 use Rattle.access_core.proofs.access.AccessCore.fail.Goals as goal

@@ -1,8 +1,6 @@
 -- What is kept moves along with the fault, which always finds room: a packet leaves flight for its entry.
 use Rattle.std.proofs.Common.{arith, ◌++◌, refl, [], ◌∷◌, ap, map, ◌∙◌}
-use Rattle.core_model.specs.declared.outcome.Worked.TheVariants.{Faulted}
-use Rattle.core_model.specs.Owed.{group_error}
-use Rattle.access_core.specs.inner.Cached.{error_places}
+use Rattle.access_core.proofs.Terms.{Faulted, PacketId, QueueError, QueueView, RunNext, error_places, group_error, start_of, with_failure, without_packet}
 use Rattle.access_core.proofs.Places.{failed-places, places-kept}
 use Rattle.access_core.proofs.ChangedQueue.{errors-changed}
 use Rattle.access_core.proofs.Seen.{seen}
@@ -13,7 +11,6 @@ use Rattle.access_core.proofs.KernelLemmas.{fault-due}
 use Rattle.access_core.proofs.QueueAt.{flight-released}
 use Rattle.access_core.proofs.TakeLemmas.{is-open, open-of}
 use Rattle.access_core.proofs.WorkLemmas.{fault-releases, can-fail, freed-below, place-inside, queues-released, sound-failed}
-use Rattle.access_core.proofs.Terms.{PacketId, QueueError, QueueView, RunNext, start_of, with_failure, without_packet}
 use Rattle.core_model.specs.declared.entry.Effect.TheVariants as effect
 use Rattle.core_model.specs.declared.outcome.Outcome.TheVariants as outcome
 use Rattle.access_core.proofs.access.AccessCore.fault.Goals as goal

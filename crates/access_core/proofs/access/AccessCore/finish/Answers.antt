@@ -1,6 +1,6 @@
 -- What is kept moves along with the completion, which always finds room: a packet leaves flight for its entry.
 use Rattle.std.proofs.Common.{arith, refl, ap, map, ◌∙◌}
-use Rattle.access_core.specs.inner.Cached.{error_places}
+use Rattle.access_core.proofs.Terms.{Finish, completion_of, completion_signal, error_places, start_of, with_release, without_packet}
 use Rattle.access_core.proofs.Places.{places-kept}
 use Rattle.access_core.proofs.ChangedQueue.{errors-changed}
 use Rattle.access_core.proofs.Seen.{seen}
@@ -9,7 +9,6 @@ use Rattle.access_core.proofs.CachedMore.{IsCached-more, has_place, memory-still
 use Rattle.access_core.proofs.QueueAt.{flight-released}
 use Rattle.access_core.proofs.TakeLemmas.{open-of}
 use Rattle.access_core.proofs.WorkLemmas.{finish-releases, freed-below, memory-completed, finish-due, queues-released, sound-released}
-use Rattle.access_core.proofs.Terms.{Finish, completion_signal, completion_of, start_of, with_release, without_packet}
 use Rattle.core_model.specs.declared.outcome.Outcome.TheVariants as outcome
 use Rattle.access_core.proofs.access.AccessCore.finish.Goals as goal
 

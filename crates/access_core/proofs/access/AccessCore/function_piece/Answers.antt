@@ -1,7 +1,6 @@
 -- A copy is as long as its source.
 use Rattle.std.proofs.Common.{arith, ◌≡◌, ◌∙◌, ap, length}
-use Rattle.std.proofs.lemmas.List.FromFn.{length-map-range_with_len}
-use Rattle.access_core.proofs.Terms.{memory_at}
+use Rattle.access_core.proofs.Terms.{length-map-range_with_len, memory_at}
 use Rattle.access_core.proofs.access.AccessCore.function_piece.Goals as goal
 
 pub returns-in_ok-copied-in-Some-Copy-clause-placed : goal.returns-in_ok-copied-in-Some-Copy-clause-placed

@@ -1,15 +1,9 @@
 -- The executor can run the group on what it is lent, and what it comes to is what the history says.
 use Rattle.std.proofs.Common.{◌≡◌, ◌∙◌, ap, refl, sym, List, Some, All, length, slice_get, true}
 use Rattle.std.proofs.lemmas.Result.{IfErr-weaker, IfOk-weaker}
-use Rattle.executor.specs.Results.{FailsAs, FinishesAs, group_result, wrote}
-use Rattle.executor.specs.Runs.{GroupInput, input_of}
-use Rattle.executor.specs.declared.dispatch.Dispatch.{Dispatch}
-use Rattle.executor.specs.declared.run.Run.{Run}
+use Rattle.access_core.proofs.Terms.{Dispatch, FailsAs, FaultsAs, FinishesAs, GroupInput, Kernel, Run, group_result, input_of, is_within, next_result, numbered, region_lengths, wrote}
 use Rattle.access_core.proofs.Seen.{seen}
-use Rattle.access_core.specs.declared.kernel.Kernel.{Kernel}
-use Rattle.access_core.specs.inner.Running.{FaultsAs, next_result}
 use Rattle.access_core.proofs.GroupRuns.{block-is, entry-below, faults-as, kernel-there, program-is, program-there, program_at, result-is, runnable, runs-within}
-use Rattle.access_core.proofs.Terms.{is_within, numbered, region_lengths}
 use Rattle.access_core.proofs.access.AccessCore.group_runs.Goals as goal
 
 pub kernel_at-kernel-requires : goal.kernel_at-kernel-requires

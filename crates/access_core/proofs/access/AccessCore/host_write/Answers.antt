@@ -1,14 +1,12 @@
 -- What is kept moves along with a client's write, which is entered where there is room.
 use Rattle.std.proofs.Common.{◌≡◌, refl, true, List, [], ◌∷◌, ℕ, length, subst, sym}
-use Rattle.aql_packet.specs.declared.ids.Address.{Address}
-use Rattle.core_model.specs.declared.entry.Effect.TheVariants.{Write}
+use Rattle.access_core.proofs.Terms.{Address, ClientId, HostWrite, Write, is_within, region_lengths, start_of}
 use Rattle.access_core.proofs.Places.{places-kept}
 use Rattle.access_core.proofs.Seen.{seen}
 use Rattle.access_core.proofs.HeldAfter.{grants-still}
 use Rattle.access_core.proofs.CachedMore.{IsCached-more, queues-still}
 use Rattle.access_core.proofs.QueueAt.{IsQuiet, flight-quiet}
 use Rattle.access_core.proofs.HostMemory.{byte_at-written}
-use Rattle.access_core.proofs.Terms.{ClientId, HostWrite, is_within, region_lengths, start_of}
 use Rattle.core_model.specs.declared.outcome.Outcome.TheVariants as outcome
 use Rattle.access_core.proofs.access.AccessCore.host_write.Goals as goal
 

@@ -1,16 +1,14 @@
 -- The packet is in flight, and the entry tells it.
 use Rattle.std.proofs.Common.{◌≡◌, ◌∙◌, ap, refl, sym, subst, true, Some, [], map, option_map}
-use Rattle.core_model.specs.Holds.{arguments_of}
-use Rattle.packet_processor.specs.Holding.{as_rights}
+use Rattle.access_core.proofs.Terms.{History, IsNext-from_owed, Launched, MayHold, Packet, Take, TakesNext, arguments_of, as_rights, entry_of, launched_by, lies_in_regions, owner}
+use Rattle.access_core.proofs.Terms.{region_lengths, rights_at_launch, start_of}
 use Rattle.access_core.proofs.Seen.{seen}
 use Rattle.access_core.proofs.HeldMore.{held-launched}
-use Rattle.core_model.proofs.Launches.{IsNext-from_owed}
 use Rattle.access_core.specs.inner.Deciding.{opening_of}
 use Rattle.access_core.proofs.HeldAfter.{grants-launched, launch-in_force}
 use Rattle.access_core.proofs.CachedMore.{IsCached-more, memory-still, owed-inside}
 use Rattle.access_core.proofs.QueueAt.{flight-launched}
 use Rattle.access_core.proofs.TakeLemmas.{block-placed, can-take, queues-launched}
-use Rattle.access_core.proofs.Terms.{History, Launched, MayHold, Packet, Take, entry_of, rights_at_launch, launched_by, TakesNext, lies_in_regions, owner, region_lengths, start_of}
 use Rattle.core_model.specs.declared.outcome.Outcome.TheVariants as outcome
 use Rattle.access_core.proofs.access.AccessCore.launch.Goals as goal
 

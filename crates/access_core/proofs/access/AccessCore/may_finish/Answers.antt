@@ -1,11 +1,10 @@
 -- What the packet is due, by whether its work is done.
 use Rattle.std.proofs.Common.{rules, ◌∙◌, sym}
 use Rattle.core_model.specs.Owed.{owed}
-use Rattle.core_model.proofs.Meeting.{refuse_unless-holds, refuse_unless-fails}
+use Rattle.access_core.proofs.Terms.{Finish, owed_finish, refuse_unless-fails, refuse_unless-holds, refuses, signals}
 use Rattle.access_core.proofs.Seen.{seen}
 use Rattle.access_core.proofs.Calls.{due-as}
 use Rattle.access_core.proofs.WorkLemmas.{finish-releases, owed-in_place, release-due}
-use Rattle.access_core.proofs.Terms.{Finish, owed_finish, refuses, signals}
 use Rattle.core_model.specs.declared.refusal.Refusal.TheVariants as refusal
 use Rattle.access_core.proofs.access.AccessCore.may_finish.Goals as goal
 

@@ -1,8 +1,7 @@
 -- A request is served as the call that it names.
 use Rattle.std.proofs.Common.{subst, sym}
-use Rattle.core_model.specs.declared.event.Request.{Request}
+use Rattle.access_core.proofs.Terms.{AnswerOrRefusal, IsServed, Request}
 use Rattle.access_core.proofs.Serving.{served-event, served-query}
-use Rattle.access_core.proofs.Terms.{IsServed, AnswerOrRefusal}
 use Rattle.core_model.specs.declared.event.Request.TheVariants as request
 use Rattle.access_core.proofs.access.AccessCore.obey.Goals as goal
 

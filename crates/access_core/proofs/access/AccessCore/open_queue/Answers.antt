@@ -1,14 +1,11 @@
 -- What is kept moves along with the opening, which is entered where there is room.
 use Rattle.std.proofs.Common.{◌<◌, ◌∙◌, refl, sym, subst, ap, [], length, ℕ, arith}
-use Rattle.std.proofs.lemmas.List.{map-append}
-use Rattle.std.proofs.lemmas.List.Elements.{All-nil, All-push}
-use Rattle.aql_packet.specs.declared.ids.AgentHandle.{AgentHandle}
+use Rattle.access_core.proofs.Terms.{AgentHandle, All-nil, All-push, ClientId, IsSound, OpenQueue, Place, QUEUES, QueueId, cached_opening, cached_view, map-append, openings, start_of}
 use Rattle.access_core.proofs.Seen.{seen}
 use Rattle.access_core.proofs.HeldAfter.{grants-opened}
 use Rattle.access_core.proofs.QueueLemmas.{openings-count, numbered-push, few_after}
 use Rattle.access_core.proofs.CachedMore.{IsCached-more, memory-still, none-launched}
 use Rattle.access_core.proofs.QueueAt.{IsQuiet, flight-quiet, queue_at-quiet}
-use Rattle.access_core.proofs.Terms.{ClientId, IsSound, OpenQueue, Place, QUEUES, QueueId, cached_view, cached_opening, openings, start_of}
 use Rattle.core_model.specs.declared.outcome.Outcome.TheVariants as outcome
 use Rattle.access_core.proofs.access.AccessCore.open_queue.Goals as goal
 

@@ -2,9 +2,8 @@
 use Rattle.std.proofs.Common.{◌≡◌, Some, None, subst, true, find}
 use Rattle.access_core.proofs.Seen.{seen}
 use Rattle.access_core.proofs.WorkLemmas.{in-place, none-in-place, reaches-in_place}
-use Rattle.access_core.specs.inner.InPlace.{IsSized}
+use Rattle.access_core.proofs.Terms.{IsInPlace, IsSized, RefusedAt, is_place_of, lies_in_regions, numbered, region_lengths, start_of}
 use Rattle.access_core.proofs.GroupLemmas.{sized}
-use Rattle.access_core.proofs.Terms.{start_of, IsInPlace, RefusedAt, is_place_of, lies_in_regions, numbered, region_lengths}
 use Rattle.core_model.specs.declared.refusal.Refusal.TheVariants as refusal
 use Rattle.access_core.proofs.access.AccessCore.place_of.Goals as goal
 

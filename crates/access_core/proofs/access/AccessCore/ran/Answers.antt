@@ -1,9 +1,6 @@
 -- What is kept moves along with the group that ran, which is entered where there is room.
 use Rattle.std.proofs.Common.{◌≡◌, ◌∙◌, refl, sym, ap, subst, List, length, map, All, true, false, rules, inl, inr}
-use Rattle.core_model.specs.declared.outcome.Worked.TheVariants.{Ran}
-use Rattle.core_model.specs.Work.{write_of_run}
-use Rattle.executor.specs.declared.run.Run.{Run}
-use Rattle.access_core.specs.inner.Cached.{error_places}
+use Rattle.access_core.proofs.Terms.{Effect, History, IsChanged, Ran, Run, RunNext, error_places, is_within, region_lengths, start_of, with_advance, write_of_run}
 use Rattle.access_core.proofs.Places.{places-kept}
 use Rattle.access_core.proofs.ChangedQueue.{errors-changed}
 use Rattle.access_core.proofs.Seen.{seen}
@@ -16,7 +13,6 @@ use Rattle.access_core.proofs.QueueAt.{flight-advanced}
 use Rattle.access_core.proofs.RunLemmas.{one_group}
 use Rattle.access_core.proofs.TakeLemmas.{is-open, open-of}
 use Rattle.access_core.proofs.WorkLemmas.{place-inside, queues-advanced}
-use Rattle.access_core.proofs.Terms.{Effect, History, IsChanged, RunNext, is_within, region_lengths, start_of, with_advance}
 use Rattle.core_model.specs.declared.outcome.Outcome.TheVariants as outcome
 use Rattle.core_model.specs.declared.refusal.Refusal.TheVariants as refusal
 use Rattle.access_core.proofs.access.AccessCore.ran.Goals as goal

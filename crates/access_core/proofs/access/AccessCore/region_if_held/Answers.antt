@@ -1,12 +1,8 @@
 -- Its bytes are those that the history has there.
 use Rattle.std.proofs.Common.{◌≡◌, ◌∙◌, ◌*◌, ◌^◌, ℕ, List, Option, ap, rules, false, ◌==◌}
-use Rattle.std.specs.Option.{unwrap_or}
-use Rattle.regions.proofs.Lookups.{unwrap_or-length_of_region}
-use Rattle.regions.specs.Memory.{region_length}
-use Rattle.core_model.specs.Holds.{packet_rights}
+use Rattle.access_core.proofs.Terms.{History, lengths_of, memory_from, packet_rights, region_length, region_lengths, unwrap_or, unwrap_or-length_of_region}
 use Rattle.access_core.proofs.Seen.{seen}
 use Rattle.access_core.proofs.LendingLemmas.{lent-held, whole-within}
-use Rattle.access_core.proofs.Terms.{History, lengths_of, memory_from, region_lengths}
 use Rattle.access_core.proofs.WorkReadLemmas.{read-inside}
 use Rattle.access_core.proofs.access.AccessCore.region_if_held.Goals as goal
 

@@ -1,7 +1,6 @@
 -- A policy within the limits has regions that memory takes.
 use Rattle.std.proofs.Common.{◌∙◌, ap, sym}
-use Rattle.policy.specs.Policy.{Declared, region_lengths}
-use Rattle.access_core.proofs.Terms.{are_region_lengths}
+use Rattle.access_core.proofs.Terms.{Declared, are_region_lengths, region_lengths}
 use Rattle.access_core.proofs.access.AccessCore.regions_fit.Goals as goal
 
 pub returns : goal.returns

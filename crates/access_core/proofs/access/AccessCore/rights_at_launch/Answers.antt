@@ -1,9 +1,8 @@
 -- What the packet holds by its needs, and by its arguments.
 use Rattle.std.proofs.Common.{◌≡◌, ◌+◌, ◌≤◌, ◌∙◌, Some, None, arith, length}
-use Rattle.std.proofs.lemmas.List.Elements.{All-weaker}
+use Rattle.access_core.proofs.Terms.{All-weaker, numbered}
 use Rattle.access_core.specs.inner.Deciding.{opening_of}
 use Rattle.access_core.proofs.LaunchLemmas.{block-long, both-held, needs-alone, no-arguments, only-needs, pointed-is}
-use Rattle.access_core.proofs.Terms.{numbered}
 use Rattle.access_core.proofs.access.AccessCore.rights_at_launch.Goals as goal
 
 pub returns-in_default : goal.returns-in_default

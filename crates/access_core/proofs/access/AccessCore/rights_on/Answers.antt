@@ -1,13 +1,10 @@
 -- What the grants hold is what the history says.
 use Rattle.std.proofs.Common.{◌∙◌, ap, sym, subst}
-use Rattle.core_model.specs.Holds.{packet_rights}
-use Rattle.core_model.specs.View.{rights_held}
+use Rattle.access_core.proofs.Terms.{ClientId, History, IsHolder, packet_rights, rights_held, rights_that}
 use Rattle.policy.specs.declared.object.Object.TheVariants as object
 use Rattle.grants.specs.Ledger as ledger
 use Rattle.access_core.proofs.Seen.{seen}
-use Rattle.access_core.specs.inner.Running.{IsHolder}
 use Rattle.access_core.proofs.HeldOn.{rights-are}
-use Rattle.access_core.proofs.Terms.{ClientId, History, rights_that}
 use Rattle.access_core.proofs.access.AccessCore.rights_on.Goals as goal
 
 pub returns : goal.returns

@@ -1,7 +1,6 @@
 -- What is kept moves along with the group that ran, which is entered where there is room.
 use Rattle.std.proofs.Common.{◌≡◌, ◌∙◌, refl, sym, ap, map, subst, List, true, false, rules, nat_le, inl, inr}
-use Rattle.core_model.specs.declared.outcome.Worked.TheVariants.{Ran}
-use Rattle.access_core.specs.inner.Cached.{error_places}
+use Rattle.access_core.proofs.Terms.{Effect, History, IsChanged, Ran, RunNext, agent_writes, due, enters, error_places, lies_in_regions, region_lengths, start_of, with_advance}
 use Rattle.access_core.proofs.Places.{places-kept}
 use Rattle.access_core.proofs.ChangedQueue.{errors-changed}
 use Rattle.access_core.proofs.Seen.{seen}
@@ -12,7 +11,6 @@ use Rattle.access_core.proofs.QueueAt.{flight-advanced}
 use Rattle.access_core.proofs.RunLemmas.{agent-done, agent-due, agent-writes, one_group, pieces-inside, run-advances}
 use Rattle.access_core.proofs.TakeLemmas.{is-open, open-of}
 use Rattle.access_core.proofs.WorkLemmas.{place-inside, queues-advanced}
-use Rattle.access_core.proofs.Terms.{Effect, History, IsChanged, RunNext, agent_writes, due, enters, lies_in_regions, region_lengths, start_of, with_advance}
 use Rattle.core_model.specs.declared.outcome.Outcome.TheVariants as outcome
 use Rattle.core_model.specs.declared.refusal.Refusal.TheVariants as refusal
 use Rattle.access_core.proofs.access.AccessCore.run_agent.Goals as goal

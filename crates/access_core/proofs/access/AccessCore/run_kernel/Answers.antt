@@ -1,15 +1,10 @@
 -- Where all groups ran nothing is left to do; else the next is owed what it comes to.
 use Rattle.std.proofs.Common.{◌≡◌, ◌∙◌, ◌+◌, ◌-◌, ℕ, ap, map, refl, subst, sym, rules, true, false, inl, inr, nat_le}
 use Rattle.aql_packet.specs.declared.packet.Packet.TheVariants as packet
-use Rattle.executor.specs.Results.{broke_rule}
+use Rattle.access_core.proofs.Terms.{Done, FaultsAs, Ran, RunNext, answers, broke_rule, due, enters, fault_owed, group_count, group_error, group_owed, next_result, write_of_run}
 use Rattle.executor.specs.declared.fault.ItemFault.{ItemFault}
-use Rattle.core_model.specs.declared.outcome.Worked.TheVariants.{Done, Ran}
-use Rattle.core_model.specs.Owed.{group_error, group_owed}
-use Rattle.core_model.specs.Work.{group_count, write_of_run}
-use Rattle.access_core.specs.inner.Running.{FaultsAs, fault_owed, next_result}
 use Rattle.access_core.proofs.Calls.{due-as}
 use Rattle.access_core.proofs.KernelLemmas.{group-lacks, kernel-owed}
-use Rattle.access_core.proofs.Terms.{RunNext, answers, due, enters}
 use Rattle.core_model.specs.declared.outcome.Outcome.TheVariants as outcome
 use Rattle.access_core.proofs.access.AccessCore.run_kernel.Goals as goal
 

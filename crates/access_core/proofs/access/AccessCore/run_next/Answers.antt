@@ -1,9 +1,8 @@
 -- A packet that isn't in flight, or has no groups, is refused.
 use Rattle.std.proofs.Common.{◌≡◌, ap, refl, rules, inl, Err}
-use Rattle.core_model.specs.Owed.{owed_group}
+use Rattle.access_core.proofs.Terms.{RunNext, owed_group}
 use Rattle.access_core.proofs.Calls.{met-refusal}
 use Rattle.access_core.proofs.RunLemmas.{no-groups, run-refused}
-use Rattle.access_core.proofs.Terms.{RunNext}
 use Rattle.core_model.specs.declared.refusal.Refusal.TheVariants as refusal
 use Rattle.access_core.proofs.access.AccessCore.run_next.Goals as goal
 

@@ -1,6 +1,6 @@
 -- What is kept moves along with what is seen, which is entered where there is room.
 use Rattle.std.proofs.Common.{◌∙◌, refl, sym, ap, map, []}
-use Rattle.access_core.specs.inner.Cached.{error_places}
+use Rattle.access_core.proofs.Terms.{Poll, error_places, sight, start_of, with_advance}
 use Rattle.access_core.proofs.Places.{places-kept}
 use Rattle.access_core.proofs.ChangedQueue.{errors-changed}
 use Rattle.access_core.proofs.Seen.{seen}
@@ -10,7 +10,6 @@ use Rattle.access_core.proofs.PollLemmas.{seen_further, sight-advances}
 use Rattle.access_core.proofs.QueueAt.{flight-advanced}
 use Rattle.access_core.proofs.TakeLemmas.{is-open, open-of}
 use Rattle.access_core.proofs.WorkLemmas.{place-inside, queues-advanced}
-use Rattle.access_core.proofs.Terms.{Poll, sight, start_of, with_advance}
 use Rattle.core_model.specs.declared.outcome.Outcome.TheVariants as outcome
 use Rattle.access_core.proofs.access.AccessCore.see.Goals as goal
 

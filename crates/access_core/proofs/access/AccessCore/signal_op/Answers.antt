@@ -1,13 +1,12 @@
 -- What is kept moves along with the change of a signal, which is entered where there is room.
 use Rattle.std.proofs.Common.{refl, [], ◌∷◌, w64, to_z-of_z, SFits, rules, ℤ}
-use Rattle.aql_packet.specs.declared.ids.SignalHandle.{SignalHandle}
+use Rattle.access_core.proofs.Terms.{ChangeSignal, ClientId, SignalHandle, applied, old_if_asked, start_of}
 use Rattle.signals.specs.declared.operation.SignalOp.{SignalOp}
 use Rattle.access_core.proofs.Places.{places-kept}
 use Rattle.access_core.proofs.Seen.{seen}
 use Rattle.access_core.proofs.HeldAfter.{grants-still}
 use Rattle.access_core.proofs.CachedMore.{IsCached-more, memory-still, queues-still}
 use Rattle.access_core.proofs.QueueAt.{IsQuiet, flight-quiet}
-use Rattle.access_core.proofs.Terms.{ChangeSignal, ClientId, applied, old_if_asked, start_of}
 use Rattle.core_model.specs.declared.entry.Effect.TheVariants as effect
 use Rattle.core_model.specs.declared.outcome.Outcome.TheVariants as outcome
 use Rattle.access_core.proofs.access.AccessCore.signal_op.Goals as goal

@@ -1,12 +1,11 @@
 -- What is cached follows the stop.
 use Rattle.std.proofs.Common.{refl, sym, ap, map, ◌∙◌}
-use Rattle.access_core.specs.inner.Cached.{error_places}
+use Rattle.access_core.proofs.Terms.{Stop, error_places, release_of, with_stop}
 use Rattle.access_core.proofs.Places.{places-kept}
 use Rattle.access_core.proofs.ChangedQueue.{errors-changed}
 use Rattle.access_core.proofs.Seen.{seen}
 use Rattle.access_core.proofs.CachedMore.{IsCached-more, has_place, memory-still, owed-inside}
 use Rattle.access_core.proofs.StopLemmas.{freed-stopped, grants-stopped, memory-released, queues-stopped, stop-open, values-released}
-use Rattle.access_core.proofs.Terms.{Stop, release_of, with_stop}
 use Rattle.core_model.specs.declared.outcome.Outcome.TheVariants as outcome
 use Rattle.access_core.proofs.access.AccessCore.stop.Goals as goal
 

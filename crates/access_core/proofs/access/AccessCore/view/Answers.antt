@@ -1,13 +1,9 @@
 -- The next region is lent where it is held.
 use Rattle.std.proofs.Common.{◌≡◌, ◌∙◌, ◌+◌, ◌<◌, ◌++◌, ap, sym, arith, length, option_to_list, Option, All, subst, true, ℕ}
 use Rattle.std.specs.Prelude.{option_map}
-use Rattle.std.proofs.lemmas.List.{append-nil, length-map}
-use Rattle.executor.specs.Items.{lent_region}
-use Rattle.executor.specs.declared.view.HeldRegion.{HeldRegion}
-use Rattle.policy.specs.Policy.{Declared, region_lengths as declared_lengths}
-use Rattle.core_model.specs.Holds.{packet_rights}
+use Rattle.access_core.proofs.Terms.{Declared, HeldRegion, append-nil, are_region_lengths, length-map, lent_region, packet_rights, region_lengths}
+use Rattle.policy.specs.Policy.{region_lengths as declared_lengths}
 use Rattle.access_core.proofs.LendingLemmas.{few-regions, lent-all, lent-behind, lent-below, lent-number, lent_so_far}
-use Rattle.access_core.proofs.Terms.{are_region_lengths, region_lengths}
 use Rattle.access_core.proofs.access.AccessCore.view.Goals as goal
 use Rattle.access_core.proofs.access.AccessCore.view.Goals.{in-Some+in_ok-put, in_default}
 

@@ -1,7 +1,6 @@
 -- so many regions were lent, where they are held
 use Rattle.std.proofs.Common.{◌≡◌, map}
-use Rattle.executor.specs.Items.{lent_region}
-use Rattle.core_model.specs.Holds.{packet_rights}
+use Rattle.access_core.proofs.Terms.{lent_region, packet_rights}
 use Rattle.access_core.proofs.LendingLemmas.{lent_so_far}
 use Rattle.access_core.proofs.access.AccessCore.view.Given as goal
 

@@ -1,9 +1,7 @@
 -- The next change lies where it did before, and is laid over the others.
 use Rattle.std.proofs.Common.{◌∙◌, ◌++◌, ◌∷◌, [], List, ap, sym, subst, take}
-use Rattle.std.proofs.lemmas.List.{take_all, take_more}
-use Rattle.access_core.specs.inner.Laying.{LiesWithin}
+use Rattle.access_core.proofs.Terms.{Effect, IsChanged, LiesWithin, lengths_of, take_all, take_more}
 use Rattle.access_core.proofs.LayingLemmas.{changed-next}
-use Rattle.access_core.proofs.Terms.{Effect, IsChanged, lengths_of}
 use Rattle.access_core.proofs.access.laying.lay_changes.Goals as goal
 
 pub lay_change-requires : goal.lay_change-requires

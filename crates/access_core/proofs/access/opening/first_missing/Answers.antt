@@ -1,8 +1,7 @@
 -- The first that is missing is found, or none is missing.
 use Rattle.std.proofs.Common.{[], sym, ap, ◌∙◌, arith, not}
 use Rattle.kernel_check.proofs.Walks.{place_found, place_none}
-use Rattle.access_core.specs.Opening.{has_entry}
-use Rattle.access_core.specs.declared.kernel.Kernel.{Kernel}
+use Rattle.access_core.proofs.Terms.{Kernel, has_entry}
 use Rattle.access_core.proofs.access.opening.first_missing.Goals as goal
 
 pub returns-then-not-has_entry-clause-place : goal.returns-then-not-has_entry-clause-place

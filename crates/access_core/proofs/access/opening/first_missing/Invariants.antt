@@ -1,7 +1,6 @@
 -- no kernel before is missing
 use Rattle.std.proofs.Common.{◌≡◌, ◌<◌, ℕ, true, get_or}
-use Rattle.access_core.specs.Opening.{has_entry}
-use Rattle.access_core.specs.declared.kernel.Kernel.{Kernel}
+use Rattle.access_core.proofs.Terms.{Kernel, has_entry}
 use Rattle.access_core.proofs.access.opening.first_missing.Given as goal
 
 abbrev pub invariant-kernels : goal.invariant-kernels

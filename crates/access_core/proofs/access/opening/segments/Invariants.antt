@@ -1,7 +1,6 @@
 -- the segments of the kernels so far
 use Rattle.std.proofs.Common.{◌≡◌, map, take}
-use Rattle.core_model.specs.Kernels.{segments_of}
-use Rattle.access_core.specs.Opening.{program_of}
+use Rattle.access_core.proofs.Terms.{program_of, segments_of}
 use Rattle.access_core.proofs.access.opening.segments.Given as goal
 
 abbrev pub invariant-loop-kernel : goal.invariant-loop-kernel

@@ -1,11 +1,8 @@
 -- The blocks of other packets stay, and all places.
 use Rattle.std.proofs.Common.{rules, ◌≡◌, ◌-◌, ◌∙◌, ap, arith, subst, vec_capacity, vec_len}
-use Rattle.sequences.specs.Room.{Roomy}
-use Rattle.access_core.specs.Cores.{places_of}
+use Rattle.access_core.proofs.Terms.{ArgumentBlock, Roomy, is_block, places_of}
 use Rattle.std.specs.Prelude.{filter, not}
 use Rattle.std.proofs.lemmas.Fn.{filter_same}
-use Rattle.access_core.specs.inner.ArgumentBlocks.{is_block}
-use Rattle.access_core.specs.declared.argument_blocks.ArgumentBlock.{ArgumentBlock}
 use Rattle.access_core.proofs.argument_blocks.ArgumentBlocks.release.Goals as goal
 
 pub returns-clause-rest : goal.returns-clause-rest
