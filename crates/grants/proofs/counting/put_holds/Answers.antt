@@ -1,27 +1,16 @@
 -- One hold more stands behind the others and is counted.
 use Rattle.std.proofs.Common.{◌∙◌, ◌+◌, arith, ap, sym, subst, get_or}
-use Rattle.grants.proofs.Terms.{Agent, IsCounted, Object, Rights, each_right, hold_of, in_table}
+use Rattle.grants.proofs.Terms.{Agent, IsCounted, Object, Rights, hold_of}
 use Rattle.grants.proofs.CellLemmas.{all_at, each_right-same, SameRights-then}
-use Rattle.grants.proofs.CountLemmas.{counted-le, counted_more, put-more}
+use Rattle.grants.proofs.CountLemmas.{counted_more, put-more}
 use Rattle.grants.proofs.counting.put_holds.Goals as goal
 
 abbrev none : Object × Rights
 none = (Agent (record { 0 = 0 }), record { 0 = 0 })
 
 pub count_hold-requires-clause-in_force : goal.count_hold-requires-clause-in_force
-count_hold-requires-clause-in_force c =
-    let named = get_or c.args.rights.now c.loop-object.object-index none in
-    each_right-same named.1 (in_table c.args.table.now c.args.client named.0) (in_table c.loop-object.table c.args.client named.0)
-    (λ right. c.loop-object.invariant.rights.same_rights c.args.client named.0 right)
-    (all_at (λ n. each_right n.1 (in_table c.args.table.now c.args.client n.0)) c.args.rights.now c.loop-object.object-index none c.loop-object-test.true c.requires.in_force)
+count_hold-requires-clause-in_force = grind (arith, each_right-same, all_at)
 
-pub count_hold-requires-clause-fits : goal.count_hold-requires-clause-fits
-count_hold-requires-clause-fits c = λ right.
-    let few = counted-le c.loop-object.table c.loop-object.holds.items c.loop-object.invariant.counted c.args.client (get_or c.args.rights.now c.loop-object.object-index none).0 right in
-    let long = c.loop-object.holds.ok.0 in
-    let within = c.loop-object.holds.ok.1 in
-    let small = c.loop-object.holds.small in
-    omega arith
 
 pub loop-object-preserved : goal.loop-object-preserved
 loop-object-preserved c =

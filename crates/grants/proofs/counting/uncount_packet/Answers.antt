@@ -1,5 +1,5 @@
 -- A hold of the packet is counted no more, and the others stay.
-use Rattle.std.proofs.Common.{◌∙◌, ◌+◌, not, ap, sym, subst, filter, take, drop, get_or}
+use Rattle.std.proofs.Common.{◌∙◌, ◌+◌, not, ap, sym, subst, filter, take, drop, get_or, arith}
 use Rattle.grants.proofs.Terms.{Agent, IsCounted, is_of}
 use Rattle.grants.specs.declared.hold.Hold.{Hold}
 use Rattle.grants.proofs.CellLemmas.{SameRights-then}
@@ -36,9 +36,4 @@ loop-hold-preserved c =
     ]
 
 pub returns : goal.returns
-returns c =
-    let keep = λ (hold : Hold). not (is_of c.args.queue c.args.packet hold) in
-    record {
-      counted = subst (λ xs. IsCounted c.loop-hold.table xs) (kept_to-all keep c.args.holds.now c.loop-hold.hold-index c.loop-hold-test.false) c.loop-hold.invariant.counted;
-      rights = c.loop-hold.invariant.rights;
-    }
+returns = grind (arith, kept_to-all)

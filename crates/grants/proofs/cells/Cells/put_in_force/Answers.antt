@@ -2,7 +2,7 @@
 use Rattle.std.proofs.Common.{◌≡◌, ◌∙◌, ◌&&◌, ◌||◌, sym, Some}
 use Rattle.grants.proofs.Terms.{has, has_right}
 use Rattle.grants.proofs.HoldLemmas.{or-false}
-use Rattle.grants.proofs.CellLemmas.{at_each, same_held}
+use Rattle.grants.proofs.CellLemmas.{at_each}
 use Rattle.grants.proofs.cells.Cells.put_in_force.Goals as goal
 
 pub returns-in-Some-clause-in_force : goal.returns-in-Some-clause-in_force
@@ -11,7 +11,3 @@ returns-in-Some-clause-in_force c = λ client object right.
     (λ same s t. has_right right t ≡ (has_right right s || (same && has c.args.rights right))) (λ s. sym (or-false (has_right right s)))
     c.set.new.self c.with.result c.set.ensures.cells (c.with.ensures.rights right) client object
 
-pub returns-in-Some-clause-counts : goal.returns-in-Some-clause-counts
-returns-in-Some-clause-counts c =
-    same_held c.args.self.now c.args.client c.args.object c.in-Some.cell (sym c.get.ensures.cell ∙ c.in-Some.is)
-    c.set.new.self c.with.result c.set.ensures.rules c.set.ensures.cells c.with.ensures.held

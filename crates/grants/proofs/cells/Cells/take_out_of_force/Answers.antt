@@ -1,8 +1,8 @@
 -- The rights go out of force in the cell of the client and the object, and nowhere else.
-use Rattle.std.proofs.Common.{◌≡◌, ◌∙◌, ◌&&◌, not, sym, refl, Some, None}
+use Rattle.std.proofs.Common.{◌≡◌, ◌∙◌, ◌&&◌, not, sym, Some}
 use Rattle.grants.proofs.Terms.{has, has_right}
 use Rattle.grants.proofs.HoldLemmas.{and-true}
-use Rattle.grants.proofs.CellLemmas.{at_each, at_each_same, same_held}
+use Rattle.grants.proofs.CellLemmas.{at_each}
 use Rattle.grants.proofs.cells.Cells.take_out_of_force.Goals as goal
 
 pub returns-in-Some-clause-in_force : goal.returns-in-Some-clause-in_force
@@ -11,13 +11,4 @@ returns-in-Some-clause-in_force c = λ client object right.
     (λ same s t. has_right right t ≡ (has_right right s && not (same && has c.args.rights right))) (λ s. sym (and-true (has_right right s)))
     c.set.new.self c.without.result c.set.ensures.cells (c.without.ensures.rights right) client object
 
-pub returns-in_default-clause-in_force : goal.returns-in_default-clause-in_force
-returns-in_default-clause-in_force c = λ client object right.
-    at_each_same c.args.self.now c.args.client c.args.object None (sym c.get.ensures.cell ∙ c.in_default.is)
-    (λ same s t. has_right right t ≡ (has_right right s && not (same && has c.args.rights right))) (λ s. sym (and-true (has_right right s)))
-    refl client object
 
-pub returns-in-Some-clause-counts : goal.returns-in-Some-clause-counts
-returns-in-Some-clause-counts c =
-    same_held c.args.self.now c.args.client c.args.object c.in-Some.cell (sym c.get.ensures.cell ∙ c.in-Some.is)
-    c.set.new.self c.without.result c.set.ensures.rules c.set.ensures.cells c.without.ensures.held

@@ -2,7 +2,7 @@
 use Rattle.std.proofs.Common.{◌≡◌, ◌∙◌, ◌+◌, ◌≤◌, ◌&&◌, sym, subst, Some, None, arith}
 use Rattle.std.specs.Prelude.{if◌then◌else◌}
 use Rattle.grants.proofs.Terms.{cell_of, count_in, has, one_for_right}
-use Rattle.grants.proofs.CellLemmas.{at_each, at_each_same, same_granted}
+use Rattle.grants.proofs.CellLemmas.{at_each, at_each_same}
 use Rattle.grants.proofs.cells.Cells.uncount_hold.Goals as goal
 
 pub returns-in-Some-clause-counts : goal.returns-in-Some-clause-counts
@@ -11,10 +11,6 @@ returns-in-Some-clause-counts c = λ client object right.
     (λ same s t. count_in right s ≡ count_in right t + (if same && has c.args.hold.now.rights right then 1 else 0)) (λ s. omega arith)
     c.set.new.self c.without_hold-fewer.result c.set.ensures.cells (sym (c.without_hold-fewer.ensures.held right)) client object
 
-pub returns-in-Some-clause-rights : goal.returns-in-Some-clause-rights
-returns-in-Some-clause-rights c =
-    same_granted c.args.self.now c.args.hold.now.client c.args.hold.now.object c.in-Some.cell (sym c.get.ensures.cell ∙ c.in-Some.is)
-    c.set.new.self c.without_hold-fewer.result c.set.ensures.rules c.set.ensures.cells c.without_hold-fewer.ensures.rights
 
 pub returns-in_default-clause-counts : goal.returns-in_default-clause-counts
 returns-in_default-clause-counts c = λ client object right.
