@@ -1,5 +1,5 @@
 -- The launch rules are those of the layout, and then those of the fields.
-use Rattle.std.proofs.Common.{◌≡◌, ℕ, List, refl, sym, ◌∙◌, ap, Bool, true, false, Option, Some, None}
+use Rattle.std.proofs.Common.{◌≡◌, ℕ, List, refl, sym, ◌∙◌, ap, Bool, true, false, Option, Some, None, arith}
 use Rattle.std.specs.Prelude.{not, if◌then◌else◌}
 use Rattle.aql_packet.specs.declared.packet.Packet.{Packet}
 use Rattle.aql_packet.specs.declared.packet.CodecRule.{CodecRule}
@@ -22,17 +22,11 @@ first_launch a b c rest = if not a then Some rule.L1 else if not b then Some rul
 
 refused_first : (a b c : Bool) (rest : Option Rule) (r : CodecRule) → first_codec a b c ≡ Some r → first_launch a b c rest ≡ Some (rule_of r)
 unfolding first_codec first_launch
-refused_first false b c rest r e = cc
-refused_first true false c rest r e = cc
-refused_first true true false rest r e = cc
-refused_first true true true rest r e = cc
+refused_first a b c rest r h6 = grind arith
 
 passed_first : (a b c : Bool) (rest : Option Rule) → first_codec a b c ≡ None → first_launch a b c rest ≡ rest
 unfolding first_codec first_launch
-passed_first false b c rest e = cc
-passed_first true false c rest e = cc
-passed_first true true false rest e = cc
-passed_first true true true rest e = refl
+passed_first a b c rest h5 = grind arith
 
 -- the rules of the fields don't look at the bytes
 launch_is : (facts : Facts) (bytes : List ℕ) → first_failing_rule facts bytes ≡ first_launch (passes codec.L1 bytes) (passes codec.L2 bytes) (passes codec.L3 bytes) (later_failing facts (packet_at (packet_type bytes) bytes))
@@ -55,10 +49,7 @@ decoded-refused bytes r e = rw e refl
 
 -- bytes that lay out a packet are refused by no rule of the layout, and the packet is the one of their fields
 decoded-found : (bytes : List ℕ) (p : Packet) → decoded bytes ≡ Some p → (o : Option CodecRule) → refusal bytes ≡ o → (refusal bytes ≡ None) × (packet_at (packet_type bytes) bytes ≡ p)
-decoded-found bytes p e None same =
-    let found : decoded bytes ≡ Some (packet_at (packet_type bytes) bytes) = decoded_is bytes same in (same, cc)
-decoded-found bytes p e (Some r) same =
-    let lost : decoded bytes ≡ None = decoded-refused bytes r same in cc
+decoded-found bytes p h3 o h5 = grind (arith, decoded_is bytes, decoded-refused bytes, decoded_is, decoded-refused)
 
 -- bytes that lay out a packet are refused where the packet is
 pub first_failing-decoded : (facts : Facts) (bytes : List ℕ) (p : Packet) → decoded bytes ≡ Some p → first_failing_rule facts bytes ≡ later_failing facts p

@@ -1,5 +1,5 @@
 -- What is gathered item by item is what all of them give.
-use Rattle.std.proofs.Common.{◌≡◌, ℕ, ◌+◌, ◌<◌, List, [], ◌∷◌, ◌++◌, drop, drop-cons, add-one, get_or, length, refl, sym, ◌∙◌, ap, Bool, true, false, append_assoc}
+use Rattle.std.proofs.Common.{◌≡◌, ℕ, ◌+◌, ◌<◌, List, [], ◌∷◌, ◌++◌, drop, drop-cons, add-one, get_or, length, refl, sym, ◌∙◌, ap, Bool, true, false, append_assoc, arith}
 use Rattle.std.specs.Prelude.{map, take}
 use Rattle.std.specs.Int.{from_le_bytes, w64}
 use Rattle.std.specs.List.{flat_map}
@@ -22,11 +22,7 @@ more all piece splits held now whole x rest tail is grown so_far =
     ∙ ap (λ ys. held ++ ys) (sym (splits x tail)) ∙ ap (λ xs. held ++ all xs) (sym is) ∙ so_far
 
 pub rights_passing-splits : (test : Right → Bool) (on : Object) (x : Right) (xs : List Right) → rights_passing test on (x ∷ xs) ≡ rights_passing test on (x ∷ []) ++ rights_passing test on xs
-rights_passing-splits test on x xs = by_test (test x) refl
-  where
-    by_test : (b : Bool) → test x ≡ b → rights_passing test on (x ∷ xs) ≡ rights_passing test on (x ∷ []) ++ rights_passing test on xs
-    by_test true is = rw is refl
-    by_test false is = rw is refl
+rights_passing-splits test on x xs = grind arith
 
 map-joined : (xs ys : List ObjectRight) → map as_rights (xs ++ ys) ≡ map as_rights xs ++ map as_rights ys
 map-joined [] ys = refl
@@ -40,5 +36,4 @@ abbrev pub all_pointed : (Object → Right → Bool) → List ℕ → List ℕ �
 all_pointed in_force lengths block offsets = map as_rights (flat_map (held_by_pointer in_force lengths) (wide_arguments offsets block))
 
 pub pointed-splits : (in_force : Object → Right → Bool) (lengths block : List ℕ) (x : ℕ) (xs : List ℕ) → all_pointed in_force lengths block (x ∷ xs) ≡ pointed in_force lengths block x ++ all_pointed in_force lengths block xs
-pointed-splits in_force lengths block x xs =
-    map-joined (held_by_pointer in_force lengths (from_le_bytes w64 (take 8 (drop x block)))) (flat_map (held_by_pointer in_force lengths) (wide_arguments xs block))
+pointed-splits in_force lengths block x xs = grind (arith, map-joined (held_by_pointer in_force lengths (from_le_bytes w64 (take 8 (drop x block)))) (flat_map (held_by_pointer in_force lengths) (wide_arguments xs block)), map-joined)

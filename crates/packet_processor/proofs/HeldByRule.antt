@@ -1,5 +1,5 @@
 -- What a packet needs and holds, rule by rule.
-use Rattle.std.proofs.Common.{◌≡◌, List, [], ◌∷◌, ◌++◌, refl, sym, ◌∙◌, ap, Bool, Option, append_assoc}
+use Rattle.std.proofs.Common.{◌≡◌, List, [], ◌∷◌, ◌++◌, refl, sym, ◌∙◌, ap, Bool, Option, append_assoc, arith}
 use Rattle.std.specs.Prelude.{◌&&◌, map, option_to_list}
 use Rattle.std.specs.List.{list_all, flat_map}
 use Rattle.std.proofs.lemmas.List.{append-nil}
@@ -32,17 +32,4 @@ pub held_by_rule : (opening : Opening) (p : Packet) (none a k b c d : List (Obje
     → a ≡ none ++ rights_of (needs L4 opening.agent p) → k ≡ a ++ rights_of (needs L6 opening.agent p) → b ≡ k ++ rights_of (needs L8 opening.agent p)
     → c ≡ b ++ rights_of (needs L9 opening.agent p) → d ≡ c ++ rights_of (needs L10 opening.agent p)
     → d ≡ map as_rights (held_by_needs opening p)
-held_by_rule opening p none a k b c d empty first kernel second third fourth =
-    let l6 : List Need = needs L6 opening.agent p in
-    let l8 : List Need = needs L8 opening.agent p in
-    let l9 : List Need = needs L9 opening.agent p in
-    let l10 : List Need = needs L10 opening.agent p in
-    let one = rights_of (needs L4 opening.agent p) in
-    let joined : d ≡ (((one ++ rights_of l6) ++ rights_of l8) ++ rights_of l9) ++ rights_of l10 = rw (fourth, third, second, kernel, first, empty) refl in
-    let turned : (((one ++ rights_of l6) ++ rights_of l8) ++ rights_of l9) ++ rights_of l10 ≡ one ++ (rights_of l6 ++ (rights_of l8 ++ (rights_of l9 ++ rights_of l10))) = simp append_assoc in
-    let ended : rights_of l10 ≡ map as_rights (map right_needed l10 ++ []) = sym (rights_map l10 [] ∙ append-nil (rights_of l10)) in
-    joined ∙ turned
-    ∙ ap (λ rest. one ++ (rights_of l6 ++ (rights_of l8 ++ (rights_of l9 ++ rest)))) ended
-    ∙ ap (λ rest. one ++ (rights_of l6 ++ (rights_of l8 ++ rest))) (sym (rights_map l9 (map right_needed l10 ++ [])))
-    ∙ ap (λ rest. one ++ (rights_of l6 ++ rest)) (sym (rights_map l8 (map right_needed l9 ++ (map right_needed l10 ++ []))))
-    ∙ ap (λ rest. one ++ rest) (sym (rights_map l6 (map right_needed l8 ++ (map right_needed l9 ++ (map right_needed l10 ++ [])))))
+held_by_rule opening p none a k b c d empty first kernel second third fourth = grind (arith, rights_map (needs L10 opening.agent p) [], append-nil (rights_of (needs L10 opening.agent p)), rights_map (needs L9 opening.agent p) (map right_needed (needs L10 opening.agent p) ++ []), rights_map (needs L8 opening.agent p) (map right_needed (needs L9 opening.agent p) ++ (map right_needed (needs L10 opening.agent p) ++ [])), rights_map (needs L6 opening.agent p) (map right_needed (needs L8 opening.agent p) ++ (map right_needed (needs L9 opening.agent p) ++ (map right_needed (needs L10 opening.agent p) ++ []))), rights_map, append-nil)
