@@ -1,5 +1,5 @@
 -- The launch rules are those of the layout, and then those of the fields.
-use Rattle.std.proofs.Common.{◌≡◌, ℕ, List, refl, sym, ◌∙◌, ap, Bool, true, false, Option, Some, None, arith}
+use Rattle.std.proofs.Common.{◌≡◌, ℕ, List, refl, sym, ◌∙◌, ap, Bool, Option, Some, None, arith}
 use Rattle.std.specs.Prelude.{not, if◌then◌else◌}
 use Rattle.aql_packet.specs.declared.packet.Packet.{Packet}
 use Rattle.aql_packet.specs.declared.packet.CodecRule.{CodecRule}

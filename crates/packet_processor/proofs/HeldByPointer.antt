@@ -1,5 +1,5 @@
 -- What is gathered item by item is what all of them give.
-use Rattle.std.proofs.Common.{◌≡◌, ℕ, ◌+◌, ◌<◌, List, [], ◌∷◌, ◌++◌, drop, drop-cons, add-one, get_or, length, refl, sym, ◌∙◌, ap, Bool, true, false, append_assoc, arith}
+use Rattle.std.proofs.Common.{◌≡◌, ℕ, ◌+◌, ◌<◌, List, [], ◌∷◌, ◌++◌, drop, drop-cons, add-one, get_or, length, refl, sym, ◌∙◌, ap, Bool, append_assoc, arith}
 use Rattle.std.specs.Prelude.{map, take}
 use Rattle.std.specs.Int.{from_le_bytes, w64}
 use Rattle.std.specs.List.{flat_map}

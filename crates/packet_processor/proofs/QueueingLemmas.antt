@@ -1,5 +1,5 @@
 -- What a queue's answers say.
-use Rattle.std.proofs.Common.{◌≡◌, Option, Some, None, refl, arith}
+use Rattle.std.proofs.Common.{◌≡◌, Option, Some, None, arith}
 use Rattle.core_model.specs.declared.outcome.WaitCause.{WaitCause}
 use Rattle.packet_processor.specs.declared.queue_state.MayLaunch.TheVariants.{Go, Waiting}
 use Rattle.packet_processor.specs.Queueing.{may_launch_unless}
