@@ -1,5 +1,5 @@
 -- Counts right by right, and what one changed cell leaves in the table.
-use Rattle.std.proofs.Common.{◌≡◌, ℕ, ◌<◌, ◌≤◌, List, length, get_or, Bool, true, false, Option, Some, refl, ap, ◌∙◌, arith}
+use Rattle.std.proofs.Common.{◌≡◌, ℕ, ◌<◌, List, length, get_or, Bool, true, false, Option, Some, refl, ap, ◌∙◌, arith}
 use Rattle.std.specs.Prelude.{if◌then◌else◌}
 use Rattle.grants.proofs.Terms.{Cell, ClientId, Object, Right, Rights, SameCounts, SameRights, Table, cell_of, count_in, count_of, each_right, has, has_right, list_all, list_all_at}
 use Rattle.grants.proofs.Terms.{replacement, same_pair, same_pair_is}

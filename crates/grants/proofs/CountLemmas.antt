@@ -1,5 +1,5 @@
 -- How many holds there are of a right, as holds come and go.
-use Rattle.std.proofs.Common.{[], ◌≡◌, ℕ, zero, suc, ◌+◌, ◌<◌, ◌≤◌, Bool, true, false, ◌&&◌, ◌||◌, List, ◌∷◌, ◌++◌, filter, map, take, drop, get_or, length, Some, refl, sym, ap, ◌∙◌, arith, append_assoc, append-nil, cond}
+use Rattle.std.proofs.Common.{[], ◌≡◌, ℕ, zero, suc, ◌+◌, ◌<◌, ◌≤◌, Bool, true, false, ◌&&◌, List, ◌∷◌, ◌++◌, filter, map, take, drop, get_or, length, Some, refl, sym, ap, ◌∙◌, arith, append_assoc, append-nil, cond}
 use Rattle.std.specs.Prelude.{if◌then◌else◌}
 use Rattle.grants.proofs.Terms.{Cell, ClientId, IsCounted, Object, PacketId, QueueId, Right, Rights, Table, all_rights, cell_of, count_in, count_of, drop_more, filter-append, has}
 use Rattle.grants.proofs.Terms.{hold_count, holds_of, is_held, is_hold_of, list_any, lt-ltb, map-append, nat_lt, one_for_right, same_packet, same_pair, same_pair_itself, take_all, take_more}

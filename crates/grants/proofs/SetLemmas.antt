@@ -1,5 +1,5 @@
 -- Which rights are in the sets that two sets make.
-use Rattle.std.proofs.Common.{◌≡◌, ℕ, zero, suc, ◌-◌, ◌<◌, ◌^◌, min, not, ◌&&◌, ◌==◌, ◌∙◌, arith, w8}
+use Rattle.std.proofs.Common.{◌≡◌, ℕ, ◌-◌, ◌<◌, ◌^◌, min, not, ◌&&◌, ◌==◌, arith, w8}
 use Rattle.std.specs.Int.{bit_at, bit_not}
 use Rattle.std.proofs.lemmas.Nat.Bits.{bit_at_and, bit_at_not, bit_at-lt}
 use Rattle.grants.proofs.Terms.{Right, Rights, has, has-bit, without}

@@ -11,7 +11,6 @@ none = (Agent (record { 0 = 0 }), record { 0 = 0 })
 pub count_hold-requires-clause-in_force : goal.count_hold-requires-clause-in_force
 count_hold-requires-clause-in_force = grind (arith, each_right-same, all_at)
 
-
 pub loop-object-preserved : goal.loop-object-preserved
 loop-object-preserved c =
     let hold = hold_of c.args.queue c.args.packet c.args.client (get_or c.args.rights.now c.loop-object.object-index none) in

@@ -10,4 +10,3 @@ returns-in-Some-clause-in_force c = λ client object right.
     at_each c.args.self.now c.args.client c.args.object (Some c.in-Some.cell) (sym c.get.ensures.cell ∙ c.in-Some.is)
     (λ same s t. has_right right t ≡ (has_right right s || (same && has c.args.rights right))) (λ s. sym (or-false (has_right right s)))
     c.set.new.self c.with.result c.set.ensures.cells (c.with.ensures.rights right) client object
-

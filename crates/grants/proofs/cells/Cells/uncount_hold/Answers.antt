@@ -11,7 +11,6 @@ returns-in-Some-clause-counts c = λ client object right.
     (λ same s t. count_in right s ≡ count_in right t + (if same && has c.args.hold.now.rights right then 1 else 0)) (λ s. omega arith)
     c.set.new.self c.without_hold-fewer.result c.set.ensures.cells (sym (c.without_hold-fewer.ensures.held right)) client object
 
-
 pub returns-in_default-clause-counts : goal.returns-in_default-clause-counts
 returns-in_default-clause-counts c = λ client object right.
     let none : cell_of c.args.self.now c.args.hold.now.client c.args.hold.now.object ≡ None = sym c.get.ensures.cell ∙ c.in_default.is in

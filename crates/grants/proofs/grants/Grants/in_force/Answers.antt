@@ -13,5 +13,3 @@ returns-in-Some-clause-set = grind arith
 pub returns-in-Some-clause-each : goal.returns-in-Some-clause-each
 returns-in-Some-clause-each c = λ right.
     ap (λ rights. has rights right) (returns-in-Some-clause-set c) ∙ has-rights_that (in_force c.args.self.now c.args.client c.args.object) right
-
-

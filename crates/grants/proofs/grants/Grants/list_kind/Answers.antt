@@ -1,5 +1,5 @@
 -- Each object puts its row behind those of the objects before.
-use Rattle.std.proofs.Common.{◌≡◌, ◌∙◌, ◌++◌, arith}
+use Rattle.std.proofs.Common.{arith}
 use Rattle.grants.proofs.Terms.{in_force}
 use Rattle.grants.proofs.ListingLemmas.{listed-none, listed-more}
 use Rattle.grants.proofs.grants.Grants.list_kind.Goals as goal
