@@ -1,8 +1,6 @@
 -- The audit's entries are answered as they are.
-use Rattle.std.proofs.Common.{◌∙◌, arith}
+use Rattle.std.proofs.Common.{arith}
 use Rattle.core_model.specs.Queries.{query_answer}
-use Rattle.core_model.specs.declared.answer.Answer.TheVariants as answer
-use Rattle.core_model.specs.declared.refusal.Refusal.TheVariants as refusal
 use Rattle.access_core.proofs.access.AccessCore.answer.Goals as goal
 
 pub returns-in-Ok : goal.returns-in-Ok

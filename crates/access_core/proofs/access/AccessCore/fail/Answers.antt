@@ -26,7 +26,6 @@ overflow_sub-self c =
     let below = freed-below a c.self.invariant c.args.queue c.args.packet at in
     rw c.fail_packet.ensures.freed below
 
-
 pub invariant_of-self : goal.invariant_of-self
 invariant_of-self c =
     let a = c.self.inside in

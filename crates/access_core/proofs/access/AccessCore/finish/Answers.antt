@@ -21,7 +21,6 @@ release-requires c =
 pub overflow_sub-self : goal.overflow_sub-self
 overflow_sub-self = grind (arith, open-of, seen, freed-below)
 
-
 pub invariant_of-self : goal.invariant_of-self
 invariant_of-self c =
     let a = c.self.inside in

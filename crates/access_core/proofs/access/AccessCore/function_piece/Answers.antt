@@ -1,5 +1,5 @@
 -- A copy is as long as its source.
-use Rattle.std.proofs.Common.{arith, ◌≡◌, ◌∙◌}
+use Rattle.std.proofs.Common.{arith}
 use Rattle.access_core.proofs.Terms.{length-map-range_with_len}
 use Rattle.access_core.proofs.access.AccessCore.function_piece.Goals as goal
 

@@ -20,7 +20,6 @@ returns-in-Err-clause-met c =
 pub returns-then-is_full-clause-met : goal.returns-then-is_full-clause-met
 returns-then-is_full-clause-met = grind (arith, met-refusal, grant-due, seen)
 
-
 pub invariant_of-self : goal.invariant_of-self
 invariant_of-self c =
     let a = c.self.inside in
@@ -45,4 +44,3 @@ invariant_of-self c =
 
 pub returns-clause-met : goal.returns-clause-met
 returns-clause-met = grind (arith, met-entry, seen, grant-due)
-

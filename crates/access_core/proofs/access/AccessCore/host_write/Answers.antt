@@ -1,5 +1,5 @@
 -- What is kept moves along with a client's write, which is entered where there is room.
-use Rattle.std.proofs.Common.{◌≡◌, refl, List, [], ◌∷◌, ℕ}
+use Rattle.std.proofs.Common.{refl, List, [], ◌∷◌, ℕ}
 use Rattle.access_core.proofs.Terms.{Address, ClientId, HostWrite, Write, start_of}
 use Rattle.access_core.proofs.Seen.{seen}
 use Rattle.access_core.proofs.HeldAfter.{grants-still}
@@ -11,7 +11,6 @@ use Rattle.access_core.proofs.access.AccessCore.host_write.Goals as goal
 
 quiet : (client : ClientId) (address : Address) (bytes : List ℕ) → IsQuiet (HostWrite client address bytes) outcome.Accepted (Write address bytes ∷ [])
 quiet client address bytes = record { launches = refl; progress = λ queue id p. refl; releases = λ fs. refl; views = λ m v. refl }
-
 
 pub invariant_of-self : goal.invariant_of-self
 invariant_of-self c =
@@ -30,4 +29,3 @@ invariant_of-self c =
       queues = queues-still a c.self.invariant _ _ _ calm refl;
     })
     _ (seen c.self.view_is) c.in_ok-may_write.ensures.may
-

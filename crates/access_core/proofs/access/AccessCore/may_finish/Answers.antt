@@ -5,7 +5,6 @@ use Rattle.access_core.proofs.Terms.{owed_finish, refuse_unless-fails, refuse_un
 use Rattle.access_core.proofs.Seen.{seen}
 use Rattle.access_core.proofs.Calls.{due-as}
 use Rattle.access_core.proofs.WorkLemmas.{finish-releases, owed-in_place, release-due}
-use Rattle.core_model.specs.declared.refusal.Refusal.TheVariants as refusal
 use Rattle.access_core.proofs.access.AccessCore.may_finish.Goals as goal
 
 pub returns-in_err-place-clause-why : goal.returns-in_err-place-clause-why

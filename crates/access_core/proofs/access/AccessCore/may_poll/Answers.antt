@@ -1,12 +1,11 @@
 -- What the packet is due, by what is found.
-use Rattle.std.proofs.Common.{◌∙◌, ap, [], arith}
+use Rattle.std.proofs.Common.{◌∙◌, ap, arith}
 use Rattle.core_model.specs.Owed.{owed}
 use Rattle.access_core.proofs.Seen.{seen}
 use Rattle.access_core.proofs.Calls.{due-as}
 use Rattle.access_core.proofs.PollLemmas.{poll-owed}
 use Rattle.access_core.proofs.WorkLemmas.{failure-releases, release-due}
 use Rattle.access_core.proofs.Terms.{Poll, look_owed}
-use Rattle.core_model.specs.declared.outcome.Outcome.TheVariants as outcome
 use Rattle.access_core.proofs.access.AccessCore.may_poll.Goals as goal
 
 pub returns-in_err-place-clause-why : goal.returns-in_err-place-clause-why

@@ -1,5 +1,5 @@
 -- Each kernel has its checked kernel where there is no fault.
-use Rattle.std.proofs.Common.{◌≡◌, arith}
+use Rattle.std.proofs.Common.{arith}
 use Rattle.access_core.proofs.Opened.{entries-there}
 use Rattle.access_core.proofs.access.AccessCore.open.Goals as goal
 

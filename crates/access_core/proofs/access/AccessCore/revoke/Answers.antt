@@ -19,7 +19,6 @@ returns-in-Err-clause-met = grind (arith, met-refusal, due-by, seen, revoke-refu
 pub returns-then-is_full-clause-met : goal.returns-then-is_full-clause-met
 returns-then-is_full-clause-met = grind (arith, met-refusal, revoke-due, seen)
 
-
 pub invariant_of-self : goal.invariant_of-self
 invariant_of-self c =
     let a = c.self.inside in
@@ -44,4 +43,3 @@ invariant_of-self c =
 
 pub returns-clause-met : goal.returns-clause-met
 returns-clause-met = grind (arith, met-entry, seen, revoke-due)
-

@@ -1,5 +1,5 @@
 -- What the packet holds by its needs, and by its arguments.
-use Rattle.std.proofs.Common.{◌≡◌, ◌+◌, ◌≤◌, ◌∙◌, Some, None, arith}
+use Rattle.std.proofs.Common.{◌≡◌, ◌∙◌, Some, None, arith}
 use Rattle.access_core.proofs.Terms.{numbered}
 use Rattle.access_core.specs.inner.Deciding.{opening_of}
 use Rattle.access_core.proofs.LaunchLemmas.{block-long, both-held, needs-alone, no-arguments, only-needs, pointed-is}

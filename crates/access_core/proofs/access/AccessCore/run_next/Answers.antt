@@ -2,7 +2,6 @@
 use Rattle.std.proofs.Common.{◌≡◌, refl, rules, inl, Err, arith}
 use Rattle.access_core.proofs.Calls.{met-refusal}
 use Rattle.access_core.proofs.RunLemmas.{no-groups, run-refused}
-use Rattle.core_model.specs.declared.refusal.Refusal.TheVariants as refusal
 use Rattle.access_core.proofs.access.AccessCore.run_next.Goals as goal
 
 pub returns-in_err-place-clause-met : goal.returns-in_err-place-clause-met

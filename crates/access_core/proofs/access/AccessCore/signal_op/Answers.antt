@@ -34,4 +34,3 @@ invariant_of-self c =
       queues = queues-still c.self.inside c.self.invariant _ _ _ calm refl;
     })
     _ (seen c.self.view_is) c.in_ok-old.ensures.may
-

@@ -15,7 +15,6 @@ halt-requires = grind (arith, stop-open, owed-inside, seen)
 pub overflow_sub-self : goal.overflow_sub-self
 overflow_sub-self = grind (arith, stop-open, owed-inside, seen, freed-stopped)
 
-
 pub invariant_of-self : goal.invariant_of-self
 invariant_of-self c =
     let a = c.self.inside in

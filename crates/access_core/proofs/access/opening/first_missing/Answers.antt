@@ -1,5 +1,5 @@
 -- The first that is missing is found, or none is missing.
-use Rattle.std.proofs.Common.{[], ◌∙◌, arith}
+use Rattle.std.proofs.Common.{arith}
 use Rattle.kernel_check.proofs.Walks.{place_found, place_none}
 use Rattle.access_core.proofs.access.opening.first_missing.Goals as goal
 

@@ -1,5 +1,5 @@
 -- A policy within the limits has regions that memory takes.
-use Rattle.std.proofs.Common.{◌∙◌, arith}
+use Rattle.std.proofs.Common.{arith}
 use Rattle.access_core.proofs.access.opening.lengths_fit.Goals as goal
 
 pub returns : goal.returns

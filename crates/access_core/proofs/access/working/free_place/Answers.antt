@@ -1,5 +1,5 @@
 -- No place is made by taking a packet out of one.
-use Rattle.std.proofs.Common.{◌≤◌, arith}
+use Rattle.std.proofs.Common.{arith}
 use Rattle.access_core.proofs.WorkLemmas.{filter-not_more}
 use Rattle.access_core.proofs.access.working.free_place.Goals as goal
 
