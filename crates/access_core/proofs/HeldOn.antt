@@ -1,5 +1,5 @@
 -- The rights that a packet in flight holds on an object: those of the grants are those of the history.
-use Rattle.std.proofs.Common.{◌≡◌, List, [], ◌∷◌, refl, ◌∙◌, Bool, true, Some, arith, ◌&&◌, ◌==◌, find}
+use Rattle.std.proofs.Common.{◌≡◌, List, [], ◌∷◌, refl, Bool, true, Some, arith, ◌&&◌, ◌==◌, find}
 use Rattle.access_core.proofs.Terms.{InFlight, Inside, IsCached, Object, Opening, PacketId, QueueId, Right, and_parts, bit_of, flight, has, holds_by, in_flight, is_packet, list_any, owner}
 use Rattle.access_core.proofs.Terms.{packet_rights, rights_held, rights_that, same_object, set_of, start_of}
 use Rattle.std.proofs.lemmas.Bool.{eqb-true}

@@ -1,5 +1,5 @@
 -- Groups of kernel dispatches: what they are lent, what they are owed, and what their writes leave.
-use Rattle.std.proofs.Common.{◌≡◌, ℕ, List, [], ◌∷◌, length, map, replicate, refl, ◌∙◌, Bool, true, nat_le, if◌then◌else◌, arith}
+use Rattle.std.proofs.Common.{◌≡◌, ℕ, List, [], ◌∷◌, length, map, replicate, refl, Bool, true, nat_le, if◌then◌else◌, arith}
 use Rattle.access_core.proofs.Terms.{AreLentAlike, Done, Entry, Faulted, GroupResult, History, Inside, IsCached, IsInPlace, IsLentAlike, KernelDispatch, ObjectRight, PacketId, Place}
 use Rattle.access_core.proofs.Terms.{QueueError, QueueId, Ran, Read, RegionRights, Run, RunNext, Start, answers, as_lent, due, enters, first_address, given_at_launch, group_count}
 use Rattle.access_core.proofs.Terms.{group_input, group_owed, group_result, has, held_regions, history_of, length-map-range_with_len, length-replicate, lent_whole, may_lack_memory}
@@ -12,7 +12,6 @@ use Rattle.access_core.proofs.RunLemmas.{OnlyWrites, one_group}
 use Rattle.access_core.proofs.Calls.{due-as}
 use Rattle.access_core.proofs.WorkLemmas.{fault-releases, owed-in_place, release-due}
 use Rattle.core_model.specs.declared.entry.Effect.TheVariants as effect
-use Rattle.core_model.specs.declared.refusal.Refusal.TheVariants as refusal
 use Rattle.core_model.specs.declared.outcome.Outcome.TheVariants as outcome
 
 -- ---- what a group is lent

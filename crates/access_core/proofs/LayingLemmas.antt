@@ -1,5 +1,5 @@
 -- Changes that are laid over memory one after another, and what a group of a kernel dispatch that ran is due.
-use Rattle.std.proofs.Common.{◌≡◌, ℕ, ◌+◌, List, [], ◌∷◌, ◌++◌, sym, ◌∙◌, ap, Bool, true, Some, fold, length, map, nat_lt, if◌then◌else◌, arith}
+use Rattle.std.proofs.Common.{◌≡◌, ℕ, List, [], ◌∷◌, ◌++◌, sym, ◌∙◌, ap, Bool, true, Some, fold, length, map, nat_lt, if◌then◌else◌, arith}
 use Rattle.std.proofs.Common.{All}
 use Rattle.access_core.proofs.Terms.{All-map, Effect, History, IsChanged, LiesWithin, PacketId, QueueId, Ran, Run, RunNext, byte_after, due, enters, fold-append, is_full, is_within}
 use Rattle.access_core.proofs.Terms.{may_lack_memory, owed, refuses, write_of_run}

@@ -1,6 +1,6 @@
 -- The regions that a packet in flight holds, as they are lent one after another.
-use Rattle.std.proofs.Common.{◌≡◌, ℕ, zero, suc, ◌+◌, ◌*◌, ◌%◌, ◌^◌, ◌<◌, ◌≤◌, List, [], ◌∷◌, ◌++◌, length, get_or, refl, sym, ◌∙◌, ap, subst, true, false, Option, Some, arith, append_assoc, if◌then◌else◌}
-use Rattle.std.proofs.Common.{All, map, filter, not, ◌==◌, ◌&&◌, nat_le, nat_lt, cond, option_map, option_to_list}
+use Rattle.std.proofs.Common.{◌≡◌, ℕ, zero, suc, ◌+◌, ◌*◌, ◌^◌, ◌<◌, ◌≤◌, List, [], ◌∷◌, ◌++◌, length, get_or, refl, sym, ◌∙◌, ap, subst, true, false, Option, Some, arith, append_assoc}
+use Rattle.std.proofs.Common.{All, map, filter, not, ◌==◌, nat_le, nat_lt, cond, option_map, option_to_list}
 use Rattle.access_core.proofs.Terms.{All-filter, All-map, Entry, LentRegion, ObjectRight, RegionRights, Rights, Start, and_parts, are_region_lengths, filter_of_map_range_with_len_more}
 use Rattle.access_core.proofs.Terms.{get_or-range_with_len, held_region, is_within, leb-true, length-range_with_len, lent_if_held, lent_region, lent_whole, map-append, memory_from}
 use Rattle.access_core.proofs.Terms.{nat_tests, range_with_len, region_length, region_lengths, region_numbered, rights_held, view_whole, zip}

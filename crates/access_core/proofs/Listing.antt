@@ -1,8 +1,7 @@
 -- A client's listing, by the grants that are kept.
-use Rattle.std.proofs.Common.{◌≡◌, List, ◌∙◌, true, Ok, arith}
+use Rattle.std.proofs.Common.{◌≡◌, List, true, Ok, arith}
 use Rattle.core_model.specs.Queries.{query_answer}
 use Rattle.access_core.proofs.Terms.{ClientId, History, Inside, IsCached, Object, Rights, history_of, knows_client, listing, rules_of, start_of}
-use Rattle.policy.specs.Rules as rules_kept
 use Rattle.grants.specs.Ledger as ledger
 use Rattle.core_model.specs.declared.answer.Answer.TheVariants as answer
 use Rattle.core_model.specs.declared.event.Query.TheVariants as query

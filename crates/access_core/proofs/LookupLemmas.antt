@@ -1,5 +1,5 @@
 -- What the fields say of queues is what the history says.
-use Rattle.std.proofs.Common.{◌≡◌, Option, ◌∙◌, arith}
+use Rattle.std.proofs.Common.{◌≡◌, Option, arith}
 use Rattle.access_core.proofs.Terms.{History, Inside, IsCached, IsQueue, Queue, QueueId, cached_opening, history_of, numbered, numbered-map}
 
 -- the queue with a number among those kept

@@ -1,5 +1,5 @@
 -- Packets in flight that are polled: the entry of what is seen.
-use Rattle.std.proofs.Common.{◌≡◌, ◌∙◌, refl, Bool, true, false, [], arith}
+use Rattle.std.proofs.Common.{◌≡◌, refl, Bool, true, false, [], arith}
 use Rattle.core_model.specs.declared.outcome.Satisfied.{Satisfied}
 use Rattle.core_model.specs.Owed.{owed}
 use Rattle.access_core.proofs.WorkLemmas.{owed-in_place}

@@ -1,8 +1,8 @@
 -- Groups that ran: what their writes leave, and how many there can be.
-use Rattle.std.proofs.Common.{◌≡◌, ℕ, ◌+◌, ◌^◌, List, [], ◌++◌, length, refl, ◌∙◌, ap, Bool, true, false, Option, ℤ, ◌==◌, ◌%◌, fold, nat_le, nat_lt, arith}
+use Rattle.std.proofs.Common.{◌≡◌, ℕ, ◌+◌, List, [], ◌++◌, length, refl, ◌∙◌, ap, Bool, true, false, Option, ℤ, ◌==◌, fold, nat_le, nat_lt, arith}
 use Rattle.std.proofs.Common.{if◌then◌else◌}
 use Rattle.access_core.proofs.Terms.{Done, Effect, Entry, GivenAtLaunch, History, InFlight, Inside, IsInPlace, PacketId, Place, Progress, QueueId, Ran, Refusal, RefusedAt, RunNext, Start}
-use Rattle.access_core.proofs.Terms.{agent_writes, answers, due, enters, flight, flight_after_effect, fold-append, function_of, function_writes, given_at_launch, history_of, is_full}
+use Rattle.access_core.proofs.Terms.{agent_writes, answers, due, enters, flight_after_effect, fold-append, function_of, function_writes, given_at_launch, history_of, is_full}
 use Rattle.access_core.proofs.Terms.{owed_group, refuses, result_writes, signals_after, start_of, write_of}
 use Rattle.aql_packet.specs.declared.packet.AgentDispatch.{AgentDispatch}
 use Rattle.core_model.specs.declared.need.AgentFunction.{AgentFunction}

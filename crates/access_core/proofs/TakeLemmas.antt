@@ -4,7 +4,7 @@ use Rattle.std.proofs.Common.{length-append, subst, nat_lt, All, ◌||◌, ◌==
 use Rattle.access_core.proofs.Terms.{All-head, All-push, All-tail, All-weaker, CanFail, ClientId, Denied, Effect, Entry, Event, Facts, History, InFlight, Inside, IsBlockPlaced, IsCached}
 use Rattle.access_core.proofs.Terms.{IsInPlace, IsSound, Launched, MayReach, MayReachRange, ObjectRight, Opening, Outcome, Packet, PacketId, Place, Queue, QueueError, QueueId, QueueView}
 use Rattle.access_core.proofs.Terms.{Read, Rule, SLOTS, Start, Take, TakesNext, and_parts, argument_ranges, arguments-held, as_launched, barrier_bit, cached_opening, cached_view}
-use Rattle.access_core.proofs.Terms.{count_by-le-length, decoded, due, entered-owed, enters, entry_of, error_without_place, errors, facts_of, first_failing_rule, flight, flight_of}
+use Rattle.access_core.proofs.Terms.{count_by-le-length, decoded, due, entered-owed, enters, entry_of, error_without_place, facts_of, first_failing_rule, flight, flight_of}
 use Rattle.access_core.proofs.Terms.{hands_over_packet_of, held_by_arguments, held_by_needs, history_of, in_force, is_placed, kernel_of, lacks_room, launched_by, length-map, lies_in_regions}
 use Rattle.access_core.proofs.Terms.{lies_whole, list_all, lt-ltb, meets_rule, memory_needs, need_is_met, needs, none-passes, numbered, numbered-map, or_right, owed_verdict, owner, place_of}
 use Rattle.access_core.proofs.Terms.{queue_at, refuse_unless, refuses, region_lengths, right_needed, rights_at_launch, start_of, with_denied, with_entry, with_queue, with_some}

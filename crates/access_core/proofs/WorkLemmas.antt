@@ -6,7 +6,7 @@ use Rattle.access_core.proofs.Terms.{All-filter, All-map, B1, CanFail, Effect, E
 use Rattle.access_core.proofs.Terms.{PacketId, Place, Poll, Progress, Queue, QueueError, QueueId, QueueView, RefusedAt, RunNext, SignalHandle, and_parts, byte_after, cached_opening}
 use Rattle.access_core.proofs.Terms.{cached_view, completion_of, completion_signal, due, enters, error_without_place, finish_owed, flight, flight_after_effect, for_packet, found-all}
 use Rattle.access_core.proofs.Terms.{found-passes, freed_by, history_of, in_flight, is_packet, is_place_of, le-ltb, length-map, lies_in_regions, numbered, owed, owner, place_of, progress}
-use Rattle.access_core.proofs.Terms.{queue_at, region_lengths, signal_decrement, signals, start_of, with_advance, with_failure, with_progress, with_queue, with_release, without_packet}
+use Rattle.access_core.proofs.Terms.{queue_at, region_lengths, signal_decrement, start_of, with_advance, with_failure, with_progress, with_queue, with_release, without_packet}
 use Rattle.core_model.specs.Queues.{opening_of}
 use Rattle.access_core.proofs.Calls.{due-as}
 use Rattle.access_core.proofs.CachedMore.{QueuesAfter, none-launched}

@@ -1,5 +1,5 @@
 -- Memory that is read and written, as the history has it.
-use Rattle.std.proofs.Common.{◌≡◌, ℕ, ◌+◌, ◌-◌, ◌<◌, ◌≤◌, ◌^◌, List, length, refl, sym, ◌∙◌, true, false, Some, arith, ◌≢◌, ◌==◌, slice_get}
+use Rattle.std.proofs.Common.{◌≡◌, ℕ, ◌+◌, ◌-◌, ◌<◌, List, length, refl, sym, ◌∙◌, true, false, Some, arith, ◌≢◌, ◌==◌, slice_get}
 use Rattle.std.proofs.Common.{slice_index, if◌then◌else◌}
 use Rattle.access_core.proofs.Terms.{History, Inside, IsCached, IsChanged, IsMemory, IsWithin, IsWithin-from_test, IsWritten, byte_at, bytes_from, covers, get_or-map-range_with_len}
 use Rattle.access_core.proofs.Terms.{get_or_from_slice_get, history_of, is_placed, is_within, length-bytes_from, length-map-range_with_len, length-region_bytes, lengths_of, lies_in_region}

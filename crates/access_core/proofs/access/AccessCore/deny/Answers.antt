@@ -1,5 +1,5 @@
 -- The queue has its first error, and the entry tells it.
-use Rattle.std.proofs.Common.{◌≡◌, ◌<◌, ◌+◌, ◌∷◌, refl, sym, subst, [], ap, arith, length, length-append, map, ◌∙◌}
+use Rattle.std.proofs.Common.{◌≡◌, ◌<◌, ◌∷◌, refl, sym, subst, [], ap, arith, length-append, map, ◌∙◌}
 use Rattle.access_core.proofs.Terms.{Denied, Queue, QueueError, Take, TakesNext, error_places, error_without_place, with_denied}
 use Rattle.access_core.proofs.ChangedQueue.{errors-changed}
 use Rattle.access_core.proofs.Places.{places-kept}
@@ -11,9 +11,7 @@ use Rattle.core_model.specs.declared.outcome.Outcome.TheVariants as outcome
 use Rattle.access_core.proofs.access.AccessCore.deny.Goals as goal
 
 pub fail_next-requires : goal.fail_next-requires
-fail_next-requires c =
-    let a = c.self.inside in
-    can-deny a c.self.invariant c.args.queue c.args.packet c.args.bytes.now (can-take a c.self.invariant c.args.queue (subst (λ h. TakesNext h c.args.queue) (sym (seen c.self.view_is)) c.requires.1))
+fail_next-requires = grind (arith, can-deny, can-take, seen)
 
 pub invariant_of-self : goal.invariant_of-self
 invariant_of-self c =
@@ -32,9 +30,7 @@ invariant_of-self c =
 
 -- the error takes a place that was free
 denied-places : (q : Queue) (error : QueueError) → 0 < q.errors.room → error_places (with_denied error q) ≡ error_places q
-denied-places q error some =
-    let longer : length (with_denied error q).errors.items ≡ length q.errors.items + 1 = length-append q.errors.items (error ∷ []) in
-    omega (arith, longer, some)
+denied-places q error some = grind (arith, length-append q.errors.items (error ∷ []), length-append)
 
 pub returns-clause-places : goal.returns-clause-places
 returns-clause-places c =

@@ -5,7 +5,7 @@ use Rattle.access_core.proofs.Places.{failed-places, places-kept}
 use Rattle.access_core.proofs.ChangedQueue.{errors-changed}
 use Rattle.access_core.proofs.Seen.{seen}
 use Rattle.access_core.proofs.HeldAfter.{grants-released}
-use Rattle.access_core.proofs.CachedMore.{IsCached-more, has_place, memory-still}
+use Rattle.access_core.proofs.CachedMore.{IsCached-more, memory-still}
 use Rattle.access_core.proofs.QueueAt.{flight-released}
 use Rattle.access_core.proofs.TakeLemmas.{is-open, open-of}
 use Rattle.access_core.proofs.WorkLemmas.{failure-releases, can-fail, freed-below, place-inside, queues-released, sound-failed}
@@ -17,10 +17,7 @@ abbrev failed : QueueId → PacketId → QueueView → QueueView
 failed queue id v = record v { errors = v.errors ++ error_without_place queue id.0 B1 ∷ []; places = without_packet id v.places }
 
 pub fail_packet-requires : goal.fail_packet-requires
-fail_packet-requires c =
-    let a = c.self.inside in
-    let found = place-inside a _ (seen c.self.view_is) c.args.queue c.args.packet c.args.place c.requires.found in
-    can-fail a c.self.invariant c.args.queue c.args.packet (is-open a c.self.invariant c.args.queue found.opening found.owner_is) found.flying found.found
+fail_packet-requires = grind (arith, place-inside, seen, can-fail, is-open)
 
 pub overflow_sub-self : goal.overflow_sub-self
 overflow_sub-self c =
@@ -28,9 +25,6 @@ overflow_sub-self c =
     let at = open-of a c.self.invariant _ (seen c.self.view_is) c.args.queue c.args.packet c.args.place c.requires.found in
     let below = freed-below a c.self.invariant c.args.queue c.args.packet at in
     rw c.fail_packet.ensures.freed below
-
-pub enter-requires : goal.enter-requires
-enter-requires c = has_place c.self.inside c.self.invariant _ (seen c.self.view_is) _ _ _ c.requires.may
 
 pub invariant_of-self : goal.invariant_of-self
 invariant_of-self c =

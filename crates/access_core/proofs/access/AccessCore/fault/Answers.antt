@@ -6,7 +6,7 @@ use Rattle.access_core.proofs.ChangedQueue.{errors-changed}
 use Rattle.access_core.proofs.Seen.{seen}
 use Rattle.access_core.proofs.Calls.{met-entry}
 use Rattle.access_core.proofs.HeldAfter.{grants-released}
-use Rattle.access_core.proofs.CachedMore.{IsCached-more, has_place, memory-still}
+use Rattle.access_core.proofs.CachedMore.{IsCached-more, memory-still}
 use Rattle.access_core.proofs.KernelLemmas.{fault-due}
 use Rattle.access_core.proofs.QueueAt.{flight-released}
 use Rattle.access_core.proofs.TakeLemmas.{is-open, open-of}
@@ -19,10 +19,7 @@ abbrev failed : QueueError → PacketId → QueueView → QueueView
 failed error id v = record v { errors = v.errors ++ error ∷ []; places = without_packet id v.places }
 
 pub fail_packet-requires : goal.fail_packet-requires
-fail_packet-requires c =
-    let a = c.self.inside in
-    let found = place-inside a _ (seen c.self.view_is) c.args.queue c.args.packet c.args.place c.requires.found in
-    can-fail a c.self.invariant c.args.queue c.args.packet (is-open a c.self.invariant c.args.queue found.opening found.owner_is) found.flying found.found
+fail_packet-requires = grind (arith, place-inside, seen, can-fail, is-open)
 
 pub overflow_sub-self : goal.overflow_sub-self
 overflow_sub-self c =
@@ -30,11 +27,6 @@ overflow_sub-self c =
     let at = open-of a c.self.invariant _ (seen c.self.view_is) c.args.queue c.args.packet c.args.place c.requires.found in
     let below = freed-below a c.self.invariant c.args.queue c.args.packet at in
     rw c.fail_packet.ensures.freed below
-
-pub enter-requires : goal.enter-requires
-enter-requires c =
-    let is = fault-due c.self.inside c.self.invariant _ (seen c.self.view_is) c.args.queue c.args.packet c.args.place c.requires.found _ c.requires.owed in
-    has_place c.self.inside c.self.invariant _ (seen c.self.view_is) _ _ _ is
 
 pub invariant_of-self : goal.invariant_of-self
 invariant_of-self c =

@@ -5,7 +5,7 @@ use Rattle.access_core.proofs.Places.{places-kept}
 use Rattle.access_core.proofs.ChangedQueue.{errors-changed}
 use Rattle.access_core.proofs.Seen.{seen}
 use Rattle.access_core.proofs.HeldAfter.{grants-released}
-use Rattle.access_core.proofs.CachedMore.{IsCached-more, has_place, memory-still}
+use Rattle.access_core.proofs.CachedMore.{IsCached-more, memory-still}
 use Rattle.access_core.proofs.QueueAt.{flight-released}
 use Rattle.access_core.proofs.TakeLemmas.{open-of}
 use Rattle.access_core.proofs.WorkLemmas.{finish-releases, freed-below, memory-completed, finish-due, queues-released, sound-released}
@@ -19,15 +19,7 @@ release-requires c =
     (at.q, at.found)
 
 pub overflow_sub-self : goal.overflow_sub-self
-overflow_sub-self c =
-    let a = c.self.inside in
-    let at = open-of a c.self.invariant _ (seen c.self.view_is) c.args.queue c.args.packet c.in_ok-place.place c.in_ok-place.ensures.found in
-    let below = freed-below a c.self.invariant c.args.queue c.args.packet at in
-    rw c.release.ensures.freed below
-
-pub enter-requires : goal.enter-requires
-enter-requires c =
-    has_place c.self.inside c.self.invariant _ (seen c.self.view_is) _ _ _ (finish-due c.self.inside c.self.invariant _ (seen c.self.view_is) _ c.args.queue c.args.packet c.in_ok-place.place.packet c.in_ok-place.ensures.may)
+overflow_sub-self = grind (arith, open-of, seen, freed-below)
 
 pub invariant_of-self : goal.invariant_of-self
 invariant_of-self c =

@@ -1,8 +1,7 @@
 -- What is cached follows the grant, which is entered where there is room.
-use Rattle.std.proofs.Common.{refl, sym, ◌∙◌, true, false, []}
-use Rattle.access_core.proofs.Places.{places-kept}
+use Rattle.std.proofs.Common.{refl, sym, ◌∙◌, false, [], arith}
 use Rattle.access_core.proofs.Seen.{seen}
-use Rattle.access_core.proofs.CachedMore.{IsCached-more, has_place, memory-still, queues-still}
+use Rattle.access_core.proofs.CachedMore.{IsCached-more, memory-still, queues-still}
 use Rattle.access_core.proofs.QueueAt.{IsQuiet, flight-quiet}
 use Rattle.access_core.proofs.Calls.{due-by, met-refusal, met-entry}
 use Rattle.access_core.proofs.Granting.{grant-due, grant-refused}
@@ -19,12 +18,7 @@ returns-in-Err-clause-met c =
     rw c.refusal_of.ensures (met-refusal (Grant c.args.client c.args.object c.args.rights) _ _ (due-by c.self.inside _ (seen c.self.view_is) _ _ (grant-refused c.self.inside c.self.invariant c.args.client c.args.object c.args.rights c.in-Err.why (sym c.in-Err.is ∙ c.may_grant.ensures))))
 
 pub returns-then-is_full-clause-met : goal.returns-then-is_full-clause-met
-returns-then-is_full-clause-met c =
-    met-refusal _ _ _ (grant-due c.self.inside c.self.invariant c.args.client c.args.object c.args.rights _ (seen c.self.view_is) (sym c.in_default.is ∙ c.may_grant.ensures) true (sym c.is_full.ensures ∙ c.if-is_full.true))
-
-pub enter-requires : goal.enter-requires
-enter-requires c =
-    has_place c.self.inside c.self.invariant _ (seen c.self.view_is) _ _ _ (grant-due c.self.inside c.self.invariant c.args.client c.args.object c.args.rights _ (seen c.self.view_is) (sym c.in_default.is ∙ c.may_grant.ensures) false (sym c.is_full.ensures ∙ c.if-is_full.false))
+returns-then-is_full-clause-met = grind (arith, met-refusal, grant-due, seen)
 
 pub invariant_of-self : goal.invariant_of-self
 invariant_of-self c =
@@ -49,10 +43,4 @@ invariant_of-self c =
     _ (seen c.self.view_is) (grant-due a c.self.invariant c.args.client c.args.object c.args.rights _ (seen c.self.view_is) (sym c.in_default.is ∙ c.may_grant.ensures) false (sym c.is_full.ensures ∙ c.if-is_full.false))
 
 pub returns-clause-met : goal.returns-clause-met
-returns-clause-met c =
-    met-entry c.self.inside _ (seen c.self.view_is) (Grant c.args.client c.args.object c.args.rights) outcome.Accepted [] _
-    (grant-due c.self.inside c.self.invariant c.args.client c.args.object c.args.rights _ (seen c.self.view_is) (sym c.in_default.is ∙ c.may_grant.ensures) false (sym c.is_full.ensures ∙ c.if-is_full.false)) (rw c.none.ensures at c.enter.ensures.items)
-
-pub returns-clause-places : goal.returns-clause-places
-returns-clause-places c =
-    places-kept c.self.inside _ c.self.view_is c.self.inside.queues c.put_in_force.new.self c.self.inside.blocks c.enter.new.audit _ refl refl c.put_in_force.ensures.same_places refl c.enter.ensures
+returns-clause-met = grind (arith, met-entry, seen, grant-due)

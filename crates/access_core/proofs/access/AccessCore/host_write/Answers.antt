@@ -1,7 +1,6 @@
 -- What is kept moves along with a client's write, which is entered where there is room.
-use Rattle.std.proofs.Common.{◌≡◌, refl, true, List, [], ◌∷◌, ℕ, length, subst, sym}
-use Rattle.access_core.proofs.Terms.{Address, ClientId, HostWrite, Write, is_within, region_lengths, start_of}
-use Rattle.access_core.proofs.Places.{places-kept}
+use Rattle.std.proofs.Common.{refl, List, [], ◌∷◌, ℕ}
+use Rattle.access_core.proofs.Terms.{Address, ClientId, HostWrite, Write, start_of}
 use Rattle.access_core.proofs.Seen.{seen}
 use Rattle.access_core.proofs.HeldAfter.{grants-still}
 use Rattle.access_core.proofs.CachedMore.{IsCached-more, queues-still}
@@ -12,11 +11,6 @@ use Rattle.access_core.proofs.access.AccessCore.host_write.Goals as goal
 
 quiet : (client : ClientId) (address : Address) (bytes : List ℕ) → IsQuiet (HostWrite client address bytes) outcome.Accepted (Write address bytes ∷ [])
 quiet client address bytes = record { launches = refl; progress = λ queue id p. refl; releases = λ fs. refl; views = λ m v. refl }
-
-pub lay-requires : goal.lay-requires
-lay-requires c =
-    rw (c.as_slice.ensures, c.self.invariant.lengths)
-    (subst (λ h. is_within (region_lengths h.start.policy) c.args.address.0 (length c.args.bytes) ≡ true) (sym (seen c.self.view_is)) c.in_ok-may_write.ensures.within)
 
 pub invariant_of-self : goal.invariant_of-self
 invariant_of-self c =
@@ -35,7 +29,3 @@ invariant_of-self c =
       queues = queues-still a c.self.invariant _ _ _ calm refl;
     })
     _ (seen c.self.view_is) c.in_ok-may_write.ensures.may
-
-pub returns-clause-places : goal.returns-clause-places
-returns-clause-places c =
-    places-kept c.self.inside _ c.self.view_is c.self.inside.queues c.self.inside.grants c.self.inside.blocks c.enter.new.audit _ refl refl refl refl c.enter.ensures

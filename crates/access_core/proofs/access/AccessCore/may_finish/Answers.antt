@@ -1,25 +1,19 @@
 -- What the packet is due, by whether its work is done.
-use Rattle.std.proofs.Common.{rules, ◌∙◌, sym}
+use Rattle.std.proofs.Common.{◌∙◌, sym, arith}
 use Rattle.core_model.specs.Owed.{owed}
-use Rattle.access_core.proofs.Terms.{Finish, owed_finish, refuse_unless-fails, refuse_unless-holds, refuses, signals}
+use Rattle.access_core.proofs.Terms.{owed_finish, refuse_unless-fails, refuse_unless-holds, signals}
 use Rattle.access_core.proofs.Seen.{seen}
 use Rattle.access_core.proofs.Calls.{due-as}
 use Rattle.access_core.proofs.WorkLemmas.{finish-releases, owed-in_place, release-due}
-use Rattle.core_model.specs.declared.refusal.Refusal.TheVariants as refusal
 use Rattle.access_core.proofs.access.AccessCore.may_finish.Goals as goal
 
 pub returns-in_err-place-clause-why : goal.returns-in_err-place-clause-why
 unfolding owed
-returns-in_err-place-clause-why c =
-    let why = c.in_err-place.ensures.why (owed_finish (signals c.args.self.now.history.start c.args.self.now.history.entries) c.args.queue c.args.packet) in
-    search rules
+returns-in_err-place-clause-why = grind arith
 
 pub returns-then-not-is_finished-clause-why : goal.returns-then-not-is_finished-clause-why
 unfolding owed
-returns-then-not-is_finished-clause-why c =
-    due-as c.args.self.now.history (Finish c.args.queue c.args.packet) (refuses refusal.NotFinished)
-    (owed-in_place c.args.self.now.history c.args.queue c.args.packet c.in_ok-place.place c.in_ok-place.ensures.found (owed_finish (signals c.args.self.now.history.start c.args.self.now.history.entries) c.args.queue c.args.packet)
-    ∙ refuse_unless-fails _ _ _ (sym c.is_finished.ensures ∙ c.if-not-is_finished.true))
+returns-then-not-is_finished-clause-why = grind (arith, due-as, owed-in_place, refuse_unless-fails)
 
 pub returns-clause-may : goal.returns-clause-may
 unfolding owed

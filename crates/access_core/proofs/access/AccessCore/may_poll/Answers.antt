@@ -1,28 +1,23 @@
 -- What the packet is due, by what is found.
-use Rattle.std.proofs.Common.{rules, ◌∙◌, ap, refl, []}
+use Rattle.std.proofs.Common.{◌∙◌, ap, arith}
 use Rattle.core_model.specs.Owed.{owed}
 use Rattle.access_core.proofs.Seen.{seen}
 use Rattle.access_core.proofs.Calls.{due-as}
 use Rattle.access_core.proofs.PollLemmas.{poll-owed}
 use Rattle.access_core.proofs.WorkLemmas.{failure-releases, release-due}
-use Rattle.access_core.proofs.Terms.{Poll, answers, enters, look_owed, owed_poll, sight, signals}
-use Rattle.core_model.specs.declared.outcome.Outcome.TheVariants as outcome
+use Rattle.access_core.proofs.Terms.{Poll, look_owed}
 use Rattle.access_core.proofs.access.AccessCore.may_poll.Goals as goal
 
 pub returns-in_err-place-clause-why : goal.returns-in_err-place-clause-why
 unfolding owed
-returns-in_err-place-clause-why c =
-    let why = c.in_err-place.ensures.why (owed_poll (signals c.args.self.now.history.start c.args.self.now.history.entries) c.args.queue c.args.packet) in
-    search rules
+returns-in_err-place-clause-why = grind arith
 
 pub returns-in-Err-clause-why : goal.returns-in-Err-clause-why
 returns-in-Err-clause-why c =
     due-as c.args.self.now.history (Poll c.args.queue c.args.packet) _ (poll-owed c.self.inside c.self.invariant _ (seen c.self.view_is) c.args.queue c.args.packet c.in_ok-place.place c.in_ok-place.ensures.found _ c.in-Err.ensures.why)
 
 pub returns-in-Still-clause-may : goal.returns-in-Still-clause-may
-returns-in-Still-clause-may c =
-    due-as c.args.self.now.history (Poll c.args.queue c.args.packet) (answers (outcome.Polled c.in-Still.told))
-    (poll-owed c.self.inside c.self.invariant _ (seen c.self.view_is) c.args.queue c.args.packet c.in_ok-place.place c.in_ok-place.ensures.found _ (c.in-Ok.ensures.may ∙ ap (look_owed c.args.queue c.args.packet) c.in-Still.is))
+returns-in-Still-clause-may = grind (arith, due-as, poll-owed, seen)
 
 pub returns-in-Fails-clause-may : goal.returns-in-Fails-clause-may
 returns-in-Fails-clause-may c =
@@ -30,13 +25,7 @@ returns-in-Fails-clause-may c =
     (poll-owed c.self.inside c.self.invariant _ (seen c.self.view_is) c.args.queue c.args.packet c.in_ok-place.place c.in_ok-place.ensures.found _ (c.in-Ok.ensures.may ∙ ap (look_owed c.args.queue c.args.packet) c.in-Fails.is))
 
 pub returns-then-is_full-clause-why : goal.returns-then-is_full-clause-why
-returns-then-is_full-clause-why c =
-    due-as c.args.self.now.history (Poll c.args.queue c.args.packet) (enters (outcome.Polled (sight c.in-Sees.ready c.in-Sees.new)) [])
-    (poll-owed c.self.inside c.self.invariant _ (seen c.self.view_is) c.args.queue c.args.packet c.in_ok-place.place c.in_ok-place.ensures.found _ (c.in-Ok.ensures.may ∙ ap (look_owed c.args.queue c.args.packet) c.in-Sees.is))
-    ∙ (rw (← c.is_full.ensures, c.if-is_full.true) refl)
+returns-then-is_full-clause-why = grind (arith, due-as, poll-owed, seen)
 
 pub returns-else-is_full-clause-may : goal.returns-else-is_full-clause-may
-returns-else-is_full-clause-may c =
-    due-as c.args.self.now.history (Poll c.args.queue c.args.packet) (enters (outcome.Polled (sight c.in-Sees.ready c.in-Sees.new)) [])
-    (poll-owed c.self.inside c.self.invariant _ (seen c.self.view_is) c.args.queue c.args.packet c.in_ok-place.place c.in_ok-place.ensures.found _ (c.in-Ok.ensures.may ∙ ap (look_owed c.args.queue c.args.packet) c.in-Sees.is))
-    ∙ (rw (← c.is_full.ensures, c.if-is_full.false) refl)
+returns-else-is_full-clause-may = grind (arith, due-as, poll-owed, seen)

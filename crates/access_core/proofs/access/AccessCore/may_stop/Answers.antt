@@ -1,5 +1,5 @@
 -- What the stop is due, by what is cached.
-use Rattle.std.proofs.Common.{◌≡◌, ◌∙◌, refl, sym, true, false, Some, None}
+use Rattle.std.proofs.Common.{◌≡◌, ◌∙◌, refl, sym, true, false, Some, arith}
 use Rattle.access_core.proofs.Seen.{seen}
 use Rattle.access_core.proofs.Calls.{due-by}
 use Rattle.access_core.proofs.StopLemmas.{may-stop, stop-full, stop-known, stop-unknown}
@@ -9,9 +9,7 @@ use Rattle.core_model.specs.declared.refusal.Refusal.TheVariants as refusal
 use Rattle.access_core.proofs.access.AccessCore.may_stop.Goals as goal
 
 pub returns-in-None-clause-why : goal.returns-in-None-clause-why
-returns-in-None-clause-why c =
-    let none : numbered c.self.inside.queues.items c.args.queue.0 ≡ None = cc c.in-None.ensures in
-    due-by c.self.inside _ (seen c.self.view_is) _ _ (stop-unknown c.self.inside c.self.invariant c.args.queue none)
+returns-in-None-clause-why = grind (arith, due-by, seen, stop-unknown)
 
 pub returns-then-kept-clause-why : goal.returns-then-kept-clause-why
 returns-then-kept-clause-why c =
@@ -19,10 +17,7 @@ returns-then-kept-clause-why c =
     due-by c.self.inside _ (seen c.self.view_is) (Stop c.args.queue) (refuses refusal.QueueDown) (stop-known c.self.inside c.self.invariant c.args.queue _ some ∙ (rw c.if-kept.true refl))
 
 pub returns-then-is_full-clause-why : goal.returns-then-is_full-clause-why
-returns-then-is_full-clause-why c =
-    let some : numbered c.self.inside.queues.items c.args.queue.0 ≡ Some c.in-Some.kept.now = cc c.in-Some.ensures in
-    stop-full c.self.inside c.self.invariant c.args.queue _ _ _ (seen c.self.view_is) some c.if-kept.false c.barrier-barrier.ensures
-    (rw c.if-is_none.true at c.is_none.ensures) (sym c.is_full.ensures ∙ c.if-is_full.true)
+returns-then-is_full-clause-why = grind (arith, stop-full, seen)
 
 pub returns-clause-may : goal.returns-clause-may
 returns-clause-may c =

@@ -1,5 +1,5 @@
 -- What is decided is what is due, by what is cached.
-use Rattle.std.proofs.Common.{◌≡◌, refl, ◌∙◌, true, false, Some, None, [], length, rules, ap, subst, nat_lt, ◌||◌, ◌==◌, map, option_map}
+use Rattle.std.proofs.Common.{◌≡◌, refl, ◌∙◌, true, false, Some, None, [], length, rules, ap, subst, nat_lt, ◌||◌, ◌==◌, map, option_map, arith}
 use Rattle.packet_processor.proofs.QueueingLemmas.{launching-waits, launching-goes}
 use Rattle.access_core.proofs.Seen.{seen}
 use Rattle.access_core.proofs.Calls.{due-by}
@@ -11,9 +11,7 @@ use Rattle.core_model.specs.declared.refusal.Refusal.TheVariants as refusal
 use Rattle.access_core.proofs.access.AccessCore.may_take.Goals as goal
 
 pub returns-in-None-clause-why : goal.returns-in-None-clause-why
-returns-in-None-clause-why c =
-    let none : numbered c.self.inside.queues.items c.args.queue.0 ≡ None = cc c.in-None.ensures in
-    due-by c.self.inside _ (seen c.self.view_is) _ _ (take-unknown c.self.inside c.self.invariant _ _ _ none)
+returns-in-None-clause-why = grind (arith, due-by, seen, take-unknown)
 
 pub returns-then-is_down-clause-why : goal.returns-then-is_down-clause-why
 returns-then-is_down-clause-why c =

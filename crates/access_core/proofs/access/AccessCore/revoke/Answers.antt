@@ -1,8 +1,7 @@
 -- What is cached follows the revocation, which is entered where there is room.
-use Rattle.std.proofs.Common.{refl, sym, ◌∙◌, subst, true, false, []}
-use Rattle.access_core.proofs.Places.{places-kept}
+use Rattle.std.proofs.Common.{refl, sym, ◌∙◌, subst, false, [], arith}
 use Rattle.access_core.proofs.Seen.{seen}
-use Rattle.access_core.proofs.CachedMore.{IsCached-more, has_place, memory-still, queues-still}
+use Rattle.access_core.proofs.CachedMore.{IsCached-more, memory-still, queues-still}
 use Rattle.access_core.proofs.QueueAt.{IsQuiet, flight-quiet}
 use Rattle.access_core.proofs.Calls.{due-by, met-refusal, met-entry}
 use Rattle.access_core.proofs.Granting.{revoke-due, revoke-refused}
@@ -15,16 +14,10 @@ quiet : (client : ClientId) (on : Object) (rights : Rights) → IsQuiet (Revoke 
 quiet client on rights = record { launches = refl; progress = λ queue id p. refl; releases = λ fs. refl; views = λ m v. refl }
 
 pub returns-in-Err-clause-met : goal.returns-in-Err-clause-met
-returns-in-Err-clause-met c =
-    rw c.refusal_of.ensures (met-refusal (Revoke c.args.client c.args.object c.args.rights) _ _ (due-by c.self.inside _ (seen c.self.view_is) _ _ (revoke-refused c.self.inside c.self.invariant c.args.client c.args.object c.args.rights c.in-Err.why (subst (RevokeAnswers c.self.inside.grants c.args.client c.args.object c.args.rights) c.in-Err.is c.may_revoke.ensures))))
+returns-in-Err-clause-met = grind (arith, met-refusal, due-by, seen, revoke-refused)
 
 pub returns-then-is_full-clause-met : goal.returns-then-is_full-clause-met
-returns-then-is_full-clause-met c =
-    met-refusal _ _ _ (revoke-due c.self.inside c.self.invariant c.args.client c.args.object c.args.rights _ (seen c.self.view_is) (subst (RevokeAnswers c.self.inside.grants c.args.client c.args.object c.args.rights) c.in_default.is c.may_revoke.ensures) true (sym c.is_full.ensures ∙ c.if-is_full.true))
-
-pub enter-requires : goal.enter-requires
-enter-requires c =
-    has_place c.self.inside c.self.invariant _ (seen c.self.view_is) _ _ _ (revoke-due c.self.inside c.self.invariant c.args.client c.args.object c.args.rights _ (seen c.self.view_is) (subst (RevokeAnswers c.self.inside.grants c.args.client c.args.object c.args.rights) c.in_default.is c.may_revoke.ensures) false (sym c.is_full.ensures ∙ c.if-is_full.false))
+returns-then-is_full-clause-met = grind (arith, met-refusal, revoke-due, seen)
 
 pub invariant_of-self : goal.invariant_of-self
 invariant_of-self c =
@@ -49,10 +42,4 @@ invariant_of-self c =
     _ (seen c.self.view_is) (revoke-due a c.self.invariant c.args.client c.args.object c.args.rights _ (seen c.self.view_is) (subst (RevokeAnswers c.self.inside.grants c.args.client c.args.object c.args.rights) c.in_default.is c.may_revoke.ensures) false (sym c.is_full.ensures ∙ c.if-is_full.false))
 
 pub returns-clause-met : goal.returns-clause-met
-returns-clause-met c =
-    met-entry c.self.inside _ (seen c.self.view_is) (Revoke c.args.client c.args.object c.args.rights) outcome.Accepted [] _
-    (revoke-due c.self.inside c.self.invariant c.args.client c.args.object c.args.rights _ (seen c.self.view_is) (subst (RevokeAnswers c.self.inside.grants c.args.client c.args.object c.args.rights) c.in_default.is c.may_revoke.ensures) false (sym c.is_full.ensures ∙ c.if-is_full.false)) (rw c.none.ensures at c.enter.ensures.items)
-
-pub returns-clause-places : goal.returns-clause-places
-returns-clause-places c =
-    places-kept c.self.inside _ c.self.view_is c.self.inside.queues c.take_out_of_force.new.self c.self.inside.blocks c.enter.new.audit _ refl refl c.take_out_of_force.ensures.same_places refl c.enter.ensures
+returns-clause-met = grind (arith, met-entry, seen, revoke-due)

@@ -1,6 +1,6 @@
 -- What the packet holds by its needs, and by its arguments.
-use Rattle.std.proofs.Common.{◌≡◌, ◌+◌, ◌≤◌, ◌∙◌, Some, None, arith, length}
-use Rattle.access_core.proofs.Terms.{All-weaker, numbered}
+use Rattle.std.proofs.Common.{◌≡◌, ◌∙◌, Some, None, arith}
+use Rattle.access_core.proofs.Terms.{numbered}
 use Rattle.access_core.specs.inner.Deciding.{opening_of}
 use Rattle.access_core.proofs.LaunchLemmas.{block-long, both-held, needs-alone, no-arguments, only-needs, pointed-is}
 use Rattle.access_core.proofs.access.AccessCore.rights_at_launch.Goals as goal
@@ -21,13 +21,7 @@ returns-in_default-kernel c =
     (no-arguments h.start h.entries launching.client launching.packet c.in-Kernel.dispatch c.in-Kernel.is none)
 
 pub held_by_arguments-requires : goal.held_by_arguments-requires
-held_by_arguments-requires c =
-    let h = c.args.self.now.history in
-    let launching = c.args.launching.now in
-    let found : numbered h.start.kernels c.in-Kernel.dispatch.kernel_object.0 ≡ Some c.in-Some.program.now = cc c.in-Some.ensures in
-    let long = block-long h.start h.entries launching.packet c.in-Kernel.dispatch c.in-Kernel.is c.in-Some.program.now found c.args.block.now c.requires in
-    All-weaker (λ offset. offset + 8 ≤ c.in-Some.program.now.argument_bytes) (λ offset. offset + 8 ≤ length c.args.block.now)
-    (λ offset below. omega (arith, below, long)) c.wide_arguments.result.now c.wide_arguments.ensures.within
+held_by_arguments-requires = grind (arith, block-long)
 
 pub returns : goal.returns
 returns c =

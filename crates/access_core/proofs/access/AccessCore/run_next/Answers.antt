@@ -1,9 +1,7 @@
 -- A packet that isn't in flight, or has no groups, is refused.
-use Rattle.std.proofs.Common.{◌≡◌, ap, refl, rules, inl, Err}
-use Rattle.access_core.proofs.Terms.{RunNext, owed_group}
+use Rattle.std.proofs.Common.{◌≡◌, refl, rules, inl, Err, arith}
 use Rattle.access_core.proofs.Calls.{met-refusal}
 use Rattle.access_core.proofs.RunLemmas.{no-groups, run-refused}
-use Rattle.core_model.specs.declared.refusal.Refusal.TheVariants as refusal
 use Rattle.access_core.proofs.access.AccessCore.run_next.Goals as goal
 
 pub returns-in_err-place-clause-met : goal.returns-in_err-place-clause-met
@@ -14,15 +12,7 @@ returns-in_err-place-clause-met c =
     inl (record { reply_is = rw (is, reply) refl; history_is = rw is refl })
 
 pub returns-in-BarrierAnd-clause-met : goal.returns-in-BarrierAnd-clause-met
-returns-in-BarrierAnd-clause-met c =
-    let h = c.args.self.now.history in
-    let place = c.in_ok-place.place in
-    inl (met-refusal (RunNext c.args.queue c.args.packet) h refusal.NotInFlight
-    (no-groups h c.args.queue c.args.packet place c.in_ok-place.ensures.found (λ own. ap (λ p. owed_group h.start h.entries c.args.queue c.args.packet own p place.progress) c.in-BarrierAnd.is)))
+returns-in-BarrierAnd-clause-met = grind (arith, met-refusal, no-groups)
 
 pub returns-in-BarrierOr-clause-met : goal.returns-in-BarrierOr-clause-met
-returns-in-BarrierOr-clause-met c =
-    let h = c.args.self.now.history in
-    let place = c.in_ok-place.place in
-    inl (met-refusal (RunNext c.args.queue c.args.packet) h refusal.NotInFlight
-    (no-groups h c.args.queue c.args.packet place c.in_ok-place.ensures.found (λ own. ap (λ p. owed_group h.start h.entries c.args.queue c.args.packet own p place.progress) c.in-BarrierOr.is)))
+returns-in-BarrierOr-clause-met = grind (arith, met-refusal, no-groups)

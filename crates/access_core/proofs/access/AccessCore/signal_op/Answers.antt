@@ -2,7 +2,6 @@
 use Rattle.std.proofs.Common.{refl, [], ◌∷◌, w64, to_z-of_z, SFits, rules, ℤ}
 use Rattle.access_core.proofs.Terms.{ChangeSignal, ClientId, SignalHandle, applied, old_if_asked, start_of}
 use Rattle.signals.specs.declared.operation.SignalOp.{SignalOp}
-use Rattle.access_core.proofs.Places.{places-kept}
 use Rattle.access_core.proofs.Seen.{seen}
 use Rattle.access_core.proofs.HeldAfter.{grants-still}
 use Rattle.access_core.proofs.CachedMore.{IsCached-more, memory-still, queues-still}
@@ -35,7 +34,3 @@ invariant_of-self c =
       queues = queues-still c.self.inside c.self.invariant _ _ _ calm refl;
     })
     _ (seen c.self.view_is) c.in_ok-old.ensures.may
-
-pub returns-clause-places : goal.returns-clause-places
-returns-clause-places c =
-    places-kept c.self.inside _ c.self.view_is c.self.inside.queues c.self.inside.grants c.self.inside.blocks c.enter.new.audit _ refl refl refl refl c.enter.ensures

@@ -1,27 +1,19 @@
 -- What is cached follows the stop.
-use Rattle.std.proofs.Common.{refl, sym, ap, map, ◌∙◌}
+use Rattle.std.proofs.Common.{refl, sym, ap, map, ◌∙◌, arith}
 use Rattle.access_core.proofs.Terms.{Stop, error_places, release_of, with_stop}
 use Rattle.access_core.proofs.Places.{places-kept}
 use Rattle.access_core.proofs.ChangedQueue.{errors-changed}
 use Rattle.access_core.proofs.Seen.{seen}
-use Rattle.access_core.proofs.CachedMore.{IsCached-more, has_place, memory-still, owed-inside}
+use Rattle.access_core.proofs.CachedMore.{IsCached-more, memory-still, owed-inside}
 use Rattle.access_core.proofs.StopLemmas.{freed-stopped, grants-stopped, memory-released, queues-stopped, stop-open, values-released}
 use Rattle.core_model.specs.declared.outcome.Outcome.TheVariants as outcome
 use Rattle.access_core.proofs.access.AccessCore.stop.Goals as goal
 
 pub halt-requires : goal.halt-requires
-halt-requires c =
-    let at = stop-open c.self.inside c.self.invariant c.args.queue _ _ (owed-inside _ c.self.invariant _ (seen c.self.view_is) _ _ _ c.in_ok-barrier.ensures.may) in
-    (at.q, at.found)
+halt-requires = grind (arith, stop-open, owed-inside, seen)
 
 pub overflow_sub-self : goal.overflow_sub-self
-overflow_sub-self c =
-    let a = c.self.inside in
-    let at = stop-open a c.self.invariant c.args.queue _ _ (owed-inside a c.self.invariant _ (seen c.self.view_is) _ _ _ c.in_ok-barrier.ensures.may) in
-    rw c.halt.ensures.freed (freed-stopped a c.self.invariant c.args.queue at c.in_ok-barrier.barrier)
-
-pub enter-requires : goal.enter-requires
-enter-requires c = has_place c.self.inside c.self.invariant _ (seen c.self.view_is) _ _ _ c.in_ok-barrier.ensures.may
+overflow_sub-self = grind (arith, stop-open, owed-inside, seen, freed-stopped)
 
 pub invariant_of-self : goal.invariant_of-self
 invariant_of-self c =
