@@ -28,10 +28,6 @@ numbered-at qs n q above at = rw (lt-ltb 0 n above) at
 numbered-other : (qs : List Queue) (n : ℕ) (v : Queue) (m : ℕ) → 0 < n → (n ≡ m → ⊥) → numbered (slice_set qs (n - 1) v) m ≡ numbered qs m
 numbered-other qs n v m above other = grind (arith, get-other qs (n - 1) v (m - 1))
 
--- the item at the place of a number
-pub item-at : (qs : List Queue) (n : ℕ) (q x : Queue) → numbered qs n ≡ Some q → x ≡ get_or qs (n - 1) x → x ≡ q
-item-at qs n q x found is = is ∙ get_or_from_slice_get qs (n - 1) _ x (numbered-place qs n q found).1
-
 pub freed-at : (id : Option PacketId) (qs : List Queue) (n : QueueId) (q : Queue) → numbered qs n.0 ≡ Some q → freed_by id qs n ≡ places_freed id q.places
 freed-at id qs n q found = ap (λ (o : Option Queue). elim o [ None ↦ 0 | Some x ↦ places_freed id x.places ]) found
 
@@ -43,10 +39,6 @@ module _ (qs : List Queue) (n : QueueId) (change : Queue → Queue) (q : Queue) 
   -- the changed list
   pub with_queue-is : with_queue qs n change ≡ slice_set qs (n.0 - 1) (change q)
   with_queue-is = ap (λ (o : Option Queue). elim o [ None ↦ qs | Some x ↦ slice_set qs (n.0 - 1) (change x) ]) found
-
-  -- a change of the item at its place
-  pub changed-by : (x v : Queue) → x ≡ q → v ≡ change x → slice_set qs (n.0 - 1) v ≡ with_queue qs n change
-  changed-by x v is changed = ap (slice_set qs (n.0 - 1)) (changed ∙ ap change is) ∙ sym with_queue-is
 
   place : (0 < n.0) × (slice_get qs (n.0 - 1) ≡ Some q)
   place = numbered-place qs n.0 q found

@@ -10,11 +10,6 @@ use Rattle.core_model.specs.declared.refusal.Refusal.TheVariants as refusal
 
 -- ---- changes over memory
 
--- changes are laid over memory, and one more over that
-pub changed-next : (old mid new : List (List ℕ)) (changes : List Effect) (change : Effect) → IsChanged old changes mid → IsChanged mid (change ∷ []) new → IsChanged old (changes ++ change ∷ []) new
-changed-next old mid new changes change before after = λ x byte was.
-    after x (fold (byte_after x) byte changes) (before x byte was) ∙ ap Some (sym (fold-append (byte_after x) byte changes (change ∷ [])))
-
 -- what runs write lies whole in regions where the runs do
 pub runs-within : (lengths : List ℕ) (runs : List Run) → All (λ run. is_within lengths run.address (length run.bytes) ≡ true) runs → All (LiesWithin lengths) (map write_of_run runs)
 runs-within lengths runs within = All-map (LiesWithin lengths) write_of_run runs within

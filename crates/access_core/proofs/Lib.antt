@@ -12,7 +12,6 @@ pub mod ChangedQueue
 pub mod Places
 pub mod PollLemmas
 pub mod StopLemmas
-pub mod LookupLemmas
 pub mod WorkLemmas
 pub mod WorkReadLemmas
 pub mod RunLemmas

@@ -3,14 +3,6 @@ use Rattle.std.proofs.Common.{List, [], ◌∷◌, ◌++◌, refl, subst, Result
 use Rattle.access_core.proofs.Terms.{AnswerOrRefusal, AreReplies, Event, History, IsServed, MeetsOrLacks, Outcome, Query, Refusal, RepliesOrLacks, Request, as_reply}
 use Rattle.core_model.specs.declared.event.Request.TheVariants as request
 
--- an event that got what was due, or wanted memory, was served
-pub served-event : (event : Event) (old new : History) (made : Result Outcome Refusal) → MeetsOrLacks event old new made → IsServed old (request.Event event) (as_reply made) new
-served-event event old new made got = (made, refl, got)
-
--- a query that got its answer, or wanted memory, was served
-pub served-query : (asked : Query) (old : History) (reply : AnswerOrRefusal) → RepliesOrLacks asked old reply → IsServed old (request.Query asked) reply old
-served-query asked old reply got = (got, refl)
-
 -- one request more is served behind others
 pub AreReplies-more : (old mid new : History) (requests : List Request) (replies : List AnswerOrRefusal) (asked : Request) (reply : AnswerOrRefusal)
     → AreReplies old requests replies mid → IsServed mid asked reply new → AreReplies old (requests ++ asked ∷ []) (replies ++ reply ∷ []) new

@@ -18,17 +18,6 @@ module _ (old : Table) (c : ClientId) (o : Object) (before : Option Cell) (is : 
   pub at_each_same : P true before before → (c' : ClientId) (o' : Object) → P (same_pair c' o' c o) (cell_of old c' o') (cell_of old c' o')
   at_each_same here c' o' = grind (arith, same_pair_is c' o' c o, same_pair_is)
 
--- a cell with the holds of the one before leaves all counts as they were
-pub same_held : (old : Table) (c : ClientId) (o : Object) (before : Cell) → cell_of old c o ≡ Some before
-    → (new : Table) (cell : Cell) → new.rules ≡ old.rules
-    → ((c' : ClientId) (o' : Object) → cell_of new c' o' ≡ (if same_pair c' o' c o then replacement cell (cell_of old c' o') else cell_of old c' o'))
-    → cell.held ≡ before.held → SameCounts old new
-same_held old c o before is new cell rules change held = record {
-  same_rules = rules;
-  same_counts = λ client object right.
-      at_each old c o (Some before) is (λ same s t. count_in right t ≡ count_in right s) (λ s. refl) new cell change (ap (λ h. count_of h right) held) client object;
-}
-
 -- a cell with the rights of the one before leaves all rights in force as they were
 pub same_granted : (old : Table) (c : ClientId) (o : Object) (before : Cell) → cell_of old c o ≡ Some before
     → (new : Table) (cell : Cell) → new.rules ≡ old.rules

@@ -44,10 +44,6 @@ pub once-counted : (table : Table) (before behind : List Hold) (h : Hold) → Is
     → (right : Right) → one_for_right h.rights right ≤ hold_count table h.client h.object right
 once-counted table before behind h is right = grind (arith, holds_of-among before behind h h.client h.object right, same_pair_itself h.client h.object, holds_of-among, same_pair_itself)
 
--- there are no more holds of a right than there are holds
-pub counted-le : (table : Table) (holds : List Hold) → IsCounted table holds → (c : ClientId) (o : Object) (right : Right) → hold_count table c o right ≤ length holds
-counted-le table holds is c o right = grind (arith, count_by-le-length (is_hold_of c o right) holds, count_by-le-length)
-
 -- ---- holds that are dropped one after another
 
 module _ (keep : Hold → Bool) (holds : List Hold) where

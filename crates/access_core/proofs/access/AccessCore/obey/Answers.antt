@@ -1,1 +1,0 @@
--- A request is served as the call that it names.

@@ -1,1 +1,0 @@
--- The queue found is the one of the history.

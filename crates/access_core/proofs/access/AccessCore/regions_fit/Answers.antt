@@ -1,1 +1,0 @@
--- A policy within the limits has regions that memory takes.

@@ -1,1 +1,0 @@
--- One queue has an error more, and a packet of it leaves flight.

@@ -1,1 +1,0 @@
--- A packet of one queue has come further.

@@ -1,1 +1,0 @@
--- One queue is stopped, and a packet of it may leave flight.

@@ -1,1 +1,0 @@
--- One queue's next id rises, and it has an error more.

@@ -1,1 +1,0 @@
--- One queue's next id rises, and its packet is in a place.
