@@ -16,7 +16,7 @@ module _ (old : Table) (c : ClientId) (o : Object) (before : Option Cell) (is : 
 
   -- the same where nothing changed
   pub at_each_same : P true before before → (c' : ClientId) (o' : Object) → P (same_pair c' o' c o) (cell_of old c' o') (cell_of old c' o')
-  at_each_same here c' o' = grind (arith, same_pair_is c' o' c o, same_pair_is)
+  at_each_same here c' o' = grind (arith, same_pair_is)
 
 -- a cell with the rights of the one before leaves all rights in force as they were
 pub same_granted : (old : Table) (c : ClientId) (o : Object) (before : Cell) → cell_of old c o ≡ Some before
@@ -34,7 +34,7 @@ pub each_right-same : (rights : Rights) (f g : Right → Bool) → ((right : Rig
 each_right-same rights f g same h = let all : g ≡ f = λ i. λ right. same right i in ap (each_right rights) all ∙ h
 
 pub all_at : {X : Type 0} (p : X → Bool) (xs : List X) (i : ℕ) (d : X) → i < length xs → list_all p xs ≡ true → p (get_or xs i d) ≡ true
-all_at p xs i d within all = grind (arith, list_all_at p xs i d within, list_all_at)
+all_at p xs i d within all = grind (arith, list_all_at)
 
 pub SameRights-then : (a b c : Table) → SameRights a b → SameRights b c → SameRights a c
 SameRights-then a b c first then_ = record {

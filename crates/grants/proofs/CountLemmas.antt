@@ -21,7 +21,7 @@ holds_of-append xs ys c o right = sum_by-append (λ h. cond (is_hold_of c o righ
 
 pub holds_of-among : (before behind : List Hold) (h : Hold) (c : ClientId) (o : Object) (right : Right)
     → holds_of (before ++ h ∷ behind) c o right ≡ holds_of (before ++ behind) c o right + one_for c o right h
-holds_of-among before behind h c o right = grind (arith, holds_of-append before (h ∷ behind) c o right, holds_of-append (h ∷ []) behind c o right, holds_of-one h c o right, holds_of-append before behind c o right, holds_of-append, holds_of-one)
+holds_of-among before behind h c o right = grind (arith, holds_of-append before (h ∷ behind) c o right, holds_of-append (h ∷ []) behind c o right, holds_of-append before behind c o right)
 
 module _ (old new : Table) (h : Hold) where
   -- one more hold is counted
@@ -37,12 +37,12 @@ module _ (old new : Table) (h : Hold) where
   -- one hold is counted no more
   pub counted_fewer : (before behind : List Hold) → IsCounted old (before ++ h ∷ behind)
       → ((c : ClientId) (o : Object) (right : Right) → hold_count old c o right ≡ hold_count new c o right + one_for c o right h) → IsCounted new (before ++ behind)
-  counted_fewer before behind is fewer = grind (arith, holds_of-among, fewer)
+  counted_fewer before behind is fewer = grind (arith, holds_of-among)
 
 -- a hold among others is counted
 pub once-counted : (table : Table) (before behind : List Hold) (h : Hold) → IsCounted table (before ++ h ∷ behind)
     → (right : Right) → one_for_right h.rights right ≤ hold_count table h.client h.object right
-once-counted table before behind h is right = grind (arith, holds_of-among before behind h h.client h.object right, same_pair_itself h.client h.object, holds_of-among, same_pair_itself)
+once-counted table before behind h is right = grind (arith, holds_of-among before behind h h.client h.object right, same_pair_itself h.client h.object)
 
 -- ---- holds that are dropped one after another
 
@@ -64,10 +64,10 @@ module _ (keep : Hold → Bool) (holds : List Hold) where
       ∙ append_assoc (filter keep (take i holds)) (filter keep (get_or holds i d ∷ [])) (drop (i + 1) holds)
 
   pub kept_to-kept : (i : ℕ) (d : Hold) → i < length holds → keep (get_or holds i d) ≡ true → kept_to (i + 1) ≡ kept_to i
-  kept_to-kept i d within keeps = grind (arith, kept_to-next i d within, filter-one (get_or holds i d) true keeps, kept_to-here i d within, kept_to-next, filter-one, kept_to-here)
+  kept_to-kept i d within keeps = grind (arith, kept_to-next i d within, kept_to-here i d within)
 
   pub kept_to-dropped : (i : ℕ) (d : Hold) → i < length holds → keep (get_or holds i d) ≡ false → kept_to (i + 1) ≡ filter keep (take i holds) ++ drop (i + 1) holds
-  kept_to-dropped i d within drops = grind (arith, kept_to-next i d within, filter-one (get_or holds i d) false drops, kept_to-next, filter-one)
+  kept_to-dropped i d within drops = grind (arith, kept_to-next i d within)
 
   pub kept_to-all : (i : ℕ) → length holds ≤ i → kept_to i ≡ filter keep holds
   kept_to-all i past = ap (λ xs. filter keep xs ++ drop i holds) (take_all i holds past) ∙ ap (λ xs. filter keep holds ++ xs) (drop_past i holds past) ∙ append-nil (filter keep holds)
@@ -93,10 +93,10 @@ none_of packet pair right h4 = grind arith
 -- where no hold of a right is counted, no packet holds it
 pub held-uncounted : (holds : List Hold) (q : QueueId) (p : PacketId) (c : ClientId) (o : Object) (right : Right) → holds_of holds c o right ≡ 0 → is_held holds q p c o right ≡ false
 held-uncounted [] q p c o right h = refl
-held-uncounted (x ∷ xs) q p c o right h = grind (arith, holds_of-append (x ∷ []) xs c o right, holds_of-one x c o right, none_of (same_packet q p x.queue x.packet) (same_pair c o x.client x.object) (has x.rights right), held-uncounted xs q p c o right, holds_of-append, holds_of-one, none_of)
+held-uncounted (x ∷ xs) q p c o right h = grind (arith, holds_of-append (x ∷ []) xs c o right, held-uncounted xs q p c o right)
 
 uncounted_and : (a : Bool) (n : ℕ) (b : Bool) → (n ≡ 0 → b ≡ false) → (a && nat_lt 0 n) ≡ false → (a && b) ≡ false
-uncounted_and a n b h4 h5 = grind (arith, lt-ltb 0, h4, lt-ltb)
+uncounted_and a n b h4 h5 = grind arith
 
 any_less : (f g : Right → Bool) → ((r : Right) → f r ≡ false → g r ≡ false) → (xs : List Right) → list_any f xs ≡ false → list_any g xs ≡ false
 any_less f g less [] h = refl
@@ -106,4 +106,4 @@ any_less f g less (x ∷ xs) h = grind (arith, any_less f g less xs)
 pub unheld : (table : Table) (holds : List Hold) → IsCounted table holds → (c : ClientId) (o : Object) (rights : Rights) (cell : Cell) → cell_of table c o ≡ Some cell
     → list_any (λ right. has rights right && nat_lt 0 (count_of cell.held right)) all_rights ≡ false
     → (q : QueueId) (p : PacketId) → list_any (λ right. has rights right && is_held holds q p c o right) all_rights ≡ false
-unheld table holds is c o rights cell at none q p = grind (arith, any_less (λ right. has rights right && nat_lt 0 (count_of cell.held right)) (λ right. has rights right && is_held holds q p c o right) (λ right. uncounted_and (has rights right) (count_of cell.held right) (is_held holds q p c o right) (λ zero_is. held-uncounted holds q p c o right (sym (is c o right) ∙ ap (count_in right) at ∙ zero_is))) all_rights none, uncounted_and, held-uncounted holds q p c o, any_less, held-uncounted)
+unheld table holds is c o rights cell at none q p = grind (arith, any_less (λ right. has rights right && nat_lt 0 (count_of cell.held right)) (λ right. has rights right && is_held holds q p c o right) (λ right. uncounted_and (has rights right) (count_of cell.held right) (is_held holds q p c o right) (λ zero_is. held-uncounted holds q p c o right (sym (is c o right) ∙ ap (count_in right) at ∙ zero_is))) all_rights none)

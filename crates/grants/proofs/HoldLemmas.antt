@@ -24,7 +24,7 @@ pub and_assoc : (a b c : Bool) → ((a && b) && c) ≡ (a && (b && c))
 and_assoc a b c = grind arith
 
 same_packet_is : (q : QueueId) (p : PacketId) (q' : QueueId) (p' : PacketId) → same_packet q p q' p' ≡ true → (q ≡ q') × (p ≡ p')
-same_packet_is q p q' p' h = grind (arith, both (q.0 == q'.0) (p.0 == p'.0) h, same_number q.0 q'.0 (both (q.0 == q'.0) (p.0 == p'.0) h).0, same_number p.0 p'.0 (both (q.0 == q'.0) (p.0 == p'.0) h).1, both, same_number)
+same_packet_is q p q' p' h = grind arith
 
 same_packet_itself : (q : QueueId) (p : PacketId) → same_packet q p q p ≡ true
 same_packet_itself q p = rw (itself q.0, itself p.0)
@@ -34,7 +34,7 @@ same_packet_itself q p = rw (itself q.0, itself p.0)
 -- what is held where the holds of a packet are taken out
 pub held-dropped : (q : QueueId) (p : PacketId) (q' : QueueId) (p' : PacketId) (c : ClientId) (o : Object) (right : Right) (holds : List Hold)
     → is_held (filter (λ hold. not (is_of q p hold)) holds) q' p' c o right ≡ (not (same_packet q' p' q p) && is_held holds q' p' c o right)
-held-dropped q p q' p' c o right holds = grind (arith, any-filter_same (is_hold q' p' c o right) (λ hold. not (is_of q p hold)) (not (same_packet q' p' q p)), both, same_packet_is q' p', any-filter_same, same_packet_is)
+held-dropped q p q' p' c o right holds = grind (arith, any-filter_same)
 
 never : {X : Type 0} (xs : List X) → list_any (λ _. false) xs ≡ false
 never [] = refl
@@ -48,7 +48,7 @@ any-and false f g xs = never xs
 pub held-pushed : (q : QueueId) (p : PacketId) (c : ClientId) (rights : List (Object × Rights)) (q' : QueueId) (p' : PacketId) (c' : ClientId) (o' : Object) (right : Right) (holds : List Hold)
     → is_held (holds ++ map (hold_of q p c) rights) q' p' c' o' right
     ≡ (is_held holds q' p' c' o' right || (same_packet q' p' q p && list_any (λ named. same_pair c' o' c named.0 && has named.1 right) rights))
-held-pushed q p c rights q' p' c' o' right holds = grind (arith, list_any-append (is_hold q' p' c' o' right) holds (map (hold_of q p c) rights), list_any-map (is_hold q' p' c' o' right) (hold_of q p c) rights, any-and (same_packet q' p' q p) (λ named. same_pair c' o' c named.0) (λ named. has named.1 right) rights, list_any-append, list_any-map, any-and)
+held-pushed q p c rights q' p' c' o' right holds = grind (arith, list_any-append (is_hold q' p' c' o' right) holds (map (hold_of q p c) rights), list_any-map (is_hold q' p' c' o' right) (hold_of q p c) rights, any-and (same_packet q' p' q p) (λ named. same_pair c' o' c named.0) (λ named. has named.1 right) rights)
 
 -- ---- holders
 
@@ -58,7 +58,7 @@ spread m a b c A B = grind arith
 spread_any : {X : Type 0} (m : Bool) (f k h : X → Bool) (xs : List X)
     → list_any (λ x. f x && ((m && k x) || h x)) xs ≡ ((m && list_any (λ x. f x && k x) xs) || list_any (λ x. f x && h x) xs)
 spread_any m f k h [] = sym (or-false (m && false) ∙ and-false m)
-spread_any m f k h (x ∷ xs) = grind (arith, spread_any m f k h xs, spread m, spread)
+spread_any m f k h (x ∷ xs) = grind (arith, spread_any m f k h xs)
 
 none_of : {X : Type 0} (f : X → Bool) (xs : List X) → list_any (λ x. f x && false) xs ≡ false
 none_of f [] = refl
@@ -68,7 +68,7 @@ none_of f (x ∷ xs) = rw (and-false (f x)) (none_of f xs)
 pub holder : (holds : List Hold) (c : ClientId) (o : Object) (rights : Rights) (q : QueueId) (p : PacketId)
     → list_any (λ right. has rights right && is_held holds q p c o right) all_rights ≡ holds_one holds c o rights q p
 holder [] c o rights q p = none_of (has rights) all_rights
-holder (h ∷ hs) c o rights q p = grind (arith, spread_any (is_on q p c o h) (has rights) (has h.rights) (is_held hs q p c o) all_rights, holder hs c o rights q p, spread_any)
+holder (h ∷ hs) c o rights q p = grind (arith, spread_any (is_on q p c o h) (has rights) (has h.rights) (is_held hs q p c o) all_rights, holder hs c o rights q p)
 
 -- ---- the first
 
@@ -77,7 +77,7 @@ first_same test test' None same h = λ q p. same q p ∙ h q p
 first_same test test' (Some x) same h = (same x.0 x.1 ∙ h.0, λ q p t. h.1 q p (sym (same q p) ∙ t))
 
 up_to_itself : (q : QueueId) (p : PacketId) (q' : QueueId) (p' : PacketId) → same_packet q' p' q p ≡ true → IsUpTo q p q' p'
-up_to_itself q p q' p' h = grind (arith, both (q'.0 == q.0) (p'.0 == p.0) h, same_number q'.0 q.0 (both (q'.0 == q.0) (p'.0 == p.0) h).0, same_number p'.0 p.0 (both (q'.0 == q.0) (p'.0 == p.0) h).1, both, same_number)
+up_to_itself q p q' p' h = grind arith
 
 up_to_trans : (a : QueueId) (b : PacketId) (c : QueueId) (d : PacketId) (e : QueueId) (f : PacketId) → IsUpTo a b c d → IsUpTo c d e f → IsUpTo a b e f
 up_to_trans a b c d e f h7 h8 = grind arith
@@ -85,18 +85,18 @@ up_to_trans a b c d e f h7 h8 = grind arith
 module _ (test test' : QueueId → PacketId → Bool) (a : QueueId) (b : PacketId) (more : (q : QueueId) (p : PacketId) → test' q p ≡ (test q p || same_packet q p a b)) where
   -- the first packet that passes is the first
   pub first_of_none : IsFirstTo test None → IsFirstTo test' (Some (a, b))
-  first_of_none none = grind (arith, same_packet_itself a b, up_to_itself a b, more, same_packet_itself, up_to_itself)
+  first_of_none none = grind arith
 
   passes : (y : QueueId × PacketId) (x : QueueId × PacketId) → test x.0 x.1 ≡ true → (y ≡ x) ⊎ (y ≡ (a, b)) → test' y.0 y.1 ≡ true
-  passes y x h3 h4 = grind (arith, same_packet_itself a b, or-true (test y.0 y.1), more, same_packet_itself, or-true)
+  passes y x h3 h4 = grind arith
 
   either_first : (y x : QueueId × PacketId) (q : QueueId) (p : PacketId) → IsUpTo y.0 y.1 x.0 x.1 → IsUpTo y.0 y.1 a b
       → (test q p ≡ true → IsUpTo x.0 x.1 q p) → (s : Bool) → test q p ≡ s → (s || same_packet q p a b) ≡ true → IsUpTo y.0 y.1 q p
-  either_first y x q p h5 h6 h7 s h9 h10 = grind (arith, up_to_trans y.0 y.1 x.0 x.1 q p, up_to_trans y.0 y.1 a b q p, up_to_itself a b q p, h7, more, up_to_trans, up_to_itself)
+  either_first y x q p h5 h6 h7 s h9 h10 = grind arith
 
   -- the earlier of the first so far and one more is the first
   pub first_of_some : (x y : QueueId × PacketId) → IsFirstTo test (Some x) → (y ≡ x) ⊎ (y ≡ (a, b)) → IsUpTo y.0 y.1 x.0 x.1 → IsUpTo y.0 y.1 a b → IsFirstTo test' (Some y)
-  first_of_some x y first either to_x to_new = grind (arith, passes y x first.0 either, either_first y x, more, passes, either_first)
+  first_of_some x y first either to_x to_new = grind arith
 
 -- one more hold: it adds its packet where it blocks, and none otherwise
 module _ (holds : List Hold) (c : ClientId) (o : Object) (rights : Rights) (i : ℕ) (d : Hold) (within : i < length holds) where
@@ -105,8 +105,8 @@ module _ (holds : List Hold) (c : ClientId) (o : Object) (rights : Rights) (i : 
 
   pub holds_one-blocking : (same_pair c o next.client next.object && have_common_right rights next.rights) ≡ true → (q : QueueId) (p : PacketId)
       → holds_one (take (i + 1) holds) c o rights q p ≡ (holds_one (take i holds) c o rights q p || same_packet q p next.queue next.packet)
-  holds_one-blocking blocks q p = grind (arith, list_any_more (λ hold. is_on q p c o hold && have_common_right rights hold.rights) holds i d within, and_assoc (same_packet q p next.queue next.packet) (same_pair c o next.client next.object) (have_common_right rights next.rights), and-true (same_packet q p next.queue next.packet), list_any_more, and_assoc, and-true)
+  holds_one-blocking blocks q p = grind (arith, list_any_more (λ hold. is_on q p c o hold && have_common_right rights hold.rights) holds i d within)
 
   pub holds_one-passing : (same_pair c o next.client next.object && have_common_right rights next.rights) ≡ false → (q : QueueId) (p : PacketId)
       → holds_one (take (i + 1) holds) c o rights q p ≡ holds_one (take i holds) c o rights q p
-  holds_one-passing passes q p = grind (arith, list_any_more (λ hold. is_on q p c o hold && have_common_right rights hold.rights) holds i d within, and_assoc (same_packet q p next.queue next.packet) (same_pair c o next.client next.object) (have_common_right rights next.rights), passes, and-false (same_packet q p next.queue next.packet), or-false (holds_one (take i holds) c o rights q p), list_any_more, and_assoc, and-false, or-false)
+  holds_one-passing passes q p = grind (arith, list_any_more (λ hold. is_on q p c o hold && have_common_right rights hold.rights) holds i d within)

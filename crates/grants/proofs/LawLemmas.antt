@@ -33,7 +33,7 @@ or_false a b h3 = grind arith
 
 -- a test that no right passes
 none_passes : (f : Right → Bool) → list_any f all_rights ≡ false → (right : Right) → f right ≡ false
-none_passes f h right = grind (arith, or_false, for_each_right)
+none_passes f h right = grind arith
 
 -- a right that a list of rights in force names is in force
 named-in_force : (f : Object → Right → Bool) (rights : List (Object × Rights)) (client c : ClientId) (o : Object) (right : Right)
@@ -45,13 +45,13 @@ named-in_force f (n ∷ rights) client c o right all named =
   where
     by_test : (b : Bool) → is_one_of c o right client n.0 n.1 ≡ b → (b || is_named rights client c o right) ≡ true
         → (is_named rights client c o right ≡ true → (c ≡ client) × (f o right ≡ true)) → each_right n.1 (f n.0) ≡ true → (c ≡ client) × (f o right ≡ true)
-    by_test b h2 h3 h4 h5 = grind (arith, both (same_pair c o client n.0) (has n.1 right), same_pair_is c o client n.0, each_right-has n.1 (f n.0), h4, both, same_pair_is, each_right-has)
+    by_test b h2 h3 h4 h5 = grind (arith, same_pair_is)
 
 step-sound : (call : Call) (old new : Ledger) → LeadsTo old call new → AreHeldInForce old → AreHeldInForce new
-step-sound (Grant client object rights) old new l sound q p c o right h = grind (arith, or_left)
-step-sound (Revoke client object rights) old new l sound q p c o right h = grind (arith, and_here, false_from_ne_true, both, same_pair_is, none_passes)
-step-sound (Hold client queue packet rights) old new l sound q p c o right h = grind (arith, both (same_packet q p queue packet) (is_named rights client c o right), named-in_force (λ x r. in_force old client x r) rights client c o right l.0, both, named-in_force)
-step-sound (Release queue packet) old new l sound q p c o right h = grind (arith, both (holds old q p c o right) (not (same_packet q p queue packet)) (sym (l.released q p c o right) ∙ h), both)
+step-sound (Grant client object rights) old new l sound q p c o right h = grind arith
+step-sound (Revoke client object rights) old new l sound q p c o right h = grind (arith, both, same_pair_is)
+step-sound (Hold client queue packet rights) old new l sound q p c o right h = grind (arith, named-in_force (λ x r. in_force old client x r) rights client c o right l.0)
+step-sound (Release queue packet) old new l sound q p c o right h = grind arith
 
 -- ---- a list of calls
 
@@ -61,12 +61,12 @@ calls_of steps = map (λ step. step.0) steps
 given-by : (steps : List (Call × Ledger)) (old : Ledger) → AreMade old steps → (c : ClientId) (o : Object) (right : Right)
     → in_force (last_ledger old steps) c o right ≡ fold (in_force_after c o right) (in_force old c o right) (calls_of steps)
 given-by [] old made c o right = refl
-given-by (step ∷ steps) old made c o right = grind (arith, given-by steps step.1 made.1 c o right, step-given step.0 old step.1 made.0 c o right, step-given)
+given-by (step ∷ steps) old made c o right = grind (arith, given-by steps step.1 made.1 c o right)
 
 held-by : (steps : List (Call × Ledger)) (old : Ledger) → AreMade old steps → (q : QueueId) (p : PacketId) (c : ClientId) (o : Object) (right : Right)
     → holds (last_ledger old steps) q p c o right ≡ fold (holds_after q p c o right) (holds old q p c o right) (calls_of steps)
 held-by [] old made q p c o right = refl
-held-by (step ∷ steps) old made q p c o right = grind (arith, held-by steps step.1 made.1 q p c o right, step-held step.0 old step.1 made.0 q p c o right, step-held)
+held-by (step ∷ steps) old made q p c o right = grind (arith, held-by steps step.1 made.1 q p c o right)
 
 rules-by : (steps : List (Call × Ledger)) (old : Ledger) → AreMade old steps → rules_in (last_ledger old steps) ≡ rules_in old
 rules-by [] old made = refl

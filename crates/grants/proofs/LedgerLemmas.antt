@@ -17,24 +17,24 @@ module _ (table : Table) (list : List Hold) (room : ℕ) (old : Ledger) (view : 
   -- holds behind the others are what the packet came to hold
   pub held_more : (c : ClientId) (q : QueueId) (p : PacketId) (rights : List (Object × Rights)) (after : Table) (more : List Hold) (left : ℕ)
       → SameRights table after → more ≡ list ++ map (hold_of q p c) rights → Holds old (ledger after more left) c q p rights
-  held_more c q p rights after more left same put = grind (arith, held-pushed q p c rights, held-pushed)
+  held_more c q p rights after more left same put = grind (arith, held-pushed)
 
   -- without the packet's holds it holds nothing
   pub released : (q : QueueId) (p : PacketId) (after : Table) (rest : List Hold) (left : ℕ)
       → SameRights table after → rest ≡ filter (λ hold. not (is_of q p hold)) list → room ≤ left
       → length rest + left ≡ length list + room → Releases old (ledger after rest left) q p
-  released q p after rest left same dropped more places = grind (arith, held-dropped q p, and_comm, held-dropped)
+  released q p after rest left same dropped more places = grind (arith, held-dropped)
 
   -- a client and an object that have a cell are declared
   pub declared : (c : ClientId) (o : Object) (found : Option Cell) (cell : Cell) → is_some found ≡ (knows_client table.rules c && knows_object table.rules o) → found ≡ Some cell
       → (knows_client (rules_in old) c ≡ true) × (knows_object (rules_in old) o ≡ true)
-  declared c o found cell known is = grind (arith, both (knows_client table.rules c) (knows_object table.rules o) (sym known ∙ ap is_some is), both)
+  declared c o found cell known is = grind arith
 
   -- the first of the packets with a hold of one of the rights is the first that holds one of them
   pub holder_first : (c : ClientId) (o : Object) (rights : Rights) (first : Option (QueueId × PacketId)) → IsFirstTo (holds_one list c o rights) first → IsFirstTo (is_holder old c o rights) first
-  holder_first c o rights first h = grind (arith, first_same (holds_one list c o rights) (is_holder (ledger table list room) c o rights) first (λ q p. holder list c o rights q p) h, holder list c o rights, first_same, holder)
+  holder_first c o rights first h = grind (arith, holder)
 
   -- where no hold of one of the rights is counted, no packet holds one of them
   pub none_holds : IsCounted table list → (c : ClientId) (o : Object) (rights : Rights) (cell : Cell) → cell_of table c o ≡ Some cell
       → list_any (λ right. has rights right && nat_lt 0 (count_of cell.held right)) all_rights ≡ false → IsFirstTo (is_holder old c o rights) None
-  none_holds counted c o rights cell at none = grind (arith, unheld table list counted c o rights cell, unheld)
+  none_holds counted c o rights cell at none = grind (arith, unheld)

@@ -12,10 +12,10 @@ from_one n m h = let parts = both (nat_lt 0 n) (nat_le n m) h in (ltb-true 0 n p
 
 module _ (rules : Rules) where
   pub in_row : (o : Object) → knows_object rules o ≡ true → object_place rules o < object_count rules
-  in_row o h2 = grind (arith, from_one)
+  in_row o h2 = grind arith
 
   same_in_row : (o p : Object) → knows_object rules o ≡ true → knows_object rules p ≡ true → object_place rules o ≡ object_place rules p → o ≡ p
-  same_in_row o p h3 h4 h5 = grind (arith, from_one)
+  same_in_row o p h3 h4 h5 = grind arith
 
   -- a place is one only for a declared client and object
   pub record IsPlace (c : ClientId) (o : Object) (place : ℕ) : Type 0 where
@@ -40,7 +40,7 @@ module _ (rules : Rules) where
   same_row a b i j h k e = sym (div-mul-add a (object_count rules) i h) ∙ ap (λ n. n / object_count rules) e ∙ div-mul-add b (object_count rules) j k
 
   pub place-same : (c : ClientId) (o : Object) (c' : ClientId) (o' : Object) (place : ℕ) → place_of rules c o ≡ Some place → place_of rules c' o' ≡ Some place → (c ≡ c') × (o ≡ o')
-  place-same c o c' o' place h h' = grind (arith, place-Some c o place h, place-Some c' o' place h', in_row o (place-Some c o place h).object, in_row o' (place-Some c' o' place h').object, same_row (c.0 - 1) (c'.0 - 1) (object_place rules o) (object_place rules o') (in_row o (place-Some c o place h).object) (in_row o' (place-Some c' o' place h').object) (sym (place-Some c o place h).is ∙ (place-Some c' o' place h').is), from_one c.0 rules.clients (place-Some c o place h).client, from_one c'.0 rules.clients (place-Some c' o' place h').client, same_in_row o o' (place-Some c o place h).object (place-Some c' o' place h').object, place-Some, in_row, same_row, from_one, same_in_row)
+  place-same c o c' o' place h h' = grind (arith, same_row (c.0 - 1) (c'.0 - 1) (object_place rules o) (object_place rules o') (in_row o (place-Some c o place h).object) (in_row o' (place-Some c' o' place h').object) (sym (place-Some c o place h).is ∙ (place-Some c' o' place h').is), same_in_row o o' (place-Some c o place h).object (place-Some c' o' place h').object)
 
 -- ---- a list with one item changed
 
@@ -74,7 +74,7 @@ module _ (rules : Rules) (cells : List Cell) (long : length cells ≡ rules.clie
           → item_at (slice_set cells place new) at' ≡ (if same then replacement new (item_at cells at') else item_at cells at')
       by_test true same None is = refl
       by_test false same None is = refl
-      by_test true same (Some place') is = grind (arith, same_pair_is c' o' c o same, get-set_here cells place new within, get-within cells place new within, same_pair_is, get-set_here, get-within)
+      by_test true same (Some place') is = grind (arith, same_pair_is c' o' c o same, get-set_here cells place new within, get-within cells place new within)
       by_test false same (Some place') is =
           get-set_other cells place place' new (λ e.
           let these = place-same rules c' o' c o place (is ∙ ap Some (sym e)) at in

@@ -13,4 +13,4 @@ in_eight right = grind arith
 
 -- a right is left where it was in the one set and isn't in the other
 pub has-without : (a b : Rights) (right : Right) → b.0 < 2 ^ 8 → has (record { 0 = without 8 a.0 b.0 }) right ≡ (has a right && not (has b right))
-has-without a b right fits = grind (arith, place_of right, has-bit (without 8 a.0 b.0) right, bit_at_and a.0 (bit_not w8 b.0) (place_of right), bit_at_not w8 b.0 (place_of right) fits (in_eight right), in_eight right, one_and_not (bit_at a.0 (place_of right)) (bit_at b.0 (place_of right)) (bit_at-lt a.0 (place_of right)) (bit_at-lt b.0 (place_of right)), bit_at-lt a.0 (place_of right), bit_at-lt b.0 (place_of right), has-bit a.0 right, has-bit b.0 right, place_of, has-bit, bit_at_and, bit_at_not, in_eight, one_and_not, bit_at-lt)
+has-without a b right fits = grind (arith, has-bit, bit_at_and)

@@ -9,7 +9,7 @@ abbrev none : Object × Rights
 none = (Agent (record { 0 = 0 }), record { 0 = 0 })
 
 pub count_hold-requires-clause-in_force : goal.count_hold-requires-clause-in_force
-count_hold-requires-clause-in_force = grind (arith, each_right-same, all_at)
+count_hold-requires-clause-in_force = grind (arith, all_at)
 
 pub loop-object-preserved : goal.loop-object-preserved
 loop-object-preserved c =
