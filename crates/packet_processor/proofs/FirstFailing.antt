@@ -49,7 +49,7 @@ decoded-refused bytes r e = rw e refl
 
 -- bytes that lay out a packet are refused by no rule of the layout, and the packet is the one of their fields
 decoded-found : (bytes : List ℕ) (p : Packet) → decoded bytes ≡ Some p → (o : Option CodecRule) → refusal bytes ≡ o → (refusal bytes ≡ None) × (packet_at (packet_type bytes) bytes ≡ p)
-decoded-found bytes p h3 o h5 = grind (arith, decoded_is bytes, decoded-refused bytes, decoded_is, decoded-refused)
+decoded-found bytes p h3 o h5 = grind (arith, decoded_is, decoded-refused)
 
 -- bytes that lay out a packet are refused where the packet is
 pub first_failing-decoded : (facts : Facts) (bytes : List ℕ) (p : Packet) → decoded bytes ≡ Some p → first_failing_rule facts bytes ≡ later_failing facts p

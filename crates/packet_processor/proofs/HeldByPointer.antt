@@ -36,4 +36,4 @@ abbrev pub all_pointed : (Object → Right → Bool) → List ℕ → List ℕ �
 all_pointed in_force lengths block offsets = map as_rights (flat_map (held_by_pointer in_force lengths) (wide_arguments offsets block))
 
 pub pointed-splits : (in_force : Object → Right → Bool) (lengths block : List ℕ) (x : ℕ) (xs : List ℕ) → all_pointed in_force lengths block (x ∷ xs) ≡ pointed in_force lengths block x ++ all_pointed in_force lengths block xs
-pointed-splits in_force lengths block x xs = grind (arith, map-joined (held_by_pointer in_force lengths (from_le_bytes w64 (take 8 (drop x block)))) (flat_map (held_by_pointer in_force lengths) (wide_arguments xs block)), map-joined)
+pointed-splits in_force lengths block x xs = grind arith

@@ -32,4 +32,4 @@ pub held_by_rule : (opening : Opening) (p : Packet) (none a k b c d : List (Obje
     → a ≡ none ++ rights_of (needs L4 opening.agent p) → k ≡ a ++ rights_of (needs L6 opening.agent p) → b ≡ k ++ rights_of (needs L8 opening.agent p)
     → c ≡ b ++ rights_of (needs L9 opening.agent p) → d ≡ c ++ rights_of (needs L10 opening.agent p)
     → d ≡ map as_rights (held_by_needs opening p)
-held_by_rule opening p none a k b c d empty first kernel second third fourth = grind (arith, rights_map (needs L10 opening.agent p) [], append-nil (rights_of (needs L10 opening.agent p)), rights_map (needs L9 opening.agent p) (map right_needed (needs L10 opening.agent p) ++ []), rights_map (needs L8 opening.agent p) (map right_needed (needs L9 opening.agent p) ++ (map right_needed (needs L10 opening.agent p) ++ [])), rights_map (needs L6 opening.agent p) (map right_needed (needs L8 opening.agent p) ++ (map right_needed (needs L9 opening.agent p) ++ (map right_needed (needs L10 opening.agent p) ++ []))), rights_map, append-nil)
+held_by_rule opening p none a k b c d empty first kernel second third fourth = grind (arith, rights_map)
