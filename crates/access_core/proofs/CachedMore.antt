@@ -93,7 +93,7 @@ module _ (a b : Inside) (event : Event) (outcome : Outcome) (effects : List Effe
       Kept f = is_launch f.queue f.id (launched_by event outcome) ≡ false → block_of a.blocks.items f.queue f.id ≡ arguments (start_of a) a.audit.items f.queue f.id
 
       launched : (f : InFlight) → launched_by event outcome ≡ Some f → Kept f
-      launched f is = grind (arith, and_from _ _ (eq-eqb f.queue.0 f.queue.0 refl) (eq-eqb f.id.0 f.id.0 refl), eq-eqb f.queue.0 f.queue.0 refl, eq-eqb f.id.0 f.id.0 refl, and_from, eq-eqb)
+      launched f is = grind arith
 
       kept : All Kept (flight (start_of a) (with_entry a.audit.items event outcome effects))
       kept = rw flight-more (all-after Kept (entry_of event outcome effects) (flight (start_of a) a.audit.items) launched

@@ -33,7 +33,7 @@ freed-at id qs n q found = ap (λ (o : Option Queue). elim o [ None ↦ 0 | Some
 
 -- a kept queue is sound
 pub sound-at : (qs : List Queue) (n : ℕ) (q : Queue) → All IsSound qs → numbered qs n ≡ Some q → IsSound q
-sound-at qs n q all found = grind (arith, numbered-place qs n q found, get_or_from_slice_get qs (n - 1) q q, slice_get_within qs (n - 1) q, numbered-place, get_or_from_slice_get, slice_get_within)
+sound-at qs n q all found = grind (arith, get_or_from_slice_get, slice_get_within)
 
 module _ (qs : List Queue) (n : QueueId) (change : Queue → Queue) (q : Queue) (found : numbered qs n.0 ≡ Some q) where
   -- the changed list
@@ -60,11 +60,11 @@ module _ (qs : List Queue) (n : QueueId) (change : Queue → Queue) (q : Queue) 
 
   -- the changed queue is kept at its number, the others are as they were
   pub cached-changed : (m : QueueId) → cached_view (numbered (with_queue qs n change) m.0) ≡ (if n.0 == m.0 then cached_view (Some (change q)) else cached_view (numbered qs m.0))
-  cached-changed m = grind (arith, with_queue-is, cases_eq n.0 m.0, numbered-at _ n.0 (change q) place.0 (get-changed qs (n.0 - 1) q (change q) place.1), get-changed qs (n.0 - 1) q (change q) place.1, numbered-other qs n.0 (change q) m.0 place.0, cases_eq, numbered-at, get-changed, numbered-other)
+  cached-changed m = grind (arith, get-changed, numbered-other)
 
   -- so what is kept is what the history says, where both change alike
   pub queues-changed : (view : QueueView → QueueView) (start : Start) (old new : List Entry) → cached_view (Some (change q)) ≡ view (cached_view (Some q))
       → ((m : QueueId) → cached_view (numbered qs m.0) ≡ queue_at start old m)
       → ((m : QueueId) → queue_at start new m ≡ (if n.0 == m.0 then view (queue_at start old m) else queue_at start old m))
       → (m : QueueId) → cached_view (numbered (with_queue qs n change) m.0) ≡ queue_at start new m
-  queues-changed view start old new alike was now m = grind (arith, cached-changed m, eqb-true, was, now, cached-changed)
+  queues-changed view start old new alike was now m = grind (arith, cached-changed)

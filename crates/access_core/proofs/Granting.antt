@@ -61,7 +61,7 @@ module _ (a : Inside) (kept : IsCached a) (client : ClientId) (on : Object) (rig
   -- a revocation that grants let pass is owed its entry
   revoke-owed : RevokeAnswers a.grants client on rights (Ok tt) → owed (start_of a) a.audit.items (Revoke client on rights) ≡ enters outcome.Accepted []
   unfolding owed
-  revoke-owed answers = grind (arith, rules_is, least-none holding (flight (start_of a) a.audit.items) (first-test None answers.2), first-test None answers.2, least-none, first-test)
+  revoke-owed answers = grind (arith, least-none holding (flight (start_of a) a.audit.items) (first-test None answers.2))
 
   pub revoke-due : (old : History) → history_of a ≡ old → RevokeAnswers a.grants client on rights (Ok tt) → (full : Bool) → is_full old ≡ full → due old (Revoke client on rights) ≡ (if full then refuses refusal.AuditFull else enters outcome.Accepted [])
   revoke-due old seen_as may full is = due-by a old seen_as (Revoke client on rights) _ (revoke-owed may) ∙ ap (λ b. if b then refuses refusal.AuditFull else enters outcome.Accepted []) is
@@ -69,7 +69,7 @@ module _ (a : Inside) (kept : IsCached a) (client : ClientId) (on : Object) (rig
   -- one that grants refuse is owed the refusal
   pub revoke-refused : (r : Why) → RevokeAnswers a.grants client on rights (Err r) → owed (start_of a) a.audit.items (Revoke client on rights) ≡ refuses (refusal_of r)
   unfolding owed
-  revoke-refused why.UnknownClient answers = grind (arith, rules_is)
-  revoke-refused why.UnknownObject answers = grind (arith, rules_is)
+  revoke-refused why.UnknownClient answers = grind arith
+  revoke-refused why.UnknownObject answers = grind arith
   revoke-refused why.NotAllowed answers = absurd answers
-  revoke-refused (why.Busy queue id) answers = grind (arith, rules_is, least-first holding (flight (start_of a) a.audit.items) queue id (first-test (Some (queue, id)) answers.2), first-test (Some (queue, id)) answers.2, least-first, first-test)
+  revoke-refused (why.Busy queue id) answers = grind (arith, least-first holding (flight (start_of a) a.audit.items) queue id (first-test (Some (queue, id)) answers.2))

@@ -29,14 +29,14 @@ pub record AreSizes (d : KernelDispatch) : Type 0 where
 
 pub groups_fit : (d : KernelDispatch) → has_sizes d ≡ true → AreSizes d
 groups_fit d is = record {
-  some_x = grind (arith, nat_tests);
-  some_y = grind (arith, nat_tests);
+  some_x = grind arith;
+  some_y = grind arith;
   some_z = grind (arith, nat_tests);
-  grid_x = grind (arith, nat_tests);
-  grid_y = grind (arith, nat_tests);
+  grid_x = grind arith;
+  grid_y = grind arith;
   grid_z = grind (arith, nat_tests);
-  fits_x = grind (arith, nat_tests);
-  fits_y = grind (arith, nat_tests);
+  fits_x = grind arith;
+  fits_y = grind arith;
   fits_z = grind (arith, nat_tests);
   few_items = grind (arith, nat_tests);
   few_groups = ltb-true _ _ (and_parts (has_dimensions d && nat_le (count_of (group_size d)) 1024) _ is).1;
@@ -80,7 +80,7 @@ pub record CanRun (start : Start) (es : List Entry) (queue : QueueId) (id : Pack
 module _ (start : Start) (es : List Entry) (legal : IsLegal start es) (queue : QueueId) (id : PacketId) (f : InFlight) (found : in_flight start es queue id ≡ Some f) where
   -- its arguments are those of its launch
   arguments-launched : arguments start es queue id ≡ arguments_of start (launch-of start es legal queue id f found).launch.before f.packet
-  arguments-launched = grind (arith, and_parts (f.queue.0 == queue.0) (f.id.0 == id.0) (found-passes (is_packet queue id) (flight start es) f found), found-passes (is_packet queue id) (flight start es) f found, eqb-true _ _ (and_parts (f.queue.0 == queue.0) (f.id.0 == id.0) (found-passes (is_packet queue id) (flight start es) f found)).0, eqb-true _ _ (and_parts (f.queue.0 == queue.0) (f.id.0 == id.0) (found-passes (is_packet queue id) (flight start es) f found)).1, launch-of start es legal queue id f found, and_parts, found-passes, eqb-true, launch-of)
+  arguments-launched = grind (arith, found-passes)
 
   pub can-run : (d : KernelDispatch) → f.packet ≡ packet.Kernel d → CanRun start es queue id d
   can-run d is = by_kernel (numbered start.kernels d.kernel_object.0) refl
@@ -95,7 +95,7 @@ module _ (start : Start) (es : List Entry) (legal : IsLegal start es) (queue : Q
       fits = kernel_passes facts d (λ kernel. nat_le kernel.group d.group_segment_size)
 
       passes : (fits ≡ true) × (nat_le d.group_segment_size MOST_SEGMENT_BYTES ≡ true)
-      passes = grind (arith, and_parts (fits && nat_le d.group_segment_size MOST_SEGMENT_BYTES) (nat_le d.private_segment_size MOST_SEGMENT_BYTES) (segmented start es legal queue id f found d is), nat_le d.group_segment_size MOST_SEGMENT_BYTES, nat_le d.private_segment_size MOST_SEGMENT_BYTES, segmented start es legal queue id f found d is, and_parts fits (nat_le d.group_segment_size MOST_SEGMENT_BYTES) (and_parts (fits && nat_le d.group_segment_size MOST_SEGMENT_BYTES) (nat_le d.private_segment_size MOST_SEGMENT_BYTES) (segmented start es legal queue id f found d is)).0, and_parts, nat_le, segmented)
+      passes = grind (arith, segmented start es legal queue id f found d is)
 
       by_kernel : (o : Option Program) → numbered start.kernels d.kernel_object.0 ≡ o → CanRun start es queue id d
       by_kernel None none =

@@ -16,7 +16,7 @@ use Rattle.access_core.proofs.KernelLemmas.{views-alike}
 
 -- what is known of all of a list is known of the one of a number
 numbered-all : {X : Type 0} (P : X → Type 0) (xs : List X) (n : ℕ) (x : X) → All P xs → numbered xs n ≡ Some x → P x
-numbered-all P xs n x all found = grind (arith, get_or_from_slice_get xs (n - 1) x x, slice_get_within xs (n - 1) x, get_or_from_slice_get, slice_get_within)
+numbered-all P xs n x all found = grind (arith, get_or_from_slice_get, slice_get_within)
 
 -- the program at a kernel's index
 abbrev pub program_at : Kernel → Program
@@ -46,7 +46,7 @@ module _ (a : Inside) (kept : IsCached a) (old : History) (seen_as : history_of 
 
   -- the packet that was found has the queue and the id
   named : (found.flying.queue ≡ queue) × (found.flying.id ≡ id)
-  named = grind (arith, and_parts (found.flying.queue.0 == queue.0) (found.flying.id.0 == id.0) (found-passes (is_packet queue id) (flight old.start old.entries) found.flying found.found), found-passes (is_packet queue id) (flight old.start old.entries) found.flying found.found, eqb-true _ _ (and_parts (found.flying.queue.0 == queue.0) (found.flying.id.0 == id.0) (found-passes (is_packet queue id) (flight old.start old.entries) found.flying found.found)).0, eqb-true _ _ (and_parts (found.flying.queue.0 == queue.0) (found.flying.id.0 == id.0) (found-passes (is_packet queue id) (flight old.start old.entries) found.flying found.found)).1, and_parts, found-passes, eqb-true)
+  named = grind (arith, found-passes)
 
   kernels-are : (n : ℕ) → numbered old.start.kernels n ≡ option_map program_of (numbered a.kernels.items n)
   kernels-are n = ap (λ (h : History). numbered h.start.kernels n) (sym seen_as) ∙ numbered-map program_of a.kernels.items n

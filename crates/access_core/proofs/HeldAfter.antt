@@ -45,7 +45,7 @@ block-without_packet q i f other found (b ∷ bs) = either (is_block q i b) refl
 
 blocks-dropped : (a : Inside) (event : Event) (outcome : Outcome) → launched_by event outcome ≡ None → (q : QueueId) (i : PacketId) (fs : List InFlight)
     → All (λ f. block_of (filter (λ b. not (is_block q i b)) a.blocks.items) f.queue f.id ≡ arguments_behind a event outcome f.queue f.id) (filter (λ f. not (is_packet q i f)) fs)
-blocks-dropped a event outcome launches q i fs = grind (arith, arguments_behind a event outcome, block-without_packet q i, filter-passes (λ f. not (is_packet q i f)) fs)
+blocks-dropped a event outcome launches q i fs = grind (arith, block-without_packet q i, filter-passes (λ f. not (is_packet q i f)) fs)
 
 -- a packet that is launched has its block behind the others
 blocks-launched : (a : Inside) (event : Event) (outcome : Outcome) (q : QueueId) (i : PacketId) (p : Packet) (bytes : List ℕ) → launched_by event outcome ≡ Some (record { queue = q; id = i; packet = p }) → bytes ≡ arguments_of (start_of a) a.audit.items p
@@ -91,7 +91,7 @@ left_out k p s x r one two = grind arith
 module _ (owners : QueueId → Option Opening) (helds : QueueId → PacketId → List ObjectRight) (q : QueueId) (i : PacketId) (queue : QueueId) (id : PacketId) (client : ClientId) (on : Object) (right : Right) where
   pub held-without_packet : (fs : List InFlight) → packet_holds owners helds (filter (λ f. not (is_packet q i f)) fs) queue id client on right ≡ (packet_holds owners helds fs queue id client on right && not (same_packet queue id q i))
   held-without_packet [] = refl
-  held-without_packet (f ∷ fs) = grind (arith, left_out, held-without_packet fs)
+  held-without_packet (f ∷ fs) = grind (arith, held-without_packet fs)
 
 -- ---- a packet that is launched
 
@@ -118,7 +118,7 @@ pub held-with : (owners : QueueId → Option Opening) (helds : QueueId → Packe
     → (queue : QueueId) (id : PacketId) (client : ClientId) (on : Object) (right : Right)
     → (packet_holds owners helds fs queue id client on right || (same_packet queue id q i && is_named (map as_rights hs) opening.client client on right))
     ≡ packet_holds owners helds (fs ++ (record { queue = q; id = i; packet = p }) ∷ []) queue id client on right
-held-with owners helds fs opening q i p hs is gives queue id client on right = grind (arith, or-false, list_any-append (λ (f : InFlight). is_packet queue id f && holds_by (owners f.queue) client on right (helds f.queue f.id)) fs ((record { queue = q; id = i; packet = p }) ∷ []), names-held opening.client client)
+held-with owners helds fs opening q i p hs is gives queue id client on right = grind (arith, list_any-append (λ (f : InFlight). is_packet queue id f && holds_by (owners f.queue) client on right (helds f.queue f.id)) fs ((record { queue = q; id = i; packet = p }) ∷ []), names-held opening.client client)
 
 -- one entry more leaves what packets in flight hold
 held-left : (start : Start) (es : List Entry) (e : Entry) (owners : QueueId → Option Opening) (queue : QueueId) (id : PacketId) (client : ClientId) (on : Object) (right : Right) (fs : List InFlight) → All (HoldsInForce start es) fs
@@ -186,7 +186,7 @@ each-one one test = grind arith
 
 all-in_force : (grants : Ledger) (client : ClientId) (hs : List ObjectRight) → are_in_force grants client (map as_rights hs) ≡ list_all (λ h. ledger.in_force grants client h.0 h.1) hs
 all-in_force grants client [] = refl
-all-in_force grants client (h ∷ hs) = grind (arith, each-one h.1 (ledger.in_force grants client h.0), all-in_force grants client hs)
+all-in_force grants client (h ∷ hs) = grind (arith, all-in_force grants client hs)
 
 -- what a packet that is launched will hold is in force
 pub launch-in_force : (a : Inside) → IsCached a → (old : Ledger) (client : ClientId) (rights : List (Object × Rights)) (hs : List ObjectRight) → old ≡ record a.grants { room = old.room } → rights ≡ map as_rights hs
@@ -195,4 +195,4 @@ launch-in_force a kept old client rights hs same are forced = grind (arith, all-
 
 -- a queue that is opened leaves the grants as the history says
 pub grants-opened : (a : Inside) → IsCached a → (client : ClientId) (agent : AgentHandle) (size : ℕ) (told : Outcome) → flight (start_of a) (with_entry a.audit.items (OpenQueue client agent size) told []) ≡ flight (start_of a) a.audit.items → GrantsAfter a a.grants a.blocks.items (OpenQueue client agent size) told []
-grants-opened a kept opener agent size told flying = grind (arith, held-opened (start_of a) a.audit.items (entry_of (OpenQueue opener agent size) told []), holding-legal (start_of a) a.audit.items kept.legal, held-unlaunched (start_of a) a.audit.items (entry_of (OpenQueue opener agent size) told []) refl, blocks-still a (OpenQueue opener agent size) told refl)
+grants-opened a kept opener agent size told flying = grind (arith, held-opened (start_of a) a.audit.items (entry_of (OpenQueue opener agent size) told []), holding-legal (start_of a) a.audit.items kept.legal, held-unlaunched (start_of a) a.audit.items (entry_of (OpenQueue opener agent size) told []) refl)

@@ -18,7 +18,7 @@ module _ (start : Start) (es : List Entry) (e : Entry) where
 
   -- a packet in flight holds what it held
   pub held-kept : (f : InFlight) → HoldsInForce start es f → packet_rights start later f.queue f.id ≡ packet_rights start es f.queue f.id
-  held-kept f h = grind (arith, from_launch-kept (holds-from start f.queue) [] es (e ∷ []) f.queue f.id (was-launched start es e f.queue f.id h.launch.before h.launch.opening f.packet h.held_is), holds-from start f.queue, was-launched start es e f.queue f.id h.launch.before h.launch.opening f.packet h.held_is, from_launch-kept, holds-from, was-launched)
+  held-kept f h = grind (arith, from_launch-kept (holds-from start f.queue) [] es (e ∷ []) f.queue f.id (was-launched start es e f.queue f.id h.launch.before h.launch.opening f.packet h.held_is))
 
   -- ---- an entry of a legal history
 
@@ -36,13 +36,13 @@ module _ (start : Start) (es : List Entry) (e : Entry) where
 
     none-at : (queue : QueueId) (id : PacketId) (o : Option InFlight) → launched_by e.event e.outcome ≡ o → is_launch queue id o ≡ true → was_launched es queue id ≡ false
     none-at queue id None is launches = absurd cc
-    none-at queue id (Some f) is launches = grind (arith, and_parts (f.queue.0 == queue.0) (f.id.0 == id.0) launches, eqb-true _ _ (and_parts (f.queue.0 == queue.0) (f.id.0 == id.0) launches).0, eqb-true _ _ (and_parts (f.queue.0 == queue.0) (f.id.0 == id.0) launches).1, was_launched es, was_launched es f.queue, none-before f is, and_parts, eqb-true, was_launched, none-before)
+    none-at queue id (Some f) is launches = grind (arith, none-before f is)
 
     -- a packet that is launched holds what its launch gives it
     pub held-launched : (f : InFlight) (opening : Opening) → launched_by e.event e.outcome ≡ Some f → owner start es f.queue ≡ Some opening → packet_rights start later f.queue f.id ≡ rights_at_launch start es opening f.packet
-    held-launched f opening is owned = grind (arith, and_from _ _ (eq-eqb f.queue.0 f.queue.0 refl) (eq-eqb f.id.0 f.id.0 refl), eq-eqb f.queue.0 f.queue.0 refl, eq-eqb f.id.0 f.id.0 refl, from_launch-launch (holds-from start f.queue) [] es e f.queue f.id (none-before f is), holds-from start f.queue, none-before f is, and_from, eq-eqb, from_launch-launch, holds-from, none-before)
+    held-launched f opening is owned = grind (arith, from_launch-launch, none-before)
 
     -- the arguments of a packet are those of its launch
     pub arguments-more : (queue : QueueId) (id : PacketId) → arguments start later queue id
         ≡ (if is_launch queue id (launched_by e.event e.outcome) then arguments_if start es (launched_by e.event e.outcome) else arguments start es queue id)
-    arguments-more queue id = grind (arith, from_launch-launch (arguments_if start) [] es e queue id, none-at queue id (launched_by e.event e.outcome) refl, from_launch-other (arguments_if start) [] es e queue id, from_launch-launch, none-at, from_launch-other)
+    arguments-more queue id = grind (arith, from_launch-launch, none-at, from_launch-other)

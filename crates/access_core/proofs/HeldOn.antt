@@ -12,11 +12,11 @@ one-has one other = grind arith
 -- what is asked of all packets of one queue and id is asked once, if there is one
 module _ (queue : QueueId) (id : PacketId) (test : QueueId → PacketId → Bool) where
   at-packet : (f : InFlight) → (is_packet queue id f && test f.queue f.id) ≡ (is_packet queue id f && test queue id)
-  at-packet f = grind (arith, and_parts (f.queue.0 == queue.0) (f.id.0 == id.0), eqb-true, and_parts)
+  at-packet f = grind arith
 
   any-packet : (fs : List InFlight) → list_any (λ f. is_packet queue id f && test f.queue f.id) fs ≡ (list_any (is_packet queue id) fs && test queue id)
   any-packet [] = refl
-  any-packet (f ∷ fs) = grind (arith, at-packet f, any-packet fs)
+  any-packet (f ∷ fs) = grind (arith, any-packet fs)
 
 found-one : {X : Type 0} (test : X → Bool) (xs : List X) (x : X) → find test xs ≡ Some x → list_any test xs ≡ true
 found-one test [] x found = absurd cc
@@ -25,7 +25,7 @@ found-one test (y ∷ ys) x found = grind (arith, found-one test ys x)
 -- so a packet in flight holds by the grants what it holds by the history
 pub holds-is : (a : Inside) → IsCached a → (queue : QueueId) (id : PacketId) (opening : Opening) (f : InFlight) → owner (start_of a) a.audit.items queue ≡ Some opening → in_flight (start_of a) a.audit.items queue id ≡ Some f
     → (on : Object) (one : Right) → ledger.holds a.grants queue id opening.client on one ≡ list_any (λ h. same_object on h.0 && (bit_of h.1 == bit_of one)) (packet_rights (start_of a) a.audit.items queue id)
-holds-is a kept queue id opening f owned found on one = grind (arith, found-one (is_packet queue id) (flight (start_of a) a.audit.items) f found, any-packet queue id (λ q i. holds_by (owner (start_of a) a.audit.items q) opening.client on one (packet_rights (start_of a) a.audit.items q i)) (flight (start_of a) a.audit.items), one-has, found-one, any-packet)
+holds-is a kept queue id opening f owned found on one = grind (arith, found-one (is_packet queue id) (flight (start_of a) a.audit.items) f found, any-packet queue id (λ q i. holds_by (owner (start_of a) a.audit.items q) opening.client on one (packet_rights (start_of a) a.audit.items q i)) (flight (start_of a) a.audit.items))
 
 -- and the same rights
 pub rights-are : (a : Inside) → IsCached a → (queue : QueueId) (id : PacketId) (opening : Opening) (f : InFlight) → owner (start_of a) a.audit.items queue ≡ Some opening → in_flight (start_of a) a.audit.items queue id ≡ Some f

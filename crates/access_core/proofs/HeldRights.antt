@@ -31,7 +31,7 @@ any-swap a b (x ∷ xs) ys =
   where
     spread : (ys : List _) → list_any (λ y. a y && (b x y || list_any (λ z. b z y) xs)) ys ≡ list_any (λ y. (a y && b x y) || (a y && list_any (λ z. b z y) xs)) ys
     spread [] = refl
-    spread (y ∷ ys) = grind (arith, spread ys)
+    spread (y ∷ ys) = grind arith
 
 -- ---- one right as a set
 
@@ -49,7 +49,7 @@ module _ (client : ClientId) (on : Object) (rights : Rights) where
 
   one-by : (o : Option Opening) (hs : List ObjectRight) → list_any (λ r. has rights r && holds_by o client on r hs) all_rights
       ≡ ((elim o [ None ↦ false | Some opening ↦ opening.client.0 == client.0 ]) && list_any (λ h. same_object on h.0 && has rights h.1) hs)
-  one-by o hs = grind (arith, any-none, any-constant, one-of_held)
+  one-by o hs = grind (arith, one-of_held)
 
   -- a packet is one that holds, by what is held right by right, where it holds by the history
   module _ (start : Start) (es : List Entry) (grants : Ledger) where

@@ -42,17 +42,17 @@ pub kernel-owed : (h : History) (queue : QueueId) (id : PacketId) (place : Place
     → owed h.start h.entries (RunNext queue id)
     ≡ (if ran then answers (outcome.Worked Done) else group_owed queue id d place.progress.groups_run (group_result (group_input h.start h.entries (given_at_launch h.start h.entries queue id) d place.progress.groups_run)))
 unfolding owed
-kernel-owed h queue id place found d packet_is ran is = grind (arith, owed-in_place h queue id place found (owed_group h.start h.entries queue id (given_at_launch h.start h.entries queue id)), owed-in_place)
+kernel-owed h queue id place found d packet_is ran is = grind arith
 
 -- a group that breaks a rule always finds room for its entry
 pub fault-due : (a : Inside) → IsCached a → (old : History) → history_of a ≡ old → (queue : QueueId) (id : PacketId) (place : Place) → IsInPlace old queue id place → (error : QueueError)
     → owed old.start old.entries (RunNext queue id) ≡ enters (outcome.Worked (Faulted error)) (effect.Release queue id ∷ []) → due old (RunNext queue id) ≡ enters (outcome.Worked (Faulted error)) (effect.Release queue id ∷ [])
-fault-due a kept old seen_as queue id place found error owing = grind (arith, release-due a kept old seen_as queue id place found (RunNext queue id) (outcome.Worked (Faulted error)) (effect.Release queue id ∷ []) (fault-releases queue id error) owing, fault-releases queue id error, release-due, fault-releases)
+fault-due a kept old seen_as queue id place found error owing = grind (arith, release-due a kept old seen_as queue id place found (RunNext queue id) (outcome.Worked (Faulted error)) (effect.Release queue id ∷ []) (fault-releases queue id error) owing)
 
 -- whatever it comes to, its run may want memory
 pub group-lacks : (h : History) (queue : QueueId) (id : PacketId) (d : KernelDispatch) (group : ℕ) (came : GroupResult) → owed h.start h.entries (RunNext queue id) ≡ group_owed queue id d group came
     → may_lack_memory (RunNext queue id) (due h (RunNext queue id)) ≡ true
-group-lacks h queue id d group came owing = grind (arith, due-as h (RunNext queue id) _ owing, due-as)
+group-lacks h queue id d group came owing = grind arith
 
 -- ---- what its writes leave
 

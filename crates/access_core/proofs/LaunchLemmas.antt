@@ -35,7 +35,7 @@ module _ (start : Start) (es : List Entry) where
 
     -- its argument block is as long as its kernel's
     pub block-long : (block : List ℕ) → block ≡ arguments_of start es p → length block ≡ kernel.argument_bytes
-    block-long block block_is = grind (arith, length-map-range_with_len (memory_at start es) d.kernarg_address.0 (kernel_of start d).argument_bytes, kernel-is)
+    block-long block block_is = grind (arith, length-map-range_with_len (memory_at start es) d.kernarg_address.0 (kernel_of start d).argument_bytes)
 
     -- what it holds by its arguments
     pub pointed-is : (opening : Opening) (facts : Facts) → facts ≡ facts_of start es opening → (offsets block : List ℕ) → offsets ≡ kernel.wide → block ≡ arguments_of start es p

@@ -19,8 +19,8 @@ runs-within lengths runs within = All-map (LiesWithin lengths) write_of_run runs
 module _ (h : History) (queue : QueueId) (id : PacketId) (group left : ℕ) (runs : List Run)
     (owing : owed h.start h.entries (RunNext queue id) ≡ enters (outcome.Worked (Ran group left)) (map write_of_run runs)) where
   pub group-due : (full : Bool) → is_full h ≡ full → due h (RunNext queue id) ≡ (if full then refuses refusal.AuditFull else enters (outcome.Worked (Ran group left)) (map write_of_run runs))
-  group-due full room = grind (arith, due-as h (RunNext queue id) (enters (outcome.Worked (Ran group left)) (map write_of_run runs)) owing, nat_lt h.capacity, runs-write runs, due-as, nat_lt, runs-write)
+  group-due full room = grind (arith, runs-write runs)
 
   -- its run may want memory, whether the audit has room or not
   pub group-may_lack_memory : may_lack_memory (RunNext queue id) (due h (RunNext queue id)) ≡ true
-  group-may_lack_memory = grind (arith, group-due)
+  group-may_lack_memory = grind arith

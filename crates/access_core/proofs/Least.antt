@@ -35,7 +35,7 @@ is_packet-itself f = grind arith
 
 -- a packet that comes up to one by its numbers comes up to it
 up_to-test : (f g : InFlight) → IsUpTo f.queue f.id g.queue g.id → is_up_to f g ≡ true
-up_to-test f g h3 = grind (arith, lt-ltb f.queue.0 g.queue.0, lt-ltb)
+up_to-test f g h3 = grind arith
 
 module _ (test : InFlight → Bool) where
   -- whether a packet of the list with this queue and id passes
@@ -52,12 +52,12 @@ module _ (test : InFlight → Bool) where
   -- what holds of all that pass by queue and id holds of each of the list that passes
   all-passing : (P : QueueId → PacketId → Type 0) (fs : List InFlight) → ((queue : QueueId) (id : PacketId) → passes fs queue id ≡ true → P queue id) → All (λ f. P f.queue f.id) (filter test fs)
   all-passing P [] step = All-nil (λ f. P f.queue f.id)
-  all-passing P (f ∷ fs) step = grind (arith, all-passing P fs (λ queue id is. step queue id (later-passes f fs queue id is)), later-passes f fs, itself-passes f fs, later-passes, itself-passes)
+  all-passing P (f ∷ fs) step = grind (arith, all-passing P fs (λ queue id is. step queue id (later-passes f fs queue id is)))
 
   -- none passes
   none-passing : (fs : List InFlight) → ((queue : QueueId) (id : PacketId) → passes fs queue id ≡ false) → filter test fs ≡ []
   none-passing [] none = refl
-  none-passing (f ∷ fs) none = grind (arith, none-passing fs (λ queue id. (or_parts (is_packet queue id f && test f) (passes fs queue id) (none queue id)).1), or_parts, itself-passes f fs, itself-passes)
+  none-passing (f ∷ fs) none = grind (arith, none-passing fs (λ queue id. (or_parts (is_packet queue id f && test f) (passes fs queue id) (none queue id)).1), itself-passes f fs)
 
   -- one that passes by its queue and id is found among those that pass
   passing-found : (fs : List InFlight) (queue : QueueId) (id : PacketId) → passes fs queue id ≡ true → list_any (is_packet queue id) (filter test fs) ≡ true

@@ -16,7 +16,7 @@ few-regions lengths fit = leb-true _ _ (and_parts (nat_le (length lengths) 64) _
 
 -- the bytes of a whole region lie within it
 pub whole-within : (lengths : List ℕ) (number size : ℕ) → size ≡ region_length lengths number → 0 < region_length lengths number → is_within lengths (number * 2 ^ 32) size ≡ true
-whole-within lengths number size is some = grind (arith, nat_lt 0 size, nat_le (0 + size) size, nat_tests, nat_lt, nat_le)
+whole-within lengths number size is some = grind arith
 
 -- ---- regions by number
 
@@ -41,16 +41,16 @@ module _ (start : Start) (es : List Entry) (all : List ObjectRight) where
 
   -- the next region is lent behind the others, if it is held
   pub lent-next : (count : ℕ) → lent_so_far (count + 1) ≡ lent_so_far count ++ option_to_list (lent_if_held start es (region_numbered start all (count + 1)))
-  lent-next count = grind (arith, filter_of_map_range_with_len_more (λ (region : RegionRights). not (region.rights.0 == 0)) (region_numbered start all) 1 count (count + 1), map-append (lent_whole start es) (filter (λ (region : RegionRights). not (region.rights.0 == 0)) (map (region_numbered start all) (range_with_len 1 count))) (cond (not ((region_numbered start all (count + 1)).rights.0 == 0)) ((region_numbered start all (count + 1)) ∷ []) []), filter_of_map_range_with_len_more, map-append)
+  lent-next count = grind (arith, filter_of_map_range_with_len_more (λ (region : RegionRights). not (region.rights.0 == 0)) (region_numbered start all) 1 count (count + 1), map-append (lent_whole start es) (filter (λ (region : RegionRights). not (region.rights.0 == 0)) (map (region_numbered start all) (range_with_len 1 count))) (cond (not ((region_numbered start all (count + 1)).rights.0 == 0)) ((region_numbered start all (count + 1)) ∷ []) []))
 
   -- so it is behind those that were lent before
   pub lent-behind : (count : ℕ) (before after : List Borrowed) (next : Option Borrowed) → map lent_region before ≡ lent_so_far count → option_map lent_region next ≡ lent_if_held start es (region_numbered start all (count + 1))
       → after ≡ before ++ option_to_list next → map lent_region after ≡ lent_so_far (count + 1)
-  lent-behind count before after next are is behind = grind (arith, map-append lent_region before (option_to_list next), lent-next count, map-append, lent-next)
+  lent-behind count before after next are is behind = grind (arith, map-append, lent-next)
 
   -- all regions are those that the history tells
   pub lent-all : lent_so_far (length (region_lengths start.policy)) ≡ view_whole start es all
-  lent-all = grind (arith, rows-are (held_region all) (0 ∷ []) (region_lengths start.policy) 1 refl, rows-are)
+  lent-all = grind (arith, rows-are (held_region all) (0 ∷ []) (region_lengths start.policy) 1 refl)
 
   -- a region that is held, with its bytes, is lent so
   pub lent-held : (number : ℕ) (rights : Rights) (bytes : List ℕ) → rights ≡ rights_held all (object.Region (record { 0 = number })) → (rights.0 == 0) ≡ false

@@ -14,4 +14,4 @@ module _ (a : Inside) (kept : IsCached a) (client : ClientId) where
   pub listing-replied : (old : History) → history_of a ≡ old → (rows : List (Object × Rights)) → rows ≡ ledger.listing a.grants client → knows_client (rules_of old.start.policy) client ≡ true
       → Ok (answer.Listing rows) ≡ query_answer old.start old.entries (query.List client)
   unfolding query_answer
-  listing-replied old seen_as rows are declared = grind (arith, listing-kept)
+  listing-replied old seen_as rows are declared = grind arith

@@ -11,7 +11,7 @@ use Rattle.core_model.specs.Flight.{flight}
 
 -- no queue has a number where there is none
 numbered-none : (n : ℕ) → numbered {X = Queue} [] n ≡ None
-numbered-none n = grind (arith, nat_lt 0 n, nat_lt)
+numbered-none n = grind arith
 
 -- what is kept where nothing has happened is what the empty audit says
 pub IsCached-opened : (a : Inside) → IsNew a.grants → rules_in a.grants ≡ rules_of a.policy → a.memory ≡ zeros (region_lengths a.policy) → a.signals ≡ initial_values a.policy
@@ -42,7 +42,7 @@ IsCached-opened a fresh ruled memory values blocks queues flying entries places 
 
 -- a capacity is at most 2^20
 pub few_places : (capacity : ℕ) → is_capacity capacity ≡ true → capacity ≤ MOST_ENTRIES
-few_places capacity is = grind (arith, nat_tests)
+few_places capacity is = grind arith
 
 -- where no kernel is missing, each has its checked kernel
 none-missing : (kernels : List Kernel) → first_missing kernels ≡ None → All (λ kernel. has_entry kernel ≡ true) kernels
@@ -51,4 +51,4 @@ none-missing (kernel ∷ kernels) none = grind (arith, none-missing kernels)
 
 -- so it is where a core can be opened
 pub entries-there : (policy : Declared) (kernels : List Kernel) (capacity : ℕ) → open_fault policy kernels capacity ≡ None → All (λ kernel. has_entry kernel ≡ true) kernels
-entries-there policy kernels capacity is = grind (arith, none-missing kernels, none-missing)
+entries-there policy kernels capacity is = grind (arith, none-missing)

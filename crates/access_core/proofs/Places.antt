@@ -6,15 +6,15 @@ use Rattle.grants.specs.Ledger as ledger
 
 -- an entry takes a place that was free
 entered-places : (old new : Roomy Entry) (entry : Entry) → IsEntered old new entry → places_of new ≡ places_of old
-entered-places old new entry is = grind (arith, length-append old.items (entry ∷ []), length-append)
+entered-places old new entry is = grind (arith, length-append)
 
 -- and so does an error
 pub failed-places : (q : Queue) (id : PacketId) (error : QueueError) → 0 < q.errors.room → error_places (with_failure id error q) ≡ error_places q
-failed-places q id error some = grind (arith, length-append q.errors.items (error ∷ []), length-append)
+failed-places q id error some = grind (arith, length-append)
 
 module _ (a : Inside) (core : Core) (seen_as : core_of a ≡ core) where
   -- the audit has an entry more, and each other table as many places as before
   pub places-kept : (queues : Vec Queue) (grants : Ledger) (blocks : Roomy ArgumentBlock) (audit : Roomy Entry) (entry : Entry) → vec_capacity queues ≡ vec_capacity a.queues
       → map error_places queues.items ≡ map error_places a.queues.items → ledger.places grants ≡ ledger.places a.grants → places_of blocks ≡ places_of a.blocks → IsEntered a.audit audit entry
       → table_places a.kernels a.segments queues grants blocks audit ≡ core.places
-  places-kept queues grants blocks audit entry of_queues of_errors of_holds of_blocks is = grind (arith, entered-places a.audit audit entry is, entered-places)
+  places-kept queues grants blocks audit entry of_queues of_errors of_holds of_blocks is = grind (arith, entered-places)

@@ -20,4 +20,4 @@ sight-advances queue id false new = record { launches = refl; progress = λ q i 
 pub poll-owed : (a : Inside) → IsCached a → (old : History) → history_of a ≡ old → (queue : QueueId) (id : PacketId) (place : Place) → IsInPlace old queue id place → (owing : Owed)
     → owed_poll a.signals queue id place.packet place.progress ≡ owing → owed old.start old.entries (Poll queue id) ≡ owing
 unfolding owed
-poll-owed a kept old seen_as queue id place found owing is = grind (arith, owed-in_place old queue id place found (owed_poll (signals old.start old.entries) queue id), owed-in_place)
+poll-owed a kept old seen_as queue id place found owing is = grind arith

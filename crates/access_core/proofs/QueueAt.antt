@@ -26,12 +26,12 @@ module _ (i : ℕ) where
   released-in : (g : InFlight → Place) (n m : ℕ) (fs : List InFlight) → ((f : InFlight) → (g f).id ≡ f.id) → map g (filter (of_queue m) (filter (stays n) fs))
       ≡ (if n == m then filter (λ p. not (p.id.0 == i)) (map g (filter (of_queue m) fs)) else map g (filter (of_queue m) fs))
   released-in g n m [] named = grind arith
-  released-in g n m (f ∷ fs) named = grind (arith, named f, released-in g n m fs named)
+  released-in g n m (f ∷ fs) named = grind (arith, released-in g n m fs named)
 
   pub released-of : (g : InFlight → Place) (n : ℕ) (fs : List InFlight) → ((f : InFlight) → (g f).id ≡ f.id)
       → map g (filter (of_queue n) (filter (stays n) fs)) ≡ filter (λ p. not (p.id.0 == i)) (map g (filter (of_queue n) fs))
   released-of g n [] named = refl
-  released-of g n (f ∷ fs) named = grind (arith, named f, released-of g n fs named)
+  released-of g n (f ∷ fs) named = grind (arith, released-of g n fs named)
 
   -- it takes out as many of all as of its queue
   pub released-count : (n : ℕ) (fs : List InFlight) → length (filter (of_queue n) fs) + length (filter (stays n) fs) ≡ length fs + length (filter (of_queue n) (filter (stays n) fs))
@@ -128,7 +128,7 @@ module _ (start : Start) (es : List Entry) (event : Event) (told : Outcome) (eff
       where
         comes : (f : InFlight) → further m event told (place_of start es m f)
             ≡ (if q.0 == m.0 then with_progress id so_far (place_of start es m f) else place_of start es m f)
-        comes f = grind (arith, eqb-true)
+        comes f = grind arith
 
         either : (b : Bool)
             → record (queue_at start es m) { places = map (λ f. if b then with_progress id so_far (place_of start es m f) else place_of start es m f) (flight_of start es m) }
@@ -143,7 +143,7 @@ module _ (start : Start) (es : List Entry) (event : Event) (told : Outcome) (eff
     pub queue_at-released : (m : QueueId)
         → queue_at start (with_entry es event told effects) m
         ≡ after m event told (queue_at start es m) (if q.0 == m.0 then without_packet id (queue_at start es m).places else (queue_at start es m).places)
-    queue_at-released m = grind (arith, queue_at-more start es event told effects m _ flight-released, flight-released, still is.progress m, released-in id.0 (place_of start es m) q.0 m.0 (flight start es) (λ f. refl), queue_at-more, still, released-in)
+    queue_at-released m = grind (arith, queue_at-more start es event told effects m _ flight-released, still is.progress m, released-in id.0 (place_of start es m) q.0 m.0 (flight start es) (λ f. refl))
 
 module _ (start : Start) (es : List Entry) (q : QueueId) (id : PacketId) (bytes : List ℕ) where
   -- a packet is denied

@@ -37,10 +37,10 @@ one-writes : (address : ℕ) (bytes : List ℕ) → OnlyWrites (write_of address
 one-writes address bytes = if-writes (length bytes == 0) _ _ none-writes (record { flight = λ flying. refl; signals = λ values. refl })
 
 function-writes : (start : Start) (entries : List Entry) (function : Option AgentFunction) → OnlyWrites (function_writes start entries function)
-function-writes start entries function = grind (arith, none-writes, one-writes)
+function-writes start entries function = grind arith
 
 pub agent-writes : (start : Start) (entries : List Entry) (dispatch : AgentDispatch) → OnlyWrites (agent_writes start entries dispatch)
-agent-writes start entries dispatch = grind (arith, both-write, function-writes, if-writes, none-writes, one-writes)
+agent-writes start entries dispatch = grind arith
 
 -- how far a packet has come once a group more has run
 abbrev pub one_group : Progress → Progress
@@ -68,19 +68,19 @@ module _ (h : History) (queue : QueueId) (id : PacketId) (place : Place) (found 
   agent-owed : (ran : Bool) → nat_le 1 place.progress.groups_run ≡ ran → owed h.start h.entries (RunNext queue id)
       ≡ (if ran then answers (outcome.Worked Done) else enters (outcome.Worked (Ran 0 0)) (agent_writes h.start h.entries d))
   unfolding owed
-  agent-owed ran is = grind (arith, owed-in_place h queue id place found (owed_group h.start h.entries queue id (given_at_launch h.start h.entries queue id)), owed-in_place)
+  agent-owed ran is = grind arith
 
   pub agent-done : nat_le 1 place.progress.groups_run ≡ true → due h (RunNext queue id) ≡ answers (outcome.Worked Done)
   agent-done ran = due-as h (RunNext queue id) (answers (outcome.Worked Done)) (agent-owed true ran)
 
   pub agent-due : nat_le 1 place.progress.groups_run ≡ false → (full : Bool) → is_full h ≡ full
       → due h (RunNext queue id) ≡ (if full then refuses refusal.AuditFull else enters (outcome.Worked (Ran 0 0)) (agent_writes h.start h.entries d))
-  agent-due ran full room = grind (arith, due-as h (RunNext queue id) (enters (outcome.Worked (Ran 0 0)) (agent_writes h.start h.entries d)) (agent-owed false ran), agent-owed false ran, nat_lt h.capacity, agent-writes h.start h.entries d, due-as, agent-owed, nat_lt, agent-writes)
+  agent-due ran full room = grind (arith, agent-owed false ran)
 
 -- barrier packets have no groups
 pub no-groups : (h : History) (queue : QueueId) (id : PacketId) (place : Place) → IsInPlace h queue id place → ((own : GivenAtLaunch) → owed_group h.start h.entries queue id own place.packet place.progress ≡ refuses refusal.NotInFlight) → due h (RunNext queue id) ≡ refuses refusal.NotInFlight
 unfolding owed
-no-groups h queue id place found is = grind (arith, due-as h (RunNext queue id) (refuses refusal.NotInFlight) (owed-in_place h queue id place found (owed_group h.start h.entries queue id (given_at_launch h.start h.entries queue id)) ∙ is (given_at_launch h.start h.entries queue id)), owed-in_place h queue id place found (owed_group h.start h.entries queue id (given_at_launch h.start h.entries queue id)), is, due-as, owed-in_place)
+no-groups h queue id place found is = grind arith
 
 -- a packet that isn't in flight is refused
 pub run-refused : (h : History) (queue : QueueId) (id : PacketId) (why : Refusal) → RefusedAt h queue id why → due h (RunNext queue id) ≡ refuses why

@@ -20,7 +20,7 @@ use Rattle.core_model.specs.declared.refusal.Refusal.TheVariants as refusal
 barrier-placed : (g : InFlight → Place) (fs : List InFlight) → ((f : InFlight) → (g f).id ≡ f.id) → ((f : InFlight) → (g f).packet ≡ f.packet)
     → option_map (λ (p : Place). p.id) (find (λ (p : Place). is_barrier p.packet) (map g fs)) ≡ option_map (λ (f : InFlight). f.id) (find (λ (f : InFlight). is_barrier f.packet) fs)
 barrier-placed g [] named same = refl
-barrier-placed g (f ∷ fs) named same = grind (arith, named f, ap is_barrier (same f), barrier-placed g fs named same)
+barrier-placed g (f ∷ fs) named same = grind (arith, barrier-placed g fs named same)
 
 -- one that is found is found by its id
 record FoundById (id : PacketId) (ps : List Place) : Type 0 where
@@ -59,13 +59,13 @@ module _ (a : Inside) (kept : IsCached a) (queue : QueueId) where
 
   barrier-is : (q : Queue) → numbered a.queues.items queue.0 ≡ Some q → option_map (λ (p : Place). p.id) (find (λ (p : Place). is_barrier p.packet) q.places)
       ≡ option_map (λ (f : InFlight). f.id) (find (λ (f : InFlight). is_barrier f.packet) (flight_of (start_of a) a.audit.items queue))
-  barrier-is q some = grind (arith, view-kept a queue q kept some, barrier-placed (place_of (start_of a) a.audit.items queue) (flight_of (start_of a) a.audit.items queue) (λ f. refl) (λ f. refl), view-kept, barrier-placed)
+  barrier-is q some = grind (arith, barrier-placed)
 
   -- the queue is kept
   pub stop-known : (q : Queue) → numbered a.queues.items queue.0 ≡ Some q →
       owed (start_of a) a.audit.items (Stop queue) ≡ (if q.stopped then refuses refusal.QueueDown else enters outcome.Accepted (release_of queue (option_map (λ (p : Place). p.id) (find (λ (p : Place). is_barrier p.packet) q.places))))
   unfolding owed
-  stop-known q some = grind (arith, view-kept a queue q kept some, owner-kept a queue kept, barrier-is q some, view-kept, owner-kept, barrier-is)
+  stop-known q some = grind (arith, owner-kept, barrier-is)
 
   open-at : (q : Queue) → numbered a.queues.items queue.0 ≡ Some q → IsOpen a queue
   open-at q some = is-open a kept queue (cached_opening q) (owner-kept a queue kept ∙ ap (option_map cached_opening) some)
@@ -79,7 +79,7 @@ module _ (a : Inside) (kept : IsCached a) (queue : QueueId) where
     freed-none = let freed-now = freed-at None a.queues.items queue at.q at.found in omega (arith, freed-now)
 
     pub freed-stopped : (barrier : Option PacketId) → freed_by barrier a.queues.items queue ≤ a.flying
-    freed-stopped barrier = grind (arith, freed-none, freed-below a kept queue, freed-below)
+    freed-stopped barrier = grind (arith, freed-below)
 
     -- how the queues move along
     pub queues-stopped : (barrier : Option PacketId) → QueuesAfter a (with_queue a.queues.items queue (with_stop barrier)) (a.flying - freed_by barrier a.queues.items queue) (Stop queue) outcome.Accepted (release_of queue barrier)
@@ -101,8 +101,8 @@ module _ (a : Inside) (kept : IsCached a) (queue : QueueId) where
   -- how the grants do
   pub grants-stopped : (barrier : Option PacketId) (new : Ledger) (blocks : List ArgumentBlock) → IfSome barrier (λ id. Releases a.grants new queue id) → IfSome barrier (λ id. blocks ≡ filter (λ b. not (is_block queue id b)) a.blocks.items)
       → IfNone barrier (new ≡ a.grants) → IfNone barrier (blocks ≡ a.blocks.items) → GrantsAfter a new blocks (Stop queue) outcome.Accepted (release_of queue barrier)
-  grants-stopped None new blocks released dropped same same_blocks = grind (arith, grants-still a kept (Stop queue) outcome.Accepted [] refl refl (λ client on right b. refl) (flight-unlaunched (start_of a) a.audit.items (Stop queue) outcome.Accepted [] refl), flight-unlaunched (start_of a) a.audit.items (Stop queue) outcome.Accepted [] refl, grants-still, flight-unlaunched)
-  grants-stopped (Some id) new blocks released dropped same same_blocks = grind (arith, grants-released a kept (Stop queue) outcome.Accepted (effect.Release queue id ∷ []) refl refl (λ client on right b. refl) new blocks queue id (flight-released (start_of a) a.audit.items _ _ _ queue id (is_release queue id)) released dropped, flight-released (start_of a) a.audit.items _ _ _ queue id (is_release queue id), is_release queue id, grants-released, flight-released, is_release)
+  grants-stopped None new blocks released dropped same same_blocks = grind (arith, grants-still, flight-unlaunched)
+  grants-stopped (Some id) new blocks released dropped same same_blocks = grind (arith, grants-released a kept (Stop queue) outcome.Accepted (effect.Release queue id ∷ []) refl refl (λ client on right b. refl) new blocks queue id (flight-released (start_of a) a.audit.items _ _ _ queue id (is_release queue id)) released dropped)
 
   -- a stop is due its entry where a barrier packet leaves flight for it, or the audit has room
   pub may-stop : (q : Queue) (barrier : Option PacketId) (none : Bool) (old : History) → history_of a ≡ old → numbered a.queues.items queue.0 ≡ Some q → q.stopped ≡ false
@@ -116,9 +116,9 @@ module _ (a : Inside) (kept : IsCached a) (queue : QueueId) where
           lacks_room (history_of a) (entry_of (Stop queue) outcome.Accepted (release_of queue o)) ≡ false
       left None true is which room = room refl
       left None false is which room = absurd cc
-      left (Some id) b is which room = grind (arith, found-by_id (λ (p : Place). is_barrier p.packet) q.places id (sym is), in-place a kept queue id q some (found-by_id (λ (p : Place). is_barrier p.packet) q.places id (sym is)).place (found-by_id (λ (p : Place). is_barrier p.packet) q.places id (sym is)).is, le-ltb _ _ (release-room a kept queue id (in-place a kept queue id q some (found-by_id (λ (p : Place). is_barrier p.packet) q.places id (sym is)).place (found-by_id (λ (p : Place). is_barrier p.packet) q.places id (sym is)).is).flying (in-place a kept queue id q some (found-by_id (λ (p : Place). is_barrier p.packet) q.places id (sym is)).place (found-by_id (λ (p : Place). is_barrier p.packet) q.places id (sym is)).is).found), release-room a kept queue id (in-place a kept queue id q some (found-by_id (λ (p : Place). is_barrier p.packet) q.places id (sym is)).place (found-by_id (λ (p : Place). is_barrier p.packet) q.places id (sym is)).is).flying (in-place a kept queue id q some (found-by_id (λ (p : Place). is_barrier p.packet) q.places id (sym is)).place (found-by_id (λ (p : Place). is_barrier p.packet) q.places id (sym is)).is).found, found-by_id, in-place, le-ltb, release-room)
+      left (Some id) b is which room = grind (arith, release-room a kept queue id (in-place a kept queue id q some (found-by_id (λ (p : Place). is_barrier p.packet) q.places id (sym is)).place (found-by_id (λ (p : Place). is_barrier p.packet) q.places id (sym is)).is).flying (in-place a kept queue id q some (found-by_id (λ (p : Place). is_barrier p.packet) q.places id (sym is)).place (found-by_id (λ (p : Place). is_barrier p.packet) q.places id (sym is)).is).found)
 
   -- a stop without a barrier packet is refused where the audit has none
   pub stop-full : (q : Queue) (barrier : Option PacketId) (old : History) → history_of a ≡ old → numbered a.queues.items queue.0 ≡ Some q → q.stopped ≡ false
       → barrier ≡ option_map (λ (p : Place). p.id) (find (λ (p : Place). is_barrier p.packet) q.places) → is_some barrier ≡ false → is_full old ≡ true → due old (Stop queue) ≡ refuses refusal.AuditFull
-  stop-full q barrier old h4 h5 h6 h7 h8 h9 = grind (arith, due-by a (history_of a) refl (Stop queue) (enters outcome.Accepted []), stop-known q, due-by, stop-known)
+  stop-full q barrier old h4 h5 h6 h7 h8 h9 = grind (arith, stop-known q)

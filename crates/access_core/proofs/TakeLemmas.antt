@@ -40,7 +40,7 @@ view-kept a queue q kept some = ap cached_view (sym some) ∙ kept.queues queue
 
 -- its packets in flight are those of the history
 pub packets-kept : (a : Inside) (queue : QueueId) (q : Queue) → IsCached a → numbered a.queues.items queue.0 ≡ Some q → map (λ (f : InFlight). f.packet) (flight_of (start_of a) a.audit.items queue) ≡ map (λ (p : Place). p.packet) q.places
-packets-kept a queue q kept some = grind (arith, map-map (λ (p : Place). p.packet) (place_of (start_of a) a.audit.items queue) (flight_of (start_of a) a.audit.items queue), view-kept a queue q kept some, map-map, view-kept)
+packets-kept a queue q kept some = grind (arith, map-map)
 
 module _ (a : Inside) (kept : IsCached a) (queue : QueueId) (id : PacketId) (bytes : List ℕ) where
   -- no queue has the number
@@ -55,7 +55,7 @@ module _ (a : Inside) (kept : IsCached a) (queue : QueueId) (id : PacketId) (byt
       else refuse_unless (id.0 == q.next) (refuses (refusal.OutOfStep q.next))
       (owed_verdict queue id.0 (cause_to_wait (map (λ (p : Place). p.packet) q.places) (barrier_bit bytes)) (first_failing_rule (facts_of (start_of a) a.audit.items (cached_opening q)) bytes)))
   unfolding owed
-  take-known q some = grind (arith, view-kept a queue q kept some, owner-kept a queue kept, packets-kept a queue q kept some, view-kept, owner-kept, packets-kept)
+  take-known q some = grind (arith, owner-kept, packets-kept)
 
 -- the rules that ask for rights
 pub record PassesRights (facts : Facts) (p : Packet) : Type 0 where
@@ -67,21 +67,21 @@ pub record PassesRights (facts : Facts) (p : Packet) : Type 0 where
 
 -- a packet that no rule refuses passes them
 passed-rights : (facts : Facts) (p : Packet) → later_failing facts p ≡ None → PassesRights facts p
-passed-rights facts p none = grind (arith, none-passes (λ r. not (meets_rule facts p r)) rules_of_fields none, and_parts, none-passes)
+passed-rights facts p none = grind arith
 
 -- what is needed and met is in force
 held-met : (facts : Facts) (all : List Need) (rest : List ObjectRight) → list_all (need_is_met facts) all ≡ true → list_all (λ h. facts.in_force h.0 h.1) rest ≡ true → list_all (λ h. facts.in_force h.0 h.1) (map right_needed all ++ rest) ≡ true
 held-met facts [] rest met others = others
-held-met facts (need ∷ all) rest met others = grind (arith, and_parts (need_is_met facts need) (list_all (need_is_met facts) all) met, and_parts (lies_whole facts.lengths need.subject) _ (and_parts (need_is_met facts need) (list_all (need_is_met facts) all) met).0, held-met facts all rest (and_parts (need_is_met facts need) (list_all (need_is_met facts) all) met).1 others, and_parts)
+held-met facts (need ∷ all) rest met others = grind (arith, held-met facts all rest (and_parts (need_is_met facts need) (list_all (need_is_met facts) all) met).1 others)
 
 -- so all that a packet will hold by its needs is in force
 held-passed : (facts : Facts) (p : Packet) (client : ClientId) → PassesRights facts p → list_all (λ h. facts.in_force h.0 h.1) (held_by_needs (record { client = client; agent = facts.agent }) p) ≡ true
-held-passed facts p client passes = grind (arith, held-met facts (needs rule.L4 facts.agent p) _ passes.agent (held-met facts (needs rule.L6 facts.agent p) _ passes.kernel (held-met facts (memory_needs p) _ passes.memory (held-met facts (needs rule.L9 facts.agent p) _ passes.waits (held-met facts (needs rule.L10 facts.agent p) [] passes.completes refl)))), held-met facts (needs rule.L6 facts.agent p) _ passes.kernel (held-met facts (memory_needs p) _ passes.memory (held-met facts (needs rule.L9 facts.agent p) _ passes.waits (held-met facts (needs rule.L10 facts.agent p) [] passes.completes refl))), held-met facts (memory_needs p) _ passes.memory (held-met facts (needs rule.L9 facts.agent p) _ passes.waits (held-met facts (needs rule.L10 facts.agent p) [] passes.completes refl)), held-met facts (needs rule.L9 facts.agent p) _ passes.waits (held-met facts (needs rule.L10 facts.agent p) [] passes.completes refl), held-met facts (needs rule.L10 facts.agent p) [] passes.completes refl, held-met)
+held-passed facts p client passes = grind (arith, held-met)
 
 -- what is needed and met lies whole in regions
 lies-met : (facts : Facts) (all : List Need) → list_all (need_is_met facts) all ≡ true → list_all (λ need. lies_whole facts.lengths need.subject) all ≡ true
 lies-met facts [] met = refl
-lies-met facts (need ∷ all) met = grind (arith, and_parts (need_is_met facts need) (list_all (need_is_met facts) all) met, and_parts (lies_whole facts.lengths need.subject) _ (and_parts (need_is_met facts need) (list_all (need_is_met facts) all) met).0, lies-met facts all (and_parts (need_is_met facts need) (list_all (need_is_met facts) all) met).1, and_parts)
+lies-met facts (need ∷ all) met = grind (arith, lies-met facts all (and_parts (need_is_met facts need) (list_all (need_is_met facts) all) met).1)
 
 -- a packet that is launched has all its ranges within regions
 pub within-launched : (start : Start) (es : List Entry) (opening : Opening) (bytes : List ℕ) (p : Packet) → decoded bytes ≡ Some p → first_failing_rule (facts_of start es opening) bytes ≡ None → lies_in_regions (region_lengths start.policy) p ≡ true
@@ -92,7 +92,7 @@ within-launched start es opening bytes p found none =
 all-behind : {X : Type 0} (test : X → Bool) (xs ys : List X) → list_all test xs ≡ true → All (λ x. test x ≡ true) ys → list_all test (xs ++ ys) ≡ true
 all-behind test [] [] met all = refl
 all-behind test [] (y ∷ ys) met all = rw (All-head (λ x. test x ≡ true) y ys all) (all-behind test [] ys refl (All-tail (λ x. test x ≡ true) y ys all))
-all-behind test (x ∷ xs) ys met all = grind (arith, and_parts (test x) (list_all test xs) met, all-behind test xs ys (and_parts (test x) (list_all test xs) met).1 all, and_parts)
+all-behind test (x ∷ xs) ys met all = grind (arith, all-behind test xs ys (and_parts (test x) (list_all test xs) met).1 all)
 
 -- a packet that is launched may hold what it needs, and what its arguments have it hold
 pub may-hold : (start : Start) (es : List Entry) (e : Entry) (opening : Opening) (bytes : List ℕ) (p : Packet) → decoded bytes ≡ Some p → first_failing_rule (facts_of start es opening) bytes ≡ None
@@ -110,13 +110,13 @@ placed-block h client (packet.Kernel d) all = reached (All-head (MayReachRange h
     size = (kernel_of h.start d).argument_bytes
 
     reached : (size ≡ 0) ⊎ MayReach h.start h.entries client Read d.kernarg_address.0 size → is_placed (region_lengths h.start.policy) d.kernarg_address.0 size ≡ true
-    reached h1 = grind (arith, or_right (size == 0), or_right)
+    reached h1 = grind arith
 placed-block h client (packet.Agent _) all = tt
 placed-block h client (packet.BarrierAnd _) all = tt
 placed-block h client (packet.BarrierOr _) all = tt
 
 pub block-placed : (h : History) (queue : QueueId) (id : PacketId) (bytes : List ℕ) (p : Packet) → due h (Take queue id bytes) ≡ enters (outcome.Taken Launched) [] → decoded bytes ≡ Some p → IsBlockPlaced h p
-block-placed h queue id bytes p is found = grind (arith, launch-granted h.start h.entries queue id bytes [] (entered-owed h (Take queue id bytes) (outcome.Taken Launched) [] is).0, entered-owed h (Take queue id bytes) (outcome.Taken Launched) [] is, placed-block h (launch-granted h.start h.entries queue id bytes [] (entered-owed h (Take queue id bytes) (outcome.Taken Launched) [] is).0).opening.client (launch-granted h.start h.entries queue id bytes [] (entered-owed h (Take queue id bytes) (outcome.Taken Launched) [] is).0).packet (launch-granted h.start h.entries queue id bytes [] (entered-owed h (Take queue id bytes) (outcome.Taken Launched) [] is).0).allowed.arguments, launch-granted, entered-owed, placed-block)
+block-placed h queue id bytes p is found = grind (arith, placed-block h (launch-granted h.start h.entries queue id bytes [] (entered-owed h (Take queue id bytes) (outcome.Taken Launched) [] is).0).opening.client (launch-granted h.start h.entries queue id bytes [] (entered-owed h (Take queue id bytes) (outcome.Taken Launched) [] is).0).packet (launch-granted h.start h.entries queue id bytes [] (entered-owed h (Take queue id bytes) (outcome.Taken Launched) [] is).0).allowed.arguments)
 
 -- a launch has room where there is some for an entry and one packet more in flight
 pub room-launched : (h : History) (queue : QueueId) (id : PacketId) (bytes : List ℕ) (p : Packet) → decoded bytes ≡ Some p
@@ -130,7 +130,7 @@ may_start-few ps barrier none = grind arith
 
 -- a queue that is kept, and not down, and where a packet may start takes its next packet
 pub takes-next : (a : Inside) (kept : IsCached a) (queue : QueueId) (q : Queue) (barrier : Bool) → numbered a.queues.items queue.0 ≡ Some q → (nat_lt 0 (length q.errors.items) || q.stopped) ≡ false → cause_to_wait (map (λ (p : Place). p.packet) q.places) barrier ≡ None → TakesNext (history_of a) queue
-takes-next a kept queue q barrier some down starts = grind (arith, view-kept a queue q kept some, length-map (flight_of (start_of a) a.audit.items queue) (λ (f : InFlight). f.packet), may_start-few (map (λ (f : InFlight). f.packet) (flight_of (start_of a) a.audit.items queue)) barrier (ap (λ ps. cause_to_wait ps barrier) (packets-kept a queue q kept some) ∙ starts), packets-kept a queue q kept some, owner-kept a queue kept, nat_lt 0, view-kept, length-map, may_start-few, packets-kept, owner-kept, nat_lt)
+takes-next a kept queue q barrier some down starts = grind (arith, length-map (flight_of (start_of a) a.audit.items queue) (λ (f : InFlight). f.packet), may_start-few (map (λ (f : InFlight). f.packet) (flight_of (start_of a) a.audit.items queue)) barrier (ap (λ ps. cause_to_wait ps barrier) (packets-kept a queue q kept some) ∙ starts), owner-kept a queue kept)
 
 none_opening : (o : Opening) → None ≡ Some o → ⊥
 none_opening o e = cc
@@ -153,7 +153,7 @@ pub record IsOpen (a : Inside) (queue : QueueId) : Type 0 where
   pub small : q.next < 2 ^ 63
 
 pub is-open : (a : Inside) (kept : IsCached a) (queue : QueueId) (opening : Opening) → owner (start_of a) a.audit.items queue ≡ Some opening → IsOpen a queue
-is-open a kept queue opening owned = grind (arith, none_opening opening, owner-kept a queue kept, view-kept a queue, next_id-le (start_of a) a.audit.items queue, sound-at a.queues.items queue.0, none_opening, owner-kept, view-kept, next_id-le, sound-at)
+is-open a kept queue opening owned = grind (arith, owner-kept a queue kept, next_id-le (start_of a) a.audit.items queue, sound-at a.queues.items queue.0)
 
 -- the queue of a packet in its place is open
 pub open-of : (a : Inside) (kept : IsCached a) (old : History) → history_of a ≡ old → (queue : QueueId) (id : PacketId) (place : Place)
@@ -196,14 +196,14 @@ module _ (a : Inside) (kept : IsCached a) (queue : QueueId) (id : PacketId) (byt
   can-deny = grind arith
 
   sound-denied : (error : QueueError) → IsSound (with_denied error can.opened.q)
-  sound-denied error = grind (arith, length-append (can.opened.q).errors.items (error ∷ []), length-append)
+  sound-denied error = grind arith
 
   pub flight-denied : (rule : Rule) → flight (start_of a) (with_entry a.audit.items (Take queue id bytes) (outcome.Taken (Denied (error_without_place queue id.0 rule))) []) ≡ flight (start_of a) a.audit.items
   flight-denied rule = flight-unlaunched (start_of a) a.audit.items (Take queue id bytes) (outcome.Taken (Denied (error_without_place queue id.0 rule))) [] refl
 
   -- it is denied
   pub queues-denied : (rule : Rule) → QueuesAfter a (with_queue a.queues.items queue (with_denied (error_without_place queue id.0 rule))) a.flying (Take queue id bytes) (outcome.Taken (Denied (error_without_place queue id.0 rule))) []
-  queues-denied rule = grind (arith, queues-after a kept queue can.opened (with_denied (error_without_place queue id.0 rule)) (denied (error_without_place queue id.0 rule)) a.flying _ _ _ refl refl (sound-denied (error_without_place queue id.0 rule)) refl (λ m. queue_at-denied (start_of a) a.audit.items queue id bytes rule m) (kept.flying ∙ ap length (sym (flight-denied rule))) (none-launched (Take queue id bytes) (outcome.Taken (Denied (error_without_place queue id.0 rule))) refl (start_of a)), denied (error_without_place queue id.0 rule), sound-denied (error_without_place queue id.0 rule), queue_at-denied (start_of a) a.audit.items queue id bytes rule, flight-denied rule, none-launched (Take queue id bytes) (outcome.Taken (Denied (error_without_place queue id.0 rule))) refl (start_of a), queues-after, denied, sound-denied, queue_at-denied, flight-denied, none-launched)
+  queues-denied rule = grind (arith, queues-after a kept queue can.opened (with_denied (error_without_place queue id.0 rule)) (denied (error_without_place queue id.0 rule)) a.flying _ _ _ refl refl (sound-denied (error_without_place queue id.0 rule)) refl (λ m. queue_at-denied (start_of a) a.audit.items queue id bytes rule m) (kept.flying ∙ ap length (sym (flight-denied rule))) (none-launched (Take queue id bytes) (outcome.Taken (Denied (error_without_place queue id.0 rule))) refl (start_of a)))
 
   -- it is launched
   module _ (p : Packet) (reads : decoded bytes ≡ Some p) (next : id.0 ≡ next_id (start_of a) a.audit.items queue) where
@@ -227,7 +227,7 @@ module _ (a : Inside) (kept : IsCached a) (queue : QueueId) (id : PacketId) (byt
         }
 
     pub flying-launched : a.flying + 1 ≡ length (flight (start_of a) (with_entry a.audit.items (Take queue id bytes) (outcome.Taken Launched) []))
-    flying-launched = grind (arith, length-append (flight (start_of a) a.audit.items) (record { queue = queue; id = id; packet = p } ∷ []), flight-launched (start_of a) a.audit.items queue id bytes p reads, length-append, flight-launched)
+    flying-launched = grind (arith, length-append (flight (start_of a) a.audit.items) (record { queue = queue; id = id; packet = p } ∷ []), flight-launched (start_of a) a.audit.items queue id bytes p reads)
 
     pub queues-launched : lies_in_regions (region_lengths a.policy) p ≡ true → QueuesAfter a (with_queue a.queues.items queue (with_launched id p)) (a.flying + 1) (Take queue id bytes) (outcome.Taken Launched) []
     queues-launched within =

@@ -76,14 +76,14 @@ module _ (a : Inside) (kept : IsCached a) (queue : QueueId) (id : PacketId) wher
 
   -- as many are in flight after a release as are left
   pub flying-released : IsOpen a queue → a.flying - freed_by (Some id) a.queues.items queue ≡ length others
-  flying-released at = grind (arith, released-count id.0 queue.0 flying, freed-is, released-count)
+  flying-released at = grind (arith, released-count id.0 queue.0 flying, freed-is)
 
   pub freed-below : IsOpen a queue → freed_by (Some id) a.queues.items queue ≤ a.flying
-  freed-below at = grind (arith, freed-is, filter-not_more (of_queue queue.0) flying, of_queue queue.0, filter-not_more, of_queue)
+  freed-below at = grind (arith, freed-is, filter-not_more)
 
   -- a packet that leaves flight leaves room for an entry
   pub release-room : (f : InFlight) → in_flight (start_of a) a.audit.items queue id ≡ Some f → length a.audit.items + 1 + length others ≤ a.capacity
-  release-room f found = grind (arith, filter-fewer (is_packet queue id) (λ (g : InFlight). not (is_packet queue id g)) flying f found (ap (λ (b : Bool). not b) (found-passes (is_packet queue id) flying f found)), found-passes (is_packet queue id) flying f found, filter-fewer, found-passes)
+  release-room f found = grind (arith, filter-fewer, found-passes)
 
   -- how the queues move along with it
   pub queues-released : (event : Event) (told : Outcome) (effects : List Effect) → IsRelease queue id event told effects → opening_of event ≡ None → (at : IsOpen a queue) (change : Queue → Queue) (view : QueueView → QueueView)
@@ -105,18 +105,18 @@ sound-released q id sound =
 
 find-placed : (g : InFlight → Place) (n i : ℕ) (fs : List InFlight) → ((f : InFlight) → (g f).id ≡ f.id) → find (λ (p : Place). p.id.0 == i) (map g (filter (of_queue n) fs)) ≡ option_map g (find (λ (f : InFlight). f.queue.0 == n && f.id.0 == i) fs)
 find-placed g n i [] named = refl
-find-placed g n i (f ∷ fs) named = grind (arith, named f, find-placed g n i fs named)
+find-placed g n i (f ∷ fs) named = grind (arith, find-placed g n i fs named)
 
 module _ (a : Inside) (kept : IsCached a) (queue : QueueId) (id : PacketId) (q : Queue) (some : numbered a.queues.items queue.0 ≡ Some q) where
   owned : owner (start_of a) a.audit.items queue ≡ Some (cached_opening q)
   owned = owner-kept a queue kept ∙ ap (option_map cached_opening) some
 
   pub sought : find (is_place_of id) q.places ≡ option_map (place_of (start_of a) a.audit.items queue) (in_flight (start_of a) a.audit.items queue id)
-  sought = grind (arith, view-kept a queue q kept some, find-placed (place_of (start_of a) a.audit.items queue) queue.0 id.0 (flight (start_of a) a.audit.items) (λ f. refl), view-kept, find-placed)
+  sought = grind (arith, find-placed (place_of (start_of a) a.audit.items queue) queue.0 id.0 (flight (start_of a) a.audit.items) (λ f. refl))
 
   -- where one is found, it is in flight
   pub in-place : (place : Place) → find (is_place_of id) q.places ≡ Some place → IsInPlace (history_of a) queue id place
-  in-place place is = grind (arith, sought, and_parts, found-passes (is_packet queue id) (flight (start_of a) a.audit.items), eqb-true, owned, found-passes)
+  in-place place is = grind (arith, sought, owned, found-passes)
 
   -- where none is found, a call about it is refused
   pub none-in-place : find (is_place_of id) q.places ≡ None → RefusedAt (history_of a) queue id refusal.NotInFlight
@@ -124,17 +124,17 @@ module _ (a : Inside) (kept : IsCached a) (queue : QueueId) (id : PacketId) (q :
 
 -- a packet in its place reaches only what lies whole in a region
 pub reaches-in_place : (a : Inside) (kept : IsCached a) (queue : QueueId) (id : PacketId) (place : Place) → IsInPlace (history_of a) queue id place → lies_in_regions (region_lengths a.policy) place.packet ≡ true
-reaches-in_place a kept queue id place found = grind (arith, found-all (λ (f : InFlight). lies_in_regions (region_lengths a.policy) f.packet ≡ true) (is_packet queue id) (flight (start_of a) a.audit.items) found.flying kept.within found.found, found-all)
+reaches-in_place a kept queue id place found = grind (arith, found-all (λ (f : InFlight). lies_in_regions (region_lengths a.policy) f.packet ≡ true) (is_packet queue id) (flight (start_of a) a.audit.items) found.flying kept.within found.found)
 
 -- ---- a packet fails
 
 module _ (a : Inside) (kept : IsCached a) (queue : QueueId) (id : PacketId) (at : IsOpen a queue) where
   fewer-places : (f : InFlight) → in_flight (start_of a) a.audit.items queue id ≡ Some f → length (without_packet id at.q.places) + 1 ≤ length at.q.places
-  fewer-places f found = grind (arith, sought a kept queue id at.q at.found, filter-fewer (is_place_of id) (λ (p : Place). not (is_place_of id p)) at.q.places _ (sought a kept queue id at.q at.found ∙ ap (option_map (place_of (start_of a) a.audit.items queue)) found) (ap (λ (b : Bool). not b) (found-passes (is_place_of id) at.q.places _ (sought a kept queue id at.q at.found ∙ ap (option_map (place_of (start_of a) a.audit.items queue)) found))), found-passes (is_place_of id) at.q.places _ (sought a kept queue id at.q at.found ∙ ap (option_map (place_of (start_of a) a.audit.items queue)) found), sought, filter-fewer, found-passes)
+  fewer-places f found = grind (arith, filter-fewer (is_place_of id) (λ (p : Place). not (is_place_of id p)) at.q.places _ (sought a kept queue id at.q at.found ∙ ap (option_map (place_of (start_of a) a.audit.items queue)) found) (ap (λ (b : Bool). not b) (found-passes (is_place_of id) at.q.places _ (sought a kept queue id at.q at.found ∙ ap (option_map (place_of (start_of a) a.audit.items queue)) found))))
 
   -- its queue has room for an error
   pub can-fail : (f : InFlight) → in_flight (start_of a) a.audit.items queue id ≡ Some f → CanFail a.queues.items queue
-  can-fail f found = grind (arith, fewer-places f found, fewer-places)
+  can-fail f found = grind (arith, fewer-places)
 
   -- and is sound after it
   pub sound-failed : (error : QueueError) (f : InFlight) → in_flight (start_of a) a.audit.items queue id ≡ Some f → IsSound (with_failure id error at.q)
@@ -182,4 +182,4 @@ fault-releases queue id error = record { launches = refl; progress = λ q i so_f
 
 pub release-due : (a : Inside) → IsCached a → (old : History) → history_of a ≡ old → (queue : QueueId) (id : PacketId) (place : Place) → IsInPlace old queue id place → (event : Event) (told : Outcome) (effects : List Effect)
     → IsRelease queue id event told effects → owed old.start old.entries event ≡ enters told effects → due old event ≡ enters told effects
-release-due a kept old seen_as queue id place placed event told effects is owing = grind (arith, due-as old event _ owing, place-inside a old seen_as queue id place placed, nat_lt a.capacity, le-ltb _ _ (release-room a kept queue id (place-inside a old seen_as queue id place placed).flying (place-inside a old seen_as queue id place placed).found), release-room a kept queue id (place-inside a old seen_as queue id place placed).flying (place-inside a old seen_as queue id place placed).found, due-as, place-inside, nat_lt, le-ltb, release-room)
+release-due a kept old seen_as queue id place placed event told effects is owing = grind (arith, release-room)

@@ -7,7 +7,7 @@ use Rattle.access_core.proofs.Terms.{lt-ltb, memory_at, memory_from, region_leng
 
 -- each address of a range that lies whole in a region lies in it
 lies-within : (regions : List (List ℕ)) (address size k : ℕ) → IsMemory regions → IsWithin regions address size → k < size → lies_in_region (lengths_of regions) (address + k) ≡ true
-lies-within regions address size k memory within below = grind (arith, length-region_bytes regions (region_of address) memory, region_length-is regions (region_of (address + k)), lt-ltb, length-region_bytes, region_length-is)
+lies-within regions address size k memory within below = grind (arith, length-region_bytes, region_length-is)
 
 -- what is read is what the history has there
 read-kept : (a : Inside) (kept : IsCached a) → IsMemory a.memory → (address size : ℕ) → is_within (region_lengths a.policy) address size ≡ true → bytes_from a.memory address size ≡ memory_from (start_of a) a.audit.items address size
@@ -23,7 +23,7 @@ read-kept a kept memory address size test =
     ∙ sym (get_or-map-range_with_len (memory_at (start_of a) a.audit.items) address size k (address + k) d below refl))
 
 pub read-inside : (a : Inside) (kept : IsCached a) (old : History) (seen_as : history_of a ≡ old) → IsMemory a.memory → (address size : ℕ) → is_within (region_lengths old.start.policy) address size ≡ true → bytes_from a.memory address size ≡ memory_from old.start old.entries address size
-read-inside a kept old seen_as memory address size = grind (arith, read-kept a kept memory address size, read-kept)
+read-inside a kept old seen_as memory address size = grind (arith, read-kept)
 
 -- bytes that have their place, and are some, lie whole in a region
 pub placed-within : (lengths : List ℕ) (address size : ℕ) → is_placed lengths address size ≡ true → (size ≢ 0) → is_within lengths address size ≡ true

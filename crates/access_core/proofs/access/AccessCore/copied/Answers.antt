@@ -5,4 +5,4 @@ use Rattle.access_core.proofs.WorkReadLemmas.{read-inside, placed-within}
 use Rattle.access_core.proofs.access.AccessCore.copied.Goals as goal
 
 pub returns : goal.returns
-returns = grind (arith, read-inside, seen, placed-within)
+returns = grind (arith, read-inside)

@@ -11,7 +11,7 @@ use Rattle.core_model.specs.declared.outcome.Outcome.TheVariants as outcome
 use Rattle.access_core.proofs.access.AccessCore.deny.Goals as goal
 
 pub fail_next-requires : goal.fail_next-requires
-fail_next-requires = grind (arith, can-deny, can-take, seen)
+fail_next-requires = grind (arith, can-deny, can-take)
 
 pub invariant_of-self : goal.invariant_of-self
 invariant_of-self c =
@@ -30,7 +30,7 @@ invariant_of-self c =
 
 -- the error takes a place that was free
 denied-places : (q : Queue) (error : QueueError) → 0 < q.errors.room → error_places (with_denied error q) ≡ error_places q
-denied-places q error some = grind (arith, length-append q.errors.items (error ∷ []), length-append)
+denied-places q error some = grind (arith, length-append)
 
 pub returns-clause-places : goal.returns-clause-places
 returns-clause-places c =

@@ -17,7 +17,7 @@ abbrev failed : QueueId → PacketId → QueueView → QueueView
 failed queue id v = record v { errors = v.errors ++ error_without_place queue id.0 B1 ∷ []; places = without_packet id v.places }
 
 pub fail_packet-requires : goal.fail_packet-requires
-fail_packet-requires = grind (arith, place-inside, seen, can-fail, is-open)
+fail_packet-requires = grind (arith, can-fail, is-open)
 
 pub overflow_sub-self : goal.overflow_sub-self
 overflow_sub-self c =

@@ -19,7 +19,7 @@ abbrev failed : QueueError → PacketId → QueueView → QueueView
 failed error id v = record v { errors = v.errors ++ error ∷ []; places = without_packet id v.places }
 
 pub fail_packet-requires : goal.fail_packet-requires
-fail_packet-requires = grind (arith, place-inside, seen, can-fail, is-open)
+fail_packet-requires = grind (arith, can-fail, is-open)
 
 pub overflow_sub-self : goal.overflow_sub-self
 overflow_sub-self c =

@@ -19,7 +19,7 @@ release-requires c =
     (at.q, at.found)
 
 pub overflow_sub-self : goal.overflow_sub-self
-overflow_sub-self = grind (arith, open-of, seen, freed-below)
+overflow_sub-self = grind (arith, open-of, freed-below)
 
 pub invariant_of-self : goal.invariant_of-self
 invariant_of-self c =

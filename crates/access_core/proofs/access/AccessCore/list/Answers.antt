@@ -5,4 +5,4 @@ use Rattle.access_core.proofs.Listing.{listing-replied}
 use Rattle.access_core.proofs.access.AccessCore.list.Goals as goal
 
 pub returns : goal.returns
-returns = grind (arith, listing-replied, seen)
+returns = grind (arith, listing-replied)

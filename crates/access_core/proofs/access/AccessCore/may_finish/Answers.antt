@@ -13,7 +13,7 @@ returns-in_err-place-clause-why = grind arith
 
 pub returns-then-not-is_finished-clause-why : goal.returns-then-not-is_finished-clause-why
 unfolding owed
-returns-then-not-is_finished-clause-why = grind (arith, due-as, owed-in_place, refuse_unless-fails)
+returns-then-not-is_finished-clause-why = grind arith
 
 pub returns-clause-may : goal.returns-clause-may
 unfolding owed

@@ -17,7 +17,7 @@ returns-in-Err-clause-why c =
     due-as c.args.self.now.history (Poll c.args.queue c.args.packet) _ (poll-owed c.self.inside c.self.invariant _ (seen c.self.view_is) c.args.queue c.args.packet c.in_ok-place.place c.in_ok-place.ensures.found _ c.in-Err.ensures.why)
 
 pub returns-in-Still-clause-may : goal.returns-in-Still-clause-may
-returns-in-Still-clause-may = grind (arith, due-as, poll-owed, seen)
+returns-in-Still-clause-may = grind (arith, poll-owed)
 
 pub returns-in-Fails-clause-may : goal.returns-in-Fails-clause-may
 returns-in-Fails-clause-may c =
@@ -25,7 +25,7 @@ returns-in-Fails-clause-may c =
     (poll-owed c.self.inside c.self.invariant _ (seen c.self.view_is) c.args.queue c.args.packet c.in_ok-place.place c.in_ok-place.ensures.found _ (c.in-Ok.ensures.may ∙ ap (look_owed c.args.queue c.args.packet) c.in-Fails.is))
 
 pub returns-then-is_full-clause-why : goal.returns-then-is_full-clause-why
-returns-then-is_full-clause-why = grind (arith, due-as, poll-owed, seen)
+returns-then-is_full-clause-why = grind (arith, poll-owed)
 
 pub returns-else-is_full-clause-may : goal.returns-else-is_full-clause-may
-returns-else-is_full-clause-may = grind (arith, due-as, poll-owed, seen)
+returns-else-is_full-clause-may = grind (arith, poll-owed)

@@ -9,7 +9,7 @@ use Rattle.core_model.specs.declared.refusal.Refusal.TheVariants as refusal
 use Rattle.access_core.proofs.access.AccessCore.may_stop.Goals as goal
 
 pub returns-in-None-clause-why : goal.returns-in-None-clause-why
-returns-in-None-clause-why = grind (arith, due-by, seen, stop-unknown)
+returns-in-None-clause-why = grind (arith, stop-unknown)
 
 pub returns-then-kept-clause-why : goal.returns-then-kept-clause-why
 returns-then-kept-clause-why c =
@@ -17,7 +17,7 @@ returns-then-kept-clause-why c =
     due-by c.self.inside _ (seen c.self.view_is) (Stop c.args.queue) (refuses refusal.QueueDown) (stop-known c.self.inside c.self.invariant c.args.queue _ some ∙ (rw c.if-kept.true refl))
 
 pub returns-then-is_full-clause-why : goal.returns-then-is_full-clause-why
-returns-then-is_full-clause-why = grind (arith, stop-full, seen)
+returns-then-is_full-clause-why = grind (arith, stop-full)
 
 pub returns-clause-may : goal.returns-clause-may
 returns-clause-may c =

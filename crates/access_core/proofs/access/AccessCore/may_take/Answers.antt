@@ -11,7 +11,7 @@ use Rattle.core_model.specs.declared.refusal.Refusal.TheVariants as refusal
 use Rattle.access_core.proofs.access.AccessCore.may_take.Goals as goal
 
 pub returns-in-None-clause-why : goal.returns-in-None-clause-why
-returns-in-None-clause-why = grind (arith, due-by, seen, take-unknown)
+returns-in-None-clause-why = grind (arith, take-unknown)
 
 pub returns-then-is_down-clause-why : goal.returns-then-is_down-clause-why
 returns-then-is_down-clause-why c =

@@ -14,10 +14,10 @@ quiet : (client : ClientId) (on : Object) (rights : Rights) → IsQuiet (Revoke 
 quiet client on rights = record { launches = refl; progress = λ queue id p. refl; releases = λ fs. refl; views = λ m v. refl }
 
 pub returns-in-Err-clause-met : goal.returns-in-Err-clause-met
-returns-in-Err-clause-met = grind (arith, met-refusal, due-by, seen, revoke-refused)
+returns-in-Err-clause-met = grind (arith, revoke-refused)
 
 pub returns-then-is_full-clause-met : goal.returns-then-is_full-clause-met
-returns-then-is_full-clause-met = grind (arith, met-refusal, revoke-due, seen)
+returns-then-is_full-clause-met = grind (arith, revoke-due)
 
 pub invariant_of-self : goal.invariant_of-self
 invariant_of-self c =
@@ -42,4 +42,4 @@ invariant_of-self c =
     _ (seen c.self.view_is) (revoke-due a c.self.invariant c.args.client c.args.object c.args.rights _ (seen c.self.view_is) (subst (RevokeAnswers c.self.inside.grants c.args.client c.args.object c.args.rights) c.in_default.is c.may_revoke.ensures) false (sym c.is_full.ensures ∙ c.if-is_full.false))
 
 pub returns-clause-met : goal.returns-clause-met
-returns-clause-met = grind (arith, met-entry, seen, revoke-due)
+returns-clause-met = grind (arith, revoke-due)

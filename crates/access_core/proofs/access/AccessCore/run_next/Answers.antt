@@ -12,7 +12,7 @@ returns-in_err-place-clause-met c =
     inl (record { reply_is = rw (is, reply) refl; history_is = rw is refl })
 
 pub returns-in-BarrierAnd-clause-met : goal.returns-in-BarrierAnd-clause-met
-returns-in-BarrierAnd-clause-met = grind (arith, met-refusal, no-groups)
+returns-in-BarrierAnd-clause-met = grind (arith, no-groups)
 
 pub returns-in-BarrierOr-clause-met : goal.returns-in-BarrierOr-clause-met
-returns-in-BarrierOr-clause-met = grind (arith, met-refusal, no-groups)
+returns-in-BarrierOr-clause-met = grind (arith, no-groups)

@@ -10,10 +10,10 @@ use Rattle.core_model.specs.declared.outcome.Outcome.TheVariants as outcome
 use Rattle.access_core.proofs.access.AccessCore.stop.Goals as goal
 
 pub halt-requires : goal.halt-requires
-halt-requires = grind (arith, stop-open, owed-inside, seen)
+halt-requires = grind (arith, stop-open)
 
 pub overflow_sub-self : goal.overflow_sub-self
-overflow_sub-self = grind (arith, stop-open, owed-inside, seen, freed-stopped)
+overflow_sub-self = grind (arith, stop-open, freed-stopped)
 
 pub invariant_of-self : goal.invariant_of-self
 invariant_of-self c =

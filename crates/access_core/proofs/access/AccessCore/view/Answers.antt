@@ -7,16 +7,16 @@ use Rattle.access_core.proofs.access.AccessCore.view.Goals as goal
 use Rattle.access_core.proofs.access.AccessCore.view.Goals.{in-Some+in_ok-put, in_default}
 
 number-is : (c : goal.After-view-1) → c.in-Some.held.handle.0 ≡ c.loop-before.before + 1
-number-is c = grind (arith, lent-number (c.args.self.now.history).start (c.args.self.now.history).entries (packet_rights (c.args.self.now.history).start (c.args.self.now.history).entries c.args.queue c.args.packet) (c.loop-before.before + 1) c.in-Some.held (ap (option_map lent_region) (sym c.in-Some.is) ∙ c.region_if_held.ensures), lent-number)
+number-is c = grind arith
 
 pub put-requires-clause-begins : goal.put-requires-clause-begins
 put-requires-clause-begins c = omega (arith, number-is c)
 
 pub put-requires-clause-ends : goal.put-requires-clause-ends
-put-requires-clause-ends = grind (arith, few-regions, length-map, number-is)
+put-requires-clause-ends = grind (arith, length-map)
 
 pub put-requires-clause-behind : goal.put-requires-clause-behind
-put-requires-clause-behind = grind (arith, number-is, lent-below)
+put-requires-clause-behind = grind (arith, lent-below)
 
 pub loop-before-preserved : goal.loop-before-preserved
 loop-before-preserved c =
@@ -29,4 +29,4 @@ loop-before-preserved c =
     ])
 
 pub returns : goal.returns
-returns = grind (arith, length-map, lent_so_far, lent-all)
+returns = grind (arith, length-map, lent-all)
