@@ -1,12 +1,11 @@
 -- What is cached stays what the history says when an entry is put behind it and the fields follow.
-use Rattle.std.proofs.Common.{◌≡◌, ℕ, ◌+◌, ◌<◌, ◌≤◌, List, [], ◌∷◌, length, sym, ◌∙◌, ap, subst, refl, true, false, Some, None, arith, length-append, map, fold}
+use Rattle.std.proofs.Common.{◌≡◌, ℕ, ◌+◌, ◌≤◌, List, [], ◌∷◌, length, sym, ◌∙◌, ap, subst, refl, true, false, Some, None, arith, length-append, map, fold}
 use Rattle.std.proofs.Common.{All, get_or, if◌then◌else◌}
 use Rattle.access_core.proofs.Terms.{All-weaker, AreBlocksOf, ArgumentBlock, ClientId, Effect, Event, History, InFlight, Inside, IsCached, IsEntered, IsSound, Ledger, Object, Outcome, Owed}
-use Rattle.access_core.proofs.Terms.{PacketId, QUEUES, Queue, QueueId, Right, Start, and_from, arguments_if, block_of, byte_after, byte_at, cached_opening, cached_view, due, entered-owed}
+use Rattle.access_core.proofs.Terms.{PacketId, QUEUES, Queue, QueueId, Right, Start, arguments_if, block_of, byte_after, byte_at, cached_opening, cached_view, due, entered-owed}
 use Rattle.access_core.proofs.Terms.{enters, entry_of, flight, flight-more, history_of, in_force, in_force-more, in_force_after, is_launch, lacks_room, launched_by, lengths_of}
 use Rattle.access_core.proofs.Terms.{lies_in_region, lies_in_regions, ltb-false, memory_at, memory_at-more, numbered, openings-more, owed, owner, packet_holds, packet_rights, queue_at}
 use Rattle.access_core.proofs.Terms.{region_lengths, signals-more, signals_after, start_of, with_entry, with_some}
-use Rattle.std.proofs.lemmas.Bool.{eq-eqb}
 use Rattle.core_model.specs.Queues.{opening_of}
 use Rattle.core_model.proofs.Flying.{all-after}
 use Rattle.core_model.proofs.Legality.{IsLegal-more}
@@ -67,10 +66,6 @@ module _ (a : Inside) (was : IsCached a) (old : History) (seen_as : history_of a
   -- there is room for the entry, with the packets that are in flight after it
   pub room-inside : length a.audit.items + 1 + length (flight (start_of a) (with_entry a.audit.items event outcome effects)) ≤ a.capacity
   room-inside = rw flight-more (ltb-false _ _ entry.1)
-
-  -- and a place in the audit
-  pub has_place : 0 < a.audit.room
-  has_place = omega (arith, room-inside, was.places)
 
 module _ (a b : Inside) (event : Event) (outcome : Outcome) (effects : List Effect) (was : IsCached a) (after : FieldsAfter a b event outcome effects) where
   longer : length b.audit.items ≡ length a.audit.items + 1

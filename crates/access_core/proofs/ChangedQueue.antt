@@ -1,9 +1,8 @@
 -- One queue of the list changed: what is kept of it, and of the others.
-use Rattle.std.proofs.Common.{◌≡◌, ℕ, zero, suc, ◌-◌, ◌<◌, List, [], ◌∷◌, length, map, All, get_or, refl, sym, ◌∙◌, ap, Option}
+use Rattle.std.proofs.Common.{◌≡◌, ℕ, zero, suc, ◌-◌, ◌<◌, List, [], ◌∷◌, length, map, All, refl, sym, ◌∙◌, ap, Option}
 use Rattle.std.proofs.Common.{Some, None, arith, length-set, lt-length-set, get_or-set_same, ◌==◌, slice_get, slice_set, if◌then◌else◌}
-use Rattle.std.proofs.lemmas.Bool.{eqb-true}
-use Rattle.access_core.proofs.Terms.{All-set, Entry, IsSound, PacketId, Queue, QueueId, QueueView, Start, cached_opening, cached_view, cases_eq, error_places, freed_by}
-use Rattle.access_core.proofs.Terms.{get_or_from_slice_get, lt-ltb, numbered, places_freed, queue_at, slice_get-get_or, slice_get_within, with_queue}
+use Rattle.access_core.proofs.Terms.{All-set, Entry, IsSound, PacketId, Queue, QueueId, QueueView, Start, cached_opening, cached_view, error_places, freed_by}
+use Rattle.access_core.proofs.Terms.{get_or_from_slice_get, numbered, places_freed, queue_at, slice_get-get_or, slice_get_within, with_queue}
 use Rattle.std.proofs.Math.Seq.{map-set_same}
 
 get-changed : (qs : List Queue) (i : ℕ) (q v : Queue) → slice_get qs i ≡ Some q → slice_get (slice_set qs i v) i ≡ Some v
@@ -21,9 +20,6 @@ get-other (x ∷ xs) (suc i) v (suc k) other = get-other xs i v k (λ e. other (
 -- the place of a number
 pub numbered-place : (qs : List Queue) (n : ℕ) (q : Queue) → numbered qs n ≡ Some q → (0 < n) × (slice_get qs (n - 1) ≡ Some q)
 numbered-place qs n q found = (grind arith, grind arith)
-
-numbered-at : (qs : List Queue) (n : ℕ) (q : Queue) → 0 < n → slice_get qs (n - 1) ≡ Some q → numbered qs n ≡ Some q
-numbered-at qs n q above at = rw (lt-ltb 0 n above) at
 
 numbered-other : (qs : List Queue) (n : ℕ) (v : Queue) (m : ℕ) → 0 < n → (n ≡ m → ⊥) → numbered (slice_set qs (n - 1) v) m ≡ numbered qs m
 numbered-other qs n v m above other = grind (arith, get-other qs (n - 1) v (m - 1))

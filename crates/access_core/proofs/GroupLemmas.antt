@@ -8,8 +8,7 @@ use Rattle.core_model.specs.declared.kernel.KernelSegments.{KernelSegments}
 use Rattle.std.proofs.Common.{Option, Some, None, sym, ap, ◌∙◌, subst, refl, false, option_map}
 use Rattle.aql_packet.specs.declared.packet.Packet.TheVariants as packet
 use Rattle.queue_error.specs.declared.rule.Rule.TheVariants as rule
-use Rattle.std.proofs.Common.{Bool, length, ◌==◌}
-use Rattle.std.proofs.lemmas.Bool.{eqb-true}
+use Rattle.std.proofs.Common.{Bool, length}
 use Rattle.core_model.specs.Holds.{arguments}
 use Rattle.access_core.proofs.LaunchLemmas.{block-long}
 

@@ -1,11 +1,10 @@
 -- Groups of kernel dispatches in flight: that they can be run, and that what they come to is what the history says.
-use Rattle.std.proofs.Common.{◌≡◌, ℕ, ◌-◌, ◌<◌, ◌≤◌, List, length, get_or, refl, sym, ◌∙◌, ap, subst, true, Option, Some, None, arith, All, map, option_map, slice_get, ◌==◌}
+use Rattle.std.proofs.Common.{◌≡◌, ℕ, ◌-◌, ◌<◌, ◌≤◌, List, length, get_or, refl, sym, ◌∙◌, ap, subst, true, Option, Some, None, arith, All, map, option_map, slice_get}
 use Rattle.access_core.proofs.Terms.{All-weaker, AreLentAlike, Dispatch, FailsAs, FaultsAs, GroupInput, GroupResult, HeldRegion, History, HoldsInForce, InFlight, Inside, IsCached, IsInPlace}
-use Rattle.access_core.proofs.Terms.{IsLegal, IsNumber, IsRunnable, Kernel, KernelDispatch, LentRegion, PacketId, Place, Program, QueueId, Run, and_parts, are_region_lengths, block_of}
+use Rattle.access_core.proofs.Terms.{IsLegal, IsNumber, IsRunnable, Kernel, KernelDispatch, LentRegion, PacketId, Place, Program, QueueId, Run, are_region_lengths, block_of}
 use Rattle.access_core.proofs.Terms.{flight, found-all, found-passes, get_or_from_slice_get, given_at_launch, grid_size, group_bytes_of, group_count, group_input, group_result, group_size}
 use Rattle.access_core.proofs.Terms.{has_entry, history_of, input_of, is_packet, is_within, kernel_of, lent_region, ltb-true, no_kernel, numbered, numbered-map, packet_rights, program_of}
 use Rattle.access_core.proofs.Terms.{region_lengths, slice_get-get_or, slice_get_within, unwrap_or, view_whole, wrote}
-use Rattle.std.proofs.lemmas.Bool.{eqb-true}
 use Rattle.aql_packet.specs.declared.packet.Packet.TheVariants as packet
 use Rattle.executor.specs.declared.fault.RunFault.{RunFault}
 use Rattle.core_model.proofs.Viewing.{IsWithinGrant, runs-granted}

@@ -3,7 +3,7 @@ use Rattle.std.proofs.Common.{◌≡◌, List, [], ◌∷◌, ◌++◌, refl, sy
 use Rattle.std.proofs.Common.{filter, fold, get_or, if◌then◌else◌}
 use Rattle.access_core.proofs.Terms.{AgentHandle, All-head, All-tail, AreBlocksOf, ArgumentBlock, ClientId, Effect, Entry, Event, Holds, HoldsInForce, InFlight, Inside, IsCached, Ledger}
 use Rattle.access_core.proofs.Terms.{Object, ObjectRight, OpenQueue, Opening, Outcome, Packet, PacketId, QueueId, Releases, Right, Rights, Start, are_in_force, arguments_of, as_rights}
-use Rattle.access_core.proofs.Terms.{bit_of, block_behind, block_of, each_right, entry_of, filter-passes, flight, fold-append, has, holding-legal, holds_by, in_force, in_force_after}
+use Rattle.access_core.proofs.Terms.{block_behind, block_of, entry_of, filter-passes, flight, fold-append, has, holding-legal, holds_by, in_force, in_force_after}
 use Rattle.access_core.proofs.Terms.{is_block, is_packet, launched_by, list_all, list_any, map-append, name_of, numbered, openings, openings-more, owner, owner-more, packet_holds, packet_of}
 use Rattle.access_core.proofs.Terms.{packet_rights, same_object, same_packet, start_of, with_entry, with_some}
 use Rattle.std.proofs.lemmas.List.Folds.{list_any-append}
@@ -84,9 +84,6 @@ grants-still a kept event outcome effects none launches same flying = record {
 }
 
 -- ---- a packet that leaves flight
-
-left_out : (k p s x r : Bool) → (k ≡ true → p ≡ s) → (k ≡ false → (p && s) ≡ false) → (if not k then ((p && x) || (r && not s)) else (r && not s)) ≡ (((p && x) || r) && not s)
-left_out k p s x r one two = grind arith
 
 module _ (owners : QueueId → Option Opening) (helds : QueueId → PacketId → List ObjectRight) (q : QueueId) (i : PacketId) (queue : QueueId) (id : PacketId) (client : ClientId) (on : Object) (right : Right) where
   pub held-without_packet : (fs : List InFlight) → packet_holds owners helds (filter (λ f. not (is_packet q i f)) fs) queue id client on right ≡ (packet_holds owners helds fs queue id client on right && not (same_packet queue id q i))
@@ -179,10 +176,6 @@ grants-launched a kept event outcome effects none still old new blocks opening q
   blocks_are = rw (flying, pushed) (blocks-with q i p bytes (flight (start_of a) a.audit.items) a.blocks.items kept.blocks_are);
   arguments = rw pushed (blocks-launched a event outcome q i p bytes launches block_is _);
 }
-
--- a set of one right is in force where the right is
-each-one : (one : Right) (test : Right → Bool) → each_right (record { 0 = bit_of one }) test ≡ test one
-each-one one test = grind arith
 
 all-in_force : (grants : Ledger) (client : ClientId) (hs : List ObjectRight) → are_in_force grants client (map as_rights hs) ≡ list_all (λ h. ledger.in_force grants client h.0 h.1) hs
 all-in_force grants client [] = refl

@@ -1,7 +1,6 @@
 -- What their launches gave packets stays as it was, whatever entry comes behind.
-use Rattle.std.proofs.Common.{◌≡◌, ◌<◌, ◌==◌, List, [], ◌∷◌, ◌++◌, refl, ap, Bool, true, false, Option, Some, None, arith, if◌then◌else◌}
-use Rattle.std.proofs.lemmas.Bool.{eq-eqb, eqb-true}
-use Rattle.access_core.proofs.Terms.{AreBelowNext-legal, Entry, HoldsInForce, InFlight, IsLegal, IsNext-from_owed, Opening, PacketId, QueueId, Start, and_from, and_parts, arguments_if}
+use Rattle.std.proofs.Common.{◌≡◌, ◌<◌, List, [], ◌∷◌, ◌++◌, refl, ap, Bool, true, false, Option, Some, None, arith, if◌then◌else◌}
+use Rattle.access_core.proofs.Terms.{AreBelowNext-legal, Entry, HoldsInForce, InFlight, IsLegal, IsNext-from_owed, Opening, PacketId, QueueId, Start, arguments_if}
 use Rattle.access_core.proofs.Terms.{enters, from_launch-kept, from_launch-launch, from_launch-other, holds-from, is_launch, launched_by, launched_by-is, next_id, owed, owner, packet_rights}
 use Rattle.access_core.proofs.Terms.{rights_at_launch, was-launched, was_launched}
 use Rattle.core_model.specs.Holds.{arguments}

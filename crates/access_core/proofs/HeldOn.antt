@@ -1,18 +1,11 @@
 -- The rights that a packet in flight holds on an object: those of the grants are those of the history.
 use Rattle.std.proofs.Common.{◌≡◌, List, [], ◌∷◌, refl, Bool, true, Some, arith, ◌&&◌, ◌==◌, find}
-use Rattle.access_core.proofs.Terms.{InFlight, Inside, IsCached, Object, Opening, PacketId, QueueId, Right, and_parts, bit_of, flight, has, holds_by, in_flight, is_packet, list_any, owner}
-use Rattle.access_core.proofs.Terms.{packet_rights, rights_held, rights_that, same_object, set_of, start_of}
-use Rattle.std.proofs.lemmas.Bool.{eqb-true}
+use Rattle.access_core.proofs.Terms.{InFlight, Inside, IsCached, Object, Opening, PacketId, QueueId, Right, bit_of, flight, holds_by, in_flight, is_packet, list_any, owner}
+use Rattle.access_core.proofs.Terms.{packet_rights, rights_held, rights_that, same_object, start_of}
 use Rattle.grants.specs.Ledger as ledger
-
--- the set of a right has another just where they are the same
-one-has : (one other : Right) → has (set_of one) other ≡ (bit_of one == bit_of other)
-one-has one other = grind arith
 
 -- what is asked of all packets of one queue and id is asked once, if there is one
 module _ (queue : QueueId) (id : PacketId) (test : QueueId → PacketId → Bool) where
-  at-packet : (f : InFlight) → (is_packet queue id f && test f.queue f.id) ≡ (is_packet queue id f && test queue id)
-  at-packet f = grind arith
 
   any-packet : (fs : List InFlight) → list_any (λ f. is_packet queue id f && test f.queue f.id) fs ≡ (list_any (is_packet queue id) fs && test queue id)
   any-packet [] = refl

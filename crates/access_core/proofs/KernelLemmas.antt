@@ -3,14 +3,13 @@ use Rattle.std.proofs.Common.{◌≡◌, ℕ, List, [], ◌∷◌, length, map, 
 use Rattle.access_core.proofs.Terms.{AreLentAlike, Done, Entry, Faulted, GroupResult, History, Inside, IsCached, IsInPlace, IsLentAlike, KernelDispatch, ObjectRight, PacketId, Place}
 use Rattle.access_core.proofs.Terms.{QueueError, QueueId, Ran, Read, RegionRights, Run, RunNext, Start, answers, as_lent, due, enters, first_address, given_at_launch, group_count}
 use Rattle.access_core.proofs.Terms.{group_input, group_owed, group_result, has, held_regions, history_of, length-map-range_with_len, length-replicate, lent_whole, may_lack_memory}
-use Rattle.access_core.proofs.Terms.{memory_from, owed_group, view_whole, write_of_run}
+use Rattle.access_core.proofs.Terms.{memory_from, view_whole, write_of_run}
 use Rattle.aql_packet.specs.declared.packet.Packet.TheVariants as packet
 use Rattle.core_model.specs.Owed.{owed}
 use Rattle.core_model.specs.View.{view}
 use Rattle.access_core.proofs.QueueAt.{IsAdvance}
 use Rattle.access_core.proofs.RunLemmas.{OnlyWrites, one_group}
-use Rattle.access_core.proofs.Calls.{due-as}
-use Rattle.access_core.proofs.WorkLemmas.{fault-releases, owed-in_place, release-due}
+use Rattle.access_core.proofs.WorkLemmas.{fault-releases, release-due}
 use Rattle.core_model.specs.declared.entry.Effect.TheVariants as effect
 use Rattle.core_model.specs.declared.outcome.Outcome.TheVariants as outcome
 

@@ -1,9 +1,8 @@
 -- Changes that are laid over memory one after another, and what a group of a kernel dispatch that ran is due.
-use Rattle.std.proofs.Common.{◌≡◌, ℕ, List, [], ◌∷◌, ◌++◌, sym, ◌∙◌, ap, Bool, true, Some, fold, length, map, nat_lt, if◌then◌else◌, arith}
+use Rattle.std.proofs.Common.{◌≡◌, ℕ, List, [], ap, Bool, true, length, map, if◌then◌else◌, arith}
 use Rattle.std.proofs.Common.{All}
-use Rattle.access_core.proofs.Terms.{All-map, Effect, History, IsChanged, LiesWithin, PacketId, QueueId, Ran, Run, RunNext, byte_after, due, enters, fold-append, is_full, is_within}
+use Rattle.access_core.proofs.Terms.{All-map, History, LiesWithin, PacketId, QueueId, Ran, Run, RunNext, due, enters, is_full, is_within}
 use Rattle.access_core.proofs.Terms.{may_lack_memory, owed, refuses, write_of_run}
-use Rattle.access_core.proofs.Calls.{due-as}
 use Rattle.access_core.proofs.KernelLemmas.{runs-write}
 use Rattle.core_model.specs.declared.outcome.Outcome.TheVariants as outcome
 use Rattle.core_model.specs.declared.refusal.Refusal.TheVariants as refusal

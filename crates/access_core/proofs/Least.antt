@@ -1,7 +1,7 @@
 -- The least of the packets that pass a test is the first to pass it by queue and id.
 use Rattle.std.proofs.Common.{◌≡◌, List, [], ◌∷◌, refl, ap, Bool, true, false, Some, None, arith, All, ◌&&◌, ◌||◌, ◌==◌, filter, find}
 use Rattle.access_core.proofs.Terms.{All-head, All-nil, All-tail, InFlight, IsFirstTo, IsUpTo, PacketId, QueueId, all-from_list_all, and_parts, found-all, found-passes, is_packet, is_up_to}
-use Rattle.access_core.proofs.Terms.{least_in_flight, list_all, list_any, lt-ltb, or_parts, or_right}
+use Rattle.access_core.proofs.Terms.{least_in_flight, list_all, list_any, or_parts, or_right}
 use Rattle.std.proofs.lemmas.Bool.{eqb-true}
 
 -- ---- what is found in a list

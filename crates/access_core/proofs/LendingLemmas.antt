@@ -1,18 +1,14 @@
 -- The regions that a packet in flight holds, as they are lent one after another.
-use Rattle.std.proofs.Common.{◌≡◌, ℕ, zero, suc, ◌+◌, ◌*◌, ◌^◌, ◌<◌, ◌≤◌, List, [], ◌∷◌, ◌++◌, length, get_or, refl, sym, ◌∙◌, ap, subst, true, false, Option, Some, arith, append_assoc}
-use Rattle.std.proofs.Common.{All, map, filter, not, ◌==◌, nat_le, nat_lt, cond, option_map, option_to_list}
-use Rattle.access_core.proofs.Terms.{All-filter, All-map, Entry, LentRegion, ObjectRight, RegionRights, Rights, Start, and_parts, are_region_lengths, filter_of_map_range_with_len_more}
-use Rattle.access_core.proofs.Terms.{get_or-range_with_len, held_region, is_within, leb-true, length-range_with_len, lent_if_held, lent_region, lent_whole, map-append, memory_from}
-use Rattle.access_core.proofs.Terms.{nat_tests, range_with_len, region_length, region_lengths, region_numbered, rights_held, view_whole, zip}
+use Rattle.std.proofs.Common.{◌≡◌, ℕ, zero, suc, ◌+◌, ◌*◌, ◌^◌, ◌<◌, List, [], ◌∷◌, ◌++◌, length, get_or, refl, sym, ◌∙◌, ap, subst, true, false, Option, Some, arith, append_assoc}
+use Rattle.std.proofs.Common.{All, map, filter, not, ◌==◌, cond, option_map, option_to_list}
+use Rattle.access_core.proofs.Terms.{All-filter, All-map, Entry, LentRegion, ObjectRight, RegionRights, Rights, Start, filter_of_map_range_with_len_more}
+use Rattle.access_core.proofs.Terms.{get_or-range_with_len, held_region, is_within, length-range_with_len, lent_if_held, lent_region, lent_whole, map-append, memory_from}
+use Rattle.access_core.proofs.Terms.{range_with_len, region_length, region_lengths, region_numbered, rights_held, view_whole, zip}
 use Rattle.std.proofs.lemmas.List.{length-append}
 use Rattle.executor.specs.declared.view.HeldRegion.{HeldRegion as Borrowed}
 use Rattle.policy.specs.declared.object.Object.TheVariants as object
 
 -- ---- lengths of regions
-
--- there are at most 64 regions
-pub few-regions : (lengths : List ℕ) → are_region_lengths lengths ≡ true → length lengths ≤ 64
-few-regions lengths fit = leb-true _ _ (and_parts (nat_le (length lengths) 64) _ fit).0
 
 -- the bytes of a whole region lie within it
 pub whole-within : (lengths : List ℕ) (number size : ℕ) → size ≡ region_length lengths number → 0 < region_length lengths number → is_within lengths (number * 2 ^ 32) size ≡ true
@@ -72,7 +68,3 @@ module _ (start : Start) (es : List Entry) (all : List ObjectRight) where
       numbers [] below i d known = absurd (omega (arith, known))
       numbers (r ∷ rs) below zero d known = below 0 (lent_region d) (omega arith)
       numbers (r ∷ rs) below (suc i) d known = numbers rs (λ j e inside. below (suc j) e (omega (arith, inside))) i d (omega (arith, known))
-
-  -- a region that is lent has its number
-  pub lent-number : (number : ℕ) (held : Borrowed) → Some (lent_region held) ≡ lent_if_held start es (region_numbered start all number) → held.handle.0 ≡ number
-  lent-number number held is = grind arith

@@ -1,8 +1,8 @@
 -- What is kept of a core in which nothing has happened.
 use Rattle.access_core.proofs.Terms.{All-nil, Declared, Inside, IsCached, IsNew, IsSound, Kernel, MOST_ENTRIES, Queue, byte_at-zeros, first_missing, has_entry, initial_values, is_capacity}
-use Rattle.access_core.proofs.Terms.{lengths_of-zeros, nat_tests, numbered, open_fault, program_of, region_lengths, rules_in, rules_of, segments_of, zeros}
+use Rattle.access_core.proofs.Terms.{lengths_of-zeros, numbered, open_fault, program_of, region_lengths, rules_in, rules_of, segments_of, zeros}
 use Rattle.std.proofs.Common.{List, ◌∷◌, ap, length}
-use Rattle.std.proofs.Common.{All, map, ◌≡◌, ℕ, ◌≤◌, [], ◌∙◌, true, None, arith, refl, nat_lt}
+use Rattle.std.proofs.Common.{All, map, ◌≡◌, ℕ, ◌≤◌, [], ◌∙◌, true, None, arith, refl}
 use Rattle.core_model.specs.History.{effects_of}
 use Rattle.core_model.specs.Grants.{in_force}
 use Rattle.core_model.specs.Memory.{memory_at, signals}

@@ -1,16 +1,14 @@
 -- Groups that ran: what their writes leave, and how many there can be.
-use Rattle.std.proofs.Common.{◌≡◌, ℕ, ◌+◌, List, [], ◌++◌, length, refl, ◌∙◌, ap, Bool, true, false, Option, ℤ, ◌==◌, fold, nat_le, nat_lt, arith}
+use Rattle.std.proofs.Common.{◌≡◌, ℕ, ◌+◌, List, [], ◌++◌, refl, Bool, true, false, ℤ, fold, nat_le, arith}
 use Rattle.std.proofs.Common.{if◌then◌else◌}
 use Rattle.access_core.proofs.Terms.{Done, Effect, Entry, GivenAtLaunch, History, InFlight, Inside, IsInPlace, PacketId, Place, Progress, QueueId, Ran, Refusal, RefusedAt, RunNext, Start}
-use Rattle.access_core.proofs.Terms.{agent_writes, answers, due, enters, flight_after_effect, fold-append, function_of, function_writes, given_at_launch, history_of, is_full}
+use Rattle.access_core.proofs.Terms.{agent_writes, answers, due, enters, flight_after_effect, function_of, function_writes, given_at_launch, history_of, is_full}
 use Rattle.access_core.proofs.Terms.{owed_group, refuses, result_writes, signals_after, start_of, write_of}
 use Rattle.aql_packet.specs.declared.packet.AgentDispatch.{AgentDispatch}
-use Rattle.core_model.specs.declared.need.AgentFunction.{AgentFunction}
 use Rattle.core_model.specs.Owed.{owed}
 use Rattle.aql_packet.specs.declared.packet.Packet.TheVariants as packet
 use Rattle.access_core.proofs.Calls.{due-as}
 use Rattle.access_core.proofs.QueueAt.{IsAdvance}
-use Rattle.access_core.proofs.WorkLemmas.{owed-in_place}
 use Rattle.core_model.specs.declared.outcome.Outcome.TheVariants as outcome
 use Rattle.core_model.specs.declared.refusal.Refusal.TheVariants as refusal
 
@@ -20,24 +18,6 @@ use Rattle.core_model.specs.declared.refusal.Refusal.TheVariants as refusal
 pub record OnlyWrites (effects : List Effect) : Type 0 where
   pub flight : (flying : List InFlight) → fold flight_after_effect flying effects ≡ flying
   pub signals : (values : List ℤ) → fold signals_after values effects ≡ values
-
-none-writes : OnlyWrites []
-none-writes = record { flight = λ flying. refl; signals = λ values. refl }
-
-both-write : (xs ys : List Effect) → OnlyWrites xs → OnlyWrites ys → OnlyWrites (xs ++ ys)
-both-write xs ys first second = record {
-  flight = λ flying. fold-append _ flying xs ys ∙ ap (λ before. fold flight_after_effect before ys) (first.flight flying) ∙ second.flight flying;
-  signals = λ values. fold-append _ values xs ys ∙ ap (λ before. fold signals_after before ys) (first.signals values) ∙ second.signals values;
-}
-
-if-writes : (b : Bool) (xs ys : List Effect) → OnlyWrites xs → OnlyWrites ys → OnlyWrites (if b then xs else ys)
-if-writes b xs ys h4 h5 = grind arith
-
-one-writes : (address : ℕ) (bytes : List ℕ) → OnlyWrites (write_of address bytes)
-one-writes address bytes = if-writes (length bytes == 0) _ _ none-writes (record { flight = λ flying. refl; signals = λ values. refl })
-
-function-writes : (start : Start) (entries : List Entry) (function : Option AgentFunction) → OnlyWrites (function_writes start entries function)
-function-writes start entries function = grind arith
 
 pub agent-writes : (start : Start) (entries : List Entry) (dispatch : AgentDispatch) → OnlyWrites (agent_writes start entries dispatch)
 agent-writes start entries dispatch = grind arith

@@ -1,7 +1,6 @@
 -- Requests that are served one behind the other.
-use Rattle.std.proofs.Common.{List, [], ◌∷◌, ◌++◌, refl, subst, Result, arith}
-use Rattle.access_core.proofs.Terms.{AnswerOrRefusal, AreReplies, Event, History, IsServed, MeetsOrLacks, Outcome, Query, Refusal, RepliesOrLacks, Request, as_reply}
-use Rattle.core_model.specs.declared.event.Request.TheVariants as request
+use Rattle.std.proofs.Common.{List, [], ◌∷◌, ◌++◌, refl, subst, arith}
+use Rattle.access_core.proofs.Terms.{AnswerOrRefusal, AreReplies, History, IsServed, Request}
 
 -- one request more is served behind others
 pub AreReplies-more : (old mid new : History) (requests : List Request) (replies : List AnswerOrRefusal) (asked : Request) (reply : AnswerOrRefusal)

@@ -2,15 +2,15 @@
 use Rattle.std.proofs.Common.{filter, ◌≡◌, ℕ, ◌-◌, ◌≤◌, List, [], ◌∷◌, length, map, refl, sym, ◌∙◌, ap, subst, Bool, true, false, Option, Some, None, arith, ℤ, ◌==◌}
 use Rattle.std.proofs.Common.{IfNone, IfSome, find, fold, is_some, not, option_map, if◌then◌else◌}
 use Rattle.access_core.proofs.Terms.{ArgumentBlock, Effect, History, InFlight, Inside, IsCached, IsSound, Ledger, Outcome, PacketId, Place, Queue, QueueId, QueueView, Releases, Stop}
-use Rattle.access_core.proofs.Terms.{byte_after, cached_opening, due, enters, entry_of, flight_of, freed_by, history_of, is_barrier, is_block, is_full, is_place_of, lacks_room, le-ltb}
-use Rattle.access_core.proofs.Terms.{numbered, place_of, queue_at, refuses, release_of, signals_after, start_of, with_queue, with_stop, without_one}
+use Rattle.access_core.proofs.Terms.{byte_after, cached_opening, due, enters, entry_of, flight_of, freed_by, history_of, is_barrier, is_block, is_full, is_place_of, lacks_room}
+use Rattle.access_core.proofs.Terms.{numbered, queue_at, refuses, release_of, signals_after, start_of, with_queue, with_stop, without_one}
 use Rattle.core_model.specs.Owed.{owed}
 use Rattle.access_core.proofs.Calls.{due-by}
 use Rattle.access_core.proofs.HeldAfter.{grants-released, grants-still}
 use Rattle.access_core.proofs.CachedMore.{GrantsAfter, QueuesAfter, none-launched}
 use Rattle.access_core.proofs.QueueAt.{IsRelease, flight-released, flight-unlaunched, queue_at-more}
 use Rattle.access_core.proofs.ChangedQueue.{freed-at}
-use Rattle.access_core.proofs.TakeLemmas.{IsOpen, is-open, owner-kept, queues-after, view-kept}
+use Rattle.access_core.proofs.TakeLemmas.{IsOpen, is-open, owner-kept, queues-after}
 use Rattle.access_core.proofs.WorkLemmas.{freed-below, in-place, queues-released, release-room, sound-released}
 use Rattle.core_model.specs.declared.entry.Effect.TheVariants as effect
 use Rattle.core_model.specs.declared.outcome.Outcome.TheVariants as outcome

@@ -6,15 +6,15 @@ use Rattle.access_core.proofs.Terms.{IsInPlace, IsSound, Launched, MayReach, May
 use Rattle.access_core.proofs.Terms.{Read, Rule, SLOTS, Start, Take, TakesNext, and_parts, argument_ranges, arguments-held, as_launched, barrier_bit, cached_opening, cached_view}
 use Rattle.access_core.proofs.Terms.{count_by-le-length, decoded, due, entered-owed, enters, entry_of, error_without_place, facts_of, first_failing_rule, flight, flight_of}
 use Rattle.access_core.proofs.Terms.{hands_over_packet_of, held_by_arguments, held_by_needs, history_of, in_force, is_placed, kernel_of, lacks_room, launched_by, length-map, lies_in_regions}
-use Rattle.access_core.proofs.Terms.{lies_whole, list_all, lt-ltb, meets_rule, memory_needs, need_is_met, needs, none-passes, numbered, numbered-map, or_right, owed_verdict, owner, place_of}
+use Rattle.access_core.proofs.Terms.{lies_whole, list_all, lt-ltb, memory_needs, need_is_met, needs, numbered, numbered-map, owed_verdict, owner, place_of}
 use Rattle.access_core.proofs.Terms.{queue_at, refuse_unless, refuses, region_lengths, right_needed, rights_at_launch, start_of, with_denied, with_entry, with_queue, with_some}
 use Rattle.packet_processor.proofs.FirstFailing.{first_failing-decoded}
 use Rattle.core_model.specs.Queues.{opening_of, next_id}
 use Rattle.core_model.specs.declared.need.Need.{Need}
 use Rattle.core_model.specs.LaunchRules.{cause_to_wait}
-use Rattle.packet_processor.specs.inner.FieldRules.{later_failing, rules_of_fields}
+use Rattle.packet_processor.specs.inner.FieldRules.{later_failing}
 use Rattle.core_model.specs.Owed.{owed}
-use Rattle.std.proofs.Common.{◌⊎◌, not}
+use Rattle.std.proofs.Common.{◌⊎◌}
 use Rattle.aql_packet.specs.declared.packet.Packet.TheVariants as packet
 use Rattle.core_model.proofs.Launching.{launch-granted}
 use Rattle.access_core.specs.inner.QueueChanges.{with_launched}
@@ -33,10 +33,6 @@ owner-kept a queue kept = ap (λ (all : List Opening). numbered all queue.0) (sy
 pub judged-inside : (a : Inside) (old : History) → history_of a ≡ old → (q : Queue) (bytes : List ℕ) (found : Option Rule) → first_failing_rule (facts_of old.start old.entries (cached_opening q)) bytes ≡ found
     → first_failing_rule (facts_of (start_of a) a.audit.items (cached_opening q)) bytes ≡ found
 judged-inside a old seen_as q bytes found is = subst (λ (h : History). first_failing_rule (facts_of h.start h.entries (cached_opening q)) bytes ≡ found) (sym seen_as) is
-
--- what is kept of a queue is what the history says of it
-pub view-kept : (a : Inside) (queue : QueueId) (q : Queue) → IsCached a → numbered a.queues.items queue.0 ≡ Some q → cached_view (Some q) ≡ queue_at (start_of a) a.audit.items queue
-view-kept a queue q kept some = ap cached_view (sym some) ∙ kept.queues queue
 
 -- its packets in flight are those of the history
 pub packets-kept : (a : Inside) (queue : QueueId) (q : Queue) → IsCached a → numbered a.queues.items queue.0 ≡ Some q → map (λ (f : InFlight). f.packet) (flight_of (start_of a) a.audit.items queue) ≡ map (λ (p : Place). p.packet) q.places
@@ -131,9 +127,6 @@ may_start-few ps barrier none = grind arith
 -- a queue that is kept, and not down, and where a packet may start takes its next packet
 pub takes-next : (a : Inside) (kept : IsCached a) (queue : QueueId) (q : Queue) (barrier : Bool) → numbered a.queues.items queue.0 ≡ Some q → (nat_lt 0 (length q.errors.items) || q.stopped) ≡ false → cause_to_wait (map (λ (p : Place). p.packet) q.places) barrier ≡ None → TakesNext (history_of a) queue
 takes-next a kept queue q barrier some down starts = grind (arith, length-map (flight_of (start_of a) a.audit.items queue) (λ (f : InFlight). f.packet), may_start-few (map (λ (f : InFlight). f.packet) (flight_of (start_of a) a.audit.items queue)) barrier (ap (λ ps. cause_to_wait ps barrier) (packets-kept a queue q kept some) ∙ starts), owner-kept a queue kept)
-
-none_opening : (o : Opening) → None ≡ Some o → ⊥
-none_opening o e = cc
 
 -- no more packets of a queue were handed over than there are entries
 next_id-le : (start : Start) (entries : List Entry) (queue : QueueId) → next_id start entries queue ≤ length entries

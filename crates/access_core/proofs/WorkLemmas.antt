@@ -1,19 +1,17 @@
 -- Packets in flight and their completion: what an entry changes beside them, and how many are left.
 use Rattle.std.proofs.Common.{◌≡◌, ℕ, ◌+◌, ◌-◌, ◌<◌, ◌≤◌, List, [], ◌∷◌, ◌++◌, length, refl, sym, subst, ◌∙◌, ap, Bool, true, false, Some, None, arith}
-use Rattle.std.proofs.Common.{get_or, length-append, ℤ, filter, find, fold, nat_lt, not, ◌==◌, if◌then◌else◌, ◌&&◌, option_map, map}
-use Rattle.std.proofs.lemmas.Bool.{eqb-true}
+use Rattle.std.proofs.Common.{get_or, length-append, ℤ, filter, find, fold, not, ◌==◌, if◌then◌else◌, ◌&&◌, option_map, map}
 use Rattle.access_core.proofs.Terms.{All-filter, All-map, B1, CanFail, Effect, Event, Failed, Faulted, Finish, History, InFlight, Inside, IsCached, IsInPlace, IsSound, Outcome, Owed, Packet}
-use Rattle.access_core.proofs.Terms.{PacketId, Place, Poll, Progress, Queue, QueueError, QueueId, QueueView, RefusedAt, RunNext, SignalHandle, and_parts, byte_after, cached_opening}
+use Rattle.access_core.proofs.Terms.{PacketId, Place, Poll, Progress, Queue, QueueError, QueueId, QueueView, RefusedAt, RunNext, SignalHandle, byte_after, cached_opening}
 use Rattle.access_core.proofs.Terms.{cached_view, completion_of, completion_signal, due, enters, error_without_place, finish_owed, flight, flight_after_effect, for_packet, found-all}
-use Rattle.access_core.proofs.Terms.{found-passes, freed_by, history_of, in_flight, is_packet, is_place_of, le-ltb, length-map, lies_in_regions, numbered, owed, owner, place_of, progress}
+use Rattle.access_core.proofs.Terms.{found-passes, freed_by, history_of, in_flight, is_packet, is_place_of, length-map, lies_in_regions, numbered, owed, owner, place_of, progress}
 use Rattle.access_core.proofs.Terms.{queue_at, region_lengths, signal_decrement, start_of, with_advance, with_failure, with_progress, with_queue, with_release, without_packet}
 use Rattle.core_model.specs.Queues.{opening_of}
-use Rattle.access_core.proofs.Calls.{due-as}
 use Rattle.access_core.proofs.CachedMore.{QueuesAfter, none-launched}
 use Rattle.access_core.proofs.QueueAt.{after as after_entry, of_queue, released-count, released-of, IsAdvance, IsRelease, advanced, flight-advanced}
 use Rattle.access_core.proofs.QueueAt.{flight-released, queue_at-advanced, queue_at-released}
 use Rattle.access_core.proofs.ChangedQueue.{freed-at}
-use Rattle.access_core.proofs.TakeLemmas.{IsOpen, owner-kept, queues-after, view-kept}
+use Rattle.access_core.proofs.TakeLemmas.{IsOpen, owner-kept, queues-after}
 use Rattle.core_model.specs.declared.entry.Effect.TheVariants as effect
 use Rattle.core_model.specs.declared.refusal.Refusal.TheVariants as refusal
 use Rattle.core_model.specs.declared.outcome.Outcome.TheVariants as outcome

@@ -2,8 +2,8 @@
 use Rattle.std.proofs.Common.{◌≡◌, ℕ, ◌+◌, ◌-◌, ◌<◌, List, length, refl, sym, ◌∙◌, true, false, Some, arith, ◌≢◌, ◌==◌, slice_get}
 use Rattle.std.proofs.Common.{slice_index, if◌then◌else◌}
 use Rattle.access_core.proofs.Terms.{History, Inside, IsCached, IsChanged, IsMemory, IsWithin, IsWithin-from_test, IsWritten, byte_at, bytes_from, covers, get_or-map-range_with_len}
-use Rattle.access_core.proofs.Terms.{get_or_from_slice_get, history_of, is_placed, is_within, length-bytes_from, length-map-range_with_len, length-region_bytes, lengths_of, lies_in_region}
-use Rattle.access_core.proofs.Terms.{lt-ltb, memory_at, memory_from, region_length-is, region_lengths, region_of, same_lists, slice_get-bytes_from, slice_get-get_or, start_of, write_of}
+use Rattle.access_core.proofs.Terms.{get_or_from_slice_get, history_of, is_within, length-bytes_from, length-map-range_with_len, length-region_bytes, lengths_of, lies_in_region}
+use Rattle.access_core.proofs.Terms.{memory_at, memory_from, region_length-is, region_lengths, same_lists, slice_get-bytes_from, slice_get-get_or, start_of, write_of}
 
 -- each address of a range that lies whole in a region lies in it
 lies-within : (regions : List (List ℕ)) (address size k : ℕ) → IsMemory regions → IsWithin regions address size → k < size → lies_in_region (lengths_of regions) (address + k) ≡ true
@@ -24,10 +24,6 @@ read-kept a kept memory address size test =
 
 pub read-inside : (a : Inside) (kept : IsCached a) (old : History) (seen_as : history_of a ≡ old) → IsMemory a.memory → (address size : ℕ) → is_within (region_lengths old.start.policy) address size ≡ true → bytes_from a.memory address size ≡ memory_from old.start old.entries address size
 read-inside a kept old seen_as memory address size = grind (arith, read-kept)
-
--- bytes that have their place, and are some, lie whole in a region
-pub placed-within : (lengths : List ℕ) (address size : ℕ) → is_placed lengths address size ≡ true → (size ≢ 0) → is_within lengths address size ≡ true
-placed-within lengths address size placed some = grind arith
 
 -- what is written is what the change says
 pub written-changed : (old : List (List ℕ)) (address : ℕ) (bytes : List ℕ) (new : List (List ℕ)) → (length bytes ≢ 0) → IsWritten old address bytes new → IsChanged old (write_of address bytes) new

@@ -1,7 +1,7 @@
 -- Counts right by right, and what one changed cell leaves in the table.
 use Rattle.std.proofs.Common.{◌≡◌, ℕ, ◌<◌, List, length, get_or, Bool, true, false, Option, Some, refl, ap, ◌∙◌, arith}
 use Rattle.std.specs.Prelude.{if◌then◌else◌}
-use Rattle.grants.proofs.Terms.{Cell, ClientId, Object, Right, Rights, SameCounts, SameRights, Table, cell_of, count_in, count_of, each_right, has, has_right, list_all, list_all_at}
+use Rattle.grants.proofs.Terms.{Cell, ClientId, Object, SameRights, Table, cell_of, has, has_right, list_all, list_all_at}
 use Rattle.grants.proofs.Terms.{replacement, same_pair, same_pair_is}
 
 module _ (old : Table) (c : ClientId) (o : Object) (before : Option Cell) (is : cell_of old c o ≡ before) (P : Bool → Option Cell → Option Cell → Type 0) (others : (s : Option Cell) → P false s s) where
@@ -28,10 +28,6 @@ same_granted old c o before is new cell rules change rights = record {
   same_rights = λ client object right.
       at_each old c o (Some before) is (λ same s t. has_right right t ≡ has_right right s) (λ s. refl) new cell change (ap (λ r. has r right) rights) client object;
 }
-
--- rights that are in force are so where the same are in force
-pub each_right-same : (rights : Rights) (f g : Right → Bool) → ((right : Right) → g right ≡ f right) → each_right rights f ≡ true → each_right rights g ≡ true
-each_right-same rights f g same h = let all : g ≡ f = λ i. λ right. same right i in ap (each_right rights) all ∙ h
 
 pub all_at : {X : Type 0} (p : X → Bool) (xs : List X) (i : ℕ) (d : X) → i < length xs → list_all p xs ≡ true → p (get_or xs i d) ≡ true
 all_at p xs i d within all = grind (arith, list_all_at)

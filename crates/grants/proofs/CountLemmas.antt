@@ -2,8 +2,8 @@
 use Rattle.std.proofs.Common.{[], ◌≡◌, ℕ, zero, suc, ◌+◌, ◌<◌, ◌≤◌, Bool, true, false, ◌&&◌, List, ◌∷◌, ◌++◌, filter, map, take, drop, get_or, length, Some, refl, sym, ap, ◌∙◌, arith, append_assoc, append-nil, cond}
 use Rattle.std.specs.Prelude.{if◌then◌else◌}
 use Rattle.grants.proofs.Terms.{Cell, ClientId, IsCounted, Object, PacketId, QueueId, Right, Rights, Table, all_rights, cell_of, count_in, count_of, drop_more, filter-append, has}
-use Rattle.grants.proofs.Terms.{hold_count, holds_of, is_held, is_hold_of, list_any, lt-ltb, map-append, nat_lt, one_for_right, same_packet, same_pair, same_pair_itself, take_all, take_more}
-use Rattle.std.proofs.lemmas.List.Sums.{sum_by-append, count_by-le-length}
+use Rattle.grants.proofs.Terms.{hold_count, holds_of, is_held, is_hold_of, list_any, map-append, nat_lt, one_for_right, same_pair_itself, take_all, take_more}
+use Rattle.std.proofs.lemmas.List.Sums.{sum_by-append}
 use Rattle.grants.specs.declared.hold.Hold.{Hold}
 
 abbrev one_if : Bool → ℕ
@@ -50,9 +50,6 @@ module _ (keep : Hold → Bool) (holds : List Hold) where
   -- those that are kept of the first holds, and all behind them
   abbrev pub kept_to : ℕ → List Hold
   kept_to i = filter keep (take i holds) ++ drop i holds
-
-  filter-one : (h : Hold) (b : Bool) → keep h ≡ b → filter keep (h ∷ []) ≡ (if b then h ∷ [] else [])
-  filter-one h b h3 = grind arith
 
   pub kept_to-here : (i : ℕ) (d : Hold) → i < length holds → kept_to i ≡ filter keep (take i holds) ++ get_or holds i d ∷ drop (i + 1) holds
   kept_to-here i d within = ap (λ xs. filter keep (take i holds) ++ xs) (drop_more holds i d within)

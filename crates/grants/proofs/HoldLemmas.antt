@@ -1,7 +1,7 @@
 -- Lists of holds, by what is found in them.
-use Rattle.std.proofs.Common.{[], ◌≡◌, ℕ, ◌+◌, ◌<◌, ◌⊎◌, Bool, true, false, not, ◌&&◌, ◌||◌, ◌==◌, List, ◌∷◌, ◌++◌, map, filter, take, get_or, length, Option, Some, None, refl, sym, ◌∙◌, arith}
-use Rattle.grants.proofs.Terms.{ClientId, IsFirstTo, IsUpTo, Object, PacketId, QueueId, Right, Rights, all_rights, both, has, have_common_right, hold_of, holds_one, is_held, is_hold, is_of}
-use Rattle.grants.proofs.Terms.{is_on, itself, list_any, list_any-append, list_any_more, same_number, same_packet, same_pair}
+use Rattle.std.proofs.Common.{[], ◌≡◌, ℕ, ◌+◌, ◌<◌, ◌⊎◌, Bool, true, false, not, ◌&&◌, ◌||◌, List, ◌∷◌, ◌++◌, map, filter, take, get_or, length, Option, Some, None, refl, sym, ◌∙◌, arith}
+use Rattle.grants.proofs.Terms.{ClientId, IsFirstTo, IsUpTo, Object, PacketId, QueueId, Right, Rights, all_rights, has, have_common_right, hold_of, holds_one, is_held, is_hold, is_of}
+use Rattle.grants.proofs.Terms.{is_on, list_any, list_any-append, list_any_more, same_packet, same_pair}
 use Rattle.std.proofs.lemmas.Map.Views.{any-filter_same}
 use Rattle.grants.specs.declared.hold.Hold.{Hold}
 use Rattle.policy.proofs.ValueLemmas.{list_any-map}
@@ -16,18 +16,6 @@ and-false a = grind arith
 
 pub or-false : (a : Bool) → (a || false) ≡ a
 or-false a = grind arith
-
-pub or-true : (a : Bool) → (a || true) ≡ true
-or-true a = grind arith
-
-pub and_assoc : (a b c : Bool) → ((a && b) && c) ≡ (a && (b && c))
-and_assoc a b c = grind arith
-
-same_packet_is : (q : QueueId) (p : PacketId) (q' : QueueId) (p' : PacketId) → same_packet q p q' p' ≡ true → (q ≡ q') × (p ≡ p')
-same_packet_is q p q' p' h = grind arith
-
-same_packet_itself : (q : QueueId) (p : PacketId) → same_packet q p q p ≡ true
-same_packet_itself q p = rw (itself q.0, itself p.0)
 
 -- ---- holds
 
@@ -76,12 +64,6 @@ pub first_same : (test test' : QueueId → PacketId → Bool) (first : Option (Q
 first_same test test' None same h = λ q p. same q p ∙ h q p
 first_same test test' (Some x) same h = (same x.0 x.1 ∙ h.0, λ q p t. h.1 q p (sym (same q p) ∙ t))
 
-up_to_itself : (q : QueueId) (p : PacketId) (q' : QueueId) (p' : PacketId) → same_packet q' p' q p ≡ true → IsUpTo q p q' p'
-up_to_itself q p q' p' h = grind arith
-
-up_to_trans : (a : QueueId) (b : PacketId) (c : QueueId) (d : PacketId) (e : QueueId) (f : PacketId) → IsUpTo a b c d → IsUpTo c d e f → IsUpTo a b e f
-up_to_trans a b c d e f h7 h8 = grind arith
-
 module _ (test test' : QueueId → PacketId → Bool) (a : QueueId) (b : PacketId) (more : (q : QueueId) (p : PacketId) → test' q p ≡ (test q p || same_packet q p a b)) where
   -- the first packet that passes is the first
   pub first_of_none : IsFirstTo test None → IsFirstTo test' (Some (a, b))
@@ -89,10 +71,6 @@ module _ (test test' : QueueId → PacketId → Bool) (a : QueueId) (b : PacketI
 
   passes : (y : QueueId × PacketId) (x : QueueId × PacketId) → test x.0 x.1 ≡ true → (y ≡ x) ⊎ (y ≡ (a, b)) → test' y.0 y.1 ≡ true
   passes y x h3 h4 = grind arith
-
-  either_first : (y x : QueueId × PacketId) (q : QueueId) (p : PacketId) → IsUpTo y.0 y.1 x.0 x.1 → IsUpTo y.0 y.1 a b
-      → (test q p ≡ true → IsUpTo x.0 x.1 q p) → (s : Bool) → test q p ≡ s → (s || same_packet q p a b) ≡ true → IsUpTo y.0 y.1 q p
-  either_first y x q p h5 h6 h7 s h9 h10 = grind arith
 
   -- the earlier of the first so far and one more is the first
   pub first_of_some : (x y : QueueId × PacketId) → IsFirstTo test (Some x) → (y ≡ x) ⊎ (y ≡ (a, b)) → IsUpTo y.0 y.1 x.0 x.1 → IsUpTo y.0 y.1 a b → IsFirstTo test' (Some y)

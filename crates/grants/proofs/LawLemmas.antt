@@ -1,18 +1,11 @@
 -- What a call leads to, and what a list of calls leads to.
-use Rattle.std.proofs.Common.{[], ◌≡◌, Bool, true, false, not, ◌&&◌, ◌||◌, List, ◌∷◌, map, fold, refl, sym, ◌∙◌, true≢false, arith}
-use Rattle.grants.proofs.Terms.{ClientId, Ledger, Object, PacketId, QueueId, Right, Rights, all_rights, both, each_right, each_right-has, false_from_ne_true, for_each_right, has, holds}
-use Rattle.grants.proofs.Terms.{in_force, is_named, is_one_of, list_all, list_any, rules_in, same_packet, same_pair, same_pair_is}
+use Rattle.std.proofs.Common.{[], ◌≡◌, Bool, true, ◌||◌, List, ◌∷◌, map, fold, refl, sym, ◌∙◌, true≢false, arith}
+use Rattle.grants.proofs.Terms.{ClientId, Ledger, Object, PacketId, QueueId, Right, Rights, both, each_right, holds}
+use Rattle.grants.proofs.Terms.{in_force, is_named, is_one_of, list_all, rules_in, same_pair_is}
 use Rattle.grants.specs.Laws.{Call, LeadsTo, AreMade, last_ledger, in_force_after, holds_after, LawOfCalls}
 use Rattle.grants.specs.Laws.Call.{Grant, Revoke, Hold, Release}
 
 -- ---- one call
-
-step-given : (call : Call) (old new : Ledger) → LeadsTo old call new → (c : ClientId) (o : Object) (right : Right) → in_force new c o right ≡ in_force_after c o right (in_force old c o right) call
-step-given call old new h4 c o right = grind arith
-
-step-held : (call : Call) (old new : Ledger) → LeadsTo old call new → (q : QueueId) (p : PacketId) (c : ClientId) (o : Object) (right : Right)
-    → holds new q p c o right ≡ holds_after q p c o right (holds old q p c o right) call
-step-held call old new h4 q p c o right = grind arith
 
 step-rules : (call : Call) (old new : Ledger) → LeadsTo old call new → rules_in new ≡ rules_in old
 step-rules call old new h4 = grind arith
@@ -21,19 +14,6 @@ step-rules call old new h4 = grind arith
 
 abbrev pub AreHeldInForce : Ledger → Type 0
 AreHeldInForce g = (q : QueueId) (p : PacketId) (c : ClientId) (o : Object) (right : Right) → holds g q p c o right ≡ true → in_force g c o right ≡ true
-
-or_left : (a b : Bool) → a ≡ true → (a || b) ≡ true
-or_left a b h3 = grind arith
-
-and_here : (a b : Bool) → a ≡ true → b ≡ false → (a && not b) ≡ true
-and_here a b h k = rw (h, k) refl
-
-or_false : (a b : Bool) → (a || b) ≡ false → (a ≡ false) × (b ≡ false)
-or_false a b h3 = grind arith
-
--- a test that no right passes
-none_passes : (f : Right → Bool) → list_any f all_rights ≡ false → (right : Right) → f right ≡ false
-none_passes f h right = grind arith
 
 -- a right that a list of rights in force names is in force
 named-in_force : (f : Object → Right → Bool) (rights : List (Object × Rights)) (client c : ClientId) (o : Object) (right : Right)

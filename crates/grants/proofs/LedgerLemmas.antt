@@ -1,17 +1,14 @@
 -- What the calls of grants leave, by the table and the list of holds.
-use Rattle.std.proofs.Common.{◌≡◌, ℕ, ◌+◌, ◌≤◌, Bool, true, false, List, length, ◌++◌, ◌&&◌, map, filter, not, Option, Some, None, sym, ap, ◌∙◌, arith}
-use Rattle.grants.proofs.Terms.{Cell, ClientId, Holds, IsCounted, IsFirstTo, Ledger, Object, PacketId, QueueId, Releases, Rights, SameRights, Table, all_rights, both, cell_of, count_of, has}
+use Rattle.std.proofs.Common.{◌≡◌, ℕ, ◌+◌, ◌≤◌, true, false, List, length, ◌++◌, ◌&&◌, map, filter, not, Option, Some, None, ap, arith}
+use Rattle.grants.proofs.Terms.{Cell, ClientId, Holds, IsCounted, IsFirstTo, Ledger, Object, PacketId, QueueId, Releases, Rights, SameRights, Table, all_rights, cell_of, count_of, has}
 use Rattle.grants.proofs.Terms.{hold_of, holds_one, is_holder, is_of, is_some, knows_client, knows_object, list_any, nat_lt, rules_in}
 use Rattle.grants.specs.declared.hold.Hold.{Hold}
-use Rattle.grants.proofs.HoldLemmas.{held-pushed, held-dropped, holder, first_same}
+use Rattle.grants.proofs.HoldLemmas.{held-pushed, held-dropped, holder}
 use Rattle.grants.proofs.CountLemmas.{unheld}
 
 -- a ledger of these parts
 abbrev pub ledger : Table → List Hold → ℕ → Ledger
 ledger table list room = record { table = table; list = list; room = room }
-
-and_comm : (a b : Bool) → (a && b) ≡ (b && a)
-and_comm a b = grind arith
 
 module _ (table : Table) (list : List Hold) (room : ℕ) (old : Ledger) (view : ledger table list room ≡ old) where
   -- holds behind the others are what the packet came to hold

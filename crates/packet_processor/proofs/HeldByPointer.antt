@@ -6,7 +6,7 @@ use Rattle.std.specs.List.{flat_map}
 use Rattle.policy.specs.declared.object.Object.{Object}
 use Rattle.policy.specs.declared.rights.Right.{Right}
 use Rattle.policy.specs.declared.rights.Rights.{Rights}
-use Rattle.core_model.specs.Holds.{ObjectRight, held_by_pointer}
+use Rattle.core_model.specs.Holds.{held_by_pointer}
 use Rattle.core_model.specs.Kernels.{wide_arguments}
 use Rattle.packet_processor.specs.Holding.{as_rights}
 use Rattle.packet_processor.specs.inner.RightsPassing.{rights_passing}
@@ -23,10 +23,6 @@ more all piece splits held now whole x rest tail is grown so_far =
 
 pub rights_passing-splits : (test : Right → Bool) (on : Object) (x : Right) (xs : List Right) → rights_passing test on (x ∷ xs) ≡ rights_passing test on (x ∷ []) ++ rights_passing test on xs
 rights_passing-splits test on x xs = grind arith
-
-map-joined : (xs ys : List ObjectRight) → map as_rights (xs ++ ys) ≡ map as_rights xs ++ map as_rights ys
-map-joined [] ys = refl
-map-joined (x ∷ xs) ys = ap (λ zs. as_rights x ∷ zs) (map-joined xs ys)
 
 -- what the argument at an offset has a packet hold
 abbrev pub pointed : (Object → Right → Bool) → List ℕ → List ℕ → ℕ → List (Object × Rights)

@@ -1,7 +1,7 @@
 -- One hold more stands behind the others and is counted.
 use Rattle.std.proofs.Common.{◌∙◌, ◌+◌, arith, ap, sym, subst, get_or}
 use Rattle.grants.proofs.Terms.{Agent, IsCounted, Object, Rights, hold_of}
-use Rattle.grants.proofs.CellLemmas.{all_at, each_right-same, SameRights-then}
+use Rattle.grants.proofs.CellLemmas.{all_at, SameRights-then}
 use Rattle.grants.proofs.CountLemmas.{counted_more, put-more}
 use Rattle.grants.proofs.counting.put_holds.Goals as goal
 

@@ -1,7 +1,6 @@
 -- The bytes are those that the history has there.
 use Rattle.std.proofs.Common.{arith}
-use Rattle.access_core.proofs.Seen.{seen}
-use Rattle.access_core.proofs.WorkReadLemmas.{read-inside, placed-within}
+use Rattle.access_core.proofs.WorkReadLemmas.{read-inside}
 use Rattle.access_core.proofs.access.AccessCore.copied.Goals as goal
 
 pub returns : goal.returns

@@ -1,5 +1,5 @@
 -- The queue has its first error, and the entry tells it.
-use Rattle.std.proofs.Common.{◌≡◌, ◌<◌, ◌∷◌, refl, sym, subst, [], ap, arith, length-append, map, ◌∙◌}
+use Rattle.std.proofs.Common.{◌≡◌, ◌<◌, refl, sym, subst, [], ap, arith, length-append, map, ◌∙◌}
 use Rattle.access_core.proofs.Terms.{Denied, Queue, QueueError, Take, TakesNext, error_places, error_without_place, with_denied}
 use Rattle.access_core.proofs.ChangedQueue.{errors-changed}
 use Rattle.access_core.proofs.Places.{places-kept}

@@ -3,7 +3,7 @@ use Rattle.std.proofs.Common.{refl, sym, ◌∙◌, false, [], arith}
 use Rattle.access_core.proofs.Seen.{seen}
 use Rattle.access_core.proofs.CachedMore.{IsCached-more, memory-still, queues-still}
 use Rattle.access_core.proofs.QueueAt.{IsQuiet, flight-quiet}
-use Rattle.access_core.proofs.Calls.{due-by, met-refusal, met-entry}
+use Rattle.access_core.proofs.Calls.{due-by, met-refusal}
 use Rattle.access_core.proofs.Granting.{grant-due, grant-refused}
 use Rattle.access_core.proofs.HeldAfter.{blocks-still, held-still}
 use Rattle.access_core.proofs.Terms.{ClientId, Grant, Object, Rights, start_of}

@@ -1,6 +1,5 @@
 -- The listing of the grants that are kept is the history's.
 use Rattle.std.proofs.Common.{arith}
-use Rattle.access_core.proofs.Seen.{seen}
 use Rattle.access_core.proofs.Listing.{listing-replied}
 use Rattle.access_core.proofs.access.AccessCore.list.Goals as goal
 

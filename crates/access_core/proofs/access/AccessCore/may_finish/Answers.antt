@@ -1,9 +1,8 @@
 -- What the packet is due, by whether its work is done.
 use Rattle.std.proofs.Common.{◌∙◌, sym, arith}
 use Rattle.core_model.specs.Owed.{owed}
-use Rattle.access_core.proofs.Terms.{owed_finish, refuse_unless-fails, refuse_unless-holds, signals}
+use Rattle.access_core.proofs.Terms.{owed_finish, refuse_unless-holds, signals}
 use Rattle.access_core.proofs.Seen.{seen}
-use Rattle.access_core.proofs.Calls.{due-as}
 use Rattle.access_core.proofs.WorkLemmas.{finish-releases, owed-in_place, release-due}
 use Rattle.access_core.proofs.access.AccessCore.may_finish.Goals as goal
 

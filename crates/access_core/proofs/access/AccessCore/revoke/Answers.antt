@@ -3,7 +3,6 @@ use Rattle.std.proofs.Common.{refl, sym, ◌∙◌, subst, false, [], arith}
 use Rattle.access_core.proofs.Seen.{seen}
 use Rattle.access_core.proofs.CachedMore.{IsCached-more, memory-still, queues-still}
 use Rattle.access_core.proofs.QueueAt.{IsQuiet, flight-quiet}
-use Rattle.access_core.proofs.Calls.{due-by, met-refusal, met-entry}
 use Rattle.access_core.proofs.Granting.{revoke-due, revoke-refused}
 use Rattle.access_core.proofs.HeldAfter.{blocks-still, held-still}
 use Rattle.access_core.proofs.Terms.{ClientId, Object, Revoke, RevokeAnswers, Rights, start_of}

@@ -1,6 +1,5 @@
 -- A packet that isn't in flight, or has no groups, is refused.
 use Rattle.std.proofs.Common.{◌≡◌, refl, rules, inl, Err, arith}
-use Rattle.access_core.proofs.Calls.{met-refusal}
 use Rattle.access_core.proofs.RunLemmas.{no-groups, run-refused}
 use Rattle.access_core.proofs.access.AccessCore.run_next.Goals as goal
 

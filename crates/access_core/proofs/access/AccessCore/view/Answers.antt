@@ -1,8 +1,7 @@
 -- The next region is lent where it is held.
 use Rattle.std.proofs.Common.{◌≡◌, ◌∙◌, ◌+◌, ◌++◌, ap, sym, arith, option_to_list, Option}
-use Rattle.std.specs.Prelude.{option_map}
-use Rattle.access_core.proofs.Terms.{HeldRegion, append-nil, length-map, lent_region, packet_rights}
-use Rattle.access_core.proofs.LendingLemmas.{few-regions, lent-all, lent-behind, lent-below, lent-number, lent_so_far}
+use Rattle.access_core.proofs.Terms.{HeldRegion, append-nil, length-map, packet_rights}
+use Rattle.access_core.proofs.LendingLemmas.{lent-all, lent-behind, lent-below}
 use Rattle.access_core.proofs.access.AccessCore.view.Goals as goal
 use Rattle.access_core.proofs.access.AccessCore.view.Goals.{in-Some+in_ok-put, in_default}
 
