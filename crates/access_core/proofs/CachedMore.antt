@@ -1,7 +1,8 @@
 -- What is cached stays what the history says when an entry is put behind it and the fields follow.
 use Rattle.std.proofs.Common.{◌≡◌, ℕ, ◌+◌, ◌≤◌, List, [], ◌∷◌, length, sym, ◌∙◌, ap, subst, refl, true, false, Some, None, arith, length-append, map, fold}
 use Rattle.std.proofs.Common.{All, get_or, if◌then◌else◌}
-use Rattle.access_core.proofs.Terms.{All-weaker, AreBlocksOf, ArgumentBlock, ClientId, Effect, Event, History, InFlight, Inside, IsCached, IsEntered, IsSound, Ledger, Object, Outcome, Owed}
+use Rattle.access_core.proofs.Terms.{All-weaker, AreBlocksOf, ArgumentBlock, ClientId, Effect, Event, History, InFlight, Inside, IsCached, IsEntered, IsSound, Ledger, Object, Outcome}
+use Rattle.access_core.proofs.Terms.{Owed}
 use Rattle.access_core.proofs.Terms.{PacketId, QUEUES, Queue, QueueId, Right, Start, arguments_if, block_of, byte_after, byte_at, cached_opening, cached_view, due, entered-owed}
 use Rattle.access_core.proofs.Terms.{enters, entry_of, flight, flight-more, history_of, in_force, in_force-more, in_force_after, is_launch, lacks_room, launched_by, lengths_of}
 use Rattle.access_core.proofs.Terms.{lies_in_region, lies_in_regions, ltb-false, memory_at, memory_at-more, numbered, openings-more, owed, owner, packet_holds, packet_rights, queue_at}
@@ -24,7 +25,8 @@ pub record GrantsAfter (a : Inside) (new : Ledger) (blocks : List ArgumentBlock)
   pub granted : (client : ClientId) (on : Object) (right : Right) → ledger.in_force new client on right ≡ in_force_after client on right (ledger.in_force a.grants client on right) event
   pub rules : ledger.rules_in new ≡ ledger.rules_in a.grants
   pub held : (queue : QueueId) (id : PacketId) (client : ClientId) (on : Object) (right : Right)
-      → ledger.holds new queue id client on right ≡ packet_holds (owner (start_of a) (with_entry a.audit.items event outcome effects)) (packet_rights (start_of a) (with_entry a.audit.items event outcome effects)) (flight (start_of a) (with_entry a.audit.items event outcome effects)) queue id client on right
+      → ledger.holds new queue id client on right ≡ packet_holds (owner (start_of a) (with_entry a.audit.items event outcome effects))
+          (packet_rights (start_of a) (with_entry a.audit.items event outcome effects)) (flight (start_of a) (with_entry a.audit.items event outcome effects)) queue id client on right
   pub blocks_are : AreBlocksOf (flight (start_of a) (with_entry a.audit.items event outcome effects)) blocks
   pub arguments : All (λ f. block_of blocks f.queue f.id ≡ arguments_behind a event outcome f.queue f.id) (flight (start_of a) (with_entry a.audit.items event outcome effects))
 
@@ -55,7 +57,8 @@ pub record FieldsAfter (a b : Inside) (event : Event) (outcome : Outcome) (effec
 due-inside : (a : Inside) (old : History) (event : Event) (owing : Owed) → history_of a ≡ old → due old event ≡ owing → due (history_of a) event ≡ owing
 due-inside a old event owing seen_as is = subst (λ h. due h event ≡ owing) (sym seen_as) is
 
-module _ (a : Inside) (was : IsCached a) (old : History) (seen_as : history_of a ≡ old) (event : Event) (outcome : Outcome) (effects : List Effect) (is_due : due old event ≡ enters outcome effects) where
+module _ (a : Inside) (was : IsCached a) (old : History) (seen_as : history_of a ≡ old) (event : Event) (outcome : Outcome) (effects : List Effect)
+    (is_due : due old event ≡ enters outcome effects) where
   entry : (owed (start_of a) a.audit.items event ≡ enters outcome effects) × (lacks_room (history_of a) (entry_of event outcome effects) ≡ false)
   entry = entered-owed (history_of a) event outcome effects (due-inside a old event _ seen_as is_due)
 
@@ -79,7 +82,8 @@ module _ (a b : Inside) (event : Event) (outcome : Outcome) (effects : List Effe
 
   -- the argument blocks of packets in flight are those of their launches
   arguments-after : owed (start_of a) a.audit.items event ≡ enters outcome effects
-      → All (λ f. block_of b.blocks.items f.queue f.id ≡ arguments (start_of a) (with_entry a.audit.items event outcome effects) f.queue f.id) (flight (start_of a) (with_entry a.audit.items event outcome effects))
+      → All (λ f. block_of b.blocks.items f.queue f.id ≡ arguments (start_of a) (with_entry a.audit.items event outcome effects) f.queue f.id)
+          (flight (start_of a) (with_entry a.audit.items event outcome effects))
   arguments-after owing = λ k d below.
       let f = get_or (flight (start_of a) (with_entry a.audit.items event outcome effects)) k d in
       after.grants.arguments k d below ∙ same f (kept k d below) ∙ sym (arguments-more (start_of a) a.audit.items (entry_of event outcome effects) was.legal owing f.queue f.id)
@@ -92,10 +96,12 @@ module _ (a b : Inside) (event : Event) (outcome : Outcome) (effects : List Effe
 
       kept : All Kept (flight (start_of a) (with_entry a.audit.items event outcome effects))
       kept = rw flight-more (all-after Kept (entry_of event outcome effects) (flight (start_of a) a.audit.items) launched
-          (All-weaker (λ f. block_of a.blocks.items f.queue f.id ≡ arguments (start_of a) a.audit.items f.queue f.id) Kept (λ f is other. is) (flight (start_of a) a.audit.items) was.arguments))
+          (All-weaker (λ f. block_of a.blocks.items f.queue f.id ≡ arguments (start_of a) a.audit.items f.queue f.id) Kept (λ f is other. is)
+              (flight (start_of a) a.audit.items) was.arguments))
 
       same : (f : InFlight) → Kept f → arguments_behind a event outcome f.queue f.id
-          ≡ (if is_launch f.queue f.id (launched_by event outcome) then arguments_if (start_of a) a.audit.items (launched_by event outcome) else arguments (start_of a) a.audit.items f.queue f.id)
+          ≡ (if is_launch f.queue f.id (launched_by event outcome) then arguments_if (start_of a) a.audit.items (launched_by event outcome)
+              else arguments (start_of a) a.audit.items f.queue f.id)
       same f is = grind arith
 
   pub IsCached-more : (old : History) → history_of a ≡ old → due old event ≡ enters outcome effects → IsCached b
@@ -117,17 +123,21 @@ module _ (a b : Inside) (event : Event) (outcome : Outcome) (effects : List Effe
         sound = after.queues.sound;
         few_queues = after.queues.few_queues;
         flying = rw (after.same.0.0, after.same.0.1, after.audit.items) after.queues.flying;
-        within = rw (after.same.0.0, after.same.0.1, after.audit.items, flight-more) (all-after (λ f. lies_in_regions (region_lengths a.policy) f.packet ≡ true) (entry_of event outcome effects) (flight (start_of a) a.audit.items) after.queues.within was.within);
+        within = rw (after.same.0.0, after.same.0.1, after.audit.items, flight-more)
+            (all-after (λ f. lies_in_regions (region_lengths a.policy) f.packet ≡ true) (entry_of event outcome effects)
+            (flight (start_of a) a.audit.items) after.queues.within was.within);
         room = omega (arith, longer, room, after.queues.flying, after.same.1);
         places = omega (arith, longer, after.audit.room, after.same.1, was.places);
         few = omega (arith, after.same.1, was.few);
-        legal = rw (after.same.0.0, after.same.0.1, after.audit.items) (IsLegal-more (start_of a) a.audit.items event outcome effects was.legal (owed-inside a was old seen_as event outcome effects is_due));
+        legal = rw (after.same.0.0, after.same.0.1, after.audit.items)
+            (IsLegal-more (start_of a) a.audit.items event outcome effects was.legal (owed-inside a was old seen_as event outcome effects is_due));
       }
 
 -- ---- what an entry leaves as it is
 
 -- an entry that launches nothing launches nothing past a region
-pub none-launched : (event : Event) (outcome : Outcome) → launched_by event outcome ≡ None → (start : Start) (f : InFlight) → launched_by event outcome ≡ Some f → lies_in_regions (region_lengths start.policy) f.packet ≡ true
+pub none-launched : (event : Event) (outcome : Outcome) → launched_by event outcome ≡ None → (start : Start) (f : InFlight) → launched_by event outcome ≡ Some f
+    → lies_in_regions (region_lengths start.policy) f.packet ≡ true
 none-launched event outcome none start f is = absurd (cc (none, is))
 
 pub memory-still : (memory : List (List ℕ)) (effects : List Effect) → ((x byte : ℕ) → fold (byte_after x) byte effects ≡ byte) → MemoryAfter memory memory effects

@@ -7,13 +7,15 @@ pub due-as : (history : History) (event : Event) (owing : Owed) → owed history
 due-as history event owing is = ap (within_room history event) is
 
 -- and so is what is owed by the fields, after the history that they tell
-pub due-by : (a : Inside) (old : History) → history_of a ≡ old → (event : Event) (owing : Owed) → owed (start_of a) a.audit.items event ≡ owing → due old event ≡ within_room old event owing
+pub due-by : (a : Inside) (old : History) → history_of a ≡ old → (event : Event) (owing : Owed) → owed (start_of a) a.audit.items event ≡ owing
+    → due old event ≡ within_room old event owing
 due-by a old seen_as event owing is = due-as old event owing (ap (λ h. owed h.start h.entries event) (sym seen_as) ∙ is)
 
 -- a call that is due a refusal meets it, and one that is due an entry and enters it meets that
 pub met-refusal : (event : Event) (old : History) (why : Refusal) → due old event ≡ refuses why → Meets event old old (Err why)
 met-refusal event old why is = record { reply_is = rw is refl; history_is = rw is refl }
 
-pub met-entry : (a : Inside) (old : History) → history_of a ≡ old → (event : Event) (outcome : Outcome) (effects : List Effect) (entries : List Entry) → due old event ≡ enters outcome effects
+pub met-entry : (a : Inside) (old : History) → history_of a ≡ old → (event : Event) (outcome : Outcome) (effects : List Effect) (entries : List Entry)
+    → due old event ≡ enters outcome effects
     → entries ≡ with_entry a.audit.items event outcome effects → Meets event old (record { start = start_of a; capacity = a.capacity; entries = entries }) (Ok outcome)
 met-entry a old seen_as event outcome effects entries is same = grind arith

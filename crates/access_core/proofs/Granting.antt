@@ -31,7 +31,8 @@ module _ (a : Inside) (kept : IsCached a) (client : ClientId) (on : Object) (rig
   grant-refused r due = by_tests (knows_client (rules_of a.policy) client) (knows_object (rules_of a.policy) on) (are_allowed (rules_of a.policy) client on rights) (due ∙ due-is)
     where
       by_tests : (c o s : Bool) → Err r ≡ due_of c o s
-          → refuse_unless c (refuses refusal.UnknownClient) (refuse_unless o (refuses refusal.UnknownObject) (refuse_unless s (refuses refusal.NotAllowed) (enters outcome.Accepted []))) ≡ refuses (refusal_of r)
+          → refuse_unless c (refuses refusal.UnknownClient) (refuse_unless o (refuses refusal.UnknownObject) (refuse_unless s (refuses refusal.NotAllowed) (enters outcome.Accepted [])))
+              ≡ refuses (refusal_of r)
       by_tests c o s h4 = grind arith
 
   grant-owed : Ok tt ≡ grant_due a.grants client on rights → owed (start_of a) a.audit.items (Grant client on rights) ≡ enters outcome.Accepted []
@@ -39,11 +40,13 @@ module _ (a : Inside) (kept : IsCached a) (client : ClientId) (on : Object) (rig
   grant-owed due = by_tests (knows_client (rules_of a.policy) client) (knows_object (rules_of a.policy) on) (are_allowed (rules_of a.policy) client on rights) (due ∙ due-is)
     where
       by_tests : (c o s : Bool) → Ok tt ≡ due_of c o s
-          → refuse_unless c (refuses refusal.UnknownClient) (refuse_unless o (refuses refusal.UnknownObject) (refuse_unless s (refuses refusal.NotAllowed) (enters outcome.Accepted []))) ≡ enters outcome.Accepted []
+          → refuse_unless c (refuses refusal.UnknownClient) (refuse_unless o (refuses refusal.UnknownObject) (refuse_unless s (refuses refusal.NotAllowed) (enters outcome.Accepted [])))
+              ≡ enters outcome.Accepted []
       by_tests c o s h4 = grind arith
 
   -- so it is due its entry, where there is room
-  pub grant-due : (old : History) → history_of a ≡ old → Ok tt ≡ grant_due a.grants client on rights → (full : Bool) → is_full old ≡ full → due old (Grant client on rights) ≡ (if full then refuses refusal.AuditFull else enters outcome.Accepted [])
+  pub grant-due : (old : History) → history_of a ≡ old → Ok tt ≡ grant_due a.grants client on rights → (full : Bool) → is_full old ≡ full
+      → due old (Grant client on rights) ≡ (if full then refuses refusal.AuditFull else enters outcome.Accepted [])
   grant-due old seen_as may full is = due-by a old seen_as (Grant client on rights) _ (grant-owed may) ∙ ap (λ b. if b then refuses refusal.AuditFull else enters outcome.Accepted []) is
 
   -- whether a packet in flight holds, by the history
@@ -63,8 +66,10 @@ module _ (a : Inside) (kept : IsCached a) (client : ClientId) (on : Object) (rig
   unfolding owed
   revoke-owed answers = grind (arith, least-none holding (flight (start_of a) a.audit.items) (first-test None answers.2))
 
-  pub revoke-due : (old : History) → history_of a ≡ old → RevokeAnswers a.grants client on rights (Ok tt) → (full : Bool) → is_full old ≡ full → due old (Revoke client on rights) ≡ (if full then refuses refusal.AuditFull else enters outcome.Accepted [])
-  revoke-due old seen_as may full is = due-by a old seen_as (Revoke client on rights) _ (revoke-owed may) ∙ ap (λ b. if b then refuses refusal.AuditFull else enters outcome.Accepted []) is
+  pub revoke-due : (old : History) → history_of a ≡ old → RevokeAnswers a.grants client on rights (Ok tt) → (full : Bool) → is_full old ≡ full
+      → due old (Revoke client on rights) ≡ (if full then refuses refusal.AuditFull else enters outcome.Accepted [])
+  revoke-due old seen_as may full is = due-by a old seen_as (Revoke client on rights) _ (revoke-owed may)
+      ∙ ap (λ b. if b then refuses refusal.AuditFull else enters outcome.Accepted []) is
 
   -- one that grants refuse is owed the refusal
   pub revoke-refused : (r : Why) → RevokeAnswers a.grants client on rights (Err r) → owed (start_of a) a.audit.items (Revoke client on rights) ≡ refuses (refusal_of r)

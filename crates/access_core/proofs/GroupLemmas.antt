@@ -1,6 +1,7 @@
 -- How many work-groups kernel dispatches have, and what is known of them in flight.
 use Rattle.std.proofs.Common.{List, ◌≡◌, ◌<◌, ◌≤◌, ◌^◌, ◌&&◌, true, arith, nat_le}
-use Rattle.access_core.proofs.Terms.{Entry, Facts, HoldsInForce, InFlight, IsLegal, IsSized, KernelDispatch, MOST_SEGMENT_BYTES, PacketId, Program, QueueId, Start, and_parts, arguments_of}
+use Rattle.access_core.proofs.Terms.{Entry, Facts, HoldsInForce, InFlight, IsLegal, IsSized, KernelDispatch, MOST_SEGMENT_BYTES, PacketId, Program, QueueId, Start, and_parts}
+use Rattle.access_core.proofs.Terms.{arguments_of}
 use Rattle.access_core.proofs.Terms.{asks_for_known_work, facts_of, flight, found-all, found-passes, grid_size, group_bytes_of, group_size, has_dimensions, has_segments, has_sizes}
 use Rattle.access_core.proofs.Terms.{holding-legal, in_flight, is_packet, kernel_passes, leb-true, list_all, ltb-true, nat_tests, need_is_met, needs, numbered, numbered-map, segments_of}
 use Rattle.executor.specs.Locations.{count_of, groups_of}
@@ -53,7 +54,8 @@ module _ (start : Start) (es : List Entry) (legal : IsLegal start es) (queue : Q
   asks-known =
       let facts = facts_of start launch-of.launch.before launch-of.launch.opening in
       ap asks_for_known_work (sym launch-of.packet_is)
-      ∙ (and_parts (asks_for_known_work launch-of.launch.packet) (list_all (need_is_met facts) (needs rule.L5 facts.agent launch-of.launch.packet)) (launch-of.launch.allowed.every_rule 4 rule.L5 (omega arith))).0
+      ∙ (and_parts (asks_for_known_work launch-of.launch.packet) (list_all (need_is_met facts) (needs rule.L5 facts.agent launch-of.launch.packet))
+          (launch-of.launch.allowed.every_rule 4 rule.L5 (omega arith))).0
 
   -- so a kernel dispatch has sizes that may be
   pub sized : IsSized f.packet
@@ -64,7 +66,8 @@ module _ (start : Start) (es : List Entry) (legal : IsLegal start es) (queue : Q
   segmented d is =
       let facts = facts_of start launch-of.launch.before launch-of.launch.opening in
       ap (has_segments facts) (sym (launch-of.packet_is ∙ is))
-      ∙ (and_parts (has_segments facts launch-of.launch.packet) (list_all (need_is_met facts) (needs rule.L7 facts.agent launch-of.launch.packet)) (launch-of.launch.allowed.every_rule 6 rule.L7 (omega arith))).0
+      ∙ (and_parts (has_segments facts launch-of.launch.packet) (list_all (need_is_met facts) (needs rule.L7 facts.agent launch-of.launch.packet))
+          (launch-of.launch.allowed.every_rule 6 rule.L7 (omega arith))).0
 
 -- What the executor asks of a kernel dispatch in flight: it names a kernel, whose argument block was copied whole at the launch, and has
 -- sizes and segments as they may be.

@@ -1,9 +1,12 @@
 -- Groups of kernel dispatches in flight: that they can be run, and that what they come to is what the history says.
 use Rattle.std.proofs.Common.{◌≡◌, ℕ, ◌-◌, ◌<◌, ◌≤◌, List, length, get_or, refl, sym, ◌∙◌, ap, subst, true, Option, Some, None, arith, All, map, option_map, slice_get}
-use Rattle.access_core.proofs.Terms.{All-weaker, AreLentAlike, Dispatch, FailsAs, FaultsAs, GroupInput, GroupResult, HeldRegion, History, HoldsInForce, InFlight, Inside, IsCached, IsInPlace}
+use Rattle.access_core.proofs.Terms.{All-weaker, AreLentAlike, Dispatch, FailsAs, FaultsAs, GroupInput, GroupResult, HeldRegion, History, HoldsInForce, InFlight, Inside, IsCached}
+use Rattle.access_core.proofs.Terms.{IsInPlace}
 use Rattle.access_core.proofs.Terms.{IsLegal, IsNumber, IsRunnable, Kernel, KernelDispatch, LentRegion, PacketId, Place, Program, QueueId, Run, are_region_lengths, block_of}
-use Rattle.access_core.proofs.Terms.{flight, found-all, found-passes, get_or_from_slice_get, given_at_launch, grid_size, group_bytes_of, group_count, group_input, group_result, group_size}
-use Rattle.access_core.proofs.Terms.{has_entry, history_of, input_of, is_packet, is_within, kernel_of, lent_region, ltb-true, no_kernel, numbered, numbered-map, packet_rights, program_of}
+use Rattle.access_core.proofs.Terms.{flight, found-all, found-passes, get_or_from_slice_get, given_at_launch, grid_size, group_bytes_of, group_count, group_input, group_result}
+use Rattle.access_core.proofs.Terms.{group_size}
+use Rattle.access_core.proofs.Terms.{has_entry, history_of, input_of, is_packet, is_within, kernel_of, lent_region, ltb-true, no_kernel, numbered, numbered-map, packet_rights}
+use Rattle.access_core.proofs.Terms.{program_of}
 use Rattle.access_core.proofs.Terms.{region_lengths, slice_get-get_or, slice_get_within, unwrap_or, view_whole, wrote}
 use Rattle.aql_packet.specs.declared.packet.Packet.TheVariants as packet
 use Rattle.executor.specs.declared.fault.RunFault.{RunFault}
@@ -36,7 +39,8 @@ pub record IsAsked (asked : Dispatch) (d : KernelDispatch) (block : List ℕ) : 
   pub segment_is : asked.group_segment_size ≡ d.group_segment_size
   pub arguments_are : asked.arguments.now ≡ block
 
-module _ (a : Inside) (kept : IsCached a) (old : History) (seen_as : history_of a ≡ old) (queue : QueueId) (id : PacketId) (place : Place) (found : IsInPlace old queue id place) (d : KernelDispatch) (is : place.packet ≡ packet.Kernel d) where
+module _ (a : Inside) (kept : IsCached a) (old : History) (seen_as : history_of a ≡ old) (queue : QueueId) (id : PacketId) (place : Place) (found : IsInPlace old queue id place)
+    (d : KernelDispatch) (is : place.packet ≡ packet.Kernel d) where
   legal : IsLegal old.start old.entries
   legal = subst (λ (h : History). IsLegal h.start h.entries) seen_as kept.legal
 
@@ -78,8 +82,10 @@ module _ (a : Inside) (kept : IsCached a) (old : History) (seen_as : history_of 
   -- its argument block is as it was at its launch
   pub block-is : block_of a.blocks.items queue id ≡ arguments old.start old.entries queue id
   block-is =
-      let blocks = subst (λ (h : History). All (λ f. block_of a.blocks.items f.queue f.id ≡ arguments h.start h.entries f.queue f.id) (flight h.start h.entries)) seen_as kept.arguments in
-      let of_flying = found-all (λ (f : InFlight). block_of a.blocks.items f.queue f.id ≡ arguments old.start old.entries f.queue f.id) (is_packet queue id) (flight old.start old.entries) found.flying blocks found.found in
+      let blocks = subst (λ (h : History). All (λ f. block_of a.blocks.items f.queue f.id ≡ arguments h.start h.entries f.queue f.id) (flight h.start h.entries)) seen_as kept.arguments
+          in
+      let of_flying = found-all (λ (f : InFlight). block_of a.blocks.items f.queue f.id ≡ arguments old.start old.entries f.queue f.id) (is_packet queue id)
+          (flight old.start old.entries) found.flying blocks found.found in
       (λ i. block_of a.blocks.items (sym named.0 i) (sym named.1 i)) ∙ of_flying ∙ (λ i. arguments old.start old.entries (named.0 i) (named.1 i))
 
   module _ (asked : Dispatch) (asks : IsAsked asked d (arguments old.start old.entries queue id)) (p : Program) (p_is : p ≡ kernel_of old.start d) (group : ℕ) where
@@ -121,12 +127,14 @@ module _ (a : Inside) (kept : IsCached a) (old : History) (seen_as : history_of 
         }))
 
   -- each run that it writes lies whole in a region
-  pub runs-within : are_region_lengths (region_lengths old.start.policy) ≡ true → (group : ℕ) (runs : List Run) → group_result (group_input old.start old.entries (given_at_launch old.start old.entries queue id) d group) ≡ wrote runs
+  pub runs-within : are_region_lengths (region_lengths old.start.policy) ≡ true → (group : ℕ) (runs : List Run)
+      → group_result (group_input old.start old.entries (given_at_launch old.start old.entries queue id) d group) ≡ wrote runs
       → All (λ (run : Run). is_within (region_lengths old.start.policy) run.address (length run.bytes) ≡ true) runs
   runs-within fit group runs came =
       let launch : HoldsInForce old.start old.entries found.flying = launch-of old.start old.entries legal queue id found.flying found.found in
       let client = launch.launch.opening.client in
       let granted : All (λ h. in_force old.start old.entries client h.0 h.1 ≡ true) (packet_rights old.start old.entries queue id) =
       subst (λ hs. All (λ h. in_force old.start old.entries client h.0 h.1 ≡ true) hs) (λ i. packet_rights old.start old.entries (named.0 i) (named.1 i)) launch.holds in
-      All-weaker (IsWithinGrant old.start old.entries client) (λ (run : Run). is_within (region_lengths old.start.policy) run.address (length run.bytes) ≡ true) (λ run within. within.1.lies_whole) runs
+      All-weaker (IsWithinGrant old.start old.entries client) (λ (run : Run). is_within (region_lengths old.start.policy) run.address (length run.bytes) ≡ true)
+          (λ run within. within.1.lies_whole) runs
       (runs-granted old.start old.entries old.entries client (given_at_launch old.start old.entries queue id) d group fit granted runs came)

@@ -1,7 +1,8 @@
 -- What their launches gave packets stays as it was, whatever entry comes behind.
 use Rattle.std.proofs.Common.{◌≡◌, ◌<◌, List, [], ◌∷◌, ◌++◌, refl, ap, Bool, true, false, Option, Some, None, arith, if◌then◌else◌}
 use Rattle.access_core.proofs.Terms.{AreBelowNext-legal, Entry, HoldsInForce, InFlight, IsLegal, IsNext-from_owed, Opening, PacketId, QueueId, Start, arguments_if}
-use Rattle.access_core.proofs.Terms.{enters, from_launch-kept, from_launch-launch, from_launch-other, holds-from, is_launch, launched_by, launched_by-is, next_id, owed, owner, packet_rights}
+use Rattle.access_core.proofs.Terms.{enters, from_launch-kept, from_launch-launch, from_launch-other, holds-from, is_launch, launched_by, launched_by-is, next_id, owed, owner}
+use Rattle.access_core.proofs.Terms.{packet_rights}
 use Rattle.access_core.proofs.Terms.{rights_at_launch, was-launched, was_launched}
 use Rattle.core_model.specs.Holds.{arguments}
 
@@ -17,7 +18,8 @@ module _ (start : Start) (es : List Entry) (e : Entry) where
 
   -- a packet in flight holds what it held
   pub held-kept : (f : InFlight) → HoldsInForce start es f → packet_rights start later f.queue f.id ≡ packet_rights start es f.queue f.id
-  held-kept f h = grind (arith, from_launch-kept (holds-from start f.queue) [] es (e ∷ []) f.queue f.id (was-launched start es e f.queue f.id h.launch.before h.launch.opening f.packet h.held_is))
+  held-kept f h = grind (arith, from_launch-kept (holds-from start f.queue) [] es (e ∷ []) f.queue f.id
+      (was-launched start es e f.queue f.id h.launch.before h.launch.opening f.packet h.held_is))
 
   -- ---- an entry of a legal history
 
@@ -38,7 +40,8 @@ module _ (start : Start) (es : List Entry) (e : Entry) where
     none-at queue id (Some f) is launches = grind (arith, none-before f is)
 
     -- a packet that is launched holds what its launch gives it
-    pub held-launched : (f : InFlight) (opening : Opening) → launched_by e.event e.outcome ≡ Some f → owner start es f.queue ≡ Some opening → packet_rights start later f.queue f.id ≡ rights_at_launch start es opening f.packet
+    pub held-launched : (f : InFlight) (opening : Opening) → launched_by e.event e.outcome ≡ Some f → owner start es f.queue ≡ Some opening
+        → packet_rights start later f.queue f.id ≡ rights_at_launch start es opening f.packet
     held-launched f opening is owned = grind (arith, from_launch-launch, none-before)
 
     -- the arguments of a packet are those of its launch

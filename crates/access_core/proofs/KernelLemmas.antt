@@ -24,7 +24,8 @@ module _ (start : Start) (es : List Entry) where
     bytes_are = λ reads. rw reads refl;
   }
     where
-      by_test : (b : Bool) → length (if b then memory_from start es (first_address region) region.size else replicate region.size 0) ≡ length (memory_from start es (first_address region) region.size)
+      by_test : (b : Bool) → length (if b then memory_from start es (first_address region) region.size else replicate region.size 0)
+          ≡ length (memory_from start es (first_address region) region.size)
       by_test b = grind (arith, length-replicate, length-map-range_with_len)
 
   all-alike : (regions : List RegionRights) → AreLentAlike (map (as_lent start es) regions) (map (lent_whole start es) regions)
@@ -37,19 +38,25 @@ module _ (start : Start) (es : List Entry) where
 
 -- ---- what a group is owed
 
-pub kernel-owed : (h : History) (queue : QueueId) (id : PacketId) (place : Place) → IsInPlace h queue id place → (d : KernelDispatch) → place.packet ≡ packet.Kernel d → (ran : Bool) → nat_le (group_count (packet.Kernel d)) place.progress.groups_run ≡ ran
+pub kernel-owed : (h : History) (queue : QueueId) (id : PacketId) (place : Place) → IsInPlace h queue id place → (d : KernelDispatch) → place.packet ≡ packet.Kernel d → (ran : Bool)
+    → nat_le (group_count (packet.Kernel d)) place.progress.groups_run ≡ ran
     → owed h.start h.entries (RunNext queue id)
-    ≡ (if ran then answers (outcome.Worked Done) else group_owed queue id d place.progress.groups_run (group_result (group_input h.start h.entries (given_at_launch h.start h.entries queue id) d place.progress.groups_run)))
+    ≡ (if ran then answers (outcome.Worked Done) else group_owed queue id d place.progress.groups_run
+        (group_result (group_input h.start h.entries (given_at_launch h.start h.entries queue id) d place.progress.groups_run)))
 unfolding owed
 kernel-owed h queue id place found d packet_is ran is = grind arith
 
 -- a group that breaks a rule always finds room for its entry
 pub fault-due : (a : Inside) → IsCached a → (old : History) → history_of a ≡ old → (queue : QueueId) (id : PacketId) (place : Place) → IsInPlace old queue id place → (error : QueueError)
-    → owed old.start old.entries (RunNext queue id) ≡ enters (outcome.Worked (Faulted error)) (effect.Release queue id ∷ []) → due old (RunNext queue id) ≡ enters (outcome.Worked (Faulted error)) (effect.Release queue id ∷ [])
-fault-due a kept old seen_as queue id place found error owing = grind (arith, release-due a kept old seen_as queue id place found (RunNext queue id) (outcome.Worked (Faulted error)) (effect.Release queue id ∷ []) (fault-releases queue id error) owing)
+    → owed old.start old.entries (RunNext queue id) ≡ enters (outcome.Worked (Faulted error)) (effect.Release queue id ∷ [])
+    → due old (RunNext queue id) ≡ enters (outcome.Worked (Faulted error)) (effect.Release queue id ∷ [])
+fault-due a kept old seen_as queue id place found error owing =
+    grind (arith, release-due a kept old seen_as queue id place found (RunNext queue id) (outcome.Worked (Faulted error)) (effect.Release queue id ∷ [])
+    (fault-releases queue id error) owing)
 
 -- whatever it comes to, its run may want memory
-pub group-lacks : (h : History) (queue : QueueId) (id : PacketId) (d : KernelDispatch) (group : ℕ) (came : GroupResult) → owed h.start h.entries (RunNext queue id) ≡ group_owed queue id d group came
+pub group-lacks : (h : History) (queue : QueueId) (id : PacketId) (d : KernelDispatch) (group : ℕ) (came : GroupResult)
+    → owed h.start h.entries (RunNext queue id) ≡ group_owed queue id d group came
     → may_lack_memory (RunNext queue id) (due h (RunNext queue id)) ≡ true
 group-lacks h queue id d group came owing = grind arith
 
@@ -60,7 +67,8 @@ runs-write [] = record { flight = λ flying. refl; signals = λ values. refl }
 runs-write (run ∷ runs) = grind (arith, runs-write runs)
 
 -- by the entry of a group the packet comes one group further
-pub kernel-advances : (queue : QueueId) (id : PacketId) (group left : ℕ) (runs : List Run) → IsAdvance queue id one_group (RunNext queue id) (outcome.Worked (Ran group left)) (map write_of_run runs)
+pub kernel-advances : (queue : QueueId) (id : PacketId) (group left : ℕ) (runs : List Run)
+    → IsAdvance queue id one_group (RunNext queue id) (outcome.Worked (Ran group left)) (map write_of_run runs)
 kernel-advances queue id group left runs = record {
   launches = refl;
   progress = λ q i so_far. refl;

@@ -1,7 +1,8 @@
 -- What a packet holds that is launched, by its needs and by its argument block.
 use Rattle.std.proofs.Common.{◌≡◌, ℕ, ◌++◌, List, [], map, length, refl, sym, ◌∙◌, ap, Some, None, arith}
 use Rattle.access_core.proofs.Terms.{ClientId, Entry, Facts, KernelDispatch, Object, Opening, Packet, Program, Rights, Start, append-nil, arguments_of, as_rights, facts_of, flat_map}
-use Rattle.access_core.proofs.Terms.{held_by_arguments, held_by_needs, held_by_pointer, kernel_of, length-map-range_with_len, map-append, memory_at, no_kernel, numbered, rights_at_launch}
+use Rattle.access_core.proofs.Terms.{held_by_arguments, held_by_needs, held_by_pointer, kernel_of, length-map-range_with_len, map-append, memory_at, no_kernel, numbered}
+use Rattle.access_core.proofs.Terms.{rights_at_launch}
 use Rattle.access_core.proofs.Terms.{unwrap_or, wide_arguments}
 use Rattle.aql_packet.specs.declared.packet.Packet.TheVariants as packet
 
@@ -14,18 +15,21 @@ module _ (start : Start) (es : List Entry) where
   needs-alone client (packet.BarrierOr b) other = refl
 
   -- one that names no kernel holds nothing by them
-  pub no-arguments : (client : ClientId) (p : Packet) (d : KernelDispatch) → p ≡ packet.Kernel d → numbered start.kernels d.kernel_object.0 ≡ None → held_by_arguments start es client p ≡ []
+  pub no-arguments : (client : ClientId) (p : Packet) (d : KernelDispatch) → p ≡ packet.Kernel d → numbered start.kernels d.kernel_object.0 ≡ None
+      → held_by_arguments start es client p ≡ []
   no-arguments client p d is none = ap (held_by_arguments start es client) is ∙ (rw none refl)
 
   -- all that a packet holds that holds nothing by arguments
-  pub only-needs : (opening : Opening) (p : Packet) (rights : List (Object × Rights)) → rights ≡ map as_rights (held_by_needs opening p) → held_by_arguments start es opening.client p ≡ [] → rights ≡ map as_rights (rights_at_launch start es opening p)
+  pub only-needs : (opening : Opening) (p : Packet) (rights : List (Object × Rights)) → rights ≡ map as_rights (held_by_needs opening p)
+      → held_by_arguments start es opening.client p ≡ [] → rights ≡ map as_rights (rights_at_launch start es opening p)
   only-needs opening p rights is none =
       let nil : held_by_needs opening p ++ [] ≡ held_by_needs opening p = append-nil _ in
       let all : held_by_needs opening p ≡ rights_at_launch start es opening p = sym nil ∙ ap (λ ys. held_by_needs opening p ++ ys) (sym none) in
       is ∙ ap (map as_rights) all
 
   -- all that another holds
-  pub both-held : (opening : Opening) (p : Packet) (rights pointed all : List (Object × Rights)) → rights ≡ map as_rights (held_by_needs opening p) → pointed ≡ map as_rights (held_by_arguments start es opening.client p)
+  pub both-held : (opening : Opening) (p : Packet) (rights pointed all : List (Object × Rights)) → rights ≡ map as_rights (held_by_needs opening p)
+      → pointed ≡ map as_rights (held_by_arguments start es opening.client p)
       → all ≡ rights ++ pointed → all ≡ map as_rights (rights_at_launch start es opening p)
   both-held opening p rights pointed all first second is = grind (arith, map-append as_rights (held_by_needs opening p) (held_by_arguments start es opening.client p))
 

@@ -17,7 +17,8 @@ runs-within lengths runs within = All-map (LiesWithin lengths) write_of_run runs
 
 module _ (h : History) (queue : QueueId) (id : PacketId) (group left : ℕ) (runs : List Run)
     (owing : owed h.start h.entries (RunNext queue id) ≡ enters (outcome.Worked (Ran group left)) (map write_of_run runs)) where
-  pub group-due : (full : Bool) → is_full h ≡ full → due h (RunNext queue id) ≡ (if full then refuses refusal.AuditFull else enters (outcome.Worked (Ran group left)) (map write_of_run runs))
+  pub group-due : (full : Bool) → is_full h ≡ full → due h (RunNext queue id)
+      ≡ (if full then refuses refusal.AuditFull else enters (outcome.Worked (Ran group left)) (map write_of_run runs))
   group-due full room = grind (arith, runs-write runs)
 
   -- its run may want memory, whether the audit has room or not

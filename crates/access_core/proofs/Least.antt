@@ -1,6 +1,7 @@
 -- The least of the packets that pass a test is the first to pass it by queue and id.
 use Rattle.std.proofs.Common.{◌≡◌, List, [], ◌∷◌, refl, ap, Bool, true, false, Some, None, arith, All, ◌&&◌, ◌||◌, ◌==◌, filter, find}
-use Rattle.access_core.proofs.Terms.{All-head, All-nil, All-tail, InFlight, IsFirstTo, IsUpTo, PacketId, QueueId, all-from_list_all, and_parts, found-all, found-passes, is_packet, is_up_to}
+use Rattle.access_core.proofs.Terms.{All-head, All-nil, All-tail, InFlight, IsFirstTo, IsUpTo, PacketId, QueueId, all-from_list_all, and_parts, found-all, found-passes, is_packet}
+use Rattle.access_core.proofs.Terms.{is_up_to}
 use Rattle.access_core.proofs.Terms.{least_in_flight, list_all, list_any, or_parts, or_right}
 use Rattle.std.proofs.lemmas.Bool.{eqb-true}
 
@@ -50,7 +51,8 @@ module _ (test : InFlight → Bool) where
   later-passes f fs queue id is = or_right (is_packet queue id f && test f) _ is
 
   -- what holds of all that pass by queue and id holds of each of the list that passes
-  all-passing : (P : QueueId → PacketId → Type 0) (fs : List InFlight) → ((queue : QueueId) (id : PacketId) → passes fs queue id ≡ true → P queue id) → All (λ f. P f.queue f.id) (filter test fs)
+  all-passing : (P : QueueId → PacketId → Type 0) (fs : List InFlight) → ((queue : QueueId) (id : PacketId) → passes fs queue id ≡ true → P queue id)
+      → All (λ f. P f.queue f.id) (filter test fs)
   all-passing P [] step = All-nil (λ f. P f.queue f.id)
   all-passing P (f ∷ fs) step = grind (arith, all-passing P fs (λ queue id is. step queue id (later-passes f fs queue id is)))
 
@@ -65,7 +67,8 @@ module _ (test : InFlight → Bool) where
   passing-found (f ∷ fs) queue id is = grind (arith, passing-found fs queue id)
 
 -- a packet that is the first, and one that comes up to it, are the same
-same_name : (queue : QueueId) (id : PacketId) (f g : InFlight) → is_packet queue id g ≡ true → IsUpTo queue id f.queue f.id → is_up_to f g ≡ true → (f.queue.0 ≡ queue.0) × (f.id.0 ≡ id.0)
+same_name : (queue : QueueId) (id : PacketId) (f g : InFlight) → is_packet queue id g ≡ true → IsUpTo queue id f.queue f.id → is_up_to f g ≡ true
+    → (f.queue.0 ≡ queue.0) × (f.id.0 ≡ id.0)
 same_name queue id f g same first up = grind arith
 
 module _ (test : InFlight → Bool) (fs : List InFlight) where

@@ -20,7 +20,8 @@ at-length : (pre xs : List ℕ) (x : ℕ) → get_or (pre ++ x ∷ xs) (length p
 at-length [] xs x = refl
 at-length (y ∷ pre) xs x = at-length pre xs x
 
-rows-are : (f : ℕ × ℕ → RegionRights) (pre xs : List ℕ) (k : ℕ) → length pre ≡ k → map f (zip (range_with_len k (length xs)) xs) ≡ map (λ n. f (n, get_or (pre ++ xs) n 0)) (range_with_len k (length xs))
+rows-are : (f : ℕ × ℕ → RegionRights) (pre xs : List ℕ) (k : ℕ) → length pre ≡ k
+    → map f (zip (range_with_len k (length xs)) xs) ≡ map (λ n. f (n, get_or (pre ++ xs) n 0)) (range_with_len k (length xs))
 rows-are f pre [] k is = refl
 rows-are f pre (x ∷ xs) k is =
     let long : length (pre ++ x ∷ []) ≡ k + 1 = omega (arith, length-append pre (x ∷ []), is) in
@@ -37,10 +38,13 @@ module _ (start : Start) (es : List Entry) (all : List ObjectRight) where
 
   -- the next region is lent behind the others, if it is held
   pub lent-next : (count : ℕ) → lent_so_far (count + 1) ≡ lent_so_far count ++ option_to_list (lent_if_held start es (region_numbered start all (count + 1)))
-  lent-next count = grind (arith, filter_of_map_range_with_len_more (λ (region : RegionRights). not (region.rights.0 == 0)) (region_numbered start all) 1 count (count + 1), map-append (lent_whole start es) (filter (λ (region : RegionRights). not (region.rights.0 == 0)) (map (region_numbered start all) (range_with_len 1 count))) (cond (not ((region_numbered start all (count + 1)).rights.0 == 0)) ((region_numbered start all (count + 1)) ∷ []) []))
+  lent-next count = grind (arith, filter_of_map_range_with_len_more (λ (region : RegionRights). not (region.rights.0 == 0)) (region_numbered start all) 1 count (count + 1),
+      map-append (lent_whole start es) (filter (λ (region : RegionRights). not (region.rights.0 == 0)) (map (region_numbered start all) (range_with_len 1 count)))
+      (cond (not ((region_numbered start all (count + 1)).rights.0 == 0)) ((region_numbered start all (count + 1)) ∷ []) []))
 
   -- so it is behind those that were lent before
-  pub lent-behind : (count : ℕ) (before after : List Borrowed) (next : Option Borrowed) → map lent_region before ≡ lent_so_far count → option_map lent_region next ≡ lent_if_held start es (region_numbered start all (count + 1))
+  pub lent-behind : (count : ℕ) (before after : List Borrowed) (next : Option Borrowed) → map lent_region before ≡ lent_so_far count
+      → option_map lent_region next ≡ lent_if_held start es (region_numbered start all (count + 1))
       → after ≡ before ++ option_to_list next → map lent_region after ≡ lent_so_far (count + 1)
   lent-behind count before after next are is behind = grind (arith, map-append, lent-next)
 
@@ -50,7 +54,8 @@ module _ (start : Start) (es : List Entry) (all : List ObjectRight) where
 
   -- a region that is held, with its bytes, is lent so
   pub lent-held : (number : ℕ) (rights : Rights) (bytes : List ℕ) → rights ≡ rights_held all (object.Region (record { 0 = number })) → (rights.0 == 0) ≡ false
-      → bytes ≡ memory_from start es (number * 2 ^ 32) (region_length (region_lengths start.policy) number) → Some (record { number = number; rights = rights; bytes = bytes }) ≡ lent_if_held start es (region_numbered start all number)
+      → bytes ≡ memory_from start es (number * 2 ^ 32) (region_length (region_lengths start.policy) number)
+      → Some (record { number = number; rights = rights; bytes = bytes }) ≡ lent_if_held start es (region_numbered start all number)
   lent-held number rights bytes are some is = grind arith
 
   -- those that were lent so far have the numbers up to theirs

@@ -9,7 +9,8 @@ use Rattle.core_model.specs.declared.event.Query.TheVariants as query
 module _ (a : Inside) (kept : IsCached a) (client : ClientId) where
 
   -- a client that is declared is told the listing
-  pub listing-replied : (old : History) → history_of a ≡ old → (rows : List (Object × Rights)) → rows ≡ ledger.listing a.grants client → knows_client (rules_of old.start.policy) client ≡ true
+  pub listing-replied : (old : History) → history_of a ≡ old → (rows : List (Object × Rights)) → rows ≡ ledger.listing a.grants client
+      → knows_client (rules_of old.start.policy) client ≡ true
       → Ok (answer.Listing rows) ≡ query_answer old.start old.entries (query.List client)
   unfolding query_answer
   listing-replied old seen_as rows are declared = grind arith

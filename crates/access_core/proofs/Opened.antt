@@ -1,5 +1,6 @@
 -- What is kept of a core in which nothing has happened.
-use Rattle.access_core.proofs.Terms.{All-nil, Declared, Inside, IsCached, IsNew, IsSound, Kernel, MOST_ENTRIES, Queue, byte_at-zeros, first_missing, has_entry, initial_values, is_capacity}
+use Rattle.access_core.proofs.Terms.{All-nil, Declared, Inside, IsCached, IsNew, IsSound, Kernel, MOST_ENTRIES, Queue, byte_at-zeros, first_missing, has_entry, initial_values}
+use Rattle.access_core.proofs.Terms.{is_capacity}
 use Rattle.access_core.proofs.Terms.{lengths_of-zeros, numbered, open_fault, program_of, region_lengths, rules_in, rules_of, segments_of, zeros}
 use Rattle.std.proofs.Common.{List, ◌∷◌, ap, length}
 use Rattle.std.proofs.Common.{All, map, ◌≡◌, ℕ, ◌≤◌, [], ◌∙◌, true, None, arith, refl}
@@ -15,7 +16,8 @@ numbered-none n = grind arith
 
 -- what is kept where nothing has happened is what the empty audit says
 pub IsCached-opened : (a : Inside) → IsNew a.grants → rules_in a.grants ≡ rules_of a.policy → a.memory ≡ zeros (region_lengths a.policy) → a.signals ≡ initial_values a.policy
-    → a.blocks.items ≡ [] → a.queues.items ≡ [] → a.flying ≡ 0 → a.audit.items ≡ [] → a.audit.room ≡ a.capacity → a.capacity ≤ MOST_ENTRIES → All (λ kernel. has_entry kernel ≡ true) a.kernels.items → a.segments.items ≡ map segments_of (map program_of a.kernels.items) → IsCached a
+    → a.blocks.items ≡ [] → a.queues.items ≡ [] → a.flying ≡ 0 → a.audit.items ≡ [] → a.audit.room ≡ a.capacity → a.capacity ≤ MOST_ENTRIES
+    → All (λ kernel. has_entry kernel ≡ true) a.kernels.items → a.segments.items ≡ map segments_of (map program_of a.kernels.items) → IsCached a
 unfolding in_force memory_at effects_of signals openings next_id errors is_stopped flight
 IsCached-opened a fresh ruled memory values blocks queues flying entries places few kernels segments = record {
   granted = λ client on right. fresh.none_in_force client on right ∙ (rw entries refl);

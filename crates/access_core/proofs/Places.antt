@@ -1,7 +1,8 @@
 -- A call that takes no memory leaves the places of the tables as they are.
 use Rattle.std.proofs.Common.{◌≡◌, ◌<◌, [], length-append, map, arith, vec_capacity}
 use Rattle.std.specs.Global.{Vec}
-use Rattle.access_core.proofs.Terms.{ArgumentBlock, Core, Entry, Inside, IsEntered, Ledger, PacketId, Queue, QueueError, Roomy, core_of, error_places, places_of, table_places, with_failure}
+use Rattle.access_core.proofs.Terms.{ArgumentBlock, Core, Entry, Inside, IsEntered, Ledger, PacketId, Queue, QueueError, Roomy, core_of, error_places, places_of, table_places}
+use Rattle.access_core.proofs.Terms.{with_failure}
 use Rattle.grants.specs.Ledger as ledger
 
 -- an entry takes a place that was free
@@ -15,6 +16,7 @@ failed-places q id error some = grind (arith, length-append)
 module _ (a : Inside) (core : Core) (seen_as : core_of a ≡ core) where
   -- the audit has an entry more, and each other table as many places as before
   pub places-kept : (queues : Vec Queue) (grants : Ledger) (blocks : Roomy ArgumentBlock) (audit : Roomy Entry) (entry : Entry) → vec_capacity queues ≡ vec_capacity a.queues
-      → map error_places queues.items ≡ map error_places a.queues.items → ledger.places grants ≡ ledger.places a.grants → places_of blocks ≡ places_of a.blocks → IsEntered a.audit audit entry
+      → map error_places queues.items ≡ map error_places a.queues.items → ledger.places grants ≡ ledger.places a.grants → places_of blocks ≡ places_of a.blocks
+      → IsEntered a.audit audit entry
       → table_places a.kernels a.segments queues grants blocks audit ≡ core.places
   places-kept queues grants blocks audit entry of_queues of_errors of_holds of_blocks is = grind (arith, entered-places)

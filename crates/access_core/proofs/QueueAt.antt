@@ -1,8 +1,10 @@
 -- What the history says of a queue, with one entry more.
 use Rattle.std.proofs.Common.{◌≡◌, ℕ, ◌+◌, ◌<◌, subst, eq-eqb, eqb-true, List, [], ◌∷◌, ◌++◌, length, map, All, refl, sym, ◌∙◌, ap, Bool, true, false, Some}
 use Rattle.std.proofs.Common.{None, arith, ◌==◌, ◌&&◌, filter, fold, not, if◌then◌else◌}
-use Rattle.access_core.proofs.Terms.{All-head, All-tail, Denied, Effect, Entry, Event, InFlight, LAUNCH_PROGRESS, Launched, Outcome, Packet, PacketId, Place, Progress, QueueError, QueueId}
-use Rattle.access_core.proofs.Terms.{QueueView, Rule, Start, Take, append-nil, as_launched, decoded, entry_of, error_of, error_without_place, errors-more, filter-append, flight, flight-more}
+use Rattle.access_core.proofs.Terms.{All-head, All-tail, Denied, Effect, Entry, Event, InFlight, LAUNCH_PROGRESS, Launched, Outcome, Packet, PacketId, Place, Progress, QueueError}
+use Rattle.access_core.proofs.Terms.{QueueId}
+use Rattle.access_core.proofs.Terms.{QueueView, Rule, Start, Take, append-nil, as_launched, decoded, entry_of, error_of, error_without_place, errors-more, filter-append, flight}
+use Rattle.access_core.proofs.Terms.{flight-more}
 use Rattle.access_core.proofs.Terms.{flight_after_effect, flight_of, hands_over_packet_of, is_packet, is_stopped-more, launched_by, map-append, next_id, next_id-more, place_of, progress}
 use Rattle.access_core.proofs.Terms.{progress-more, progress_after, queue_at, same_packet, stops_queue, with_entry, with_error, with_progress, without_packet}
 use Rattle.core_model.specs.Flight.{with_launched}
@@ -143,7 +145,8 @@ module _ (start : Start) (es : List Entry) (event : Event) (told : Outcome) (eff
     pub queue_at-released : (m : QueueId)
         → queue_at start (with_entry es event told effects) m
         ≡ after m event told (queue_at start es m) (if q.0 == m.0 then without_packet id (queue_at start es m).places else (queue_at start es m).places)
-    queue_at-released m = grind (arith, queue_at-more start es event told effects m _ flight-released, still is.progress m, released-in id.0 (place_of start es m) q.0 m.0 (flight start es) (λ f. refl))
+    queue_at-released m = grind (arith, queue_at-more start es event told effects m _ flight-released, still is.progress m,
+        released-in id.0 (place_of start es m) q.0 m.0 (flight start es) (λ f. refl))
 
 module _ (start : Start) (es : List Entry) (q : QueueId) (id : PacketId) (bytes : List ℕ) where
   -- a packet is denied

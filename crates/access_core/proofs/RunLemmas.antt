@@ -1,7 +1,8 @@
 -- Groups that ran: what their writes leave, and how many there can be.
 use Rattle.std.proofs.Common.{◌≡◌, ℕ, ◌+◌, List, [], ◌++◌, refl, Bool, true, false, ℤ, fold, nat_le, arith}
 use Rattle.std.proofs.Common.{if◌then◌else◌}
-use Rattle.access_core.proofs.Terms.{Done, Effect, Entry, GivenAtLaunch, History, InFlight, Inside, IsInPlace, PacketId, Place, Progress, QueueId, Ran, Refusal, RefusedAt, RunNext, Start}
+use Rattle.access_core.proofs.Terms.{Done, Effect, Entry, GivenAtLaunch, History, InFlight, Inside, IsInPlace, PacketId, Place, Progress, QueueId, Ran, Refusal, RefusedAt, RunNext}
+use Rattle.access_core.proofs.Terms.{Start}
 use Rattle.access_core.proofs.Terms.{agent_writes, answers, due, enters, flight_after_effect, function_of, function_writes, given_at_launch, history_of, is_full}
 use Rattle.access_core.proofs.Terms.{owed_group, refuses, result_writes, signals_after, start_of, write_of}
 use Rattle.aql_packet.specs.declared.packet.AgentDispatch.{AgentDispatch}
@@ -27,7 +28,8 @@ abbrev pub one_group : Progress → Progress
 one_group so_far = record so_far { groups_run = so_far.groups_run + 1 }
 
 -- by the entry of a group the packet comes one group further
-pub run-advances : (queue : QueueId) (id : PacketId) (start : Start) (entries : List Entry) (dispatch : AgentDispatch) → IsAdvance queue id one_group (RunNext queue id) (outcome.Worked (Ran 0 0)) (agent_writes start entries dispatch)
+pub run-advances : (queue : QueueId) (id : PacketId) (start : Start) (entries : List Entry) (dispatch : AgentDispatch)
+    → IsAdvance queue id one_group (RunNext queue id) (outcome.Worked (Ran 0 0)) (agent_writes start entries dispatch)
 run-advances queue id start entries dispatch = record {
   launches = refl;
   progress = λ q i so_far. refl;
@@ -38,7 +40,8 @@ run-advances queue id start entries dispatch = record {
 -- ---- what is kept, and what is owed by it
 
 module _ (a : Inside) (old : History) (seen_as : history_of a ≡ old) where
-  pub pieces-inside : (dispatch : AgentDispatch) (target place : ℕ) (bytes result : List ℕ) → write_of target bytes ≡ function_writes old.start old.entries (function_of dispatch) → write_of place result ≡ result_writes old.start old.entries dispatch →
+  pub pieces-inside : (dispatch : AgentDispatch) (target place : ℕ) (bytes result : List ℕ) → write_of target bytes ≡ function_writes old.start old.entries (function_of dispatch)
+      → write_of place result ≡ result_writes old.start old.entries dispatch →
       write_of target bytes ++ write_of place result ≡ agent_writes (start_of a) a.audit.items dispatch
   pieces-inside dispatch target place bytes result first second = grind arith
 
@@ -58,7 +61,9 @@ module _ (h : History) (queue : QueueId) (id : PacketId) (place : Place) (found 
   agent-due ran full room = grind (arith, agent-owed false ran)
 
 -- barrier packets have no groups
-pub no-groups : (h : History) (queue : QueueId) (id : PacketId) (place : Place) → IsInPlace h queue id place → ((own : GivenAtLaunch) → owed_group h.start h.entries queue id own place.packet place.progress ≡ refuses refusal.NotInFlight) → due h (RunNext queue id) ≡ refuses refusal.NotInFlight
+pub no-groups : (h : History) (queue : QueueId) (id : PacketId) (place : Place) → IsInPlace h queue id place
+    → ((own : GivenAtLaunch) → owed_group h.start h.entries queue id own place.packet place.progress ≡ refuses refusal.NotInFlight)
+    → due h (RunNext queue id) ≡ refuses refusal.NotInFlight
 unfolding owed
 no-groups h queue id place found is = grind arith
 

@@ -31,7 +31,8 @@ found-by_id : (test : Place → Bool) (ps : List Place) (id : PacketId) → opti
 found-by_id test [] id found = absurd cc
 found-by_id test (p ∷ ps) id found = first (test p) (is_place_of id p) refl found (found-by_id test ps id)
   where
-    first : (b c : Bool) → is_place_of id p ≡ c → option_map (λ (p : Place). p.id) (if b then Some p else find test ps) ≡ Some id → (option_map (λ (p : Place). p.id) (find test ps) ≡ Some id → FoundById id ps) → FoundById id (p ∷ ps)
+    first : (b c : Bool) → is_place_of id p ≡ c → option_map (λ (p : Place). p.id) (if b then Some p else find test ps) ≡ Some id
+        → (option_map (λ (p : Place). p.id) (find test ps) ≡ Some id → FoundById id ps) → FoundById id (p ∷ ps)
     first b true is found more = record { place = p; is = rw is refl }
     first true false is found more = grind arith
     first false false is found more = let later = more found in record { place = later.place; is = rw is later.is }
@@ -63,7 +64,8 @@ module _ (a : Inside) (kept : IsCached a) (queue : QueueId) where
 
   -- the queue is kept
   pub stop-known : (q : Queue) → numbered a.queues.items queue.0 ≡ Some q →
-      owed (start_of a) a.audit.items (Stop queue) ≡ (if q.stopped then refuses refusal.QueueDown else enters outcome.Accepted (release_of queue (option_map (λ (p : Place). p.id) (find (λ (p : Place). is_barrier p.packet) q.places))))
+      owed (start_of a) a.audit.items (Stop queue) ≡ (if q.stopped then refuses refusal.QueueDown
+          else enters outcome.Accepted (release_of queue (option_map (λ (p : Place). p.id) (find (λ (p : Place). is_barrier p.packet) q.places))))
   unfolding owed
   stop-known q some = grind (arith, owner-kept, barrier-is)
 
@@ -82,7 +84,8 @@ module _ (a : Inside) (kept : IsCached a) (queue : QueueId) where
     freed-stopped barrier = grind (arith, freed-below)
 
     -- how the queues move along
-    pub queues-stopped : (barrier : Option PacketId) → QueuesAfter a (with_queue a.queues.items queue (with_stop barrier)) (a.flying - freed_by barrier a.queues.items queue) (Stop queue) outcome.Accepted (release_of queue barrier)
+    pub queues-stopped : (barrier : Option PacketId) → QueuesAfter a (with_queue a.queues.items queue (with_stop barrier)) (a.flying - freed_by barrier a.queues.items queue)
+        (Stop queue) outcome.Accepted (release_of queue barrier)
     queues-stopped None =
         let same = flight-unlaunched (start_of a) a.audit.items (Stop queue) outcome.Accepted [] refl in
         let count = ap length same in
@@ -93,16 +96,20 @@ module _ (a : Inside) (kept : IsCached a) (queue : QueueId) where
         pick : (b : Bool) (v : QueueView) → record v { stopped = (if b then true else v.stopped) } ≡ (if b then stopped None v else v)
         pick b v = grind arith
     queues-stopped (Some id) =
-        queues-released a kept queue id (Stop queue) outcome.Accepted (effect.Release queue id ∷ []) (is_release queue id) refl at (with_stop (Some id)) (stopped (Some id)) refl sound refl (λ m v. grind arith)
+        queues-released a kept queue id (Stop queue) outcome.Accepted (effect.Release queue id ∷ []) (is_release queue id) refl at (with_stop (Some id))
+            (stopped (Some id)) refl sound refl (λ m v. grind arith)
       where
         sound : IsSound (with_stop (Some id) at.q)
         sound = let less = sound-released at.q id at.sound in record { room = less.room; free = less.free; below = less.below }
 
   -- how the grants do
-  pub grants-stopped : (barrier : Option PacketId) (new : Ledger) (blocks : List ArgumentBlock) → IfSome barrier (λ id. Releases a.grants new queue id) → IfSome barrier (λ id. blocks ≡ filter (λ b. not (is_block queue id b)) a.blocks.items)
+  pub grants-stopped : (barrier : Option PacketId) (new : Ledger) (blocks : List ArgumentBlock) → IfSome barrier (λ id. Releases a.grants new queue id)
+      → IfSome barrier (λ id. blocks ≡ filter (λ b. not (is_block queue id b)) a.blocks.items)
       → IfNone barrier (new ≡ a.grants) → IfNone barrier (blocks ≡ a.blocks.items) → GrantsAfter a new blocks (Stop queue) outcome.Accepted (release_of queue barrier)
   grants-stopped None new blocks released dropped same same_blocks = grind (arith, grants-still, flight-unlaunched)
-  grants-stopped (Some id) new blocks released dropped same same_blocks = grind (arith, grants-released a kept (Stop queue) outcome.Accepted (effect.Release queue id ∷ []) refl refl (λ client on right b. refl) new blocks queue id (flight-released (start_of a) a.audit.items _ _ _ queue id (is_release queue id)) released dropped)
+  grants-stopped (Some id) new blocks released dropped same same_blocks =
+      grind (arith, grants-released a kept (Stop queue) outcome.Accepted (effect.Release queue id ∷ []) refl refl (λ client on right b. refl) new blocks queue id
+      (flight-released (start_of a) a.audit.items _ _ _ queue id (is_release queue id)) released dropped)
 
   -- a stop is due its entry where a barrier packet leaves flight for it, or the audit has room
   pub may-stop : (q : Queue) (barrier : Option PacketId) (none : Bool) (old : History) → history_of a ≡ old → numbered a.queues.items queue.0 ≡ Some q → q.stopped ≡ false
@@ -110,15 +117,22 @@ module _ (a : Inside) (kept : IsCached a) (queue : QueueId) where
       → is_some barrier ≡ not none → (none ≡ true → is_full old ≡ false) → due old (Stop queue) ≡ enters outcome.Accepted (release_of queue barrier)
   may-stop q barrier none old seen_as some goes is which =
       subst (λ h. (none ≡ true → is_full h ≡ false) → due h (Stop queue) ≡ enters outcome.Accepted (release_of queue barrier)) seen_as
-      (λ room. due-by a (history_of a) refl (Stop queue) (enters outcome.Accepted (release_of queue barrier)) (stop-known q some ∙ (rw (goes, is) refl)) ∙ (rw (left barrier none is which room) refl))
+      (λ room. due-by a (history_of a) refl (Stop queue) (enters outcome.Accepted (release_of queue barrier)) (stop-known q some ∙ (rw (goes, is) refl))
+          ∙ (rw (left barrier none is which room) refl))
     where
-      left : (o : Option PacketId) (b : Bool) → o ≡ option_map (λ (p : Place). p.id) (find (λ (p : Place). is_barrier p.packet) q.places) → is_some o ≡ not b → (b ≡ true → is_full (history_of a) ≡ false) →
+      left : (o : Option PacketId) (b : Bool) → o ≡ option_map (λ (p : Place). p.id) (find (λ (p : Place). is_barrier p.packet) q.places) → is_some o ≡ not b
+          → (b ≡ true → is_full (history_of a) ≡ false) →
           lacks_room (history_of a) (entry_of (Stop queue) outcome.Accepted (release_of queue o)) ≡ false
       left None true is which room = room refl
       left None false is which room = absurd cc
-      left (Some id) b is which room = grind (arith, release-room a kept queue id (in-place a kept queue id q some (found-by_id (λ (p : Place). is_barrier p.packet) q.places id (sym is)).place (found-by_id (λ (p : Place). is_barrier p.packet) q.places id (sym is)).is).flying (in-place a kept queue id q some (found-by_id (λ (p : Place). is_barrier p.packet) q.places id (sym is)).place (found-by_id (λ (p : Place). is_barrier p.packet) q.places id (sym is)).is).found)
+      left (Some id) b is which room = grind (arith, release-room a kept queue id
+          (in-place a kept queue id q some (found-by_id (λ (p : Place). is_barrier p.packet) q.places id (sym is)).place
+          (found-by_id (λ (p : Place). is_barrier p.packet) q.places id (sym is)).is).flying
+          (in-place a kept queue id q some (found-by_id (λ (p : Place). is_barrier p.packet) q.places id (sym is)).place
+          (found-by_id (λ (p : Place). is_barrier p.packet) q.places id (sym is)).is).found)
 
   -- a stop without a barrier packet is refused where the audit has none
   pub stop-full : (q : Queue) (barrier : Option PacketId) (old : History) → history_of a ≡ old → numbered a.queues.items queue.0 ≡ Some q → q.stopped ≡ false
-      → barrier ≡ option_map (λ (p : Place). p.id) (find (λ (p : Place). is_barrier p.packet) q.places) → is_some barrier ≡ false → is_full old ≡ true → due old (Stop queue) ≡ refuses refusal.AuditFull
+      → barrier ≡ option_map (λ (p : Place). p.id) (find (λ (p : Place). is_barrier p.packet) q.places) → is_some barrier ≡ false → is_full old ≡ true
+      → due old (Stop queue) ≡ refuses refusal.AuditFull
   stop-full q barrier old h4 h5 h6 h7 h8 h9 = grind (arith, stop-known q)

@@ -5,7 +5,8 @@ use Rattle.access_core.proofs.Terms.{All-head, All-push, All-tail, All-weaker, C
 use Rattle.access_core.proofs.Terms.{IsInPlace, IsSound, Launched, MayReach, MayReachRange, ObjectRight, Opening, Outcome, Packet, PacketId, Place, Queue, QueueError, QueueId, QueueView}
 use Rattle.access_core.proofs.Terms.{Read, Rule, SLOTS, Start, Take, TakesNext, and_parts, argument_ranges, arguments-held, as_launched, barrier_bit, cached_opening, cached_view}
 use Rattle.access_core.proofs.Terms.{count_by-le-length, decoded, due, entered-owed, enters, entry_of, error_without_place, facts_of, first_failing_rule, flight, flight_of}
-use Rattle.access_core.proofs.Terms.{hands_over_packet_of, held_by_arguments, held_by_needs, history_of, in_force, is_placed, kernel_of, lacks_room, launched_by, length-map, lies_in_regions}
+use Rattle.access_core.proofs.Terms.{hands_over_packet_of, held_by_arguments, held_by_needs, history_of, in_force, is_placed, kernel_of, lacks_room, launched_by, length-map}
+use Rattle.access_core.proofs.Terms.{lies_in_regions}
 use Rattle.access_core.proofs.Terms.{lies_whole, list_all, lt-ltb, memory_needs, need_is_met, needs, numbered, numbered-map, owed_verdict, owner, place_of}
 use Rattle.access_core.proofs.Terms.{queue_at, refuse_unless, refuses, region_lengths, right_needed, rights_at_launch, start_of, with_denied, with_entry, with_queue, with_some}
 use Rattle.packet_processor.proofs.FirstFailing.{first_failing-decoded}
@@ -30,12 +31,14 @@ pub owner-kept : (a : Inside) (queue : QueueId) → IsCached a → owner (start_
 owner-kept a queue kept = ap (λ (all : List Opening). numbered all queue.0) (sym kept.openings) ∙ numbered-map cached_opening a.queues.items queue.0
 
 -- what is found of bytes by the facts of a history is found by those of the fields
-pub judged-inside : (a : Inside) (old : History) → history_of a ≡ old → (q : Queue) (bytes : List ℕ) (found : Option Rule) → first_failing_rule (facts_of old.start old.entries (cached_opening q)) bytes ≡ found
+pub judged-inside : (a : Inside) (old : History) → history_of a ≡ old → (q : Queue) (bytes : List ℕ) (found : Option Rule)
+    → first_failing_rule (facts_of old.start old.entries (cached_opening q)) bytes ≡ found
     → first_failing_rule (facts_of (start_of a) a.audit.items (cached_opening q)) bytes ≡ found
 judged-inside a old seen_as q bytes found is = subst (λ (h : History). first_failing_rule (facts_of h.start h.entries (cached_opening q)) bytes ≡ found) (sym seen_as) is
 
 -- its packets in flight are those of the history
-pub packets-kept : (a : Inside) (queue : QueueId) (q : Queue) → IsCached a → numbered a.queues.items queue.0 ≡ Some q → map (λ (f : InFlight). f.packet) (flight_of (start_of a) a.audit.items queue) ≡ map (λ (p : Place). p.packet) q.places
+pub packets-kept : (a : Inside) (queue : QueueId) (q : Queue) → IsCached a → numbered a.queues.items queue.0 ≡ Some q
+    → map (λ (f : InFlight). f.packet) (flight_of (start_of a) a.audit.items queue) ≡ map (λ (p : Place). p.packet) q.places
 packets-kept a queue q kept some = grind (arith, map-map)
 
 module _ (a : Inside) (kept : IsCached a) (queue : QueueId) (id : PacketId) (bytes : List ℕ) where
@@ -49,7 +52,8 @@ module _ (a : Inside) (kept : IsCached a) (queue : QueueId) (id : PacketId) (byt
       owed (start_of a) a.audit.items (Take queue id bytes) ≡
       (if nat_lt 0 (length q.errors.items) || q.stopped then refuses refusal.QueueDown
       else refuse_unless (id.0 == q.next) (refuses (refusal.OutOfStep q.next))
-      (owed_verdict queue id.0 (cause_to_wait (map (λ (p : Place). p.packet) q.places) (barrier_bit bytes)) (first_failing_rule (facts_of (start_of a) a.audit.items (cached_opening q)) bytes)))
+      (owed_verdict queue id.0 (cause_to_wait (map (λ (p : Place). p.packet) q.places) (barrier_bit bytes))
+          (first_failing_rule (facts_of (start_of a) a.audit.items (cached_opening q)) bytes)))
   unfolding owed
   take-known q some = grind (arith, owner-kept, packets-kept)
 
@@ -66,12 +70,14 @@ passed-rights : (facts : Facts) (p : Packet) → later_failing facts p ≡ None 
 passed-rights facts p none = grind arith
 
 -- what is needed and met is in force
-held-met : (facts : Facts) (all : List Need) (rest : List ObjectRight) → list_all (need_is_met facts) all ≡ true → list_all (λ h. facts.in_force h.0 h.1) rest ≡ true → list_all (λ h. facts.in_force h.0 h.1) (map right_needed all ++ rest) ≡ true
+held-met : (facts : Facts) (all : List Need) (rest : List ObjectRight) → list_all (need_is_met facts) all ≡ true → list_all (λ h. facts.in_force h.0 h.1) rest ≡ true
+    → list_all (λ h. facts.in_force h.0 h.1) (map right_needed all ++ rest) ≡ true
 held-met facts [] rest met others = others
 held-met facts (need ∷ all) rest met others = grind (arith, held-met facts all rest (and_parts (need_is_met facts need) (list_all (need_is_met facts) all) met).1 others)
 
 -- so all that a packet will hold by its needs is in force
-held-passed : (facts : Facts) (p : Packet) (client : ClientId) → PassesRights facts p → list_all (λ h. facts.in_force h.0 h.1) (held_by_needs (record { client = client; agent = facts.agent }) p) ≡ true
+held-passed : (facts : Facts) (p : Packet) (client : ClientId) → PassesRights facts p
+    → list_all (λ h. facts.in_force h.0 h.1) (held_by_needs (record { client = client; agent = facts.agent }) p) ≡ true
 held-passed facts p client passes = grind (arith, held-met)
 
 -- what is needed and met lies whole in regions
@@ -80,7 +86,8 @@ lies-met facts [] met = refl
 lies-met facts (need ∷ all) met = grind (arith, lies-met facts all (and_parts (need_is_met facts need) (list_all (need_is_met facts) all) met).1)
 
 -- a packet that is launched has all its ranges within regions
-pub within-launched : (start : Start) (es : List Entry) (opening : Opening) (bytes : List ℕ) (p : Packet) → decoded bytes ≡ Some p → first_failing_rule (facts_of start es opening) bytes ≡ None → lies_in_regions (region_lengths start.policy) p ≡ true
+pub within-launched : (start : Start) (es : List Entry) (opening : Opening) (bytes : List ℕ) (p : Packet) → decoded bytes ≡ Some p
+    → first_failing_rule (facts_of start es opening) bytes ≡ None → lies_in_regions (region_lengths start.policy) p ≡ true
 within-launched start es opening bytes p found none =
     lies-met (facts_of start es opening) (memory_needs p) (passed-rights (facts_of start es opening) p (sym (first_failing-decoded _ bytes p found) ∙ none)).memory
 
@@ -91,7 +98,8 @@ all-behind test [] (y ∷ ys) met all = rw (All-head (λ x. test x ≡ true) y y
 all-behind test (x ∷ xs) ys met all = grind (arith, all-behind test xs ys (and_parts (test x) (list_all test xs) met).1 all)
 
 -- a packet that is launched may hold what it needs, and what its arguments have it hold
-pub may-hold : (start : Start) (es : List Entry) (e : Entry) (opening : Opening) (bytes : List ℕ) (p : Packet) → decoded bytes ≡ Some p → first_failing_rule (facts_of start es opening) bytes ≡ None
+pub may-hold : (start : Start) (es : List Entry) (e : Entry) (opening : Opening) (bytes : List ℕ) (p : Packet) → decoded bytes ≡ Some p
+    → first_failing_rule (facts_of start es opening) bytes ≡ None
     → list_all (λ h. in_force start es opening.client h.0 h.1) (rights_at_launch start es opening p) ≡ true
 may-hold start es e opening bytes p found none =
     all-behind (λ h. in_force start es opening.client h.0 h.1) (held_by_needs opening p) (held_by_arguments start es opening.client p)
@@ -111,8 +119,12 @@ placed-block h client (packet.Agent _) all = tt
 placed-block h client (packet.BarrierAnd _) all = tt
 placed-block h client (packet.BarrierOr _) all = tt
 
-pub block-placed : (h : History) (queue : QueueId) (id : PacketId) (bytes : List ℕ) (p : Packet) → due h (Take queue id bytes) ≡ enters (outcome.Taken Launched) [] → decoded bytes ≡ Some p → IsBlockPlaced h p
-block-placed h queue id bytes p is found = grind (arith, placed-block h (launch-granted h.start h.entries queue id bytes [] (entered-owed h (Take queue id bytes) (outcome.Taken Launched) [] is).0).opening.client (launch-granted h.start h.entries queue id bytes [] (entered-owed h (Take queue id bytes) (outcome.Taken Launched) [] is).0).packet (launch-granted h.start h.entries queue id bytes [] (entered-owed h (Take queue id bytes) (outcome.Taken Launched) [] is).0).allowed.arguments)
+pub block-placed : (h : History) (queue : QueueId) (id : PacketId) (bytes : List ℕ) (p : Packet) → due h (Take queue id bytes) ≡ enters (outcome.Taken Launched) []
+    → decoded bytes ≡ Some p → IsBlockPlaced h p
+block-placed h queue id bytes p is found = grind (arith, placed-block h
+    (launch-granted h.start h.entries queue id bytes [] (entered-owed h (Take queue id bytes) (outcome.Taken Launched) [] is).0).opening.client
+    (launch-granted h.start h.entries queue id bytes [] (entered-owed h (Take queue id bytes) (outcome.Taken Launched) [] is).0).packet
+    (launch-granted h.start h.entries queue id bytes [] (entered-owed h (Take queue id bytes) (outcome.Taken Launched) [] is).0).allowed.arguments)
 
 -- a launch has room where there is some for an entry and one packet more in flight
 pub room-launched : (h : History) (queue : QueueId) (id : PacketId) (bytes : List ℕ) (p : Packet) → decoded bytes ≡ Some p
@@ -125,8 +137,11 @@ unfolding cause_to_wait
 may_start-few ps barrier none = grind arith
 
 -- a queue that is kept, and not down, and where a packet may start takes its next packet
-pub takes-next : (a : Inside) (kept : IsCached a) (queue : QueueId) (q : Queue) (barrier : Bool) → numbered a.queues.items queue.0 ≡ Some q → (nat_lt 0 (length q.errors.items) || q.stopped) ≡ false → cause_to_wait (map (λ (p : Place). p.packet) q.places) barrier ≡ None → TakesNext (history_of a) queue
-takes-next a kept queue q barrier some down starts = grind (arith, length-map (flight_of (start_of a) a.audit.items queue) (λ (f : InFlight). f.packet), may_start-few (map (λ (f : InFlight). f.packet) (flight_of (start_of a) a.audit.items queue)) barrier (ap (λ ps. cause_to_wait ps barrier) (packets-kept a queue q kept some) ∙ starts), owner-kept a queue kept)
+pub takes-next : (a : Inside) (kept : IsCached a) (queue : QueueId) (q : Queue) (barrier : Bool) → numbered a.queues.items queue.0 ≡ Some q
+    → (nat_lt 0 (length q.errors.items) || q.stopped) ≡ false → cause_to_wait (map (λ (p : Place). p.packet) q.places) barrier ≡ None → TakesNext (history_of a) queue
+takes-next a kept queue q barrier some down starts = grind (arith, length-map (flight_of (start_of a) a.audit.items queue) (λ (f : InFlight). f.packet),
+    may_start-few (map (λ (f : InFlight). f.packet) (flight_of (start_of a) a.audit.items queue)) barrier
+    (ap (λ ps. cause_to_wait ps barrier) (packets-kept a queue q kept some) ∙ starts), owner-kept a queue kept)
 
 -- no more packets of a queue were handed over than there are entries
 next_id-le : (start : Start) (entries : List Entry) (queue : QueueId) → next_id start entries queue ≤ length entries
@@ -163,14 +178,18 @@ pub can-take : (a : Inside) (kept : IsCached a) (queue : QueueId) → TakesNext 
 can-take a kept queue takes =
     let at = is-open a kept queue takes.0 takes.1 in
     let count = length-map (flight_of (start_of a) a.audit.items queue) (place_of (start_of a) a.audit.items queue) in
-    let places : length at.q.places ≡ length (map (place_of (start_of a) a.audit.items queue) (flight_of (start_of a) a.audit.items queue)) = ap (λ (v : QueueView). length v.places) at.view in
+    let places : length at.q.places ≡ length (map (place_of (start_of a) a.audit.items queue) (flight_of (start_of a) a.audit.items queue)) =
+        ap (λ (v : QueueView). length v.places) at.view in
     record { opened = at; none = ap (λ (v : QueueView). v.errors) at.view ∙ no_errors _ _ takes.2; few = omega (arith, count, places, takes.3) }
 
 -- how the queues follow an entry that changes one of them
-pub queues-after : (a : Inside) (kept : IsCached a) (queue : QueueId) (at : IsOpen a queue) (change : Queue → Queue) (view : QueueView → QueueView) (count : ℕ) (event : Event) (told : Outcome) (effects : List Effect)
+pub queues-after : (a : Inside) (kept : IsCached a) (queue : QueueId) (at : IsOpen a queue) (change : Queue → Queue) (view : QueueView → QueueView) (count : ℕ) (event : Event)
+    (told : Outcome) (effects : List Effect)
     → opening_of event ≡ None → cached_opening (change at.q) ≡ cached_opening at.q → IsSound (change at.q) → cached_view (Some (change at.q)) ≡ view (cached_view (Some at.q))
-    → ((m : QueueId) → queue_at (start_of a) (with_entry a.audit.items event told effects) m ≡ (if queue.0 == m.0 then view (queue_at (start_of a) a.audit.items m) else queue_at (start_of a) a.audit.items m))
-    → count ≡ length (flight (start_of a) (with_entry a.audit.items event told effects)) → ((f : InFlight) → launched_by event told ≡ Some f → lies_in_regions (region_lengths a.policy) f.packet ≡ true)
+    → ((m : QueueId) → queue_at (start_of a) (with_entry a.audit.items event told effects) m
+        ≡ (if queue.0 == m.0 then view (queue_at (start_of a) a.audit.items m) else queue_at (start_of a) a.audit.items m))
+    → count ≡ length (flight (start_of a) (with_entry a.audit.items event told effects))
+    → ((f : InFlight) → launched_by event told ≡ Some f → lies_in_regions (region_lengths a.policy) f.packet ≡ true)
     → QueuesAfter a (with_queue a.queues.items queue change) count event told effects
 queues-after a kept queue at change view count event told effects none same sound alike now flying within = record {
   openings = openings-changed a.queues.items queue change at.q at.found same ∙ sym (ap (with_some (map cached_opening a.queues.items)) none);
@@ -191,12 +210,17 @@ module _ (a : Inside) (kept : IsCached a) (queue : QueueId) (id : PacketId) (byt
   sound-denied : (error : QueueError) → IsSound (with_denied error can.opened.q)
   sound-denied error = grind arith
 
-  pub flight-denied : (rule : Rule) → flight (start_of a) (with_entry a.audit.items (Take queue id bytes) (outcome.Taken (Denied (error_without_place queue id.0 rule))) []) ≡ flight (start_of a) a.audit.items
+  pub flight-denied : (rule : Rule) → flight (start_of a) (with_entry a.audit.items (Take queue id bytes) (outcome.Taken (Denied (error_without_place queue id.0 rule))) [])
+      ≡ flight (start_of a) a.audit.items
   flight-denied rule = flight-unlaunched (start_of a) a.audit.items (Take queue id bytes) (outcome.Taken (Denied (error_without_place queue id.0 rule))) [] refl
 
   -- it is denied
-  pub queues-denied : (rule : Rule) → QueuesAfter a (with_queue a.queues.items queue (with_denied (error_without_place queue id.0 rule))) a.flying (Take queue id bytes) (outcome.Taken (Denied (error_without_place queue id.0 rule))) []
-  queues-denied rule = grind (arith, queues-after a kept queue can.opened (with_denied (error_without_place queue id.0 rule)) (denied (error_without_place queue id.0 rule)) a.flying _ _ _ refl refl (sound-denied (error_without_place queue id.0 rule)) refl (λ m. queue_at-denied (start_of a) a.audit.items queue id bytes rule m) (kept.flying ∙ ap length (sym (flight-denied rule))) (none-launched (Take queue id bytes) (outcome.Taken (Denied (error_without_place queue id.0 rule))) refl (start_of a)))
+  pub queues-denied : (rule : Rule) → QueuesAfter a (with_queue a.queues.items queue (with_denied (error_without_place queue id.0 rule))) a.flying (Take queue id bytes)
+      (outcome.Taken (Denied (error_without_place queue id.0 rule))) []
+  queues-denied rule = grind (arith, queues-after a kept queue can.opened (with_denied (error_without_place queue id.0 rule))
+      (denied (error_without_place queue id.0 rule)) a.flying _ _ _ refl refl (sound-denied (error_without_place queue id.0 rule)) refl
+      (λ m. queue_at-denied (start_of a) a.audit.items queue id bytes rule m) (kept.flying ∙ ap length (sym (flight-denied rule)))
+      (none-launched (Take queue id bytes) (outcome.Taken (Denied (error_without_place queue id.0 rule))) refl (start_of a)))
 
   -- it is launched
   module _ (p : Packet) (reads : decoded bytes ≡ Some p) (next : id.0 ≡ next_id (start_of a) a.audit.items queue) where
@@ -204,7 +228,8 @@ module _ (a : Inside) (kept : IsCached a) (queue : QueueId) (id : PacketId) (byt
     next-is = ap (λ (v : QueueView). v.next) can.opened.view ∙ sym next
 
     below-id : All (λ (place : Place). place.id.0 < id.0) (queue_at (start_of a) a.audit.items queue).places
-    below-id = subst (λ (ps : List Place). All (λ (place : Place). place.id.0 < id.0) ps) (ap (λ (v : QueueView). v.places) can.opened.view) (subst (λ n. All (λ (place : Place). place.id.0 < n) can.opened.q.places) next-is can.opened.sound.below)
+    below-id = subst (λ (ps : List Place). All (λ (place : Place). place.id.0 < id.0) ps) (ap (λ (v : QueueView). v.places) can.opened.view)
+        (subst (λ n. All (λ (place : Place). place.id.0 < n) can.opened.q.places) next-is can.opened.sound.below)
 
     sound-launched : IsSound (with_launched id p can.opened.q)
     sound-launched =
@@ -220,9 +245,11 @@ module _ (a : Inside) (kept : IsCached a) (queue : QueueId) (id : PacketId) (byt
         }
 
     pub flying-launched : a.flying + 1 ≡ length (flight (start_of a) (with_entry a.audit.items (Take queue id bytes) (outcome.Taken Launched) []))
-    flying-launched = grind (arith, length-append (flight (start_of a) a.audit.items) (record { queue = queue; id = id; packet = p } ∷ []), flight-launched (start_of a) a.audit.items queue id bytes p reads)
+    flying-launched = grind (arith, length-append (flight (start_of a) a.audit.items) (record { queue = queue; id = id; packet = p } ∷ []),
+        flight-launched (start_of a) a.audit.items queue id bytes p reads)
 
-    pub queues-launched : lies_in_regions (region_lengths a.policy) p ≡ true → QueuesAfter a (with_queue a.queues.items queue (with_launched id p)) (a.flying + 1) (Take queue id bytes) (outcome.Taken Launched) []
+    pub queues-launched : lies_in_regions (region_lengths a.policy) p ≡ true
+        → QueuesAfter a (with_queue a.queues.items queue (with_launched id p)) (a.flying + 1) (Take queue id bytes) (outcome.Taken Launched) []
     queues-launched within =
         queues-after a kept queue can.opened (with_launched id p) (launched id p) (a.flying + 1) _ _ _ refl refl sound-launched refl
         (λ m. queue_at-launched (start_of a) a.audit.items queue id bytes p reads below-id m) flying-launched packet-within

@@ -7,7 +7,7 @@ pub use Rattle.access_core.specs.declared.kernel.Kernel.{Kernel}
 pub use Rattle.access_core.specs.declared.queue.Queue.{Queue}
 pub use Rattle.access_core.specs.inner.ArgumentBlocks.{AreBlocksOf, block_behind, block_of, is_block, name_of, packet_of}
 pub use Rattle.access_core.specs.inner.Cached.{IsCached, IsEntered, core_of, error_places, history_of, is_full, start_of, table_places}
-pub use Rattle.access_core.specs.inner.CachedQueue.{IsQueue, IsSound, QueueView, cached_opening, cached_view, place_of, queue_at}
+pub use Rattle.access_core.specs.inner.CachedQueue.{IsSound, QueueView, cached_opening, cached_view, place_of, queue_at}
 pub use Rattle.access_core.specs.inner.Deciding.{IsBlockPlaced, MayHold, TakesNext, refusal_of}
 pub use Rattle.access_core.specs.inner.Held.{holds_by, packet_holds}
 pub use Rattle.access_core.specs.inner.InPlace.{IsChanged, IsInPlace, IsSized, RefusedAt, finish_owed, is_placed}
@@ -29,8 +29,8 @@ pub use Rattle.aql_packet.specs.declared.packet.KernelDispatch.{KernelDispatch}
 pub use Rattle.aql_packet.specs.declared.packet.Packet.{Packet}
 pub use Rattle.core_model.proofs.Holding.{arguments-held, from_launch-kept, from_launch-launch, from_launch-other, holding-legal, holds-from, owner-more, was-launched}
 pub use Rattle.core_model.proofs.Launches.{AreBelowNext-legal, IsNext-from_owed, launched_by-is, was_launched}
-pub use Rattle.core_model.proofs.Lists.{all-from_list_all, filter-passes, found-all, found-passes, none-passes}
-pub use Rattle.core_model.proofs.Meeting.{entered-owed, refuse_unless-fails, refuse_unless-holds}
+pub use Rattle.core_model.proofs.Lists.{all-from_list_all, filter-passes, found-all, found-passes}
+pub use Rattle.core_model.proofs.Meeting.{entered-owed, refuse_unless-holds}
 pub use Rattle.core_model.proofs.More.{errors-more, flight-more, in_force-more, is_stopped-more, memory_at-more, next_id-more, openings-more, progress-more, signals-more, with_error}
 pub use Rattle.core_model.proofs.More.{with_some}
 pub use Rattle.core_model.specs.Flight.{flight, flight_after_effect, flight_of, in_flight, is_packet, launched_by, progress, progress_after, satisfied_by_either}
@@ -40,15 +40,17 @@ pub use Rattle.core_model.specs.History.{History, Start}
 pub use Rattle.core_model.specs.Holds.{ObjectRight, arguments_if, arguments_of, held_by_arguments, held_by_needs, held_by_pointer, holds_one_of, is_launch, is_queue_of, is_up_to}
 pub use Rattle.core_model.specs.Holds.{least_in_flight, packet_rights, right_needed, rights_at_launch}
 pub use Rattle.core_model.specs.Kernels.{grid_size, group_size, kernel_of, no_kernel, segments_of, wide_arguments}
-pub use Rattle.core_model.specs.LaunchRules.{Facts, asks_for_known_work, cause_to_wait, first_failing_rule, has_dimensions, has_segments, has_sizes, is_barrier, kernel_passes, lies_whole}
-pub use Rattle.core_model.specs.LaunchRules.{meets_rule, need_is_met}
-pub use Rattle.core_model.specs.Legal.{AreReplies, IsLegal, IsServed, Meets, MeetsOrLacks, RepliesOrLacks, as_reply, due, entry_of, lacks_room, may_lack_memory, within_room}
+pub use Rattle.core_model.specs.LaunchRules.{Facts, asks_for_known_work, cause_to_wait, first_failing_rule, has_dimensions, has_segments, has_sizes, is_barrier, kernel_passes}
+pub use Rattle.core_model.specs.LaunchRules.{lies_whole}
+pub use Rattle.core_model.specs.LaunchRules.{need_is_met}
+pub use Rattle.core_model.specs.Legal.{AreReplies, IsLegal, IsServed, Meets, due, entry_of, lacks_room, may_lack_memory, within_room}
 pub use Rattle.core_model.specs.Memory.{byte_after, memory_at, memory_from, signals, signals_after}
 pub use Rattle.core_model.specs.Needs.{completion_signal, function_of, memory_needs, needs}
-pub use Rattle.core_model.specs.Owed.{Owed, answers, completion_of, enters, error_without_place, facts_of, for_packet, group_error, group_owed, old_if_asked, owed, owed_finish, owed_group}
+pub use Rattle.core_model.specs.Owed.{Owed, answers, completion_of, enters, error_without_place, facts_of, for_packet, group_error, group_owed, old_if_asked, owed, owed_finish}
+pub use Rattle.core_model.specs.Owed.{owed_group}
 pub use Rattle.core_model.specs.Owed.{owed_poll, owed_verdict, refuses, release_of, signal_decrement}
 pub use Rattle.core_model.specs.Queries.{AnswerOrRefusal, listing}
-pub use Rattle.core_model.specs.Queues.{Opening, error_of, errors, hands_over_packet_of, next_id, openings, owner, stops_queue}
+pub use Rattle.core_model.specs.Queues.{Opening, error_of, hands_over_packet_of, next_id, openings, owner, stops_queue}
 pub use Rattle.core_model.specs.Refusals.{refuse_unless}
 pub use Rattle.core_model.specs.View.{GivenAtLaunch, RegionRights, as_lent, first_address, given_at_launch, group_input, held_region, held_regions, rights_held}
 pub use Rattle.core_model.specs.Work.{agent_writes, function_writes, group_count, result_writes, write_of, write_of_run}
@@ -57,7 +59,6 @@ pub use Rattle.core_model.specs.declared.entry.Effect.TheVariants.{Write}
 pub use Rattle.core_model.specs.declared.entry.Entry.{Entry}
 pub use Rattle.core_model.specs.declared.event.Event.{Event}
 pub use Rattle.core_model.specs.declared.event.Event.TheVariants.{ChangeSignal, Finish, Grant, HostWrite, OpenQueue, Poll, Revoke, RunNext, Stop, Take}
-pub use Rattle.core_model.specs.declared.event.Query.{Query}
 pub use Rattle.core_model.specs.declared.event.Request.{Request}
 pub use Rattle.core_model.specs.declared.flight.InFlight.{InFlight}
 pub use Rattle.core_model.specs.declared.flight.Progress.{Progress}
@@ -85,7 +86,7 @@ pub use Rattle.packet_processor.specs.declared.places.Place.{Place}
 pub use Rattle.policy.proofs.NameLemmas.{numbered-map, numbered-next}
 pub use Rattle.policy.specs.Object.{same_object}
 pub use Rattle.policy.specs.Policy.{Declared, Name, initial_values, numbered, region_lengths, row_of, rules_of}
-pub use Rattle.policy.specs.Rights.{all_rights, bit_of, each_right, has, rights_that, set_of}
+pub use Rattle.policy.specs.Rights.{all_rights, bit_of, has, rights_that, set_of}
 pub use Rattle.policy.specs.Rules.{Rules, are_allowed, knows_client, knows_object}
 pub use Rattle.policy.specs.declared.object.Object.{Object}
 pub use Rattle.policy.specs.declared.rights.Right.{Right}
@@ -96,12 +97,12 @@ pub use Rattle.queue_error.specs.declared.rule.Rule.{Rule}
 pub use Rattle.queue_error.specs.declared.rule.Rule.TheVariants.{B1}
 pub use Rattle.regions.proofs.Laws.{IsWithin-from_test, byte_at-zeros, length-bytes_from, length-region_bytes, lengths_of-zeros, slice_get-bytes_from}
 pub use Rattle.regions.proofs.Lookups.{region_length-is, unwrap_or-length_of_region}
-pub use Rattle.regions.specs.Memory.{IsMemory, IsWithin, IsWritten, byte_at, bytes_from, is_within, lengths_of, lies_in_region, region_length, region_of, zeros}
+pub use Rattle.regions.specs.Memory.{IsMemory, IsWithin, IsWritten, byte_at, bytes_from, is_within, lengths_of, lies_in_region, region_length, zeros}
 pub use Rattle.sequences.specs.Room.{Roomy}
 pub use Rattle.signals.specs.Values.{applied}
-pub use Rattle.std.proofs.lemmas.Bool.{and_from, and_parts, cases_eq, le-ltb, leb-true, lt-ltb, ltb-false, ltb-true, or_parts, or_right}
+pub use Rattle.std.proofs.lemmas.Bool.{and_parts, leb-true, lt-ltb, ltb-false, ltb-true, or_parts, or_right}
 pub use Rattle.std.proofs.lemmas.Bool.Decides.{nat_tests}
-pub use Rattle.std.proofs.lemmas.List.{append-nil, length-map, length-replicate, map-append, same_lists, take_all, take_more}
+pub use Rattle.std.proofs.lemmas.List.{append-nil, length-map, length-replicate, map-append, same_lists, take_all}
 pub use Rattle.std.proofs.lemmas.List.Elements.{All-filter, All-head, All-map, All-nil, All-push, All-set, All-tail, All-weaker, filter-append}
 pub use Rattle.std.proofs.lemmas.List.FromFn.{filter_of_map_range_with_len_more, get_or-map-range_with_len, get_or-range_with_len, length-map-range_with_len, length-range_with_len}
 pub use Rattle.std.proofs.lemmas.List.Sums.{count_by-le-length, fold-append}

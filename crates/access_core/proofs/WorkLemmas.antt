@@ -1,7 +1,8 @@
 -- Packets in flight and their completion: what an entry changes beside them, and how many are left.
 use Rattle.std.proofs.Common.{◌≡◌, ℕ, ◌+◌, ◌-◌, ◌<◌, ◌≤◌, List, [], ◌∷◌, ◌++◌, length, refl, sym, subst, ◌∙◌, ap, Bool, true, false, Some, None, arith}
 use Rattle.std.proofs.Common.{get_or, length-append, ℤ, filter, find, fold, not, ◌==◌, if◌then◌else◌, ◌&&◌, option_map, map}
-use Rattle.access_core.proofs.Terms.{All-filter, All-map, B1, CanFail, Effect, Event, Failed, Faulted, Finish, History, InFlight, Inside, IsCached, IsInPlace, IsSound, Outcome, Owed, Packet}
+use Rattle.access_core.proofs.Terms.{All-filter, All-map, B1, CanFail, Effect, Event, Failed, Faulted, Finish, History, InFlight, Inside, IsCached, IsInPlace, IsSound, Outcome, Owed}
+use Rattle.access_core.proofs.Terms.{Packet}
 use Rattle.access_core.proofs.Terms.{PacketId, Place, Poll, Progress, Queue, QueueError, QueueId, QueueView, RefusedAt, RunNext, SignalHandle, byte_after, cached_opening}
 use Rattle.access_core.proofs.Terms.{cached_view, completion_of, completion_signal, due, enters, error_without_place, finish_owed, flight, flight_after_effect, for_packet, found-all}
 use Rattle.access_core.proofs.Terms.{found-passes, freed_by, history_of, in_flight, is_packet, is_place_of, length-map, lies_in_regions, numbered, owed, owner, place_of, progress}
@@ -40,7 +41,8 @@ filter-fewer test kept (x ∷ xs) f found out = grind (arith, filter-not_more ke
 -- ---- what is kept, and what is owed by it
 
 -- a call about a packet in its place is owed what the place tells
-pub owed-in_place : (history : History) (queue : QueueId) (id : PacketId) (place : Place) → IsInPlace history queue id place → (rest : Packet → Progress → Owed) → for_packet history.start history.entries queue id rest ≡ rest place.packet place.progress
+pub owed-in_place : (history : History) (queue : QueueId) (id : PacketId) (place : Place) → IsInPlace history queue id place → (rest : Packet → Progress → Owed)
+    → for_packet history.start history.entries queue id rest ≡ rest place.packet place.progress
 owed-in_place history queue id place found rest = rw (found.owner_is, found.found, found.packet_is, found.progress_is) refl
 
 -- a completion that is due, by the values that are cached
@@ -49,7 +51,8 @@ pub finish-due : (a : Inside) → IsCached a → (old : History) → history_of 
 finish-due a kept old seen_as event queue id p is = grind arith
 
 -- a place that is found is one by the fields
-pub place-inside : (a : Inside) (old : History) → history_of a ≡ old → (queue : QueueId) (id : PacketId) (place : Place) → IsInPlace old queue id place → IsInPlace (history_of a) queue id place
+pub place-inside : (a : Inside) (old : History) → history_of a ≡ old → (queue : QueueId) (id : PacketId) (place : Place) → IsInPlace old queue id place
+    → IsInPlace (history_of a) queue id place
 place-inside a old seen_as queue id place found = subst (λ h. IsInPlace h queue id place) (sym seen_as) found
 
 module _ (a : Inside) (kept : IsCached a) (queue : QueueId) (id : PacketId) where
@@ -66,8 +69,10 @@ module _ (a : Inside) (kept : IsCached a) (queue : QueueId) (id : PacketId) wher
       let left : without_packet id at.q.places ≡ map (place_of (start_of a) a.audit.items queue) (filter (of_queue queue.0) others) =
       ap (without_packet id) places ∙ sym (released-of id.0 (place_of (start_of a) a.audit.items queue) queue.0 flying (λ f. refl)) in
       let freed-now : freed_by (Some id) a.queues.items queue ≡ length at.q.places - length (without_packet id at.q.places) = freed-at (Some id) a.queues.items queue at.q at.found in
-      let one : length at.q.places ≡ length (filter (of_queue queue.0) flying) = ap length places ∙ length-map (filter (of_queue queue.0) flying) (place_of (start_of a) a.audit.items queue) in
-      let two : length (without_packet id at.q.places) ≡ length (filter (of_queue queue.0) others) = ap length left ∙ length-map (filter (of_queue queue.0) others) (place_of (start_of a) a.audit.items queue) in
+      let one : length at.q.places ≡ length (filter (of_queue queue.0) flying) = ap length places
+          ∙ length-map (filter (of_queue queue.0) flying) (place_of (start_of a) a.audit.items queue) in
+      let two : length (without_packet id at.q.places) ≡ length (filter (of_queue queue.0) others) = ap length left
+          ∙ length-map (filter (of_queue queue.0) others) (place_of (start_of a) a.audit.items queue) in
       let count = released-count id.0 queue.0 flying in
       let less = filter-not_more (λ (f : InFlight). not (is_packet queue id f)) flying in
       omega (arith, freed-now, one, two, count, less)
@@ -84,7 +89,8 @@ module _ (a : Inside) (kept : IsCached a) (queue : QueueId) (id : PacketId) wher
   release-room f found = grind (arith, filter-fewer, found-passes)
 
   -- how the queues move along with it
-  pub queues-released : (event : Event) (told : Outcome) (effects : List Effect) → IsRelease queue id event told effects → opening_of event ≡ None → (at : IsOpen a queue) (change : Queue → Queue) (view : QueueView → QueueView)
+  pub queues-released : (event : Event) (told : Outcome) (effects : List Effect) → IsRelease queue id event told effects → opening_of event ≡ None
+      → (at : IsOpen a queue) (change : Queue → Queue) (view : QueueView → QueueView)
       → cached_opening (change at.q) ≡ cached_opening at.q → IsSound (change at.q) → cached_view (Some (change at.q)) ≡ view (cached_view (Some at.q))
       → ((m : QueueId) (v : QueueView) → after_entry m event told v (if queue.0 == m.0 then without_packet id v.places else v.places) ≡ (if queue.0 == m.0 then view v else v))
       → QueuesAfter a (with_queue a.queues.items queue change) (a.flying - freed_by (Some id) a.queues.items queue) event told effects
@@ -101,7 +107,8 @@ sound-released q id sound =
 
 -- ---- a packet is found in its place
 
-find-placed : (g : InFlight → Place) (n i : ℕ) (fs : List InFlight) → ((f : InFlight) → (g f).id ≡ f.id) → find (λ (p : Place). p.id.0 == i) (map g (filter (of_queue n) fs)) ≡ option_map g (find (λ (f : InFlight). f.queue.0 == n && f.id.0 == i) fs)
+find-placed : (g : InFlight → Place) (n i : ℕ) (fs : List InFlight) → ((f : InFlight) → (g f).id ≡ f.id)
+    → find (λ (p : Place). p.id.0 == i) (map g (filter (of_queue n) fs)) ≡ option_map g (find (λ (f : InFlight). f.queue.0 == n && f.id.0 == i) fs)
 find-placed g n i [] named = refl
 find-placed g n i (f ∷ fs) named = grind (arith, find-placed g n i fs named)
 
@@ -121,14 +128,18 @@ module _ (a : Inside) (kept : IsCached a) (queue : QueueId) (id : PacketId) (q :
   none-in-place is = grind (arith, sought, owned)
 
 -- a packet in its place reaches only what lies whole in a region
-pub reaches-in_place : (a : Inside) (kept : IsCached a) (queue : QueueId) (id : PacketId) (place : Place) → IsInPlace (history_of a) queue id place → lies_in_regions (region_lengths a.policy) place.packet ≡ true
-reaches-in_place a kept queue id place found = grind (arith, found-all (λ (f : InFlight). lies_in_regions (region_lengths a.policy) f.packet ≡ true) (is_packet queue id) (flight (start_of a) a.audit.items) found.flying kept.within found.found)
+pub reaches-in_place : (a : Inside) (kept : IsCached a) (queue : QueueId) (id : PacketId) (place : Place) → IsInPlace (history_of a) queue id place
+    → lies_in_regions (region_lengths a.policy) place.packet ≡ true
+reaches-in_place a kept queue id place found = grind (arith, found-all (λ (f : InFlight). lies_in_regions (region_lengths a.policy) f.packet ≡ true) (is_packet queue id)
+    (flight (start_of a) a.audit.items) found.flying kept.within found.found)
 
 -- ---- a packet fails
 
 module _ (a : Inside) (kept : IsCached a) (queue : QueueId) (id : PacketId) (at : IsOpen a queue) where
   fewer-places : (f : InFlight) → in_flight (start_of a) a.audit.items queue id ≡ Some f → length (without_packet id at.q.places) + 1 ≤ length at.q.places
-  fewer-places f found = grind (arith, filter-fewer (is_place_of id) (λ (p : Place). not (is_place_of id p)) at.q.places _ (sought a kept queue id at.q at.found ∙ ap (option_map (place_of (start_of a) a.audit.items queue)) found) (ap (λ (b : Bool). not b) (found-passes (is_place_of id) at.q.places _ (sought a kept queue id at.q at.found ∙ ap (option_map (place_of (start_of a) a.audit.items queue)) found))))
+  fewer-places f found = grind (arith, filter-fewer (is_place_of id) (λ (p : Place). not (is_place_of id p)) at.q.places _
+      (sought a kept queue id at.q at.found ∙ ap (option_map (place_of (start_of a) a.audit.items queue)) found)
+      (ap (λ (b : Bool). not b) (found-passes (is_place_of id) at.q.places _ (sought a kept queue id at.q at.found ∙ ap (option_map (place_of (start_of a) a.audit.items queue)) found))))
 
   -- its queue has room for an error
   pub can-fail : (f : InFlight) → in_flight (start_of a) a.audit.items queue id ≡ Some f → CanFail a.queues.items queue
@@ -160,8 +171,10 @@ sound-advanced q id so_far sound =
     below p less = grind arith
 
 -- how the queues move along with it
-pub queues-advanced : (a : Inside) (kept : IsCached a) (queue : QueueId) (at : IsOpen a queue) (id : PacketId) (g : Progress → Progress) (event : Event) (told : Outcome) (effects : List Effect) → IsAdvance queue id g event told effects → opening_of event ≡ None
-    → (so_far : Progress) → so_far ≡ g (progress (start_of a) a.audit.items queue id) → QueuesAfter a (with_queue a.queues.items queue (with_advance id so_far)) a.flying event told effects
+pub queues-advanced : (a : Inside) (kept : IsCached a) (queue : QueueId) (at : IsOpen a queue) (id : PacketId) (g : Progress → Progress) (event : Event) (told : Outcome)
+    (effects : List Effect) → IsAdvance queue id g event told effects → opening_of event ≡ None
+    → (so_far : Progress) → so_far ≡ g (progress (start_of a) a.audit.items queue id)
+    → QueuesAfter a (with_queue a.queues.items queue (with_advance id so_far)) a.flying event told effects
 queues-advanced a kept queue at id g event told effects is none so_far new =
     queues-after a kept queue at (with_advance id so_far) (advanced id so_far) a.flying event told effects none refl (sound-advanced at.q id so_far at.sound) refl
     (λ m. queue_at-advanced (start_of a) a.audit.items event told effects queue id g is so_far new m)
@@ -178,6 +191,7 @@ failure-releases queue id = record { launches = refl; progress = λ q i so_far. 
 pub fault-releases : (queue : QueueId) (id : PacketId) (error : QueueError) → IsRelease queue id (RunNext queue id) (outcome.Worked (Faulted error)) (effect.Release queue id ∷ [])
 fault-releases queue id error = record { launches = refl; progress = λ q i so_far. refl; releases = λ fs. refl }
 
-pub release-due : (a : Inside) → IsCached a → (old : History) → history_of a ≡ old → (queue : QueueId) (id : PacketId) (place : Place) → IsInPlace old queue id place → (event : Event) (told : Outcome) (effects : List Effect)
+pub release-due : (a : Inside) → IsCached a → (old : History) → history_of a ≡ old → (queue : QueueId) (id : PacketId) (place : Place) → IsInPlace old queue id place
+    → (event : Event) (told : Outcome) (effects : List Effect)
     → IsRelease queue id event told effects → owed old.start old.entries event ≡ enters told effects → due old event ≡ enters told effects
 release-due a kept old seen_as queue id place placed event told effects is owing = grind (arith, release-room)

@@ -10,11 +10,13 @@ lies-within : (regions : List (List ℕ)) (address size k : ℕ) → IsMemory re
 lies-within regions address size k memory within below = grind (arith, length-region_bytes, region_length-is)
 
 -- what is read is what the history has there
-read-kept : (a : Inside) (kept : IsCached a) → IsMemory a.memory → (address size : ℕ) → is_within (region_lengths a.policy) address size ≡ true → bytes_from a.memory address size ≡ memory_from (start_of a) a.audit.items address size
+read-kept : (a : Inside) (kept : IsCached a) → IsMemory a.memory → (address size : ℕ) → is_within (region_lengths a.policy) address size ≡ true
+    → bytes_from a.memory address size ≡ memory_from (start_of a) a.audit.items address size
 read-kept a kept memory address size test =
     let within : IsWithin a.memory address size = IsWithin-from_test a.memory address size (rw kept.lengths test) in
     let long : length (bytes_from a.memory address size) ≡ size = length-bytes_from a.memory address size within in
-    same_lists (bytes_from a.memory address size) (memory_from (start_of a) a.audit.items address size) (long ∙ sym (length-map-range_with_len (memory_at (start_of a) a.audit.items) address size))
+    same_lists (bytes_from a.memory address size) (memory_from (start_of a) a.audit.items address size)
+        (long ∙ sym (length-map-range_with_len (memory_at (start_of a) a.audit.items) address size))
     (λ k d h.
     let below : k < size = omega (arith, h, long) in
     let lies : lies_in_region (region_lengths a.policy) (address + k) ≡ true = rw kept.lengths at (lies-within a.memory address size k memory within below) in
@@ -22,11 +24,13 @@ read-kept a kept memory address size test =
     (slice_get-bytes_from a.memory address size k memory within below ∙ kept.memory (address + k) lies)
     ∙ sym (get_or-map-range_with_len (memory_at (start_of a) a.audit.items) address size k (address + k) d below refl))
 
-pub read-inside : (a : Inside) (kept : IsCached a) (old : History) (seen_as : history_of a ≡ old) → IsMemory a.memory → (address size : ℕ) → is_within (region_lengths old.start.policy) address size ≡ true → bytes_from a.memory address size ≡ memory_from old.start old.entries address size
+pub read-inside : (a : Inside) (kept : IsCached a) (old : History) (seen_as : history_of a ≡ old) → IsMemory a.memory → (address size : ℕ)
+    → is_within (region_lengths old.start.policy) address size ≡ true → bytes_from a.memory address size ≡ memory_from old.start old.entries address size
 read-inside a kept old seen_as memory address size = grind (arith, read-kept)
 
 -- what is written is what the change says
-pub written-changed : (old : List (List ℕ)) (address : ℕ) (bytes : List ℕ) (new : List (List ℕ)) → (length bytes ≢ 0) → IsWritten old address bytes new → IsChanged old (write_of address bytes) new
+pub written-changed : (old : List (List ℕ)) (address : ℕ) (bytes : List ℕ) (new : List (List ℕ)) → (length bytes ≢ 0) → IsWritten old address bytes new
+    → IsChanged old (write_of address bytes) new
 written-changed old address bytes new some written = λ x byte before.
     let nonzero : (length bytes == 0) ≡ false = grind arith in
     rw nonzero (written x ∙ inside x byte before)

@@ -4,9 +4,11 @@ use Rattle.std.specs.Prelude.{if◌then◌else◌}
 use Rattle.grants.proofs.Terms.{Cell, ClientId, Object, SameRights, Table, cell_of, has, has_right, list_all, list_all_at}
 use Rattle.grants.proofs.Terms.{replacement, same_pair, same_pair_is}
 
-module _ (old : Table) (c : ClientId) (o : Object) (before : Option Cell) (is : cell_of old c o ≡ before) (P : Bool → Option Cell → Option Cell → Type 0) (others : (s : Option Cell) → P false s s) where
+module _ (old : Table) (c : ClientId) (o : Object) (before : Option Cell) (is : cell_of old c o ≡ before) (P : Bool → Option Cell → Option Cell → Type 0)
+    (others : (s : Option Cell) → P false s s) where
   -- what is so of the changed cell, and of all that didn't change, is so everywhere
-  pub at_each : (new : Table) (cell : Cell) → ((c' : ClientId) (o' : Object) → cell_of new c' o' ≡ (if same_pair c' o' c o then replacement cell (cell_of old c' o') else cell_of old c' o'))
+  pub at_each : (new : Table) (cell : Cell) → ((c' : ClientId) (o' : Object)
+      → cell_of new c' o' ≡ (if same_pair c' o' c o then replacement cell (cell_of old c' o') else cell_of old c' o'))
       → P true before (replacement cell before) → (c' : ClientId) (o' : Object) → P (same_pair c' o' c o) (cell_of old c' o') (cell_of new c' o')
   at_each new cell change here c' o' = by_test (same_pair c' o' c o) refl (change c' o')
     where

@@ -1,5 +1,6 @@
 -- How many holds there are of a right, as holds come and go.
-use Rattle.std.proofs.Common.{[], ◌≡◌, ℕ, zero, suc, ◌+◌, ◌<◌, ◌≤◌, Bool, true, false, ◌&&◌, List, ◌∷◌, ◌++◌, filter, map, take, drop, get_or, length, Some, refl, sym, ap, ◌∙◌, arith, append_assoc, append-nil, cond}
+use Rattle.std.proofs.Common.{[], ◌≡◌, ℕ, zero, suc, ◌+◌, ◌<◌, ◌≤◌, Bool, true, false, ◌&&◌, List, ◌∷◌, ◌++◌, filter, map, take, drop, get_or, length, Some, refl, sym, ap, ◌∙◌, arith}
+use Rattle.std.proofs.Common.{append_assoc, append-nil, cond}
 use Rattle.std.specs.Prelude.{if◌then◌else◌}
 use Rattle.grants.proofs.Terms.{Cell, ClientId, IsCounted, Object, PacketId, QueueId, Right, Rights, Table, all_rights, cell_of, count_in, count_of, drop_more, filter-append, has}
 use Rattle.grants.proofs.Terms.{hold_count, holds_of, is_held, is_hold_of, list_any, map-append, nat_lt, one_for_right, same_pair_itself, take_all, take_more}
@@ -21,7 +22,8 @@ holds_of-append xs ys c o right = sum_by-append (λ h. cond (is_hold_of c o righ
 
 pub holds_of-among : (before behind : List Hold) (h : Hold) (c : ClientId) (o : Object) (right : Right)
     → holds_of (before ++ h ∷ behind) c o right ≡ holds_of (before ++ behind) c o right + one_for c o right h
-holds_of-among before behind h c o right = grind (arith, holds_of-append before (h ∷ behind) c o right, holds_of-append (h ∷ []) behind c o right, holds_of-append before behind c o right)
+holds_of-among before behind h c o right = grind (arith, holds_of-append before (h ∷ behind) c o right, holds_of-append (h ∷ []) behind c o right,
+    holds_of-append before behind c o right)
 
 module _ (old new : Table) (h : Hold) where
   -- one more hold is counted
@@ -76,7 +78,8 @@ module _ (keep : Hold → Bool) (holds : List Hold) where
       drop_past (suc i) (x ∷ xs) h = drop_past i xs (omega arith)
 
 -- a list with one more of what the items of another give
-pub put-more : {X Y : Type 0} (f : X → Y) (first so_far more : List Y) (xs : List X) (i : ℕ) (d : X) → i < length xs → so_far ≡ first ++ map f (take i xs) → more ≡ so_far ++ f (get_or xs i d) ∷ []
+pub put-more : {X Y : Type 0} (f : X → Y) (first so_far more : List Y) (xs : List X) (i : ℕ) (d : X) → i < length xs → so_far ≡ first ++ map f (take i xs)
+    → more ≡ so_far ++ f (get_or xs i d) ∷ []
     → more ≡ first ++ map f (take (i + 1) xs)
 put-more f first so_far more xs i d within e put =
     put ∙ ap (λ ys. ys ++ f (get_or xs i d) ∷ []) e ∙ append_assoc first (map f (take i xs)) (f (get_or xs i d) ∷ [])
@@ -103,4 +106,7 @@ any_less f g less (x ∷ xs) h = grind (arith, any_less f g less xs)
 pub unheld : (table : Table) (holds : List Hold) → IsCounted table holds → (c : ClientId) (o : Object) (rights : Rights) (cell : Cell) → cell_of table c o ≡ Some cell
     → list_any (λ right. has rights right && nat_lt 0 (count_of cell.held right)) all_rights ≡ false
     → (q : QueueId) (p : PacketId) → list_any (λ right. has rights right && is_held holds q p c o right) all_rights ≡ false
-unheld table holds is c o rights cell at none q p = grind (arith, any_less (λ right. has rights right && nat_lt 0 (count_of cell.held right)) (λ right. has rights right && is_held holds q p c o right) (λ right. uncounted_and (has rights right) (count_of cell.held right) (is_held holds q p c o right) (λ zero_is. held-uncounted holds q p c o right (sym (is c o right) ∙ ap (count_in right) at ∙ zero_is))) all_rights none)
+unheld table holds is c o rights cell at none q p = grind (arith,
+    any_less (λ right. has rights right && nat_lt 0 (count_of cell.held right)) (λ right. has rights right && is_held holds q p c o right)
+    (λ right. uncounted_and (has rights right) (count_of cell.held right) (is_held holds q p c o right)
+    (λ zero_is. held-uncounted holds q p c o right (sym (is c o right) ∙ ap (count_in right) at ∙ zero_is))) all_rights none)

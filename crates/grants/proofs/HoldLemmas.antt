@@ -1,5 +1,6 @@
 -- Lists of holds, by what is found in them.
-use Rattle.std.proofs.Common.{[], ◌≡◌, ℕ, ◌+◌, ◌<◌, ◌⊎◌, Bool, true, false, not, ◌&&◌, ◌||◌, List, ◌∷◌, ◌++◌, map, filter, take, get_or, length, Option, Some, None, refl, sym, ◌∙◌, arith}
+use Rattle.std.proofs.Common.{[], ◌≡◌, ℕ, ◌+◌, ◌<◌, ◌⊎◌, Bool, true, false, not, ◌&&◌, ◌||◌, List, ◌∷◌, ◌++◌, map, filter, take, get_or, length, Option, Some, None, refl, sym, ◌∙◌}
+use Rattle.std.proofs.Common.{arith}
 use Rattle.grants.proofs.Terms.{ClientId, IsFirstTo, IsUpTo, Object, PacketId, QueueId, Right, Rights, all_rights, has, have_common_right, hold_of, holds_one, is_held, is_hold, is_of}
 use Rattle.grants.proofs.Terms.{is_on, list_any, list_any-append, list_any_more, same_packet, same_pair}
 use Rattle.std.proofs.lemmas.Map.Views.{any-filter_same}
@@ -33,10 +34,12 @@ any-and true f g xs = refl
 any-and false f g xs = never xs
 
 -- what is held where a packet's holds are put behind
-pub held-pushed : (q : QueueId) (p : PacketId) (c : ClientId) (rights : List (Object × Rights)) (q' : QueueId) (p' : PacketId) (c' : ClientId) (o' : Object) (right : Right) (holds : List Hold)
+pub held-pushed : (q : QueueId) (p : PacketId) (c : ClientId) (rights : List (Object × Rights)) (q' : QueueId) (p' : PacketId) (c' : ClientId) (o' : Object) (right : Right)
+    (holds : List Hold)
     → is_held (holds ++ map (hold_of q p c) rights) q' p' c' o' right
     ≡ (is_held holds q' p' c' o' right || (same_packet q' p' q p && list_any (λ named. same_pair c' o' c named.0 && has named.1 right) rights))
-held-pushed q p c rights q' p' c' o' right holds = grind (arith, list_any-append (is_hold q' p' c' o' right) holds (map (hold_of q p c) rights), list_any-map (is_hold q' p' c' o' right) (hold_of q p c) rights, any-and (same_packet q' p' q p) (λ named. same_pair c' o' c named.0) (λ named. has named.1 right) rights)
+held-pushed q p c rights q' p' c' o' right holds = grind (arith, list_any-append (is_hold q' p' c' o' right) holds (map (hold_of q p c) rights),
+    list_any-map (is_hold q' p' c' o' right) (hold_of q p c) rights, any-and (same_packet q' p' q p) (λ named. same_pair c' o' c named.0) (λ named. has named.1 right) rights)
 
 -- ---- holders
 
@@ -60,7 +63,8 @@ holder (h ∷ hs) c o rights q p = grind (arith, spread_any (is_on q p c o h) (h
 
 -- ---- the first
 
-pub first_same : (test test' : QueueId → PacketId → Bool) (first : Option (QueueId × PacketId)) → ((q : QueueId) (p : PacketId) → test' q p ≡ test q p) → IsFirstTo test first → IsFirstTo test' first
+pub first_same : (test test' : QueueId → PacketId → Bool) (first : Option (QueueId × PacketId)) → ((q : QueueId) (p : PacketId) → test' q p ≡ test q p) → IsFirstTo test first
+    → IsFirstTo test' first
 first_same test test' None same h = λ q p. same q p ∙ h q p
 first_same test test' (Some x) same h = (same x.0 x.1 ∙ h.0, λ q p t. h.1 q p (sym (same q p) ∙ t))
 

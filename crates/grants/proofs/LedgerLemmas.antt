@@ -28,7 +28,8 @@ module _ (table : Table) (list : List Hold) (room : ℕ) (old : Ledger) (view : 
   declared c o found cell known is = grind arith
 
   -- the first of the packets with a hold of one of the rights is the first that holds one of them
-  pub holder_first : (c : ClientId) (o : Object) (rights : Rights) (first : Option (QueueId × PacketId)) → IsFirstTo (holds_one list c o rights) first → IsFirstTo (is_holder old c o rights) first
+  pub holder_first : (c : ClientId) (o : Object) (rights : Rights) (first : Option (QueueId × PacketId)) → IsFirstTo (holds_one list c o rights) first
+      → IsFirstTo (is_holder old c o rights) first
   holder_first c o rights first h = grind (arith, holder)
 
   -- where no hold of one of the rights is counted, no packet holds one of them

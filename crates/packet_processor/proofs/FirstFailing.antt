@@ -29,7 +29,8 @@ unfolding first_codec first_launch
 passed_first a b c rest h5 = grind arith
 
 -- the rules of the fields don't look at the bytes
-launch_is : (facts : Facts) (bytes : List ℕ) → first_failing_rule facts bytes ≡ first_launch (passes codec.L1 bytes) (passes codec.L2 bytes) (passes codec.L3 bytes) (later_failing facts (packet_at (packet_type bytes) bytes))
+launch_is : (facts : Facts) (bytes : List ℕ) → first_failing_rule facts bytes ≡ first_launch (passes codec.L1 bytes) (passes codec.L2 bytes) (passes codec.L3 bytes)
+    (later_failing facts (packet_at (packet_type bytes) bytes))
 unfolding first_failing_rule first_launch
 launch_is facts bytes = refl
 

@@ -21,7 +21,8 @@ more all piece splits held now whole x rest tail is grown so_far =
     ap (λ ys. ys ++ all tail) grown ∙ append_assoc held (piece x) (all tail)
     ∙ ap (λ ys. held ++ ys) (sym (splits x tail)) ∙ ap (λ xs. held ++ all xs) (sym is) ∙ so_far
 
-pub rights_passing-splits : (test : Right → Bool) (on : Object) (x : Right) (xs : List Right) → rights_passing test on (x ∷ xs) ≡ rights_passing test on (x ∷ []) ++ rights_passing test on xs
+pub rights_passing-splits : (test : Right → Bool) (on : Object) (x : Right) (xs : List Right)
+    → rights_passing test on (x ∷ xs) ≡ rights_passing test on (x ∷ []) ++ rights_passing test on xs
 rights_passing-splits test on x xs = grind arith
 
 -- what the argument at an offset has a packet hold
@@ -31,5 +32,6 @@ pointed in_force lengths block offset = map as_rights (held_by_pointer in_force 
 abbrev pub all_pointed : (Object → Right → Bool) → List ℕ → List ℕ → List ℕ → List (Object × Rights)
 all_pointed in_force lengths block offsets = map as_rights (flat_map (held_by_pointer in_force lengths) (wide_arguments offsets block))
 
-pub pointed-splits : (in_force : Object → Right → Bool) (lengths block : List ℕ) (x : ℕ) (xs : List ℕ) → all_pointed in_force lengths block (x ∷ xs) ≡ pointed in_force lengths block x ++ all_pointed in_force lengths block xs
+pub pointed-splits : (in_force : Object → Right → Bool) (lengths block : List ℕ) (x : ℕ) (xs : List ℕ)
+    → all_pointed in_force lengths block (x ∷ xs) ≡ pointed in_force lengths block x ++ all_pointed in_force lengths block xs
 pointed-splits in_force lengths block x xs = grind arith

@@ -30,7 +30,8 @@ loop-hold-preserved c =
         rights = SameRights-then c.args.table.now c.loop-hold.table w.uncount_hold.new.self c.loop-hold.invariant.rights w.uncount_hold.ensures.rights;
       })
       | else-is_of w ↦ rw w.table-is (record {
-        counted = subst (λ xs. IsCounted c.loop-hold.table xs) (sym (kept_to-kept keep holds i none c.loop-hold-test.true (ap not (sym c.is_of.ensures ∙ w.if-is_of.false)))) c.loop-hold.invariant.counted;
+        counted = subst (λ xs. IsCounted c.loop-hold.table xs) (sym (kept_to-kept keep holds i none c.loop-hold-test.true (ap not (sym c.is_of.ensures ∙ w.if-is_of.false))))
+            c.loop-hold.invariant.counted;
         rights = c.loop-hold.invariant.rights;
       })
     ]

@@ -32,7 +32,8 @@ invariant_of-self c =
     let is = failure-releases c.args.queue c.args.packet in
     let found = place-inside a _ (seen c.self.view_is) c.args.queue c.args.packet c.args.place c.requires.found in
     let at = is-open a c.self.invariant c.args.queue found.opening found.owner_is in
-    IsCached-more a _ (Poll c.args.queue c.args.packet) (outcome.Polled (Failed (error_without_place c.args.queue c.args.packet.0 B1))) (effect.Release c.args.queue c.args.packet ∷ []) c.self.invariant
+    IsCached-more a _ (Poll c.args.queue c.args.packet) (outcome.Polled (Failed (error_without_place c.args.queue c.args.packet.0 B1)))
+        (effect.Release c.args.queue c.args.packet ∷ []) c.self.invariant
     (record {
       same = ((refl, refl, refl), refl);
       audit = rw c.one-effects.ensures at c.enter.ensures;
@@ -40,7 +41,9 @@ invariant_of-self c =
           (flight-released (start_of a) a.audit.items _ _ _ c.args.queue c.args.packet is) c.release.ensures c.release-2.ensures.rest;
       memory = memory-still a.memory _ (λ x byte. refl);
       values = refl;
-      queues = rw (c.fail_packet.ensures.queues, c.fail_packet.ensures.freed) (queues-released a c.self.invariant c.args.queue c.args.packet _ _ _ is refl at (with_failure c.args.packet (error_without_place c.args.queue c.args.packet.0 B1)) (failed c.args.queue c.args.packet)
+      queues = rw (c.fail_packet.ensures.queues, c.fail_packet.ensures.freed)
+          (queues-released a c.self.invariant c.args.queue c.args.packet _ _ _ is refl at (with_failure c.args.packet (error_without_place c.args.queue c.args.packet.0 B1))
+          (failed c.args.queue c.args.packet)
           refl (sound-failed a c.self.invariant c.args.queue c.args.packet at (error_without_place c.args.queue c.args.packet.0 B1) found.flying found.found) refl (λ m v. grind arith));
     })
     _ (seen c.self.view_is) c.requires.may
@@ -52,5 +55,6 @@ returns-clause-places c =
     let found = place-inside a _ (seen c.self.view_is) c.args.queue c.args.packet c.args.place c.requires.found in
     let can = can-fail a c.self.invariant c.args.queue c.args.packet (is-open a c.self.invariant c.args.queue found.opening found.owner_is) found.flying found.found in
     places-kept a _ c.self.view_is c.fail_packet.new.queues c.release.new.self c.release-2.new.self c.enter.new.audit _ c.fail_packet.ensures.capacity
-    (ap (map error_places) c.fail_packet.ensures.queues ∙ errors-changed a.queues.items c.args.queue (with_failure c.args.packet error) can.0 can.1 (failed-places can.0 c.args.packet error can.2))
+    (ap (map error_places) c.fail_packet.ensures.queues ∙ errors-changed a.queues.items c.args.queue (with_failure c.args.packet error) can.0 can.1
+        (failed-places can.0 c.args.packet error can.2))
     c.release.ensures.same_places c.release-2.ensures.places c.enter.ensures

@@ -35,7 +35,8 @@ invariant_of-self c =
           (flight-released (start_of a) a.audit.items _ _ _ c.args.queue c.args.packet is) c.release-2.ensures c.release-3.ensures.rest;
       memory = memory-still a.memory _ (λ x byte. memory-completed a.signals (completion_signal p) c.args.queue c.args.packet x byte);
       values = rw c.complete-effects.ensures.effects at c.complete-effects.ensures.values;
-      queues = rw (c.release.ensures.queues, c.release.ensures.freed) (queues-released a c.self.invariant c.args.queue c.args.packet _ _ _ is refl at (with_release c.args.packet) (λ v. record v { places = without_packet c.args.packet v.places })
+      queues = rw (c.release.ensures.queues, c.release.ensures.freed)
+          (queues-released a c.self.invariant c.args.queue c.args.packet _ _ _ is refl at (with_release c.args.packet) (λ v. record v { places = without_packet c.args.packet v.places })
           refl (sound-released at.q c.args.packet at.sound) refl (λ m v. grind arith));
     })
     _ (seen c.self.view_is) (finish-due a c.self.invariant _ (seen c.self.view_is) _ c.args.queue c.args.packet p c.in_ok-place.ensures.may)

@@ -15,7 +15,9 @@ quiet client on rights = record { launches = refl; progress = λ queue id p. ref
 
 pub returns-in-Err-clause-met : goal.returns-in-Err-clause-met
 returns-in-Err-clause-met c =
-    rw c.refusal_of.ensures (met-refusal (Grant c.args.client c.args.object c.args.rights) _ _ (due-by c.self.inside _ (seen c.self.view_is) _ _ (grant-refused c.self.inside c.self.invariant c.args.client c.args.object c.args.rights c.in-Err.why (sym c.in-Err.is ∙ c.may_grant.ensures))))
+    rw c.refusal_of.ensures (met-refusal (Grant c.args.client c.args.object c.args.rights) _ _
+        (due-by c.self.inside _ (seen c.self.view_is) _ _ (grant-refused c.self.inside c.self.invariant c.args.client c.args.object c.args.rights c.in-Err.why
+        (sym c.in-Err.is ∙ c.may_grant.ensures))))
 
 pub returns-then-is_full-clause-met : goal.returns-then-is_full-clause-met
 returns-then-is_full-clause-met = grind (arith, grant-due)
@@ -32,7 +34,8 @@ invariant_of-self c =
       grants = record {
         granted = gives.given;
         rules = gives.same_rules;
-        held = λ queue id client on right. gives.same_holds queue id client on right ∙ held-still a c.self.invariant _ _ _ refl refl (flight-quiet (start_of a) a.audit.items _ _ _ calm) queue id client on right;
+        held = λ queue id client on right. gives.same_holds queue id client on right
+            ∙ held-still a c.self.invariant _ _ _ refl refl (flight-quiet (start_of a) a.audit.items _ _ _ calm) queue id client on right;
         blocks_are = rw (flight-quiet (start_of a) a.audit.items _ _ _ calm) c.self.invariant.blocks_are;
         arguments = blocks-still a (Grant c.args.client c.args.object c.args.rights) outcome.Accepted refl _;
       };
@@ -40,7 +43,8 @@ invariant_of-self c =
       values = refl;
       queues = queues-still a c.self.invariant _ _ _ calm refl;
     })
-    _ (seen c.self.view_is) (grant-due a c.self.invariant c.args.client c.args.object c.args.rights _ (seen c.self.view_is) (sym c.in_default.is ∙ c.may_grant.ensures) false (sym c.is_full.ensures ∙ c.if-is_full.false))
+    _ (seen c.self.view_is) (grant-due a c.self.invariant c.args.client c.args.object c.args.rights _ (seen c.self.view_is) (sym c.in_default.is ∙ c.may_grant.ensures) false
+        (sym c.is_full.ensures ∙ c.if-is_full.false))
 
 pub returns-clause-met : goal.returns-clause-met
 returns-clause-met = grind (arith, grant-due)

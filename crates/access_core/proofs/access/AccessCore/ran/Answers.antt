@@ -28,14 +28,16 @@ returns-in_err-changes-clause-met c =
 pub returns-then-is_full-clause-met : goal.returns-then-is_full-clause-met
 returns-then-is_full-clause-met c =
     inl (met-refusal (RunNext c.args.queue c.args.packet) c.args.self.now.history refusal.AuditFull
-    (group-due c.args.self.now.history c.args.queue c.args.packet c.args.place.progress.groups_run c.args.left c.args.runs c.requires.owed true (sym c.is_full.ensures ∙ c.if-is_full.true)))
+    (group-due c.args.self.now.history c.args.queue c.args.packet c.args.place.progress.groups_run c.args.left c.args.runs c.requires.owed true
+        (sym c.is_full.ensures ∙ c.if-is_full.true)))
 
 pub lay_changes-requires : goal.lay_changes-requires
 lay_changes-requires c =
     let a = c.self.inside in
     rw (c.as_slice.ensures.value ∙ c.in_ok-changes.ensures, c.self.invariant.lengths)
     (runs-within (region_lengths a.policy) c.args.runs
-    (subst (λ (h : History). All (λ (run : Run). is_within (region_lengths h.start.policy) run.address (length run.bytes) ≡ true) c.args.runs) (sym (seen c.self.view_is)) c.requires.written))
+    (subst (λ (h : History). All (λ (run : Run). is_within (region_lengths h.start.policy) run.address (length run.bytes) ≡ true) c.args.runs)
+        (sym (seen c.self.view_is)) c.requires.written))
 
 pub advance-requires : goal.advance-requires
 advance-requires c =
@@ -57,10 +59,12 @@ invariant_of-self c =
       grants = grants-still a c.self.invariant _ _ _ refl refl (λ client on right b. refl) (flight-advanced (start_of a) a.audit.items _ _ _ c.args.queue c.args.packet _ is);
       memory = record {
         lengths = c.lay_changes.ensures.lengths;
-        memory = subst (λ (effects : List Effect). IsChanged a.memory effects c.lay_changes.new.memory) (c.as_slice.ensures.value ∙ c.in_ok-changes.ensures) c.lay_changes.ensures.changed;
+        memory = subst (λ (effects : List Effect). IsChanged a.memory effects c.lay_changes.new.memory)
+            (c.as_slice.ensures.value ∙ c.in_ok-changes.ensures) c.lay_changes.ensures.changed;
       };
       values = sym ((runs-write c.args.runs).signals a.signals);
-      queues = rw c.advance.ensures.queues (queues-advanced a c.self.invariant c.args.queue at c.args.packet one_group _ _ _ is refl _ (c.one_more.ensures ∙ ap one_group (sym found.progress_is)));
+      queues = rw c.advance.ensures.queues (queues-advanced a c.self.invariant c.args.queue at c.args.packet one_group _ _ _ is refl _
+          (c.one_more.ensures ∙ ap one_group (sym found.progress_is)));
     })
     _ (seen c.self.view_is) owing
 

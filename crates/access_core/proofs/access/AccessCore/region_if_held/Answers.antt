@@ -19,5 +19,6 @@ returns c =
     lent-held h.start h.entries (packet_rights h.start h.entries c.args.queue c.args.packet) number c.rights_on-rights.result c.bytes.result.now
     c.rights_on-rights.ensures some
     (c.bytes.ensures.bytes
-    ∙ read-inside a c.self.invariant _ (seen c.self.view_is) c.bytes.ensures.memory (number * 2 ^ 32) c.unwrap_or-length.result (whole-within (region_lengths h.start.policy) number _ size c.requires.there)
+    ∙ read-inside a c.self.invariant _ (seen c.self.view_is) c.bytes.ensures.memory (number * 2 ^ 32) c.unwrap_or-length.result
+        (whole-within (region_lengths h.start.policy) number _ size c.requires.there)
     ∙ ap (memory_from h.start h.entries (number * 2 ^ 32)) size)

@@ -30,7 +30,8 @@ invariant_of-self c =
       grants = record {
         granted = takes.taken;
         rules = takes.same_rules;
-        held = λ queue id client on right. takes.same_holds queue id client on right ∙ held-still a c.self.invariant _ _ _ refl refl (flight-quiet (start_of a) a.audit.items _ _ _ calm) queue id client on right;
+        held = λ queue id client on right. takes.same_holds queue id client on right
+            ∙ held-still a c.self.invariant _ _ _ refl refl (flight-quiet (start_of a) a.audit.items _ _ _ calm) queue id client on right;
         blocks_are = rw (flight-quiet (start_of a) a.audit.items _ _ _ calm) c.self.invariant.blocks_are;
         arguments = blocks-still a (Revoke c.args.client c.args.object c.args.rights) outcome.Accepted refl _;
       };
@@ -38,7 +39,8 @@ invariant_of-self c =
       values = refl;
       queues = queues-still a c.self.invariant _ _ _ calm refl;
     })
-    _ (seen c.self.view_is) (revoke-due a c.self.invariant c.args.client c.args.object c.args.rights _ (seen c.self.view_is) (subst (RevokeAnswers c.self.inside.grants c.args.client c.args.object c.args.rights) c.in_default.is c.may_revoke.ensures) false (sym c.is_full.ensures ∙ c.if-is_full.false))
+    _ (seen c.self.view_is) (revoke-due a c.self.invariant c.args.client c.args.object c.args.rights _ (seen c.self.view_is)
+        (subst (RevokeAnswers c.self.inside.grants c.args.client c.args.object c.args.rights) c.in_default.is c.may_revoke.ensures) false (sym c.is_full.ensures ∙ c.if-is_full.false))
 
 pub returns-clause-met : goal.returns-clause-met
 returns-clause-met = grind (arith, revoke-due)

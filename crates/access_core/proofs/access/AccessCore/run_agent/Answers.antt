@@ -48,7 +48,8 @@ invariant_of-self c =
         memory = subst (λ (effects : List Effect). IsChanged a.memory effects c.lay_both-effects.new.memory) pieces c.lay_both-effects.ensures.changed;
       };
       values = sym ((agent-writes (start_of a) a.audit.items c.args.dispatch).signals a.signals);
-      queues = rw c.advance.ensures.queues (queues-advanced a c.self.invariant c.args.queue at c.args.packet one_group _ _ _ is refl _ (c.one_more.ensures ∙ ap one_group (sym found.progress_is)));
+      queues = rw c.advance.ensures.queues (queues-advanced a c.self.invariant c.args.queue at c.args.packet one_group _ _ _ is refl _
+          (c.one_more.ensures ∙ ap one_group (sym found.progress_is)));
     })
     _ (seen c.self.view_is) owing
 
@@ -62,18 +63,21 @@ pub returns-then-is_full-clause-met : goal.returns-then-is_full-clause-met
 returns-then-is_full-clause-met c =
     let ran : nat_le 1 c.args.place.progress.groups_run ≡ false = search rules in
     inl (met-refusal (RunNext c.args.queue c.args.packet) c.args.self.now.history refusal.AuditFull
-    (agent-due c.args.self.now.history c.args.queue c.args.packet c.args.place c.requires.found c.args.dispatch c.requires.packet_is ran true (sym c.is_full.ensures ∙ c.if-is_full.true)))
+    (agent-due c.args.self.now.history c.args.queue c.args.packet c.args.place c.requires.found c.args.dispatch c.requires.packet_is ran true
+        (sym c.is_full.ensures ∙ c.if-is_full.true)))
 
 pub returns-in_err-target-clause-met : goal.returns-in_err-target-clause-met
 returns-in_err-target-clause-met c =
     let ran : nat_le 1 c.args.place.progress.groups_run ≡ false = search rules in
-    let is = agent-due c.args.self.now.history c.args.queue c.args.packet c.args.place c.requires.found c.args.dispatch c.requires.packet_is ran false (sym c.is_full.ensures ∙ c.if-is_full.false) in
+    let is = agent-due c.args.self.now.history c.args.queue c.args.packet c.args.place c.requires.found c.args.dispatch c.requires.packet_is ran false
+        (sym c.is_full.ensures ∙ c.if-is_full.false) in
     inr (record { may = rw is refl; reply_is = search rules; history_is = refl })
 
 pub returns-in_err-result-clause-met : goal.returns-in_err-result-clause-met
 returns-in_err-result-clause-met c =
     let ran : nat_le 1 c.args.place.progress.groups_run ≡ false = search rules in
-    let is = agent-due c.args.self.now.history c.args.queue c.args.packet c.args.place c.requires.found c.args.dispatch c.requires.packet_is ran false (sym c.is_full.ensures ∙ c.if-is_full.false) in
+    let is = agent-due c.args.self.now.history c.args.queue c.args.packet c.args.place c.requires.found c.args.dispatch c.requires.packet_is ran false
+        (sym c.is_full.ensures ∙ c.if-is_full.false) in
     inr (record { may = rw is refl; reply_is = search rules; history_is = refl })
 
 pub returns-clause-met : goal.returns-clause-met

@@ -10,7 +10,8 @@ use Rattle.core_model.specs.declared.entry.Effect.TheVariants as effect
 use Rattle.core_model.specs.declared.outcome.Outcome.TheVariants as outcome
 use Rattle.access_core.proofs.access.AccessCore.signal_op.Goals as goal
 
-quiet : (client : ClientId) (signal : SignalHandle) (operation : SignalOp) (old : ℤ) → IsQuiet (ChangeSignal client signal operation) (outcome.Changed (old_if_asked operation old)) (effect.Signal signal old (applied operation old) ∷ [])
+quiet : (client : ClientId) (signal : SignalHandle) (operation : SignalOp) (old : ℤ)
+    → IsQuiet (ChangeSignal client signal operation) (outcome.Changed (old_if_asked operation old)) (effect.Signal signal old (applied operation old) ∷ [])
 quiet client signal operation old = record { launches = refl; progress = λ queue id p. refl; releases = λ fs. refl; views = λ m v. refl }
 
 pub invariant_of-self : goal.invariant_of-self

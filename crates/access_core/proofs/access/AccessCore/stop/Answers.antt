@@ -24,7 +24,8 @@ invariant_of-self c =
     (record {
       same = ((refl, refl, refl), refl);
       audit = rw c.let_go-effects.ensures.effects at c.enter.ensures;
-      grants = grants-stopped a c.self.invariant c.args.queue barrier _ _ c.let_go-effects.ensures.released c.let_go-effects.ensures.dropped c.let_go-effects.ensures.same c.let_go-effects.ensures.same_blocks;
+      grants = grants-stopped a c.self.invariant c.args.queue barrier _ _ c.let_go-effects.ensures.released c.let_go-effects.ensures.dropped c.let_go-effects.ensures.same
+          c.let_go-effects.ensures.same_blocks;
       memory = memory-still a.memory _ (λ x byte. memory-released c.args.queue barrier x byte);
       values = sym (values-released c.args.queue barrier a.signals);
       queues = rw (c.halt.ensures.queues, c.halt.ensures.freed) (queues-stopped a c.self.invariant c.args.queue at barrier);
