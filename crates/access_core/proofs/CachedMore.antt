@@ -26,7 +26,7 @@ pub record GrantsAfter (a : Inside) (new : Ledger) (blocks : List ArgumentBlock)
   pub rules : ledger.rules_in new ≡ ledger.rules_in a.grants
   pub held : (queue : QueueId) (id : PacketId) (client : ClientId) (on : Object) (right : Right)
       → ledger.holds new queue id client on right ≡ packet_holds (owner (start_of a) (with_entry a.audit.items event outcome effects))
-          (packet_rights (start_of a) (with_entry a.audit.items event outcome effects)) (flight (start_of a) (with_entry a.audit.items event outcome effects)) queue id client on right
+      (packet_rights (start_of a) (with_entry a.audit.items event outcome effects)) (flight (start_of a) (with_entry a.audit.items event outcome effects)) queue id client on right
   pub blocks_are : AreBlocksOf (flight (start_of a) (with_entry a.audit.items event outcome effects)) blocks
   pub arguments : All (λ f. block_of blocks f.queue f.id ≡ arguments_behind a event outcome f.queue f.id) (flight (start_of a) (with_entry a.audit.items event outcome effects))
 
@@ -83,7 +83,7 @@ module _ (a b : Inside) (event : Event) (outcome : Outcome) (effects : List Effe
   -- the argument blocks of packets in flight are those of their launches
   arguments-after : owed (start_of a) a.audit.items event ≡ enters outcome effects
       → All (λ f. block_of b.blocks.items f.queue f.id ≡ arguments (start_of a) (with_entry a.audit.items event outcome effects) f.queue f.id)
-          (flight (start_of a) (with_entry a.audit.items event outcome effects))
+      (flight (start_of a) (with_entry a.audit.items event outcome effects))
   arguments-after owing = λ k d below.
       let f = get_or (flight (start_of a) (with_entry a.audit.items event outcome effects)) k d in
       after.grants.arguments k d below ∙ same f (kept k d below) ∙ sym (arguments-more (start_of a) a.audit.items (entry_of event outcome effects) was.legal owing f.queue f.id)
@@ -97,11 +97,11 @@ module _ (a b : Inside) (event : Event) (outcome : Outcome) (effects : List Effe
       kept : All Kept (flight (start_of a) (with_entry a.audit.items event outcome effects))
       kept = rw flight-more (all-after Kept (entry_of event outcome effects) (flight (start_of a) a.audit.items) launched
           (All-weaker (λ f. block_of a.blocks.items f.queue f.id ≡ arguments (start_of a) a.audit.items f.queue f.id) Kept (λ f is other. is)
-              (flight (start_of a) a.audit.items) was.arguments))
+          (flight (start_of a) a.audit.items) was.arguments))
 
       same : (f : InFlight) → Kept f → arguments_behind a event outcome f.queue f.id
           ≡ (if is_launch f.queue f.id (launched_by event outcome) then arguments_if (start_of a) a.audit.items (launched_by event outcome)
-              else arguments (start_of a) a.audit.items f.queue f.id)
+          else arguments (start_of a) a.audit.items f.queue f.id)
       same f is = grind arith
 
   pub IsCached-more : (old : History) → history_of a ≡ old → due old event ≡ enters outcome effects → IsCached b

@@ -32,7 +32,7 @@ module _ (a : Inside) (kept : IsCached a) (client : ClientId) (on : Object) (rig
     where
       by_tests : (c o s : Bool) → Err r ≡ due_of c o s
           → refuse_unless c (refuses refusal.UnknownClient) (refuse_unless o (refuses refusal.UnknownObject) (refuse_unless s (refuses refusal.NotAllowed) (enters outcome.Accepted [])))
-              ≡ refuses (refusal_of r)
+          ≡ refuses (refusal_of r)
       by_tests c o s h4 = grind arith
 
   grant-owed : Ok tt ≡ grant_due a.grants client on rights → owed (start_of a) a.audit.items (Grant client on rights) ≡ enters outcome.Accepted []
@@ -41,7 +41,7 @@ module _ (a : Inside) (kept : IsCached a) (client : ClientId) (on : Object) (rig
     where
       by_tests : (c o s : Bool) → Ok tt ≡ due_of c o s
           → refuse_unless c (refuses refusal.UnknownClient) (refuse_unless o (refuses refusal.UnknownObject) (refuse_unless s (refuses refusal.NotAllowed) (enters outcome.Accepted [])))
-              ≡ enters outcome.Accepted []
+          ≡ enters outcome.Accepted []
       by_tests c o s h4 = grind arith
 
   -- so it is due its entry, where there is room

@@ -55,7 +55,7 @@ module _ (start : Start) (es : List Entry) (legal : IsLegal start es) (queue : Q
       let facts = facts_of start launch-of.launch.before launch-of.launch.opening in
       ap asks_for_known_work (sym launch-of.packet_is)
       ∙ (and_parts (asks_for_known_work launch-of.launch.packet) (list_all (need_is_met facts) (needs rule.L5 facts.agent launch-of.launch.packet))
-          (launch-of.launch.allowed.every_rule 4 rule.L5 (omega arith))).0
+      (launch-of.launch.allowed.every_rule 4 rule.L5 (omega arith))).0
 
   -- so a kernel dispatch has sizes that may be
   pub sized : IsSized f.packet
@@ -67,7 +67,7 @@ module _ (start : Start) (es : List Entry) (legal : IsLegal start es) (queue : Q
       let facts = facts_of start launch-of.launch.before launch-of.launch.opening in
       ap (has_segments facts) (sym (launch-of.packet_is ∙ is))
       ∙ (and_parts (has_segments facts launch-of.launch.packet) (list_all (need_is_met facts) (needs rule.L7 facts.agent launch-of.launch.packet))
-          (launch-of.launch.allowed.every_rule 6 rule.L7 (omega arith))).0
+      (launch-of.launch.allowed.every_rule 6 rule.L7 (omega arith))).0
 
 -- What the executor asks of a kernel dispatch in flight: it names a kernel, whose argument block was copied whole at the launch, and has
 -- sizes and segments as they may be.

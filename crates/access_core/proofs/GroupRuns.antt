@@ -1,5 +1,5 @@
 -- Groups of kernel dispatches in flight: that they can be run, and that what they come to is what the history says.
-use Rattle.std.proofs.Common.{◌≡◌, ℕ, ◌-◌, ◌<◌, ◌≤◌, List, length, get_or, refl, sym, ◌∙◌, ap, subst, true, Option, Some, None, arith, All, map, option_map, slice_get}
+use Rattle.std.proofs.Common.{◌≡◌, ℕ, ◌<◌, ◌≤◌, List, length, get_or, refl, sym, ◌∙◌, ap, subst, true, Option, Some, None, arith, All, map, option_map, slice_get}
 use Rattle.access_core.proofs.Terms.{All-weaker, AreLentAlike, Dispatch, FailsAs, FaultsAs, GroupInput, GroupResult, HeldRegion, History, HoldsInForce, InFlight, Inside, IsCached}
 use Rattle.access_core.proofs.Terms.{IsInPlace}
 use Rattle.access_core.proofs.Terms.{IsLegal, IsNumber, IsRunnable, Kernel, KernelDispatch, LentRegion, PacketId, Place, Program, QueueId, Run, are_region_lengths, block_of}
@@ -83,9 +83,9 @@ module _ (a : Inside) (kept : IsCached a) (old : History) (seen_as : history_of 
   pub block-is : block_of a.blocks.items queue id ≡ arguments old.start old.entries queue id
   block-is =
       let blocks = subst (λ (h : History). All (λ f. block_of a.blocks.items f.queue f.id ≡ arguments h.start h.entries f.queue f.id) (flight h.start h.entries)) seen_as kept.arguments
-          in
+      in
       let of_flying = found-all (λ (f : InFlight). block_of a.blocks.items f.queue f.id ≡ arguments old.start old.entries f.queue f.id) (is_packet queue id)
-          (flight old.start old.entries) found.flying blocks found.found in
+      (flight old.start old.entries) found.flying blocks found.found in
       (λ i. block_of a.blocks.items (sym named.0 i) (sym named.1 i)) ∙ of_flying ∙ (λ i. arguments old.start old.entries (named.0 i) (named.1 i))
 
   module _ (asked : Dispatch) (asks : IsAsked asked d (arguments old.start old.entries queue id)) (p : Program) (p_is : p ≡ kernel_of old.start d) (group : ℕ) where
@@ -136,5 +136,5 @@ module _ (a : Inside) (kept : IsCached a) (old : History) (seen_as : history_of 
       let granted : All (λ h. in_force old.start old.entries client h.0 h.1 ≡ true) (packet_rights old.start old.entries queue id) =
       subst (λ hs. All (λ h. in_force old.start old.entries client h.0 h.1 ≡ true) hs) (λ i. packet_rights old.start old.entries (named.0 i) (named.1 i)) launch.holds in
       All-weaker (IsWithinGrant old.start old.entries client) (λ (run : Run). is_within (region_lengths old.start.policy) run.address (length run.bytes) ≡ true)
-          (λ run within. within.1.lies_whole) runs
+      (λ run within. within.1.lies_whole) runs
       (runs-granted old.start old.entries old.entries client (given_at_launch old.start old.entries queue id) d group fit granted runs came)

@@ -27,7 +27,7 @@ pub held-still : (a : Inside) → IsCached a → (event : Event) (outcome : Outc
     → flight (start_of a) (with_entry a.audit.items event outcome effects) ≡ flight (start_of a) a.audit.items
     → (queue : QueueId) (id : PacketId) (client : ClientId) (on : Object) (right : Right)
     → ledger.holds a.grants queue id client on right ≡ packet_holds (owner (start_of a) (with_entry a.audit.items event outcome effects))
-        (packet_rights (start_of a) (with_entry a.audit.items event outcome effects)) (flight (start_of a) (with_entry a.audit.items event outcome effects)) queue id client on right
+    (packet_rights (start_of a) (with_entry a.audit.items event outcome effects)) (flight (start_of a) (with_entry a.audit.items event outcome effects)) queue id client on right
 held-still a kept event outcome effects none launches same queue id client on right =
     grind (arith, owners-still a event outcome effects none, held-unlaunched (start_of a) a.audit.items (entry_of event outcome effects) launches)
 
@@ -79,8 +79,11 @@ blocks-left q i fs bs are = map-left packet_of stays bs ∙ ap (filter stays) ar
 -- and where one is launched, its block comes behind the others
 blocks-with : (q : QueueId) (i : PacketId) (p : Packet) (bytes : List ℕ) (fs : List InFlight) (bs : List ArgumentBlock) → AreBlocksOf fs bs
     → AreBlocksOf (fs ++ record { queue = q; id = i; packet = p } ∷ []) (bs ++ record { queue = q; packet = i; bytes = bytes } ∷ [])
-blocks-with q i p bytes fs bs are = grind (arith, map-append packet_of bs (record { queue = q; packet = i; bytes = bytes } ∷ []),
-    map-append name_of fs (record { queue = q; id = i; packet = p } ∷ []))
+blocks-with q i p bytes fs bs are = grind (
+  arith,
+  map-append packet_of bs (record { queue = q; packet = i; bytes = bytes } ∷ []),
+  map-append name_of fs (record { queue = q; id = i; packet = p } ∷ []),
+)
 
 -- so a call that doesn't touch the grants leaves them as the history says
 pub grants-still : (a : Inside) → IsCached a → (event : Event) (outcome : Outcome) (effects : List Effect) → opening_of event ≡ None → launched_by event outcome ≡ None
@@ -132,8 +135,12 @@ pub held-with : (owners : QueueId → Option Opening) (helds : QueueId → Packe
     → (packet_holds owners helds fs queue id client on right || (same_packet queue id q i && is_named (map as_rights hs) opening.client client on right))
     ≡ packet_holds owners helds (fs ++ (record { queue = q; id = i; packet = p }) ∷ []) queue id client on right
 held-with owners helds fs opening q i p hs is gives queue id client on right =
-    grind (arith, list_any-append (λ (f : InFlight). is_packet queue id f && holds_by (owners f.queue) client on right (helds f.queue f.id)) fs
-    ((record { queue = q; id = i; packet = p }) ∷ []), names-held opening.client client)
+    grind (
+      arith,
+      list_any-append (λ (f : InFlight). is_packet queue id f && holds_by (owners f.queue) client on right (helds f.queue f.id)) fs
+          ((record { queue = q; id = i; packet = p }) ∷ []),
+      names-held opening.client client,
+    )
 
 -- one entry more leaves what packets in flight hold
 held-left : (start : Start) (es : List Entry) (e : Entry) (owners : QueueId → Option Opening) (queue : QueueId) (id : PacketId) (client : ClientId) (on : Object) (right : Right)
@@ -142,9 +149,9 @@ held-left : (start : Start) (es : List Entry) (e : Entry) (owners : QueueId → 
 held-left start es e owners queue id client on right [] all = refl
 held-left start es e owners queue id client on right (f ∷ fs) all =
     ap (λ (hs : List ObjectRight). (is_packet queue id f && holds_by (owners f.queue) client on right hs) || packet_holds owners (packet_rights start es) fs queue id client on right)
-        (sym (held-kept start es e f (All-head (HoldsInForce start es) f fs all)))
+    (sym (held-kept start es e f (All-head (HoldsInForce start es) f fs all)))
     ∙ ap (λ rest. (is_packet queue id f && holds_by (owners f.queue) client on right (packet_rights start (es ++ e ∷ []) f.queue f.id)) || rest)
-        (held-left start es e owners queue id client on right fs (All-tail (HoldsInForce start es) f fs all))
+    (held-left start es e owners queue id client on right fs (All-tail (HoldsInForce start es) f fs all))
 
 -- ---- the grants of a call
 
@@ -176,15 +183,15 @@ held-opened start es e queue id client on right (f ∷ fs) all =
     let before = All-head (HoldsInForce start es) f fs all in
     let same : owner start es f.queue ≡ owner start (es ++ e ∷ []) f.queue = before.owner_is ∙ sym (owner-more start es e f.queue before.launch.opening before.owner_is) in
     ap (λ (o : Option Opening). (is_packet queue id f && holds_by o client on right (packet_rights start es f.queue f.id)) || packet_holds (owner start es)
-        (packet_rights start es) fs queue id client on right) same
+    (packet_rights start es) fs queue id client on right) same
     ∙ ap (λ rest. (is_packet queue id f && holds_by (owner start (es ++ e ∷ []) f.queue) client on right (packet_rights start es f.queue f.id)) || rest)
-        (held-opened start es e queue id client on right fs (All-tail (HoldsInForce start es) f fs all))
+    (held-opened start es e queue id client on right fs (All-tail (HoldsInForce start es) f fs all))
 
 -- a packet that is launched holds what its launch gives it
 pub grants-launched : (a : Inside) → IsCached a → (event : Event) (outcome : Outcome) (effects : List Effect) → opening_of event ≡ None
     → ((client : ClientId) (on : Object) (right : Right) (b : Bool) → in_force_after client on right b event ≡ b)
     → (old new : Ledger) (blocks : List ArgumentBlock) (opening : Opening) (q : QueueId) (i : PacketId) (p : Packet) (rights : List (Object × Rights)) (hs : List ObjectRight)
-        (bytes : List ℕ)
+    (bytes : List ℕ)
     → launched_by event outcome ≡ Some (record { queue = q; id = i; packet = p })
     → flight (start_of a) (with_entry a.audit.items event outcome effects) ≡ flight (start_of a) a.audit.items ++ record { queue = q; id = i; packet = p } ∷ []
     → old ≡ record a.grants { room = old.room } → rights ≡ map as_rights hs → packet_rights (start_of a) (with_entry a.audit.items event outcome effects) q i ≡ hs
@@ -200,11 +207,11 @@ grants-launched a kept event outcome effects none still old new blocks opening q
       ∙ ap (λ b. b || (same_packet queue id q i && is_named (map as_rights hs) opening.client client on right))
       (kept.held queue id client on right
       ∙ held-left (start_of a) a.audit.items (entry_of event outcome effects) (owner (start_of a) a.audit.items) queue id client on right (flight (start_of a) a.audit.items)
-          (holding-legal (start_of a) a.audit.items kept.legal))
+      (holding-legal (start_of a) a.audit.items kept.legal))
       ∙ held-with (owner (start_of a) a.audit.items) (packet_rights (start_of a) (with_entry a.audit.items event outcome effects))
-          (flight (start_of a) a.audit.items) opening q i p hs is gives queue id client on right
+      (flight (start_of a) a.audit.items) opening q i p hs is gives queue id client on right
       ∙ (λ j. packet_holds (λ (n : QueueId). numbered (sym (owners-still a event outcome effects none) j) n.0)
-          (packet_rights (start_of a) (with_entry a.audit.items event outcome effects)) (sym flying j) queue id client on right);
+      (packet_rights (start_of a) (with_entry a.audit.items event outcome effects)) (sym flying j) queue id client on right);
   blocks_are = rw (flying, pushed) (blocks-with q i p bytes (flight (start_of a) a.audit.items) a.blocks.items kept.blocks_are);
   arguments = rw pushed (blocks-launched a event outcome q i p bytes launches block_is _);
 }
@@ -223,5 +230,9 @@ launch-in_force a kept old client rights hs same are forced = grind (arith, all-
 pub grants-opened : (a : Inside) → IsCached a → (client : ClientId) (agent : AgentHandle) (size : ℕ) (told : Outcome)
     → flight (start_of a) (with_entry a.audit.items (OpenQueue client agent size) told []) ≡ flight (start_of a) a.audit.items
     → GrantsAfter a a.grants a.blocks.items (OpenQueue client agent size) told []
-grants-opened a kept opener agent size told flying = grind (arith, held-opened (start_of a) a.audit.items (entry_of (OpenQueue opener agent size) told []),
-    holding-legal (start_of a) a.audit.items kept.legal, held-unlaunched (start_of a) a.audit.items (entry_of (OpenQueue opener agent size) told []) refl)
+grants-opened a kept opener agent size told flying = grind (
+  arith,
+  held-opened (start_of a) a.audit.items (entry_of (OpenQueue opener agent size) told []),
+  holding-legal (start_of a) a.audit.items kept.legal,
+  held-unlaunched (start_of a) a.audit.items (entry_of (OpenQueue opener agent size) told []) refl,
+)

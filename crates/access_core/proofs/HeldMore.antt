@@ -18,8 +18,11 @@ module _ (start : Start) (es : List Entry) (e : Entry) where
 
   -- a packet in flight holds what it held
   pub held-kept : (f : InFlight) → HoldsInForce start es f → packet_rights start later f.queue f.id ≡ packet_rights start es f.queue f.id
-  held-kept f h = grind (arith, from_launch-kept (holds-from start f.queue) [] es (e ∷ []) f.queue f.id
-      (was-launched start es e f.queue f.id h.launch.before h.launch.opening f.packet h.held_is))
+  held-kept f h = grind (
+    arith,
+    from_launch-kept (holds-from start f.queue) [] es (e ∷ []) f.queue f.id
+        (was-launched start es e f.queue f.id h.launch.before h.launch.opening f.packet h.held_is),
+  )
 
   -- ---- an entry of a legal history
 

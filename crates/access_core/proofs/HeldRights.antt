@@ -61,10 +61,10 @@ module _ (client : ClientId) (on : Object) (rights : Rights) where
         → ((queue : QueueId) (id : PacketId) (c : ClientId) (o : Object) (r : Right)
         → holds grants queue id c o r ≡ packet_holds (owner start es) (packet_rights start es) fs queue id c o r)
         → (queue : QueueId) (id : PacketId) → is_holder grants client on rights queue id
-            ≡ list_any (λ f. is_packet queue id f && (is_queue_of start es client f.queue && holds_one_of start es on rights f)) fs
+        ≡ list_any (λ f. is_packet queue id f && (is_queue_of start es client f.queue && holds_one_of start es on rights f)) fs
     is_holder-history fs kept queue id =
         (λ i. list_any (λ r. has rights r && kept queue id client on r i) all_rights)
         ∙ any-swap (has rights) (λ (f : InFlight) r. is_packet queue id f && holds_by (owner start es f.queue) client on r (packet_rights start es f.queue f.id)) fs all_rights
         ∙ (λ i. list_any (λ (f : InFlight). any-constant (has rights) (λ r. holds_by (owner start es f.queue) client on r (packet_rights start es f.queue f.id))
-            (is_packet queue id f) all_rights i) fs)
+        (is_packet queue id f) all_rights i) fs)
         ∙ (λ i. list_any (λ (f : InFlight). is_packet queue id f && one-by (owner start es f.queue) (packet_rights start es f.queue f.id) i) fs)

@@ -42,7 +42,7 @@ pub kernel-owed : (h : History) (queue : QueueId) (id : PacketId) (place : Place
     → nat_le (group_count (packet.Kernel d)) place.progress.groups_run ≡ ran
     → owed h.start h.entries (RunNext queue id)
     ≡ (if ran then answers (outcome.Worked Done) else group_owed queue id d place.progress.groups_run
-        (group_result (group_input h.start h.entries (given_at_launch h.start h.entries queue id) d place.progress.groups_run)))
+    (group_result (group_input h.start h.entries (given_at_launch h.start h.entries queue id) d place.progress.groups_run)))
 unfolding owed
 kernel-owed h queue id place found d packet_is ran is = grind arith
 
@@ -51,8 +51,11 @@ pub fault-due : (a : Inside) → IsCached a → (old : History) → history_of a
     → owed old.start old.entries (RunNext queue id) ≡ enters (outcome.Worked (Faulted error)) (effect.Release queue id ∷ [])
     → due old (RunNext queue id) ≡ enters (outcome.Worked (Faulted error)) (effect.Release queue id ∷ [])
 fault-due a kept old seen_as queue id place found error owing =
-    grind (arith, release-due a kept old seen_as queue id place found (RunNext queue id) (outcome.Worked (Faulted error)) (effect.Release queue id ∷ [])
-    (fault-releases queue id error) owing)
+    grind (
+      arith,
+      release-due a kept old seen_as queue id place found (RunNext queue id) (outcome.Worked (Faulted error)) (effect.Release queue id ∷ [])
+          (fault-releases queue id error) owing,
+    )
 
 -- whatever it comes to, its run may want memory
 pub group-lacks : (h : History) (queue : QueueId) (id : PacketId) (d : KernelDispatch) (group : ℕ) (came : GroupResult)

@@ -1,5 +1,5 @@
 -- Changes that are laid over memory one after another, and what a group of a kernel dispatch that ran is due.
-use Rattle.std.proofs.Common.{◌≡◌, ℕ, List, [], ap, Bool, true, length, map, if◌then◌else◌, arith}
+use Rattle.std.proofs.Common.{◌≡◌, ℕ, List, Bool, true, length, map, if◌then◌else◌, arith}
 use Rattle.std.proofs.Common.{All}
 use Rattle.access_core.proofs.Terms.{All-map, History, LiesWithin, PacketId, QueueId, Ran, Run, RunNext, due, enters, is_full, is_within}
 use Rattle.access_core.proofs.Terms.{may_lack_memory, owed, refuses, write_of_run}

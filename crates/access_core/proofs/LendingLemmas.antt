@@ -38,9 +38,12 @@ module _ (start : Start) (es : List Entry) (all : List ObjectRight) where
 
   -- the next region is lent behind the others, if it is held
   pub lent-next : (count : ℕ) → lent_so_far (count + 1) ≡ lent_so_far count ++ option_to_list (lent_if_held start es (region_numbered start all (count + 1)))
-  lent-next count = grind (arith, filter_of_map_range_with_len_more (λ (region : RegionRights). not (region.rights.0 == 0)) (region_numbered start all) 1 count (count + 1),
-      map-append (lent_whole start es) (filter (λ (region : RegionRights). not (region.rights.0 == 0)) (map (region_numbered start all) (range_with_len 1 count)))
-      (cond (not ((region_numbered start all (count + 1)).rights.0 == 0)) ((region_numbered start all (count + 1)) ∷ []) []))
+  lent-next count = grind (
+    arith,
+    filter_of_map_range_with_len_more (λ (region : RegionRights). not (region.rights.0 == 0)) (region_numbered start all) 1 count (count + 1),
+    map-append (lent_whole start es) (filter (λ (region : RegionRights). not (region.rights.0 == 0)) (map (region_numbered start all) (range_with_len 1 count)))
+        (cond (not ((region_numbered start all (count + 1)).rights.0 == 0)) ((region_numbered start all (count + 1)) ∷ []) []),
+  )
 
   -- so it is behind those that were lent before
   pub lent-behind : (count : ℕ) (before after : List Borrowed) (next : Option Borrowed) → map lent_region before ≡ lent_so_far count

@@ -1,13 +1,12 @@
 -- A client's listing, by the grants that are kept.
 use Rattle.std.proofs.Common.{◌≡◌, List, true, Ok, arith}
 use Rattle.core_model.specs.Queries.{query_answer}
-use Rattle.access_core.proofs.Terms.{ClientId, History, Inside, IsCached, Object, Rights, history_of, knows_client, listing, rules_of}
+use Rattle.access_core.proofs.Terms.{ClientId, History, Inside, IsCached, Object, Rights, history_of, knows_client, rules_of}
 use Rattle.grants.specs.Ledger as ledger
 use Rattle.core_model.specs.declared.answer.Answer.TheVariants as answer
 use Rattle.core_model.specs.declared.event.Query.TheVariants as query
 
 module _ (a : Inside) (kept : IsCached a) (client : ClientId) where
-
   -- a client that is declared is told the listing
   pub listing-replied : (old : History) → history_of a ≡ old → (rows : List (Object × Rights)) → rows ≡ ledger.listing a.grants client
       → knows_client (rules_of old.start.policy) client ≡ true

@@ -3,7 +3,7 @@ use Rattle.std.proofs.Common.{◌≡◌, refl, Bool, true, false, [], arith}
 use Rattle.core_model.specs.declared.outcome.Satisfied.{Satisfied}
 use Rattle.core_model.specs.Owed.{owed}
 use Rattle.access_core.proofs.QueueAt.{IsAdvance}
-use Rattle.access_core.proofs.Terms.{History, Inside, IsCached, IsInPlace, Owed, PacketId, Place, Poll, Progress, QueueId, history_of, owed_poll, satisfied_by_either, sight, signals}
+use Rattle.access_core.proofs.Terms.{History, Inside, IsCached, IsInPlace, Owed, PacketId, Place, Poll, Progress, QueueId, history_of, owed_poll, satisfied_by_either, sight}
 use Rattle.core_model.specs.declared.outcome.Outcome.TheVariants as outcome
 
 -- how far a packet has come once it has seen this

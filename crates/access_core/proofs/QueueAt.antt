@@ -145,8 +145,12 @@ module _ (start : Start) (es : List Entry) (event : Event) (told : Outcome) (eff
     pub queue_at-released : (m : QueueId)
         → queue_at start (with_entry es event told effects) m
         ≡ after m event told (queue_at start es m) (if q.0 == m.0 then without_packet id (queue_at start es m).places else (queue_at start es m).places)
-    queue_at-released m = grind (arith, queue_at-more start es event told effects m _ flight-released, still is.progress m,
-        released-in id.0 (place_of start es m) q.0 m.0 (flight start es) (λ f. refl))
+    queue_at-released m = grind (
+      arith,
+      queue_at-more start es event told effects m _ flight-released,
+      still is.progress m,
+      released-in id.0 (place_of start es m) q.0 m.0 (flight start es) (λ f. refl),
+    )
 
 module _ (start : Start) (es : List Entry) (q : QueueId) (id : PacketId) (bytes : List ℕ) where
   -- a packet is denied

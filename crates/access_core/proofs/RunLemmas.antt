@@ -1,5 +1,5 @@
 -- Groups that ran: what their writes leave, and how many there can be.
-use Rattle.std.proofs.Common.{◌≡◌, ℕ, ◌+◌, List, [], ◌++◌, refl, Bool, true, false, ℤ, fold, nat_le, arith}
+use Rattle.std.proofs.Common.{◌≡◌, ℕ, ◌+◌, List, ◌++◌, refl, Bool, true, false, ℤ, fold, nat_le, arith}
 use Rattle.std.proofs.Common.{if◌then◌else◌}
 use Rattle.access_core.proofs.Terms.{Done, Effect, Entry, GivenAtLaunch, History, InFlight, Inside, IsInPlace, PacketId, Place, Progress, QueueId, Ran, Refusal, RefusedAt, RunNext}
 use Rattle.access_core.proofs.Terms.{Start}

@@ -65,7 +65,7 @@ module _ (a : Inside) (kept : IsCached a) (queue : QueueId) where
   -- the queue is kept
   pub stop-known : (q : Queue) → numbered a.queues.items queue.0 ≡ Some q →
       owed (start_of a) a.audit.items (Stop queue) ≡ (if q.stopped then refuses refusal.QueueDown
-          else enters outcome.Accepted (release_of queue (option_map (λ (p : Place). p.id) (find (λ (p : Place). is_barrier p.packet) q.places))))
+      else enters outcome.Accepted (release_of queue (option_map (λ (p : Place). p.id) (find (λ (p : Place). is_barrier p.packet) q.places))))
   unfolding owed
   stop-known q some = grind (arith, owner-kept, barrier-is)
 
@@ -97,7 +97,7 @@ module _ (a : Inside) (kept : IsCached a) (queue : QueueId) where
         pick b v = grind arith
     queues-stopped (Some id) =
         queues-released a kept queue id (Stop queue) outcome.Accepted (effect.Release queue id ∷ []) (is_release queue id) refl at (with_stop (Some id))
-            (stopped (Some id)) refl sound refl (λ m v. grind arith)
+        (stopped (Some id)) refl sound refl (λ m v. grind arith)
       where
         sound : IsSound (with_stop (Some id) at.q)
         sound = let less = sound-released at.q id at.sound in record { room = less.room; free = less.free; below = less.below }
@@ -108,8 +108,11 @@ module _ (a : Inside) (kept : IsCached a) (queue : QueueId) where
       → IfNone barrier (new ≡ a.grants) → IfNone barrier (blocks ≡ a.blocks.items) → GrantsAfter a new blocks (Stop queue) outcome.Accepted (release_of queue barrier)
   grants-stopped None new blocks released dropped same same_blocks = grind (arith, grants-still, flight-unlaunched)
   grants-stopped (Some id) new blocks released dropped same same_blocks =
-      grind (arith, grants-released a kept (Stop queue) outcome.Accepted (effect.Release queue id ∷ []) refl refl (λ client on right b. refl) new blocks queue id
-      (flight-released (start_of a) a.audit.items _ _ _ queue id (is_release queue id)) released dropped)
+      grind (
+        arith,
+        grants-released a kept (Stop queue) outcome.Accepted (effect.Release queue id ∷ []) refl refl (λ client on right b. refl) new blocks queue id
+            (flight-released (start_of a) a.audit.items _ _ _ queue id (is_release queue id)) released dropped,
+      )
 
   -- a stop is due its entry where a barrier packet leaves flight for it, or the audit has room
   pub may-stop : (q : Queue) (barrier : Option PacketId) (none : Bool) (old : History) → history_of a ≡ old → numbered a.queues.items queue.0 ≡ Some q → q.stopped ≡ false
@@ -118,18 +121,21 @@ module _ (a : Inside) (kept : IsCached a) (queue : QueueId) where
   may-stop q barrier none old seen_as some goes is which =
       subst (λ h. (none ≡ true → is_full h ≡ false) → due h (Stop queue) ≡ enters outcome.Accepted (release_of queue barrier)) seen_as
       (λ room. due-by a (history_of a) refl (Stop queue) (enters outcome.Accepted (release_of queue barrier)) (stop-known q some ∙ (rw (goes, is) refl))
-          ∙ (rw (left barrier none is which room) refl))
+      ∙ (rw (left barrier none is which room) refl))
     where
       left : (o : Option PacketId) (b : Bool) → o ≡ option_map (λ (p : Place). p.id) (find (λ (p : Place). is_barrier p.packet) q.places) → is_some o ≡ not b
           → (b ≡ true → is_full (history_of a) ≡ false) →
           lacks_room (history_of a) (entry_of (Stop queue) outcome.Accepted (release_of queue o)) ≡ false
       left None true is which room = room refl
       left None false is which room = absurd cc
-      left (Some id) b is which room = grind (arith, release-room a kept queue id
-          (in-place a kept queue id q some (found-by_id (λ (p : Place). is_barrier p.packet) q.places id (sym is)).place
-          (found-by_id (λ (p : Place). is_barrier p.packet) q.places id (sym is)).is).flying
-          (in-place a kept queue id q some (found-by_id (λ (p : Place). is_barrier p.packet) q.places id (sym is)).place
-          (found-by_id (λ (p : Place). is_barrier p.packet) q.places id (sym is)).is).found)
+      left (Some id) b is which room = grind (
+        arith,
+        release-room a kept queue id
+            (in-place a kept queue id q some (found-by_id (λ (p : Place). is_barrier p.packet) q.places id (sym is)).place
+            (found-by_id (λ (p : Place). is_barrier p.packet) q.places id (sym is)).is).flying
+            (in-place a kept queue id q some (found-by_id (λ (p : Place). is_barrier p.packet) q.places id (sym is)).place
+            (found-by_id (λ (p : Place). is_barrier p.packet) q.places id (sym is)).is).found,
+      )
 
   -- a stop without a barrier packet is refused where the audit has none
   pub stop-full : (q : Queue) (barrier : Option PacketId) (old : History) → history_of a ≡ old → numbered a.queues.items queue.0 ≡ Some q → q.stopped ≡ false

@@ -53,7 +53,7 @@ module _ (a : Inside) (kept : IsCached a) (queue : QueueId) (id : PacketId) (byt
       (if nat_lt 0 (length q.errors.items) || q.stopped then refuses refusal.QueueDown
       else refuse_unless (id.0 == q.next) (refuses (refusal.OutOfStep q.next))
       (owed_verdict queue id.0 (cause_to_wait (map (λ (p : Place). p.packet) q.places) (barrier_bit bytes))
-          (first_failing_rule (facts_of (start_of a) a.audit.items (cached_opening q)) bytes)))
+      (first_failing_rule (facts_of (start_of a) a.audit.items (cached_opening q)) bytes)))
   unfolding owed
   take-known q some = grind (arith, owner-kept, packets-kept)
 
@@ -121,10 +121,13 @@ placed-block h client (packet.BarrierOr _) all = tt
 
 pub block-placed : (h : History) (queue : QueueId) (id : PacketId) (bytes : List ℕ) (p : Packet) → due h (Take queue id bytes) ≡ enters (outcome.Taken Launched) []
     → decoded bytes ≡ Some p → IsBlockPlaced h p
-block-placed h queue id bytes p is found = grind (arith, placed-block h
-    (launch-granted h.start h.entries queue id bytes [] (entered-owed h (Take queue id bytes) (outcome.Taken Launched) [] is).0).opening.client
-    (launch-granted h.start h.entries queue id bytes [] (entered-owed h (Take queue id bytes) (outcome.Taken Launched) [] is).0).packet
-    (launch-granted h.start h.entries queue id bytes [] (entered-owed h (Take queue id bytes) (outcome.Taken Launched) [] is).0).allowed.arguments)
+block-placed h queue id bytes p is found = grind (
+  arith,
+  placed-block h
+      (launch-granted h.start h.entries queue id bytes [] (entered-owed h (Take queue id bytes) (outcome.Taken Launched) [] is).0).opening.client
+      (launch-granted h.start h.entries queue id bytes [] (entered-owed h (Take queue id bytes) (outcome.Taken Launched) [] is).0).packet
+      (launch-granted h.start h.entries queue id bytes [] (entered-owed h (Take queue id bytes) (outcome.Taken Launched) [] is).0).allowed.arguments,
+)
 
 -- a launch has room where there is some for an entry and one packet more in flight
 pub room-launched : (h : History) (queue : QueueId) (id : PacketId) (bytes : List ℕ) (p : Packet) → decoded bytes ≡ Some p
@@ -139,9 +142,13 @@ may_start-few ps barrier none = grind arith
 -- a queue that is kept, and not down, and where a packet may start takes its next packet
 pub takes-next : (a : Inside) (kept : IsCached a) (queue : QueueId) (q : Queue) (barrier : Bool) → numbered a.queues.items queue.0 ≡ Some q
     → (nat_lt 0 (length q.errors.items) || q.stopped) ≡ false → cause_to_wait (map (λ (p : Place). p.packet) q.places) barrier ≡ None → TakesNext (history_of a) queue
-takes-next a kept queue q barrier some down starts = grind (arith, length-map (flight_of (start_of a) a.audit.items queue) (λ (f : InFlight). f.packet),
-    may_start-few (map (λ (f : InFlight). f.packet) (flight_of (start_of a) a.audit.items queue)) barrier
-    (ap (λ ps. cause_to_wait ps barrier) (packets-kept a queue q kept some) ∙ starts), owner-kept a queue kept)
+takes-next a kept queue q barrier some down starts = grind (
+  arith,
+  length-map (flight_of (start_of a) a.audit.items queue) (λ (f : InFlight). f.packet),
+  may_start-few (map (λ (f : InFlight). f.packet) (flight_of (start_of a) a.audit.items queue)) barrier
+      (ap (λ ps. cause_to_wait ps barrier) (packets-kept a queue q kept some) ∙ starts),
+  owner-kept a queue kept,
+)
 
 -- no more packets of a queue were handed over than there are entries
 next_id-le : (start : Start) (entries : List Entry) (queue : QueueId) → next_id start entries queue ≤ length entries
@@ -179,7 +186,7 @@ can-take a kept queue takes =
     let at = is-open a kept queue takes.0 takes.1 in
     let count = length-map (flight_of (start_of a) a.audit.items queue) (place_of (start_of a) a.audit.items queue) in
     let places : length at.q.places ≡ length (map (place_of (start_of a) a.audit.items queue) (flight_of (start_of a) a.audit.items queue)) =
-        ap (λ (v : QueueView). length v.places) at.view in
+    ap (λ (v : QueueView). length v.places) at.view in
     record { opened = at; none = ap (λ (v : QueueView). v.errors) at.view ∙ no_errors _ _ takes.2; few = omega (arith, count, places, takes.3) }
 
 -- how the queues follow an entry that changes one of them
@@ -187,7 +194,7 @@ pub queues-after : (a : Inside) (kept : IsCached a) (queue : QueueId) (at : IsOp
     (told : Outcome) (effects : List Effect)
     → opening_of event ≡ None → cached_opening (change at.q) ≡ cached_opening at.q → IsSound (change at.q) → cached_view (Some (change at.q)) ≡ view (cached_view (Some at.q))
     → ((m : QueueId) → queue_at (start_of a) (with_entry a.audit.items event told effects) m
-        ≡ (if queue.0 == m.0 then view (queue_at (start_of a) a.audit.items m) else queue_at (start_of a) a.audit.items m))
+    ≡ (if queue.0 == m.0 then view (queue_at (start_of a) a.audit.items m) else queue_at (start_of a) a.audit.items m))
     → count ≡ length (flight (start_of a) (with_entry a.audit.items event told effects))
     → ((f : InFlight) → launched_by event told ≡ Some f → lies_in_regions (region_lengths a.policy) f.packet ≡ true)
     → QueuesAfter a (with_queue a.queues.items queue change) count event told effects
@@ -217,10 +224,13 @@ module _ (a : Inside) (kept : IsCached a) (queue : QueueId) (id : PacketId) (byt
   -- it is denied
   pub queues-denied : (rule : Rule) → QueuesAfter a (with_queue a.queues.items queue (with_denied (error_without_place queue id.0 rule))) a.flying (Take queue id bytes)
       (outcome.Taken (Denied (error_without_place queue id.0 rule))) []
-  queues-denied rule = grind (arith, queues-after a kept queue can.opened (with_denied (error_without_place queue id.0 rule))
-      (denied (error_without_place queue id.0 rule)) a.flying _ _ _ refl refl (sound-denied (error_without_place queue id.0 rule)) refl
-      (λ m. queue_at-denied (start_of a) a.audit.items queue id bytes rule m) (kept.flying ∙ ap length (sym (flight-denied rule)))
-      (none-launched (Take queue id bytes) (outcome.Taken (Denied (error_without_place queue id.0 rule))) refl (start_of a)))
+  queues-denied rule = grind (
+    arith,
+    queues-after a kept queue can.opened (with_denied (error_without_place queue id.0 rule))
+        (denied (error_without_place queue id.0 rule)) a.flying _ _ _ refl refl (sound-denied (error_without_place queue id.0 rule)) refl
+        (λ m. queue_at-denied (start_of a) a.audit.items queue id bytes rule m) (kept.flying ∙ ap length (sym (flight-denied rule)))
+        (none-launched (Take queue id bytes) (outcome.Taken (Denied (error_without_place queue id.0 rule))) refl (start_of a)),
+  )
 
   -- it is launched
   module _ (p : Packet) (reads : decoded bytes ≡ Some p) (next : id.0 ≡ next_id (start_of a) a.audit.items queue) where
@@ -245,8 +255,11 @@ module _ (a : Inside) (kept : IsCached a) (queue : QueueId) (id : PacketId) (byt
         }
 
     pub flying-launched : a.flying + 1 ≡ length (flight (start_of a) (with_entry a.audit.items (Take queue id bytes) (outcome.Taken Launched) []))
-    flying-launched = grind (arith, length-append (flight (start_of a) a.audit.items) (record { queue = queue; id = id; packet = p } ∷ []),
-        flight-launched (start_of a) a.audit.items queue id bytes p reads)
+    flying-launched = grind (
+      arith,
+      length-append (flight (start_of a) a.audit.items) (record { queue = queue; id = id; packet = p } ∷ []),
+      flight-launched (start_of a) a.audit.items queue id bytes p reads,
+    )
 
     pub queues-launched : lies_in_regions (region_lengths a.policy) p ≡ true
         → QueuesAfter a (with_queue a.queues.items queue (with_launched id p)) (a.flying + 1) (Take queue id bytes) (outcome.Taken Launched) []

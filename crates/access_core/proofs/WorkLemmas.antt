@@ -70,9 +70,9 @@ module _ (a : Inside) (kept : IsCached a) (queue : QueueId) (id : PacketId) wher
       ap (without_packet id) places ∙ sym (released-of id.0 (place_of (start_of a) a.audit.items queue) queue.0 flying (λ f. refl)) in
       let freed-now : freed_by (Some id) a.queues.items queue ≡ length at.q.places - length (without_packet id at.q.places) = freed-at (Some id) a.queues.items queue at.q at.found in
       let one : length at.q.places ≡ length (filter (of_queue queue.0) flying) = ap length places
-          ∙ length-map (filter (of_queue queue.0) flying) (place_of (start_of a) a.audit.items queue) in
+      ∙ length-map (filter (of_queue queue.0) flying) (place_of (start_of a) a.audit.items queue) in
       let two : length (without_packet id at.q.places) ≡ length (filter (of_queue queue.0) others) = ap length left
-          ∙ length-map (filter (of_queue queue.0) others) (place_of (start_of a) a.audit.items queue) in
+      ∙ length-map (filter (of_queue queue.0) others) (place_of (start_of a) a.audit.items queue) in
       let count = released-count id.0 queue.0 flying in
       let less = filter-not_more (λ (f : InFlight). not (is_packet queue id f)) flying in
       omega (arith, freed-now, one, two, count, less)
@@ -130,16 +130,22 @@ module _ (a : Inside) (kept : IsCached a) (queue : QueueId) (id : PacketId) (q :
 -- a packet in its place reaches only what lies whole in a region
 pub reaches-in_place : (a : Inside) (kept : IsCached a) (queue : QueueId) (id : PacketId) (place : Place) → IsInPlace (history_of a) queue id place
     → lies_in_regions (region_lengths a.policy) place.packet ≡ true
-reaches-in_place a kept queue id place found = grind (arith, found-all (λ (f : InFlight). lies_in_regions (region_lengths a.policy) f.packet ≡ true) (is_packet queue id)
-    (flight (start_of a) a.audit.items) found.flying kept.within found.found)
+reaches-in_place a kept queue id place found = grind (
+  arith,
+  found-all (λ (f : InFlight). lies_in_regions (region_lengths a.policy) f.packet ≡ true) (is_packet queue id)
+      (flight (start_of a) a.audit.items) found.flying kept.within found.found,
+)
 
 -- ---- a packet fails
 
 module _ (a : Inside) (kept : IsCached a) (queue : QueueId) (id : PacketId) (at : IsOpen a queue) where
   fewer-places : (f : InFlight) → in_flight (start_of a) a.audit.items queue id ≡ Some f → length (without_packet id at.q.places) + 1 ≤ length at.q.places
-  fewer-places f found = grind (arith, filter-fewer (is_place_of id) (λ (p : Place). not (is_place_of id p)) at.q.places _
-      (sought a kept queue id at.q at.found ∙ ap (option_map (place_of (start_of a) a.audit.items queue)) found)
-      (ap (λ (b : Bool). not b) (found-passes (is_place_of id) at.q.places _ (sought a kept queue id at.q at.found ∙ ap (option_map (place_of (start_of a) a.audit.items queue)) found))))
+  fewer-places f found = grind (
+    arith,
+    filter-fewer (is_place_of id) (λ (p : Place). not (is_place_of id p)) at.q.places _
+        (sought a kept queue id at.q at.found ∙ ap (option_map (place_of (start_of a) a.audit.items queue)) found)
+        (ap (λ (b : Bool). not b) (found-passes (is_place_of id) at.q.places _ (sought a kept queue id at.q at.found ∙ ap (option_map (place_of (start_of a) a.audit.items queue)) found))),
+  )
 
   -- its queue has room for an error
   pub can-fail : (f : InFlight) → in_flight (start_of a) a.audit.items queue id ≡ Some f → CanFail a.queues.items queue

@@ -16,7 +16,7 @@ read-kept a kept memory address size test =
     let within : IsWithin a.memory address size = IsWithin-from_test a.memory address size (rw kept.lengths test) in
     let long : length (bytes_from a.memory address size) ≡ size = length-bytes_from a.memory address size within in
     same_lists (bytes_from a.memory address size) (memory_from (start_of a) a.audit.items address size)
-        (long ∙ sym (length-map-range_with_len (memory_at (start_of a) a.audit.items) address size))
+    (long ∙ sym (length-map-range_with_len (memory_at (start_of a) a.audit.items) address size))
     (λ k d h.
     let below : k < size = omega (arith, h, long) in
     let lies : lies_in_region (region_lengths a.policy) (address + k) ≡ true = rw kept.lengths at (lies-within a.memory address size k memory within below) in

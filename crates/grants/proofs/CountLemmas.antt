@@ -22,8 +22,12 @@ holds_of-append xs ys c o right = sum_by-append (λ h. cond (is_hold_of c o righ
 
 pub holds_of-among : (before behind : List Hold) (h : Hold) (c : ClientId) (o : Object) (right : Right)
     → holds_of (before ++ h ∷ behind) c o right ≡ holds_of (before ++ behind) c o right + one_for c o right h
-holds_of-among before behind h c o right = grind (arith, holds_of-append before (h ∷ behind) c o right, holds_of-append (h ∷ []) behind c o right,
-    holds_of-append before behind c o right)
+holds_of-among before behind h c o right = grind (
+  arith,
+  holds_of-append before (h ∷ behind) c o right,
+  holds_of-append (h ∷ []) behind c o right,
+  holds_of-append before behind c o right,
+)
 
 module _ (old new : Table) (h : Hold) where
   -- one more hold is counted
@@ -106,7 +110,9 @@ any_less f g less (x ∷ xs) h = grind (arith, any_less f g less xs)
 pub unheld : (table : Table) (holds : List Hold) → IsCounted table holds → (c : ClientId) (o : Object) (rights : Rights) (cell : Cell) → cell_of table c o ≡ Some cell
     → list_any (λ right. has rights right && nat_lt 0 (count_of cell.held right)) all_rights ≡ false
     → (q : QueueId) (p : PacketId) → list_any (λ right. has rights right && is_held holds q p c o right) all_rights ≡ false
-unheld table holds is c o rights cell at none q p = grind (arith,
-    any_less (λ right. has rights right && nat_lt 0 (count_of cell.held right)) (λ right. has rights right && is_held holds q p c o right)
-    (λ right. uncounted_and (has rights right) (count_of cell.held right) (is_held holds q p c o right)
-    (λ zero_is. held-uncounted holds q p c o right (sym (is c o right) ∙ ap (count_in right) at ∙ zero_is))) all_rights none)
+unheld table holds is c o rights cell at none q p = grind (
+  arith,
+  any_less (λ right. has rights right && nat_lt 0 (count_of cell.held right)) (λ right. has rights right && is_held holds q p c o right)
+      (λ right. uncounted_and (has rights right) (count_of cell.held right) (is_held holds q p c o right)
+      (λ zero_is. held-uncounted holds q p c o right (sym (is c o right) ∙ ap (count_in right) at ∙ zero_is))) all_rights none,
+)

@@ -38,8 +38,12 @@ pub held-pushed : (q : QueueId) (p : PacketId) (c : ClientId) (rights : List (Ob
     (holds : List Hold)
     → is_held (holds ++ map (hold_of q p c) rights) q' p' c' o' right
     ≡ (is_held holds q' p' c' o' right || (same_packet q' p' q p && list_any (λ named. same_pair c' o' c named.0 && has named.1 right) rights))
-held-pushed q p c rights q' p' c' o' right holds = grind (arith, list_any-append (is_hold q' p' c' o' right) holds (map (hold_of q p c) rights),
-    list_any-map (is_hold q' p' c' o' right) (hold_of q p c) rights, any-and (same_packet q' p' q p) (λ named. same_pair c' o' c named.0) (λ named. has named.1 right) rights)
+held-pushed q p c rights q' p' c' o' right holds = grind (
+  arith,
+  list_any-append (is_hold q' p' c' o' right) holds (map (hold_of q p c) rights),
+  list_any-map (is_hold q' p' c' o' right) (hold_of q p c) rights,
+  any-and (same_packet q' p' q p) (λ named. same_pair c' o' c named.0) (λ named. has named.1 right) rights,
+)
 
 -- ---- holders
 

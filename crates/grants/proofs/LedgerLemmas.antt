@@ -1,5 +1,5 @@
 -- What the calls of grants leave, by the table and the list of holds.
-use Rattle.std.proofs.Common.{◌≡◌, ℕ, ◌+◌, ◌≤◌, true, false, List, length, ◌++◌, ◌&&◌, map, filter, not, Option, Some, None, ap, arith}
+use Rattle.std.proofs.Common.{◌≡◌, ℕ, ◌+◌, ◌≤◌, true, false, List, length, ◌++◌, ◌&&◌, map, filter, not, Option, Some, None, arith}
 use Rattle.grants.proofs.Terms.{Cell, ClientId, Holds, IsCounted, IsFirstTo, Ledger, Object, PacketId, QueueId, Releases, Rights, SameRights, Table, all_rights, cell_of, count_of, has}
 use Rattle.grants.proofs.Terms.{hold_of, holds_one, is_holder, is_of, is_some, knows_client, knows_object, list_any, nat_lt, rules_in}
 use Rattle.grants.specs.declared.hold.Hold.{Hold}

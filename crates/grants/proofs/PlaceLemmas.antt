@@ -40,9 +40,12 @@ module _ (rules : Rules) where
   same_row a b i j h k e = sym (div-mul-add a (object_count rules) i h) ∙ ap (λ n. n / object_count rules) e ∙ div-mul-add b (object_count rules) j k
 
   pub place-same : (c : ClientId) (o : Object) (c' : ClientId) (o' : Object) (place : ℕ) → place_of rules c o ≡ Some place → place_of rules c' o' ≡ Some place → (c ≡ c') × (o ≡ o')
-  place-same c o c' o' place h h' = grind (arith, same_row (c.0 - 1) (c'.0 - 1) (object_place rules o) (object_place rules o') (in_row o (place-Some c o place h).object)
-      (in_row o' (place-Some c' o' place h').object) (sym (place-Some c o place h).is ∙ (place-Some c' o' place h').is),
-      same_in_row o o' (place-Some c o place h).object (place-Some c' o' place h').object)
+  place-same c o c' o' place h h' = grind (
+    arith,
+    same_row (c.0 - 1) (c'.0 - 1) (object_place rules o) (object_place rules o') (in_row o (place-Some c o place h).object)
+        (in_row o' (place-Some c' o' place h').object) (sym (place-Some c o place h).is ∙ (place-Some c' o' place h').is),
+    same_in_row o o' (place-Some c o place h).object (place-Some c' o' place h').object,
+  )
 
 -- ---- a list with one item changed
 
@@ -67,7 +70,7 @@ module _ (rules : Rules) (cells : List Cell) (long : length cells ≡ rules.clie
   -- what a changed cell leaves at every client and object
   pub cell-set : (place : ℕ) → place_of rules c o ≡ Some place → (c' : ClientId) (o' : Object)
       → item_at (slice_set cells place new) (place_of rules c' o') ≡
-          (if same_pair c' o' c o then replacement new (item_at cells (place_of rules c' o')) else item_at cells (place_of rules c' o'))
+      (if same_pair c' o' c o then replacement new (item_at cells (place_of rules c' o')) else item_at cells (place_of rules c' o'))
   cell-set place at c' o' = by_test (same_pair c' o' c o) refl (place_of rules c' o') refl
     where
       within : place < length cells

@@ -1,5 +1,5 @@
 -- Which rights are in the sets that two sets make.
-use Rattle.std.proofs.Common.{◌≡◌, ◌-◌, ◌<◌, ◌^◌, not, ◌&&◌, arith}
+use Rattle.std.proofs.Common.{◌≡◌, ◌<◌, ◌^◌, not, ◌&&◌, arith}
 use Rattle.std.proofs.lemmas.Nat.Bits.{bit_at_and}
 use Rattle.grants.proofs.Terms.{Right, Rights, has, has-bit, without}
 

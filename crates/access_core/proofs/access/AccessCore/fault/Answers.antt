@@ -64,5 +64,5 @@ returns-clause-places c =
     let can = can-fail a c.self.invariant c.args.queue c.args.packet (is-open a c.self.invariant c.args.queue found.opening found.owner_is) found.flying found.found in
     places-kept a _ c.self.view_is c.fail_packet.new.queues c.release.new.self c.release-2.new.self c.enter.new.audit _ c.fail_packet.ensures.capacity
     (ap (map error_places) c.fail_packet.ensures.queues ∙ errors-changed a.queues.items c.args.queue (with_failure c.args.packet error) can.0 can.1
-        (failed-places can.0 c.args.packet error can.2))
+    (failed-places can.0 c.args.packet error can.2))
     c.release.ensures.same_places c.release-2.ensures.places c.enter.ensures

@@ -16,8 +16,8 @@ quiet client on rights = record { launches = refl; progress = λ queue id p. ref
 pub returns-in-Err-clause-met : goal.returns-in-Err-clause-met
 returns-in-Err-clause-met c =
     rw c.refusal_of.ensures (met-refusal (Grant c.args.client c.args.object c.args.rights) _ _
-        (due-by c.self.inside _ (seen c.self.view_is) _ _ (grant-refused c.self.inside c.self.invariant c.args.client c.args.object c.args.rights c.in-Err.why
-        (sym c.in-Err.is ∙ c.may_grant.ensures))))
+    (due-by c.self.inside _ (seen c.self.view_is) _ _ (grant-refused c.self.inside c.self.invariant c.args.client c.args.object c.args.rights c.in-Err.why
+    (sym c.in-Err.is ∙ c.may_grant.ensures))))
 
 pub returns-then-is_full-clause-met : goal.returns-then-is_full-clause-met
 returns-then-is_full-clause-met = grind (arith, grant-due)
@@ -44,7 +44,7 @@ invariant_of-self c =
       queues = queues-still a c.self.invariant _ _ _ calm refl;
     })
     _ (seen c.self.view_is) (grant-due a c.self.invariant c.args.client c.args.object c.args.rights _ (seen c.self.view_is) (sym c.in_default.is ∙ c.may_grant.ensures) false
-        (sym c.is_full.ensures ∙ c.if-is_full.false))
+    (sym c.is_full.ensures ∙ c.if-is_full.false))
 
 pub returns-clause-met : goal.returns-clause-met
 returns-clause-met = grind (arith, grant-due)

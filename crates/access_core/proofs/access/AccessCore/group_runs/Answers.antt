@@ -15,7 +15,7 @@ pub run_group-requires-clause-kernel : goal.run_group-requires-clause-kernel
 run_group-requires-clause-kernel c =
     let at = ap (λ (ks : List Kernel). numbered ks c.args.dispatch.kernel_object.0) (sym c.as_slice.ensures.value) ∙ c.kernel_at-kernel.ensures in
     entry-below c.self.inside c.self.invariant _ (seen c.self.view_is) c.args.queue c.args.packet c.args.place c.requires.found c.args.dispatch c.requires.packet_is
-        c.kernel_at-kernel.result.now at
+    c.kernel_at-kernel.result.now at
 
 pub run_group-requires-clause-runnable : goal.run_group-requires-clause-runnable
 run_group-requires-clause-runnable c =
@@ -45,18 +45,28 @@ abbrev input : goal.After-drop-view-inside → GroupInput
 input c = input_of (program_at c.kernel_at-kernel.result.now) (asked c) c.args.place.progress.groups_run c.in_ok-view.view
 
 here : (c : goal.After-drop-view-inside) → slice_get c.kernel_at-kernel.result.now.checked c.kernel_at-kernel.result.now.entry ≡ Some (program_at c.kernel_at-kernel.result.now)
-here c = grind (arith, program-there c.self.inside c.self.invariant _
-    (seen c.self.view_is) c.args.queue c.args.packet c.args.place c.requires.found c.args.dispatch c.requires.packet_is c.kernel_at-kernel.result.now)
+here c = grind (
+  arith,
+  program-there c.self.inside c.self.invariant _
+      (seen c.self.view_is) c.args.queue c.args.packet c.args.place c.requires.found c.args.dispatch c.requires.packet_is c.kernel_at-kernel.result.now,
+)
 
 same : (c : goal.After-drop-view-inside) → next_result c.args.self.now.history c.args.queue c.args.packet c.args.place c.args.dispatch ≡ group_result (input c)
-same c = grind (arith, result-is (c.self.inside) c.self.invariant (c.args.self.now.history) (seen c.self.view_is) c.args.queue c.args.packet c.args.place c.requires.found
-    (c.args.dispatch) c.requires.packet_is (asked c) (record { group_size_is = c.group_size.ensures; grid_size_is = c.grid_size.ensures; segment_is = refl;
-    arguments_are = c.get.ensures ∙ (block-is (c.self.inside) c.self.invariant (c.args.self.now.history) (seen c.self.view_is) c.args.queue c.args.packet c.args.place c.requires.found
-    (c.args.dispatch) c.requires.packet_is) }) (program_at c.kernel_at-kernel.result.now)
-    (program-is (c.self.inside) c.self.invariant (c.args.self.now.history) (seen c.self.view_is) c.args.queue c.args.packet c.args.place c.requires.found
-    (c.args.dispatch) c.requires.packet_is c.kernel_at-kernel.result.now
-    (ap (λ (ks : List Kernel). numbered ks (c.args.dispatch).kernel_object.0) (sym c.as_slice.ensures.value) ∙ c.kernel_at-kernel.ensures) _
-    (here c)) c.args.place.progress.groups_run c.groups_read_where_they_may.ensures c.in_ok-view.view c.in_ok-view.ensures)
+same c = grind (
+  arith,
+  result-is (c.self.inside) c.self.invariant (c.args.self.now.history) (seen c.self.view_is) c.args.queue c.args.packet c.args.place c.requires.found
+      (c.args.dispatch) c.requires.packet_is (asked c) (record {
+        group_size_is = c.group_size.ensures;
+        grid_size_is = c.grid_size.ensures;
+        segment_is = refl;
+        arguments_are = c.get.ensures ∙ (block-is (c.self.inside) c.self.invariant (c.args.self.now.history) (seen c.self.view_is) c.args.queue c.args.packet c.args.place c.requires.found
+            (c.args.dispatch) c.requires.packet_is);
+      }) (program_at c.kernel_at-kernel.result.now)
+      (program-is (c.self.inside) c.self.invariant (c.args.self.now.history) (seen c.self.view_is) c.args.queue c.args.packet c.args.place c.requires.found
+      (c.args.dispatch) c.requires.packet_is c.kernel_at-kernel.result.now
+      (ap (λ (ks : List Kernel). numbered ks (c.args.dispatch).kernel_object.0) (sym c.as_slice.ensures.value) ∙ c.kernel_at-kernel.ensures) _
+      (here c)) c.args.place.progress.groups_run c.groups_read_where_they_may.ensures c.in_ok-view.view c.in_ok-view.ensures,
+)
 
 pub returns-clause-ok : goal.returns-clause-ok
 returns-clause-ok c =
@@ -71,7 +81,7 @@ returns-clause-fault c =
 pub returns-clause-written : goal.returns-clause-written
 returns-clause-written c =
     IfOk-weaker c.run_group.result (FinishesAs (input c)) (λ (runs : List Run). All
-        (λ (run : Run). is_within (region_lengths c.args.self.now.history.start.policy) run.address (length run.bytes) ≡ true) runs)
+    (λ (run : Run). is_within (region_lengths c.args.self.now.history.start.policy) run.address (length run.bytes) ≡ true) runs)
     (λ runs ends. runs-within c.self.inside c.self.invariant _ (seen c.self.view_is) c.args.queue c.args.packet c.args.place c.requires.found c.args.dispatch c.requires.packet_is
     c.regions_fit.ensures c.args.place.progress.groups_run runs (same c ∙ ends.1))
     (c.run_group.ensures.ok (program_at c.kernel_at-kernel.result.now) (here c))

@@ -15,10 +15,10 @@ use Rattle.access_core.proofs.access.AccessCore.launch.Goals as goal
 pub hold_reserved-requires-clause-in_force : goal.hold_reserved-requires-clause-in_force
 hold_reserved-requires-clause-in_force c =
     launch-in_force c.self.inside c.self.invariant _ c.args.launching.client _
-        (rights_at_launch (start_of c.self.inside) c.self.inside.audit.items (opening_of c.args.launching) c.args.launching.packet)
+    (rights_at_launch (start_of c.self.inside) c.self.inside.audit.items (opening_of c.args.launching) c.args.launching.packet)
     c.in_ok-reserve.ensures.same
     (c.as_slice-2.ensures ∙ c.in_ok-rights.ensures ∙ ap (λ (h : History). map as_rights (rights_at_launch h.start h.entries (opening_of c.args.launching) c.args.launching.packet))
-        (sym (seen c.self.view_is)))
+    (sym (seen c.self.view_is)))
     (subst (λ h. MayHold h (opening_of c.args.launching) c.args.launching.packet) (sym (seen c.self.view_is)) c.requires.5)
 
 pub place_next-requires : goal.place_next-requires
@@ -38,9 +38,9 @@ invariant_of-self-2 c =
     let owing = owed-inside a c.self.invariant _ (seen c.self.view_is) _ _ _ c.requires.0 in
     let next = IsNext-from_owed (start_of a) a.audit.items c.args.queue c.args.packet c.args.bytes.now _ _ owing in
     let owned : owner (start_of a) a.audit.items c.args.queue ≡ Some (opening_of c.args.launching) =
-        subst (λ h. owner h.start h.entries c.args.queue ≡ Some (opening_of c.args.launching)) (sym (seen c.self.view_is)) c.requires.4 in
+    subst (λ h. owner h.start h.entries c.args.queue ≡ Some (opening_of c.args.launching)) (sym (seen c.self.view_is)) c.requires.4 in
     let launches : launched_by (Take c.args.queue c.args.packet c.args.bytes.now) (outcome.Taken Launched) ≡ Some (record { queue = c.args.queue; id = c.args.packet; packet = p }) =
-        ap (option_map (λ (x : Packet). record { queue = c.args.queue; id = c.args.packet; packet = x })) c.requires.1 in
+    ap (option_map (λ (x : Packet). record { queue = c.args.queue; id = c.args.packet; packet = x })) c.requires.1 in
     let within : lies_in_regions (region_lengths a.policy) p ≡ true = subst (λ h. lies_in_regions (region_lengths h.start.policy) p ≡ true) (sym (seen c.self.view_is)) c.requires.2 in
     IsCached-more a _ (Take c.args.queue c.args.packet c.args.bytes.now) (outcome.Taken Launched) [] c.self.invariant
     (record {
@@ -51,7 +51,7 @@ invariant_of-self-2 c =
           (flight-launched (start_of a) a.audit.items c.args.queue c.args.packet c.args.bytes.now p c.requires.1)
           c.in_ok-reserve.ensures.same
           (c.as_slice-2.ensures ∙ c.in_ok-rights.ensures ∙ ap (λ (h : History). map as_rights (rights_at_launch h.start h.entries (opening_of c.args.launching) p))
-              (sym (seen c.self.view_is)))
+          (sym (seen c.self.view_is)))
           (held-launched (start_of a) a.audit.items (entry_of (Take c.args.queue c.args.packet c.args.bytes.now) (outcome.Taken Launched) []) c.self.invariant.legal owing
           (record { queue = c.args.queue; id = c.args.packet; packet = p }) (opening_of c.args.launching) launches owned)
           owned c.hold_reserved.ensures.holds

@@ -18,7 +18,7 @@ pub returns-clause-may : goal.returns-clause-may
 unfolding owed
 returns-clause-may c =
     release-due c.self.inside c.self.invariant _ (seen c.self.view_is) c.args.queue c.args.packet c.in_ok-place.place c.in_ok-place.ensures.found _ _ _
-        (finish-releases _ _ _ c.in_ok-place.place.packet)
+    (finish-releases _ _ _ c.in_ok-place.place.packet)
     (owed-in_place c.args.self.now.history c.args.queue c.args.packet c.in_ok-place.place c.in_ok-place.ensures.found
-        (owed_finish (signals c.args.self.now.history.start c.args.self.now.history.entries) c.args.queue c.args.packet)
+    (owed_finish (signals c.args.self.now.history.start c.args.self.now.history.entries) c.args.queue c.args.packet)
     ∙ refuse_unless-holds _ _ _ (sym c.is_finished.ensures ∙ c.if-not-is_finished.false))

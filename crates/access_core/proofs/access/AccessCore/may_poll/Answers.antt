@@ -15,7 +15,7 @@ returns-in_err-place-clause-why = grind arith
 pub returns-in-Err-clause-why : goal.returns-in-Err-clause-why
 returns-in-Err-clause-why c =
     due-as c.args.self.now.history (Poll c.args.queue c.args.packet) _
-        (poll-owed c.self.inside c.self.invariant _ (seen c.self.view_is) c.args.queue c.args.packet c.in_ok-place.place c.in_ok-place.ensures.found _ c.in-Err.ensures.why)
+    (poll-owed c.self.inside c.self.invariant _ (seen c.self.view_is) c.args.queue c.args.packet c.in_ok-place.place c.in_ok-place.ensures.found _ c.in-Err.ensures.why)
 
 pub returns-in-Still-clause-may : goal.returns-in-Still-clause-may
 returns-in-Still-clause-may = grind (arith, poll-owed)
@@ -23,9 +23,9 @@ returns-in-Still-clause-may = grind (arith, poll-owed)
 pub returns-in-Fails-clause-may : goal.returns-in-Fails-clause-may
 returns-in-Fails-clause-may c =
     release-due c.self.inside c.self.invariant _ (seen c.self.view_is) c.args.queue c.args.packet c.in_ok-place.place c.in_ok-place.ensures.found _ _ _
-        (failure-releases c.args.queue c.args.packet)
+    (failure-releases c.args.queue c.args.packet)
     (poll-owed c.self.inside c.self.invariant _ (seen c.self.view_is) c.args.queue c.args.packet c.in_ok-place.place c.in_ok-place.ensures.found _
-        (c.in-Ok.ensures.may ∙ ap (look_owed c.args.queue c.args.packet) c.in-Fails.is))
+    (c.in-Ok.ensures.may ∙ ap (look_owed c.args.queue c.args.packet) c.in-Fails.is))
 
 pub returns-then-is_full-clause-why : goal.returns-then-is_full-clause-why
 returns-then-is_full-clause-why = grind (arith, poll-owed)

@@ -15,7 +15,7 @@ pub returns-then-kept-clause-why : goal.returns-then-kept-clause-why
 returns-then-kept-clause-why c =
     let some : numbered c.self.inside.queues.items c.args.queue.0 ≡ Some c.in-Some.kept.now = cc c.in-Some.ensures in
     due-by c.self.inside _ (seen c.self.view_is) (Stop c.args.queue) (refuses refusal.QueueDown)
-        (stop-known c.self.inside c.self.invariant c.args.queue _ some ∙ (rw c.if-kept.true refl))
+    (stop-known c.self.inside c.self.invariant c.args.queue _ some ∙ (rw c.if-kept.true refl))
 
 pub returns-then-is_full-clause-why : goal.returns-then-is_full-clause-why
 returns-then-is_full-clause-why = grind (arith, stop-full)

@@ -18,7 +18,7 @@ returns-then-is_down-clause-why c =
     let some : numbered c.self.inside.queues.items c.args.queue.0 ≡ Some c.in-Some.kept.now = cc c.in-Some.ensures in
     let down : (nat_lt 0 (length c.in-Some.kept.now.errors.items) || c.in-Some.kept.now.stopped) ≡ true = cc in
     due-by c.self.inside _ (seen c.self.view_is) (Take c.args.queue c.args.packet c.args.bytes.now) (refuses refusal.QueueDown)
-        (take-known c.self.inside c.self.invariant _ _ _ _ some ∙ (rw down refl))
+    (take-known c.self.inside c.self.invariant _ _ _ _ some ∙ (rw down refl))
 
 pub returns-then-packet-kept-clause-why : goal.returns-then-packet-kept-clause-why
 returns-then-packet-kept-clause-why c =
@@ -26,7 +26,7 @@ returns-then-packet-kept-clause-why c =
     let down : (nat_lt 0 (length c.in-Some.kept.now.errors.items) || c.in-Some.kept.now.stopped) ≡ false = cc in
     let other : (c.args.packet.0 == c.in-Some.kept.now.next) ≡ false = search rules in
     due-by c.self.inside _ (seen c.self.view_is) (Take c.args.queue c.args.packet c.args.bytes.now) (refuses (refusal.OutOfStep c.in-Some.kept.now.next))
-        (take-known c.self.inside c.self.invariant _ _ _ _ some ∙ (rw (down, other) refl))
+    (take-known c.self.inside c.self.invariant _ _ _ _ some ∙ (rw (down, other) refl))
 
 pub returns-in-Waiting-clause-may : goal.returns-in-Waiting-clause-may
 returns-in-Waiting-clause-may c =
@@ -34,11 +34,11 @@ returns-in-Waiting-clause-may c =
     let down : (nat_lt 0 (length c.in-Some.kept.now.errors.items) || c.in-Some.kept.now.stopped) ≡ false = cc in
     let next : (c.args.packet.0 == c.in-Some.kept.now.next) ≡ true = search rules in
     let told : cause_to_wait (map (λ (p : Place). p.packet) c.as_slice-2.result.now) c.header.result.barrier ≡ Some c.in-Waiting.cause =
-        launching-waits _ c.in-Waiting.cause c.in-Waiting.ensures in
+    launching-waits _ c.in-Waiting.cause c.in-Waiting.ensures in
     let waits : cause_to_wait (map (λ (p : Place). p.packet) c.in-Some.kept.now.places) (barrier_bit c.args.bytes.now) ≡ Some c.in-Waiting.cause =
-        cc (told, c.as_slice-2.ensures, c.header.ensures) in
+    cc (told, c.as_slice-2.ensures, c.header.ensures) in
     due-by c.self.inside _ (seen c.self.view_is) (Take c.args.queue c.args.packet c.args.bytes.now) (answers (outcome.Taken (Waiting c.in-Waiting.cause)))
-        (take-known c.self.inside c.self.invariant _ _ _ _ some ∙ (rw (down, next, waits) refl))
+    (take-known c.self.inside c.self.invariant _ _ _ _ some ∙ (rw (down, next, waits) refl))
 
 pub returns-then-is_full_for_launch-clause-why : goal.returns-then-is_full_for_launch-clause-why
 returns-then-is_full_for_launch-clause-why c =
@@ -46,11 +46,11 @@ returns-then-is_full_for_launch-clause-why c =
     let down : (nat_lt 0 (length c.in-Some.kept.now.errors.items) || c.in-Some.kept.now.stopped) ≡ false = cc in
     let next : (c.args.packet.0 == c.in-Some.kept.now.next) ≡ true = search rules in
     let waits : cause_to_wait (map (λ (p : Place). p.packet) c.in-Some.kept.now.places) (barrier_bit c.args.bytes.now) ≡ None =
-        cc (launching-goes _ c.in-Go.ensures, c.as_slice-2.ensures, c.header.ensures) in
+    cc (launching-goes _ c.in-Go.ensures, c.as_slice-2.ensures, c.header.ensures) in
     due-by c.self.inside _ (seen c.self.view_is) (Take c.args.queue c.args.packet c.args.bytes.now) (enters (outcome.Taken Launched) [])
-        (take-known c.self.inside c.self.invariant _ _ _ _ some ∙ (rw
-        (down, next, waits, judged-inside c.self.inside _ (seen c.self.view_is) c.in-Some.kept.now c.args.bytes.now None c.in-Launch.ensures.1) refl))
-        ∙ (rw (room-launched _ c.args.queue c.args.packet _ _ c.in-Launch.ensures.0, ← c.is_full_for_launch.ensures, c.if-is_full_for_launch.true) refl)
+    (take-known c.self.inside c.self.invariant _ _ _ _ some ∙ (rw
+    (down, next, waits, judged-inside c.self.inside _ (seen c.self.view_is) c.in-Some.kept.now c.args.bytes.now None c.in-Launch.ensures.1) refl))
+    ∙ (rw (room-launched _ c.args.queue c.args.packet _ _ c.in-Launch.ensures.0, ← c.is_full_for_launch.ensures, c.if-is_full_for_launch.true) refl)
 
 pub returns-then-is_full-clause-why : goal.returns-then-is_full-clause-why
 returns-then-is_full-clause-why c =
@@ -58,12 +58,12 @@ returns-then-is_full-clause-why c =
     let down : (nat_lt 0 (length c.in-Some.kept.now.errors.items) || c.in-Some.kept.now.stopped) ≡ false = cc in
     let next : (c.args.packet.0 == c.in-Some.kept.now.next) ≡ true = search rules in
     let waits : cause_to_wait (map (λ (p : Place). p.packet) c.in-Some.kept.now.places) (barrier_bit c.args.bytes.now) ≡ None =
-        cc (launching-goes _ c.in-Go.ensures, c.as_slice-2.ensures, c.header.ensures) in
+    cc (launching-goes _ c.in-Go.ensures, c.as_slice-2.ensures, c.header.ensures) in
     due-by c.self.inside _ (seen c.self.view_is) (Take c.args.queue c.args.packet c.args.bytes.now)
-        (enters (outcome.Taken (Denied (error_without_place c.args.queue c.args.packet.0 c.in-Deny.rule))) [])
-        (take-known c.self.inside c.self.invariant _ _ _ _ some ∙ (rw
-        (down, next, waits, judged-inside c.self.inside _ (seen c.self.view_is) c.in-Some.kept.now c.args.bytes.now (Some c.in-Deny.rule) c.in-Deny.ensures) refl))
-        ∙ (rw (← c.is_full.ensures, c.if-is_full.true) refl)
+    (enters (outcome.Taken (Denied (error_without_place c.args.queue c.args.packet.0 c.in-Deny.rule))) [])
+    (take-known c.self.inside c.self.invariant _ _ _ _ some ∙ (rw
+    (down, next, waits, judged-inside c.self.inside _ (seen c.self.view_is) c.in-Some.kept.now c.args.bytes.now (Some c.in-Deny.rule) c.in-Deny.ensures) refl))
+    ∙ (rw (← c.is_full.ensures, c.if-is_full.true) refl)
 
 pub returns-else-is_full_for_launch-clause-may : goal.returns-else-is_full_for_launch-clause-may
 returns-else-is_full_for_launch-clause-may c =
@@ -71,7 +71,7 @@ returns-else-is_full_for_launch-clause-may c =
     let down : (nat_lt 0 (length c.in-Some.kept.now.errors.items) || c.in-Some.kept.now.stopped) ≡ false = cc in
     let next : (c.args.packet.0 == c.in-Some.kept.now.next) ≡ true = search rules in
     let waits : cause_to_wait (map (λ (p : Place). p.packet) c.in-Some.kept.now.places) (barrier_bit c.args.bytes.now) ≡ None =
-        cc (launching-goes _ c.in-Go.ensures, c.as_slice-2.ensures, c.header.ensures) in (
+    cc (launching-goes _ c.in-Go.ensures, c.as_slice-2.ensures, c.header.ensures) in (
       due-by c.self.inside _ (seen c.self.view_is) (Take c.args.queue c.args.packet c.args.bytes.now) (enters (outcome.Taken Launched) [])
           (take-known c.self.inside c.self.invariant _ _ _ _ some ∙ (rw
           (down, next, waits, judged-inside c.self.inside _ (seen c.self.view_is) c.in-Some.kept.now c.args.bytes.now None c.in-Launch.ensures.1) refl))
@@ -95,7 +95,7 @@ returns-else-is_full-clause-may c =
     let down : (nat_lt 0 (length c.in-Some.kept.now.errors.items) || c.in-Some.kept.now.stopped) ≡ false = cc in
     let next : (c.args.packet.0 == c.in-Some.kept.now.next) ≡ true = search rules in
     let waits : cause_to_wait (map (λ (p : Place). p.packet) c.in-Some.kept.now.places) (barrier_bit c.args.bytes.now) ≡ None =
-        cc (launching-goes _ c.in-Go.ensures, c.as_slice-2.ensures, c.header.ensures) in (
+    cc (launching-goes _ c.in-Go.ensures, c.as_slice-2.ensures, c.header.ensures) in (
       due-by c.self.inside _ (seen c.self.view_is) (Take c.args.queue c.args.packet c.args.bytes.now)
           (enters (outcome.Taken (Denied (error_without_place c.args.queue c.args.packet.0 c.in-Deny.rule))) [])
           (take-known c.self.inside c.self.invariant _ _ _ _ some ∙ (rw

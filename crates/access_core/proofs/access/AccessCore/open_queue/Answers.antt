@@ -30,8 +30,11 @@ invariant_of-self-2 c =
         queues = λ m. rw push (numbered-push cached_view a.queues.items _ (rw (none, c.new.ensures) refl) m.0) ∙ c.self.invariant.queues m
             ∙ sym (queue_at-quiet (start_of a) a.audit.items _ _ _ calm m);
         sound = rw push (All-push IsSound a.queues.items _ c.self.invariant.sound
-            (record { room = rw (none, c.in_ok-errors.ensures.room) refl; free = rw (none, c.new.ensures) (omega arith);
-            below = rw c.new.ensures (All-nil (λ (p : Place). p.id.0 < 0)) }));
+            (record {
+              room = rw (none, c.in_ok-errors.ensures.room) refl;
+              free = rw (none, c.new.ensures) (omega arith);
+              below = rw c.new.ensures (All-nil (λ (p : Place). p.id.0 < 0));
+            }));
         few_queues = rw push (few_after a.queues.items _ (openings-count a c.self.invariant
             (subst (λ h. length (openings h.start h.entries) < QUEUES) (sym (seen c.self.view_is)) c.in_ok-queue.ensures.few)));
         flying = c.self.invariant.flying ∙ ap length (sym (flight-quiet (start_of a) a.audit.items _ _ _ calm));

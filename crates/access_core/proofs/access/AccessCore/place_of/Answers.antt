@@ -22,7 +22,7 @@ returns-in-Some-get-clause-within c =
     let found : find (is_place_of c.args.packet) c.in-Some.kept.now.places ≡ Some c.in-Some-get.place.now = cc c.in-Some-get.ensures in
     subst (λ h. lies_in_regions (region_lengths h.start.policy) c.in-Some-get.place.now.packet ≡ true) (seen c.self.view_is)
     (reaches-in_place a c.self.invariant c.args.queue c.args.packet c.in-Some-get.place.now
-        (in-place a c.self.invariant c.args.queue c.args.packet c.in-Some.kept.now some c.in-Some-get.place.now found))
+    (in-place a c.self.invariant c.args.queue c.args.packet c.in-Some.kept.now some c.in-Some-get.place.now found))
 
 pub returns-in-Some-get-clause-sized : goal.returns-in-Some-get-clause-sized
 returns-in-Some-get-clause-sized c =

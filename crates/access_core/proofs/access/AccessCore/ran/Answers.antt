@@ -29,7 +29,7 @@ pub returns-then-is_full-clause-met : goal.returns-then-is_full-clause-met
 returns-then-is_full-clause-met c =
     inl (met-refusal (RunNext c.args.queue c.args.packet) c.args.self.now.history refusal.AuditFull
     (group-due c.args.self.now.history c.args.queue c.args.packet c.args.place.progress.groups_run c.args.left c.args.runs c.requires.owed true
-        (sym c.is_full.ensures ∙ c.if-is_full.true)))
+    (sym c.is_full.ensures ∙ c.if-is_full.true)))
 
 pub lay_changes-requires : goal.lay_changes-requires
 lay_changes-requires c =
@@ -37,7 +37,7 @@ lay_changes-requires c =
     rw (c.as_slice.ensures.value ∙ c.in_ok-changes.ensures, c.self.invariant.lengths)
     (runs-within (region_lengths a.policy) c.args.runs
     (subst (λ (h : History). All (λ (run : Run). is_within (region_lengths h.start.policy) run.address (length run.bytes) ≡ true) c.args.runs)
-        (sym (seen c.self.view_is)) c.requires.written))
+    (sym (seen c.self.view_is)) c.requires.written))
 
 pub advance-requires : goal.advance-requires
 advance-requires c =

@@ -20,5 +20,5 @@ returns c =
     c.rights_on-rights.ensures some
     (c.bytes.ensures.bytes
     ∙ read-inside a c.self.invariant _ (seen c.self.view_is) c.bytes.ensures.memory (number * 2 ^ 32) c.unwrap_or-length.result
-        (whole-within (region_lengths h.start.policy) number _ size c.requires.there)
+    (whole-within (region_lengths h.start.policy) number _ size c.requires.there)
     ∙ ap (memory_from h.start h.entries (number * 2 ^ 32)) size)

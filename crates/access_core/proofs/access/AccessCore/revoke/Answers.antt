@@ -40,7 +40,7 @@ invariant_of-self c =
       queues = queues-still a c.self.invariant _ _ _ calm refl;
     })
     _ (seen c.self.view_is) (revoke-due a c.self.invariant c.args.client c.args.object c.args.rights _ (seen c.self.view_is)
-        (subst (RevokeAnswers c.self.inside.grants c.args.client c.args.object c.args.rights) c.in_default.is c.may_revoke.ensures) false (sym c.is_full.ensures ∙ c.if-is_full.false))
+    (subst (RevokeAnswers c.self.inside.grants c.args.client c.args.object c.args.rights) c.in_default.is c.may_revoke.ensures) false (sym c.is_full.ensures ∙ c.if-is_full.false))
 
 pub returns-clause-met : goal.returns-clause-met
 returns-clause-met = grind (arith, revoke-due)

@@ -64,20 +64,20 @@ returns-then-is_full-clause-met c =
     let ran : nat_le 1 c.args.place.progress.groups_run ≡ false = search rules in
     inl (met-refusal (RunNext c.args.queue c.args.packet) c.args.self.now.history refusal.AuditFull
     (agent-due c.args.self.now.history c.args.queue c.args.packet c.args.place c.requires.found c.args.dispatch c.requires.packet_is ran true
-        (sym c.is_full.ensures ∙ c.if-is_full.true)))
+    (sym c.is_full.ensures ∙ c.if-is_full.true)))
 
 pub returns-in_err-target-clause-met : goal.returns-in_err-target-clause-met
 returns-in_err-target-clause-met c =
     let ran : nat_le 1 c.args.place.progress.groups_run ≡ false = search rules in
     let is = agent-due c.args.self.now.history c.args.queue c.args.packet c.args.place c.requires.found c.args.dispatch c.requires.packet_is ran false
-        (sym c.is_full.ensures ∙ c.if-is_full.false) in
+    (sym c.is_full.ensures ∙ c.if-is_full.false) in
     inr (record { may = rw is refl; reply_is = search rules; history_is = refl })
 
 pub returns-in_err-result-clause-met : goal.returns-in_err-result-clause-met
 returns-in_err-result-clause-met c =
     let ran : nat_le 1 c.args.place.progress.groups_run ≡ false = search rules in
     let is = agent-due c.args.self.now.history c.args.queue c.args.packet c.args.place c.requires.found c.args.dispatch c.requires.packet_is ran false
-        (sym c.is_full.ensures ∙ c.if-is_full.false) in
+    (sym c.is_full.ensures ∙ c.if-is_full.false) in
     inr (record { may = rw is refl; reply_is = search rules; history_is = refl })
 
 pub returns-clause-met : goal.returns-clause-met

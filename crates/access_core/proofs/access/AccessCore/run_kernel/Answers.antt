@@ -15,7 +15,7 @@ returns-then-group-count-clause-met c =
     let ran : nat_le (group_count (packet.Kernel c.args.dispatch)) c.args.place.progress.groups_run ≡ true = rw (← c.group_count-count.ensures) reached in
     let is : due h (RunNext c.args.queue c.args.packet) ≡ answers (outcome.Worked Done) =
     due-as h (RunNext c.args.queue c.args.packet) (answers (outcome.Worked Done))
-        (kernel-owed h c.args.queue c.args.packet c.args.place c.requires.found c.args.dispatch c.requires.packet_is true ran) in
+    (kernel-owed h c.args.queue c.args.packet c.args.place c.requires.found c.args.dispatch c.requires.packet_is true ran) in
     inl (record { reply_is = rw is refl; history_is = rw is refl })
 
 pub ran-requires-clause-owed : goal.ran-requires-clause-owed

@@ -22,7 +22,7 @@ loop-before-preserved c =
     let h = c.args.self.now.history in
     let before = c.loop-before.view in
     lent-behind h.start h.entries (packet_rights h.start h.entries c.args.queue c.args.packet) c.loop-before.before before _ c.region_if_held.result c.loop-before.invariant
-        c.region_if_held.ensures
+    c.region_if_held.ensures
     (elim c.match-region_if_held.branch [
       | in-Some+in_ok-put w ↦ w.view-is ∙ w.in_ok-put.ensures.ok ∙ ap (λ (o : Option HeldRegion). before ++ option_to_list o) (sym w.in-Some.is)
       | in_default w ↦ w.view-is ∙ sym (append-nil before) ∙ ap (λ (o : Option HeldRegion). before ++ option_to_list o) (sym w.in_default.is)

@@ -6,4 +6,4 @@ use Rattle.access_core.proofs.access.laying.lay_changes.Goals as goal
 pub returns-clause-changed : goal.returns-clause-changed
 returns-clause-changed c =
     subst (λ (xs : List Effect). IsChanged c.args.memory.now xs c.loop-change.memory)
-        (take_all c.loop-change.change-index c.args.changes.now c.loop-change-test.false) c.loop-change.invariant.0
+    (take_all c.loop-change.change-index c.args.changes.now c.loop-change-test.false) c.loop-change.invariant.0

@@ -25,7 +25,7 @@ returns-in_default-clause-counts c = λ client object right.
     let none : cell_of c.args.self.now c.args.hold.now.client c.args.hold.now.object ≡ None = sym c.get.ensures.cell ∙ c.in_default.is in
     let not_named : has c.args.hold.now.rights right ≡ false = false_from_ne_true (has c.args.hold.now.rights right) (λ named.
     true≢false (sym (each_right-has c.args.hold.now.rights (in_table c.args.self.now c.args.hold.now.client c.args.hold.now.object) c.requires.in_force right named)
-        ∙ ap (has_right right) none)) in
+    ∙ ap (has_right right) none)) in
     at_each_same c.args.self.now c.args.hold.now.client c.args.hold.now.object None none
     (λ same s t. count_in right t ≡ count_in right s + (if same && has c.args.hold.now.rights right then 1 else 0)) (λ s. omega arith)
     (ap (λ (b : Bool). 0 + (if b then 1 else 0)) (sym not_named)) client object

@@ -14,4 +14,4 @@ returns c =
     ∙ ap (λ rows. rows ++ listing_by (in_force c.args.self.now c.args.client) (objects_of_kind (count rules) kind.Signal)) (c.in_ok-list_kind-2.ensures
     ∙ ap (λ rows. rows ++ listing_by (in_force c.args.self.now c.args.client) (objects_of_kind (count rules) kind.Region)) c.in_ok-list_kind.ensures))
     ∙ listed-kinds (in_force c.args.self.now c.args.client) c.args.rows.now (objects_of_kind (count rules) kind.Agent) (objects_of_kind (count rules) kind.Region)
-        (objects_of_kind (count rules) kind.Signal) (objects_of_kind (count rules) kind.Kernel)
+    (objects_of_kind (count rules) kind.Signal) (objects_of_kind (count rules) kind.Kernel)

@@ -9,7 +9,7 @@ pub returns-then-not-is_held : goal.returns-then-not-is_held
 returns-then-not-is_held c =
     let room = vec_capacity c.self.inside.holds - vec_len c.self.inside.holds in
     let known = declared c.self.inside.table c.self.inside.holds.items room c.args.self.now c.self.view_is c.args.client c.args.object c.get.result c.in-Some.cell c.get.ensures.declared
-        c.in-Some.is in (
+    c.in-Some.is in (
       known.0,
       known.1,
       none_holds c.self.inside.table c.self.inside.holds.items room c.args.self.now c.self.view_is c.self.invariant c.args.client c.args.object c.args.rights c.in-Some.cell
@@ -21,7 +21,7 @@ returns-in-Some-first_holder c =
     let room = vec_capacity c.self.inside.holds - vec_len c.self.inside.holds in
     let first = Some (c.in-Some-first_holder.queue, c.in-Some-first_holder.packet) in
     let known = declared c.self.inside.table c.self.inside.holds.items room c.args.self.now c.self.view_is c.args.client c.args.object c.get.result c.in-Some.cell c.get.ensures.declared
-        c.in-Some.is in (
+    c.in-Some.is in (
       known.0,
       known.1,
       holder_first c.self.inside.table c.self.inside.holds.items room c.args.self.now c.self.view_is c.args.client c.args.object c.args.rights first
@@ -32,7 +32,7 @@ pub returns-in-None : goal.returns-in-None
 returns-in-None c =
     let room = vec_capacity c.self.inside.holds - vec_len c.self.inside.holds in
     let known = declared c.self.inside.table c.self.inside.holds.items room c.args.self.now c.self.view_is c.args.client c.args.object c.get.result c.in-Some.cell c.get.ensures.declared
-        c.in-Some.is in (
+    c.in-Some.is in (
       known.0,
       known.1,
       holder_first c.self.inside.table c.self.inside.holds.items room c.args.self.now c.self.view_is c.args.client c.args.object c.args.rights None
