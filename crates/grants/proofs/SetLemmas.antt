@@ -1,4 +1,4 @@
--- Which rights are in the sets that two sets make.
+-- Which rights are left of a set without those of another.
 use Rattle.std.proofs.Common.{◌≡◌, ◌<◌, ◌^◌, not, ◌&&◌, arith}
 use Rattle.std.proofs.lemmas.Nat.Bits.{bit_at_and}
 use Rattle.grants.proofs.Terms.{Right, Rights, has, has-bit, without}
