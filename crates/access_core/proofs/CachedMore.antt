@@ -3,32 +3,25 @@ use Rattle.std.proofs.Common.{◌≡◌, ℕ, ◌+◌, ◌≤◌, List, [], ◌�
 use Rattle.std.proofs.Common.{All, get_or, if◌then◌else◌}
 use Rattle.access_core.proofs.Terms.{All-weaker, AreBlocksOf, ArgumentBlock, ClientId, Effect, Event, History, InFlight, Inside, IsCached, IsEntered, IsSound, Ledger, Object, Outcome}
 use Rattle.access_core.proofs.Terms.{Owed}
-use Rattle.access_core.proofs.Terms.{PacketId, QUEUES, Queue, QueueId, Right, Start, arguments_if, block_of, byte_after, byte_at, cached_opening, cached_view, due, entered-owed}
-use Rattle.access_core.proofs.Terms.{enters, entry_of, flight, flight-more, history_of, in_force, in_force-more, in_force_after, is_launch, lacks_room, launched_by, lengths_of}
-use Rattle.access_core.proofs.Terms.{lies_in_region, lies_in_regions, ltb-false, memory_at, memory_at-more, numbered, openings-more, owed, owner, packet_holds, packet_rights, queue_at}
+use Rattle.access_core.proofs.Terms.{PacketId, QUEUES, Queue, QueueId, Right, Start, block_of, byte_after, byte_at, cached_opening, cached_view, due, entered-owed}
+use Rattle.access_core.proofs.Terms.{enters, entry_of, flight, flight-more, history_of, in_force, in_force-more, in_force_after, lacks_room, launched_by, lengths_of}
+use Rattle.access_core.proofs.Terms.{lies_in_region, lies_in_regions, ltb-false, memory_at, memory_at-more, numbered, openings-more, owed, queue_at}
 use Rattle.access_core.proofs.Terms.{region_lengths, signals-more, signals_after, start_of, with_entry, with_some}
 use Rattle.core_model.specs.Queues.{opening_of}
 use Rattle.core_model.proofs.Flying.{all-after}
-use Rattle.core_model.proofs.Legality.{IsLegal-more}
-use Rattle.core_model.specs.Holds.{arguments}
-use Rattle.access_core.proofs.HeldMore.{arguments-more}
+use Rattle.core_model.proofs.States.{IsLegal-more}
+use Rattle.core_model.specs.Holds.{arguments, held}
 use Rattle.access_core.proofs.QueueAt.{IsQuiet, flight-quiet, queue_at-quiet}
 use Rattle.grants.specs.Ledger as ledger
-
--- the argument block of a packet behind an entry: what its launch gives it, or the block that is kept
-abbrev pub arguments_behind : Inside → Event → Outcome → QueueId → PacketId → List ℕ
-arguments_behind a event outcome queue id =
-    if is_launch queue id (launched_by event outcome) then arguments_if (start_of a) a.audit.items (launched_by event outcome) else block_of a.blocks.items queue id
 
 -- How the grants follow an entry, and with them the argument blocks.
 pub record GrantsAfter (a : Inside) (new : Ledger) (blocks : List ArgumentBlock) (event : Event) (outcome : Outcome) (effects : List Effect) : Type 0 where
   pub granted : (client : ClientId) (on : Object) (right : Right) → ledger.in_force new client on right ≡ in_force_after client on right (ledger.in_force a.grants client on right) event
   pub rules : ledger.rules_in new ≡ ledger.rules_in a.grants
   pub held : (queue : QueueId) (id : PacketId) (client : ClientId) (on : Object) (right : Right)
-      → ledger.holds new queue id client on right ≡ packet_holds (owner (start_of a) (with_entry a.audit.items event outcome effects))
-      (packet_rights (start_of a) (with_entry a.audit.items event outcome effects)) (flight (start_of a) (with_entry a.audit.items event outcome effects)) queue id client on right
+      → ledger.holds new queue id client on right ≡ held (start_of a) (with_entry a.audit.items event outcome effects) queue id client on right
   pub blocks_are : AreBlocksOf (flight (start_of a) (with_entry a.audit.items event outcome effects)) blocks
-  pub arguments : All (λ f. block_of blocks f.queue f.id ≡ arguments_behind a event outcome f.queue f.id) (flight (start_of a) (with_entry a.audit.items event outcome effects))
+  pub arguments : (queue : QueueId) (id : PacketId) → block_of blocks queue id ≡ arguments (start_of a) (with_entry a.audit.items event outcome effects) queue id
 
 -- How the memory does.
 pub record MemoryAfter (old new : List (List ℕ)) (effects : List Effect) : Type 0 where
@@ -80,30 +73,6 @@ module _ (a b : Inside) (event : Event) (outcome : Outcome) (effects : List Effe
   memory-after : (x : ℕ) → lies_in_region (region_lengths b.policy) x ≡ true → byte_at b.memory x ≡ Some (memory_at (start_of b) b.audit.items x)
   memory-after x lies = grind (arith, memory_at-more)
 
-  -- the argument blocks of packets in flight are those of their launches
-  arguments-after : owed (start_of a) a.audit.items event ≡ enters outcome effects
-      → All (λ f. block_of b.blocks.items f.queue f.id ≡ arguments (start_of a) (with_entry a.audit.items event outcome effects) f.queue f.id)
-      (flight (start_of a) (with_entry a.audit.items event outcome effects))
-  arguments-after owing = λ k d below.
-      let f = get_or (flight (start_of a) (with_entry a.audit.items event outcome effects)) k d in
-      after.grants.arguments k d below ∙ same f (kept k d below) ∙ sym (arguments-more (start_of a) a.audit.items (entry_of event outcome effects) was.legal owing f.queue f.id)
-    where
-      Kept : InFlight → Type 0
-      Kept f = is_launch f.queue f.id (launched_by event outcome) ≡ false → block_of a.blocks.items f.queue f.id ≡ arguments (start_of a) a.audit.items f.queue f.id
-
-      launched : (f : InFlight) → launched_by event outcome ≡ Some f → Kept f
-      launched f is = grind arith
-
-      kept : All Kept (flight (start_of a) (with_entry a.audit.items event outcome effects))
-      kept = rw flight-more (all-after Kept (entry_of event outcome effects) (flight (start_of a) a.audit.items) launched
-          (All-weaker (λ f. block_of a.blocks.items f.queue f.id ≡ arguments (start_of a) a.audit.items f.queue f.id) Kept (λ f is other. is)
-          (flight (start_of a) a.audit.items) was.arguments))
-
-      same : (f : InFlight) → Kept f → arguments_behind a event outcome f.queue f.id
-          ≡ (if is_launch f.queue f.id (launched_by event outcome) then arguments_if (start_of a) a.audit.items (launched_by event outcome)
-          else arguments (start_of a) a.audit.items f.queue f.id)
-      same f is = grind arith
-
   pub IsCached-more : (old : History) → history_of a ≡ old → due old event ≡ enters outcome effects → IsCached b
   IsCached-more old seen_as is_due =
       let room = room-inside a was old seen_as event outcome effects is_due in
@@ -112,7 +81,7 @@ module _ (a b : Inside) (event : Event) (outcome : Outcome) (effects : List Effe
         rules = rw after.same.0.0 (after.grants.rules ∙ was.rules);
         held = λ queue id client on right. rw (after.same.0.0, after.same.0.1, after.audit.items) (after.grants.held queue id client on right);
         blocks_are = rw (after.same.0.0, after.same.0.1, after.audit.items) after.grants.blocks_are;
-        arguments = rw (after.same.0.0, after.same.0.1, after.audit.items) (arguments-after (owed-inside a was old seen_as event outcome effects is_due));
+        arguments = λ queue id. rw (after.same.0.0, after.same.0.1, after.audit.items) (after.grants.arguments queue id);
         entries = rw after.same.0.1 was.entries;
         segments = rw (after.same.0.1, after.same.0.2) was.segments;
         lengths = rw after.same.0.0 (after.memory.lengths ∙ was.lengths);
@@ -130,7 +99,7 @@ module _ (a b : Inside) (event : Event) (outcome : Outcome) (effects : List Effe
         places = omega (arith, longer, after.audit.room, after.same.1, was.places);
         few = omega (arith, after.same.1, was.few);
         legal = rw (after.same.0.0, after.same.0.1, after.audit.items)
-            (IsLegal-more (start_of a) a.audit.items event outcome effects was.legal (owed-inside a was old seen_as event outcome effects is_due));
+            (IsLegal-more (start_of a) a.audit.items (entry_of event outcome effects) was.legal (owed-inside a was old seen_as event outcome effects is_due));
       }
 
 -- ---- what an entry leaves as it is

@@ -7,7 +7,7 @@ use Rattle.access_core.proofs.HeldRights.{is_holder-history}
 use Rattle.access_core.proofs.Least.{passes, least-none, least-first}
 use Rattle.access_core.proofs.Terms.{ClientId, Grant, History, InFlight, Inside, IsCached, IsFirstTo, Object, PacketId, QueueId, Revoke, RevokeAnswers, Rights}
 use Rattle.access_core.proofs.Terms.{Rules, are_allowed, due, enters, flight, grant_due, history_of, holds_one_of, is_full}
-use Rattle.access_core.proofs.Terms.{is_holder, is_queue_of, knows_object, knows_client, refusal_of, refuse_unless, refuses, rules_in, rules_of, start_of}
+use Rattle.access_core.proofs.Terms.{is_holder, knows_object, knows_client, refusal_of, refuse_unless, refuses, rules_in, rules_of, start_of}
 use Rattle.policy.specs.Rules as rules_kept
 use Rattle.grants.specs.declared.refusal.GrantRefusal.TheVariants as why
 use Rattle.core_model.specs.declared.outcome.Outcome.TheVariants as outcome
@@ -51,11 +51,11 @@ module _ (a : Inside) (kept : IsCached a) (client : ClientId) (on : Object) (rig
 
   -- whether a packet in flight holds, by the history
   abbrev holding : InFlight → Bool
-  holding f = is_queue_of (start_of a) a.audit.items client f.queue && holds_one_of (start_of a) a.audit.items on rights f
+  holding f = holds_one_of (start_of a) a.audit.items client on rights f
 
   same_test : (queue : QueueId) (id : PacketId) → is_holder a.grants client on rights queue id ≡ passes holding (flight (start_of a) a.audit.items) queue id
   same_test queue id =
-      is_holder-history client on rights (start_of a) a.audit.items a.grants (flight (start_of a) a.audit.items) kept.held queue id
+      is_holder-history (start_of a) a.audit.items kept.legal client on rights a.grants kept.held queue id
 
   first-test : (o : Option (QueueId × PacketId)) → IsFirstTo (is_holder a.grants client on rights) o → IsFirstTo (passes holding (flight (start_of a) a.audit.items)) o
   first-test None none = λ queue id. sym (same_test queue id) ∙ none queue id

@@ -3,7 +3,7 @@ use Rattle.std.proofs.Common.{List, ◌≡◌, ◌<◌, ◌≤◌, ◌^◌, ◌&
 use Rattle.access_core.proofs.Terms.{Entry, Facts, HoldsInForce, InFlight, IsLegal, IsSized, KernelDispatch, MOST_SEGMENT_BYTES, PacketId, Program, QueueId, Start, and_parts}
 use Rattle.access_core.proofs.Terms.{arguments_of}
 use Rattle.access_core.proofs.Terms.{asks_for_known_work, facts_of, flight, found-all, found-passes, grid_size, group_bytes_of, group_size, has_dimensions, has_segments, has_sizes}
-use Rattle.access_core.proofs.Terms.{holding-legal, in_flight, is_packet, kernel_passes, leb-true, list_all, ltb-true, nat_tests, need_is_met, needs, numbered, numbered-map, segments_of}
+use Rattle.access_core.proofs.Terms.{all, first, found-whole, in_flight, launch-whole, same-state, is_packet, kernel_passes, leb-true, list_all, ltb-true, nat_tests, need_is_met, needs, numbered, numbered-map, segments_of}
 use Rattle.executor.specs.Locations.{count_of, groups_of}
 use Rattle.core_model.specs.declared.kernel.KernelSegments.{KernelSegments}
 use Rattle.std.proofs.Common.{Option, Some, None, sym, ap, ◌∙◌, subst, refl, false, option_map}
@@ -44,11 +44,7 @@ groups_fit d is = record {
 
 -- ---- packets in flight
 
-module _ (start : Start) (es : List Entry) (legal : IsLegal start es) (queue : QueueId) (id : PacketId) (f : InFlight) (found : in_flight start es queue id ≡ Some f) where
-  -- what is known of it by its launch
-  pub launch-of : HoldsInForce start es f
-  launch-of = found-all (HoldsInForce start es) (is_packet queue id) (flight start es) f (holding-legal start es legal) found
-
+module _ (start : Start) (es : List Entry) (f : InFlight) (launch-of : HoldsInForce start es f) where
   -- it asks for work that can be done
   asks-known : asks_for_known_work f.packet ≡ true
   asks-known =
@@ -58,8 +54,8 @@ module _ (start : Start) (es : List Entry) (legal : IsLegal start es) (queue : Q
       (launch-of.launch.allowed.every_rule 4 rule.L5 (omega arith))).0
 
   -- so a kernel dispatch has sizes that may be
-  pub sized : IsSized f.packet
-  sized = grind (arith, asks-known)
+  pub sized-whole : IsSized f.packet
+  sized-whole = grind (arith, asks-known)
 
   -- and segments as it needs them
   pub segmented : (d : KernelDispatch) → f.packet ≡ packet.Kernel d → has_segments (facts_of start launch-of.launch.before launch-of.launch.opening) (packet.Kernel d) ≡ true
@@ -79,25 +75,25 @@ pub record CanRun (start : Start) (es : List Entry) (queue : QueueId) (id : Pack
   pub segment : group_bytes_of kernel ≤ d.group_segment_size
   pub segment_limit : d.group_segment_size ≤ 65536
 
-module _ (start : Start) (es : List Entry) (legal : IsLegal start es) (queue : QueueId) (id : PacketId) (f : InFlight) (found : in_flight start es queue id ≡ Some f) where
+module _ (start : Start) (es : List Entry) (queue : QueueId) (id : PacketId) (f : InFlight) (launch-of : HoldsInForce start es f) (found : in_flight start es queue id ≡ Some f) where
   -- its arguments are those of its launch
-  arguments-launched : arguments start es queue id ≡ arguments_of start (launch-of start es legal queue id f found).launch.before f.packet
-  arguments-launched = grind (arith, found-passes)
+  arguments-launched : arguments start es queue id ≡ arguments_of start launch-of.launch.before f.packet
+  arguments-launched = let same = launch-of.arguments_are in grind (arith, found-passes)
 
-  pub can-run : (d : KernelDispatch) → f.packet ≡ packet.Kernel d → CanRun start es queue id d
-  can-run d is = by_kernel (numbered start.kernels d.kernel_object.0) refl
+  pub can-run-whole : (d : KernelDispatch) → f.packet ≡ packet.Kernel d → CanRun start es queue id d
+  can-run-whole d is = by_kernel (numbered start.kernels d.kernel_object.0) refl
     where
       before : List Entry
-      before = (launch-of start es legal queue id f found).launch.before
+      before = launch-of.launch.before
 
       facts : Facts
-      facts = facts_of start before (launch-of start es legal queue id f found).launch.opening
+      facts = facts_of start before launch-of.launch.opening
 
       fits : Bool
       fits = kernel_passes facts d (λ kernel. nat_le kernel.group d.group_segment_size)
 
       passes : (fits ≡ true) × (nat_le d.group_segment_size MOST_SEGMENT_BYTES ≡ true)
-      passes = grind (arith, segmented start es legal queue id f found d is)
+      passes = grind (arith, segmented start es f launch-of d is)
 
       by_kernel : (o : Option Program) → numbered start.kernels d.kernel_object.0 ≡ o → CanRun start es queue id d
       by_kernel None none =
@@ -108,7 +104,7 @@ module _ (start : Start) (es : List Entry) (legal : IsLegal start es) (queue : Q
           absurd cc
       by_kernel (Some kernel) some =
           let limit : d.group_segment_size ≤ MOST_SEGMENT_BYTES = leb-true _ _ passes.1 in
-          let sizes : has_sizes d ≡ true = subst IsSized is (sized start es legal queue id f found) in
+          let sizes : has_sizes d ≡ true = subst IsSized is (sized-whole start es f launch-of) in
           let known : fits ≡ nat_le (group_bytes_of kernel) d.group_segment_size =
           ap (λ (o : Option KernelSegments). elim o [ None ↦ false | Some segments ↦ nat_le segments.group d.group_segment_size ])
           (numbered-map segments_of start.kernels d.kernel_object.0 ∙ ap (option_map segments_of) some) in
@@ -120,3 +116,20 @@ module _ (start : Start) (es : List Entry) (legal : IsLegal start es) (queue : Q
             segment = leb-true _ _ (sym known ∙ passes.0);
             segment_limit = omega (arith, limit);
           }
+
+-- so it is with any legal history, by the whole one
+pub can-run : (start : Start) (es : List Entry) → IsLegal start es → (queue : QueueId) (id : PacketId) (f : InFlight) → in_flight start es queue id ≡ Some f → (d : KernelDispatch) → f.packet ≡ packet.Kernel d
+    → CanRun start es queue id d
+can-run start es legal queue id f found d is =
+    let can = can-run-whole (first start es legal) (all start es legal) queue id f (launch-whole start es legal queue id f found) (found-whole start es legal queue id f found) d is in
+    record {
+      kernel = can.kernel;
+      kernel_is = can.kernel_is;
+      block_long = ap (λ (now : Start). length (now.arguments queue id)) (sym (same-state start es legal)) ∙ can.block_long;
+      sizes = can.sizes;
+      segment = can.segment;
+      segment_limit = can.segment_limit;
+    }
+
+pub sized : (start : Start) (es : List Entry) (legal : IsLegal start es) (queue : QueueId) (id : PacketId) (f : InFlight) → in_flight start es queue id ≡ Some f → IsSized f.packet
+sized start es legal queue id f found = sized-whole (first start es legal) (all start es legal) f (launch-whole start es legal queue id f found)

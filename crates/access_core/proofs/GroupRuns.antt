@@ -1,11 +1,12 @@
 -- Groups of kernel dispatches in flight: that they can be run, and that what they come to is what the history says.
+use Rattle.core_model.specs.History.{beginning}
 use Rattle.std.proofs.Common.{◌≡◌, ℕ, ◌<◌, ◌≤◌, List, length, get_or, refl, sym, ◌∙◌, ap, subst, true, Option, Some, None, arith, All, map, option_map, slice_get}
 use Rattle.access_core.proofs.Terms.{All-weaker, AreLentAlike, Dispatch, FailsAs, FaultsAs, GroupInput, GroupResult, HeldRegion, History, HoldsInForce, InFlight, Inside, IsCached}
 use Rattle.access_core.proofs.Terms.{IsInPlace}
-use Rattle.access_core.proofs.Terms.{IsLegal, IsNumber, IsRunnable, Kernel, KernelDispatch, LentRegion, PacketId, Place, Program, QueueId, Run, are_region_lengths, block_of}
-use Rattle.access_core.proofs.Terms.{flight, found-all, found-passes, get_or_from_slice_get, given_at_launch, grid_size, group_bytes_of, group_count, group_input, group_result}
+use Rattle.access_core.proofs.Terms.{IsLegal, IsNumber, IsRunnable, Kernel, KernelDispatch, LentRegion, PacketId, Place, Program, QueueId, WrittenRange, are_region_lengths, block_of}
+use Rattle.access_core.proofs.Terms.{granted-now, get_or_from_slice_get, given_at_launch, grid_size, group_bytes_of, group_count, group_input, group_result}
 use Rattle.access_core.proofs.Terms.{group_size}
-use Rattle.access_core.proofs.Terms.{has_entry, history_of, input_of, is_packet, is_within, kernel_of, lent_region, ltb-true, no_kernel, numbered, numbered-map, packet_rights}
+use Rattle.access_core.proofs.Terms.{has_entry, history_of, input_of, is_packet, is_within, kernel_of, lent_region, ltb-true, no_kernel, numbered, numbered-map, own_rights}
 use Rattle.access_core.proofs.Terms.{program_of}
 use Rattle.access_core.proofs.Terms.{region_lengths, slice_get-get_or, slice_get_within, unwrap_or, view_whole, wrote}
 use Rattle.aql_packet.specs.declared.packet.Packet.TheVariants as packet
@@ -13,7 +14,7 @@ use Rattle.executor.specs.declared.fault.RunFault.{RunFault}
 use Rattle.core_model.proofs.Viewing.{IsWithinGrant, runs-granted}
 use Rattle.core_model.specs.Grants.{in_force}
 use Rattle.core_model.specs.Holds.{arguments}
-use Rattle.access_core.proofs.GroupLemmas.{CanRun, can-run, launch-of}
+use Rattle.access_core.proofs.GroupLemmas.{CanRun, can-run}
 use Rattle.access_core.proofs.KernelLemmas.{views-alike}
 
 -- what is known of all of a list is known of the one of a number
@@ -41,18 +42,14 @@ pub record IsAsked (asked : Dispatch) (d : KernelDispatch) (block : List ℕ) : 
 
 module _ (a : Inside) (kept : IsCached a) (old : History) (seen_as : history_of a ≡ old) (queue : QueueId) (id : PacketId) (place : Place) (found : IsInPlace old queue id place)
     (d : KernelDispatch) (is : place.packet ≡ packet.Kernel d) where
-  legal : IsLegal old.start old.entries
-  legal = subst (λ (h : History). IsLegal h.start h.entries) seen_as kept.legal
+  legal : IsLegal (beginning old) old.entries
+  legal = subst (λ (h : History). IsLegal (beginning h) h.entries) seen_as kept.legal
 
-  pub can : CanRun old.start old.entries queue id d
-  can = can-run old.start old.entries legal queue id found.flying found.found d (found.packet_is ∙ is)
+  pub can : CanRun (beginning old) old.entries queue id d
+  can = can-run (beginning old) old.entries legal queue id found.flying found.found d (found.packet_is ∙ is)
 
-  -- the packet that was found has the queue and the id
-  named : (found.flying.queue ≡ queue) × (found.flying.id ≡ id)
-  named = grind (arith, found-passes)
-
-  kernels-are : (n : ℕ) → numbered old.start.kernels n ≡ option_map program_of (numbered a.kernels.items n)
-  kernels-are n = ap (λ (h : History). numbered h.start.kernels n) (sym seen_as) ∙ numbered-map program_of a.kernels.items n
+  kernels-are : (n : ℕ) → numbered (beginning old).kernels n ≡ option_map program_of (numbered a.kernels.items n)
+  kernels-are n = ap (λ (h : History). numbered (beginning h).kernels n) (sym seen_as) ∙ numbered-map program_of a.kernels.items n
 
   -- the kernel that it names is there
   pub kernel-there : IsNumber a.kernels.items d.kernel_object.0
@@ -60,7 +57,7 @@ module _ (a : Inside) (kept : IsCached a) (old : History) (seen_as : history_of 
     where
       by_found : (o : Option Kernel) → numbered a.kernels.items d.kernel_object.0 ≡ o → IsNumber a.kernels.items d.kernel_object.0
       by_found None none =
-          let missing : numbered old.start.kernels d.kernel_object.0 ≡ None = kernels-are d.kernel_object.0 ∙ ap (option_map program_of) none in
+          let missing : numbered (beginning old).kernels d.kernel_object.0 ≡ None = kernels-are d.kernel_object.0 ∙ ap (option_map program_of) none in
           let known = can.kernel_is in
           absurd cc
       by_found (Some k) some = (k, some)
@@ -76,19 +73,14 @@ module _ (a : Inside) (kept : IsCached a) (old : History) (seen_as : history_of 
     pub program-there : slice_get k.checked k.entry ≡ Some (program_at k)
     program-there = slice_get-get_or k.checked k.entry no_kernel entry-below
 
-    pub program-is : (p : Program) → slice_get k.checked k.entry ≡ Some p → p ≡ kernel_of old.start d
+    pub program-is : (p : Program) → slice_get k.checked k.entry ≡ Some p → p ≡ kernel_of (beginning old) d
     program-is p here = sym (ap (λ o. unwrap_or o no_kernel) (kernels-are d.kernel_object.0 ∙ ap (option_map program_of) at) ∙ ap (λ o. unwrap_or o no_kernel) here)
 
   -- its argument block is as it was at its launch
-  pub block-is : block_of a.blocks.items queue id ≡ arguments old.start old.entries queue id
-  block-is =
-      let blocks = subst (λ (h : History). All (λ f. block_of a.blocks.items f.queue f.id ≡ arguments h.start h.entries f.queue f.id) (flight h.start h.entries)) seen_as kept.arguments
-      in
-      let of_flying = found-all (λ (f : InFlight). block_of a.blocks.items f.queue f.id ≡ arguments old.start old.entries f.queue f.id) (is_packet queue id)
-      (flight old.start old.entries) found.flying blocks found.found in
-      (λ i. block_of a.blocks.items (sym named.0 i) (sym named.1 i)) ∙ of_flying ∙ (λ i. arguments old.start old.entries (named.0 i) (named.1 i))
+  pub block-is : block_of a.blocks.items queue id ≡ arguments (beginning old) old.entries queue id
+  block-is = kept.arguments queue id ∙ ap (λ (h : History). arguments (beginning h) h.entries queue id) seen_as
 
-  module _ (asked : Dispatch) (asks : IsAsked asked d (arguments old.start old.entries queue id)) (p : Program) (p_is : p ≡ kernel_of old.start d) (group : ℕ) where
+  module _ (asked : Dispatch) (asks : IsAsked asked d (arguments (beginning old) old.entries queue id)) (p : Program) (p_is : p ≡ kernel_of (beginning old) d) (group : ℕ) where
     -- the executor can run it
     pub runnable : group < group_count (packet.Kernel d) → IsRunnable p asked group
     runnable below =
@@ -111,11 +103,11 @@ module _ (a : Inside) (kept : IsCached a) (old : History) (seen_as : history_of 
         }
 
     -- what it comes to is what the history says
-    pub result-is : ReadsWhereItMay → (view : List HeldRegion) → map lent_region view ≡ view_whole old.start old.entries (packet_rights old.start old.entries queue id)
-        → group_result (group_input old.start old.entries (given_at_launch old.start old.entries queue id) d group) ≡ group_result (input_of p asked group view)
+    pub result-is : ReadsWhereItMay → (view : List HeldRegion) → map lent_region view ≡ view_whole (beginning old) old.entries (own_rights (beginning old) old.entries queue id)
+        → group_result (group_input (beginning old) old.entries (given_at_launch (beginning old) old.entries queue id) d group) ≡ group_result (input_of p asked group view)
     result-is law view view_is =
-        law (group_input old.start old.entries (given_at_launch old.start old.entries queue id) d group) (view_whole old.start old.entries (packet_rights old.start old.entries queue id))
-        (views-alike old.start old.entries (packet_rights old.start old.entries queue id))
+        law (group_input (beginning old) old.entries (given_at_launch (beginning old) old.entries queue id) d group) (view_whole (beginning old) old.entries (own_rights (beginning old) old.entries queue id))
+        (views-alike (beginning old) old.entries (own_rights (beginning old) old.entries queue id))
         ∙ (λ i. group_result (record {
           program = sym p_is i;
           group_size = sym asks.group_size_is i;
@@ -127,14 +119,12 @@ module _ (a : Inside) (kept : IsCached a) (old : History) (seen_as : history_of 
         }))
 
   -- each run that it writes lies whole in a region
-  pub runs-within : are_region_lengths (region_lengths old.start.policy) ≡ true → (group : ℕ) (runs : List Run)
-      → group_result (group_input old.start old.entries (given_at_launch old.start old.entries queue id) d group) ≡ wrote runs
-      → All (λ (run : Run). is_within (region_lengths old.start.policy) run.address (length run.bytes) ≡ true) runs
+  pub runs-within : are_region_lengths (region_lengths (beginning old).policy) ≡ true → (group : ℕ) (runs : List WrittenRange)
+      → group_result (group_input (beginning old) old.entries (given_at_launch (beginning old) old.entries queue id) d group) ≡ wrote runs
+      → All (λ (run : WrittenRange). is_within (region_lengths (beginning old).policy) run.address (length run.bytes) ≡ true) runs
   runs-within fit group runs came =
-      let launch : HoldsInForce old.start old.entries found.flying = launch-of old.start old.entries legal queue id found.flying found.found in
-      let client = launch.launch.opening.client in
-      let granted : All (λ h. in_force old.start old.entries client h.0 h.1 ≡ true) (packet_rights old.start old.entries queue id) =
-      subst (λ hs. All (λ h. in_force old.start old.entries client h.0 h.1 ≡ true) hs) (λ i. packet_rights old.start old.entries (named.0 i) (named.1 i)) launch.holds in
-      All-weaker (IsWithinGrant old.start old.entries client) (λ (run : Run). is_within (region_lengths old.start.policy) run.address (length run.bytes) ≡ true)
+      let now = granted-now (beginning old) old.entries legal queue id found.flying found.found in
+      let client = now.0.client in
+      All-weaker (IsWithinGrant (beginning old) old.entries client) (λ (run : WrittenRange). is_within (region_lengths (beginning old).policy) run.address (length run.bytes) ≡ true)
       (λ run within. within.1.lies_whole) runs
-      (runs-granted old.start old.entries old.entries client (given_at_launch old.start old.entries queue id) d group fit granted runs came)
+      (runs-granted (beginning old) old.entries old.entries client (given_at_launch (beginning old) old.entries queue id) d group fit now.2 runs came)

@@ -1,8 +1,7 @@
 -- Tests of rights that packets hold, taken right by right or packet by packet.
-use Rattle.std.proofs.Common.{arith, ◌≡◌, List, [], ◌∷◌, refl, ◌∙◌, ap, Bool, false, Option, Some, None, ◌&&◌, ◌||◌, ◌==◌}
-use Rattle.access_core.proofs.Terms.{ClientId, Entry, InFlight, Ledger, Object, ObjectRight, Opening, PacketId, QueueId, Right, Rights, Start, all_rights, has, holds, holds_by}
-use Rattle.access_core.proofs.Terms.{holds_one_of}
-use Rattle.access_core.proofs.Terms.{is_holder, is_packet, is_queue_of, list_any, owner, packet_holds, packet_rights, same_object, set_of}
+use Rattle.std.proofs.Common.{arith, ◌≡◌, List, [], ◌∷◌, refl, sym, ◌∙◌, ap, Bool, true, false, Option, Some, None, ◌&&◌, ◌||◌, ◌==◌}
+use Rattle.access_core.proofs.Terms.{ClientId, Entry, InFlight, IsLegal, Ledger, Object, PacketId, QueueId, Right, Rights, Start, all_rights, flight, has, held, held-flies, holds, holds_one_of}
+use Rattle.access_core.proofs.Terms.{is_holder, is_packet, list_any, set_of}
 
 -- ---- tests of lists
 
@@ -43,28 +42,31 @@ one-right test one = grind arith
 
 -- ---- what packets hold, of one of some rights
 
-module _ (client : ClientId) (on : Object) (rights : Rights) where
-  one-of_held : (hs : List ObjectRight) → list_any (λ r. has rights r && list_any (λ h. same_object on h.0 && has (set_of h.1) r) hs) all_rights
-      ≡ list_any (λ h. same_object on h.0 && has rights h.1) hs
-  one-of_held hs =
-      any-swap (has rights) (λ (h : ObjectRight) r. same_object on h.0 && has (set_of h.1) r) hs all_rights
-      ∙ (λ i. list_any (λ (h : ObjectRight). (any-constant (has rights) (has (set_of h.1)) (same_object on h.0) all_rights
-      ∙ ap (λ b. same_object on h.0 && b) (one-right (has rights) h.1)) i) hs)
+-- what is asked of all packets of one queue and id is asked once, if there is one
+module _ (queue : QueueId) (id : PacketId) (test : QueueId → PacketId → Bool) where
+  pub any-packet : (fs : List InFlight) → list_any (λ f. is_packet queue id f && test f.queue f.id) fs ≡ (list_any (is_packet queue id) fs && test queue id)
+  any-packet [] = refl
+  any-packet (f ∷ fs) = grind (arith, any-packet fs)
 
-  one-by : (o : Option Opening) (hs : List ObjectRight) → list_any (λ r. has rights r && holds_by o client on r hs) all_rights
-      ≡ ((elim o [ None ↦ false | Some opening ↦ opening.client.0 == client.0 ]) && list_any (λ h. same_object on h.0 && has rights h.1) hs)
-  one-by o hs = grind (arith, one-of_held)
+-- a packet is one that holds, by what is held right by right, where it holds by the history, and is in flight
+pub is_holder-history : (start : Start) (es : List Entry) → IsLegal start es → (client : ClientId) (on : Object) (rights : Rights) (grants : Ledger)
+    → ((queue : QueueId) (id : PacketId) (c : ClientId) (o : Object) (r : Right) → holds grants queue id c o r ≡ held start es queue id c o r)
+    → (queue : QueueId) (id : PacketId) → is_holder grants client on rights queue id
+    ≡ list_any (λ f. is_packet queue id f && holds_one_of start es client on rights f) (flight start es)
+is_holder-history start es legal client on rights grants kept queue id =
+    (λ i. list_any (λ r. has rights r && kept queue id client on r i) all_rights)
+    ∙ sym (any-packet queue id (λ q i. list_any (λ r. has rights r && held start es q i client on r) all_rights) (flight start es)
+    ∙ flies (list_any (is_packet queue id) (flight start es)) refl)
+  where
+    none : (all : List Right) → ((r : Right) → held start es queue id client on r ≡ false) → list_any (λ r. has rights r && held start es queue id client on r) all ≡ false
+    none [] each = refl
+    none (r ∷ all) each = grind (arith, each r, none all each)
 
-  -- a packet is one that holds, by what is held right by right, where it holds by the history
-  module _ (start : Start) (es : List Entry) (grants : Ledger) where
-    pub is_holder-history : (fs : List InFlight)
-        → ((queue : QueueId) (id : PacketId) (c : ClientId) (o : Object) (r : Right)
-        → holds grants queue id c o r ≡ packet_holds (owner start es) (packet_rights start es) fs queue id c o r)
-        → (queue : QueueId) (id : PacketId) → is_holder grants client on rights queue id
-        ≡ list_any (λ f. is_packet queue id f && (is_queue_of start es client f.queue && holds_one_of start es on rights f)) fs
-    is_holder-history fs kept queue id =
-        (λ i. list_any (λ r. has rights r && kept queue id client on r i) all_rights)
-        ∙ any-swap (has rights) (λ (f : InFlight) r. is_packet queue id f && holds_by (owner start es f.queue) client on r (packet_rights start es f.queue f.id)) fs all_rights
-        ∙ (λ i. list_any (λ (f : InFlight). any-constant (has rights) (λ r. holds_by (owner start es f.queue) client on r (packet_rights start es f.queue f.id))
-        (is_packet queue id f) all_rights i) fs)
-        ∙ (λ i. list_any (λ (f : InFlight). is_packet queue id f && one-by (owner start es f.queue) (packet_rights start es f.queue f.id) i) fs)
+    lands : (r : Right) → list_any (is_packet queue id) (flight start es) ≡ false → (b : Bool) → held start es queue id client on r ≡ b → held start es queue id client on r ≡ false
+    lands r out true has_it = let there = held-flies start es legal queue id client on r has_it in absurd cc
+    lands r out false has_it = has_it
+
+    flies : (b : Bool) → list_any (is_packet queue id) (flight start es) ≡ b
+        → (b && list_any (λ r. has rights r && held start es queue id client on r) all_rights) ≡ list_any (λ r. has rights r && held start es queue id client on r) all_rights
+    flies true is = refl
+    flies false is = sym (none all_rights (λ r. lands r is _ refl))

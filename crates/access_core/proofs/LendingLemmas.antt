@@ -1,11 +1,11 @@
 -- The regions that a packet in flight holds, as they are lent one after another.
 use Rattle.std.proofs.Common.{◌≡◌, ℕ, zero, suc, ◌+◌, ◌*◌, ◌^◌, ◌<◌, List, [], ◌∷◌, ◌++◌, length, get_or, refl, sym, ◌∙◌, ap, subst, true, false, Option, Some, arith, append_assoc}
 use Rattle.std.proofs.Common.{All, map, filter, not, ◌==◌, cond, option_map, option_to_list}
-use Rattle.access_core.proofs.Terms.{All-filter, All-map, Entry, LentRegion, ObjectRight, RegionRights, Rights, Start, filter_of_map_range_with_len_more}
+use Rattle.access_core.proofs.Terms.{All-filter, All-map, Entry, HeldRights, LentRegion, RegionRights, Rights, Start, filter_of_map_range_with_len_more}
 use Rattle.access_core.proofs.Terms.{get_or-range_with_len, held_region, is_within, length-range_with_len, lent_if_held, lent_region, lent_whole, map-append, memory_from}
 use Rattle.access_core.proofs.Terms.{range_with_len, region_length, region_lengths, region_numbered, rights_held, view_whole, zip}
 use Rattle.std.proofs.lemmas.List.{length-append}
-use Rattle.executor.specs.declared.view.HeldRegion.{HeldRegion as Borrowed}
+use Rattle.executor.specs.declared.held.HeldRegion.{HeldRegion as Borrowed}
 use Rattle.policy.specs.declared.object.Object.TheVariants as object
 
 -- ---- lengths of regions
@@ -31,7 +31,7 @@ rows-are f pre (x ∷ xs) k is =
     let more = rest ∙ ap (λ (all : List ℕ). map (λ n. f (n, get_or all n 0)) (range_with_len (k + 1) (length xs))) same in
     λ i. f (k, sym here i) ∷ more i
 
-module _ (start : Start) (es : List Entry) (all : List ObjectRight) where
+module _ (start : Start) (es : List Entry) (all : HeldRights) where
   -- so many regions, those of them that are held, as they are lent
   abbrev pub lent_so_far : ℕ → List LentRegion
   lent_so_far count = map (lent_whole start es) (filter (λ region. not (region.rights.0 == 0)) (map (region_numbered start all) (range_with_len 1 count)))

@@ -12,6 +12,7 @@ pub mod ChangedQueue
 pub mod Places
 pub mod PollLemmas
 pub mod StopLemmas
+pub mod Rooms
 pub mod WorkLemmas
 pub mod WorkReadLemmas
 pub mod RunLemmas
@@ -20,12 +21,12 @@ pub mod LendingLemmas
 pub mod GroupRuns
 pub mod LayingLemmas
 pub mod HostMemory
-pub mod HeldMore
 pub mod HeldRights
 pub mod HeldAfter
 pub mod Granting
 pub mod Listing
 pub mod Least
 pub mod Opened
+pub mod Rotated
 pub mod Serving
 pub mod PolicyRows

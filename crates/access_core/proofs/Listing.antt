@@ -1,4 +1,5 @@
 -- A client's listing, by the grants that are kept.
+use Rattle.core_model.specs.History.{beginning}
 use Rattle.std.proofs.Common.{◌≡◌, List, true, Ok, arith}
 use Rattle.core_model.specs.Queries.{query_answer}
 use Rattle.access_core.proofs.Terms.{ClientId, History, Inside, IsCached, Object, Rights, history_of, knows_client, rules_of}
@@ -9,7 +10,7 @@ use Rattle.core_model.specs.declared.event.Query.TheVariants as query
 module _ (a : Inside) (kept : IsCached a) (client : ClientId) where
   -- a client that is declared is told the listing
   pub listing-replied : (old : History) → history_of a ≡ old → (rows : List (Object × Rights)) → rows ≡ ledger.listing a.grants client
-      → knows_client (rules_of old.start.policy) client ≡ true
-      → Ok (answer.Listing rows) ≡ query_answer old.start old.entries (query.List client)
+      → knows_client (rules_of (beginning old).policy) client ≡ true
+      → Ok (answer.Listing rows) ≡ query_answer (beginning old) old.entries (query.List client)
   unfolding query_answer
   listing-replied old seen_as rows are declared = grind arith

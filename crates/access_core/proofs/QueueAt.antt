@@ -5,8 +5,8 @@ use Rattle.access_core.proofs.Terms.{All-head, All-tail, Denied, Effect, Entry, 
 use Rattle.access_core.proofs.Terms.{QueueId}
 use Rattle.access_core.proofs.Terms.{QueueView, Rule, Start, Take, append-nil, as_launched, decoded, entry_of, error_of, error_without_place, errors-more, filter-append, flight}
 use Rattle.access_core.proofs.Terms.{flight-more}
-use Rattle.access_core.proofs.Terms.{flight_after_effect, flight_of, hands_over_packet_of, is_packet, is_stopped-more, launched_by, map-append, next_id, next_id-more, place_of, progress}
-use Rattle.access_core.proofs.Terms.{progress-more, progress_after, queue_at, same_packet, stops_queue, with_entry, with_error, with_progress, without_packet}
+use Rattle.access_core.proofs.Terms.{flight_after_effect, flight_of, hands_over_packet_of, is_packet, is_stopped-more, launched_by, list_any, map-append, next_id, next_id-more, place_of, progress}
+use Rattle.access_core.proofs.Terms.{progress-more, progress_after, progress_by, queue_at, releases, same_packet, stops_queue, with_entry, with_error, with_progress, without_packet}
 use Rattle.core_model.specs.Flight.{with_launched}
 use Rattle.core_model.specs.declared.outcome.Outcome.TheVariants as outcome
 
@@ -43,8 +43,8 @@ module _ (i : ℕ) where
 -- ---- one entry more
 
 -- how a place's packet comes further by an event
-abbrev pub further : QueueId → Event → Outcome → Place → Place
-further m event told place = record place { progress = progress_after m place.id place.progress event told }
+abbrev pub further : QueueId → Entry → Place → Place
+further m entry place = record place { progress = progress_after m place.id place.progress entry }
 
 -- a queue after an event that leaves these places
 abbrev pub after : QueueId → Event → Outcome → QueueView → List Place → QueueView
@@ -62,12 +62,12 @@ module _ (start : Start) (es : List Entry) (event : Event) (told : Outcome) (eff
   pub flight-unlaunched : launched_by event told ≡ None → flight start (with_entry es event told effects) ≡ fold flight_after_effect (flight start es) effects
   flight-unlaunched none = flight-more start es entry ∙ ap (λ o. fold flight_after_effect (with_launched (flight start es) o) effects) none
 
-  place-more : (m : QueueId) (f : InFlight) → place_of start (with_entry es event told effects) m f ≡ further m event told (place_of start es m f)
+  place-more : (m : QueueId) (f : InFlight) → place_of start (with_entry es event told effects) m f ≡ further m entry (place_of start es m f)
   place-more m f = λ i. record { id = f.id; packet = f.packet; progress = progress-more start es entry m f.id i }
 
   -- its places are those of the packets left in flight, each as far as it has come
   pub queue_at-more : (m : QueueId) (fs : List InFlight) → flight start (with_entry es event told effects) ≡ fs → queue_at start (with_entry es event told effects) m
-      ≡ after m event told (queue_at start es m) (map (λ f. further m event told (place_of start es m f)) (filter (of_queue m.0) fs))
+      ≡ after m event told (queue_at start es m) (map (λ f. further m entry (place_of start es m f)) (filter (of_queue m.0) fs))
   queue_at-more m fs is = λ i. record {
     next = next_id-more start es entry m i;
     stopped = is_stopped-more start es entry m i;
@@ -78,21 +78,24 @@ module _ (start : Start) (es : List Entry) (event : Event) (told : Outcome) (eff
 -- An entry that changes nothing of any queue.
 pub record IsQuiet (event : Event) (told : Outcome) (effects : List Effect) : Type 0 where
   pub launches : launched_by event told ≡ None
-  pub progress : (queue : QueueId) (id : PacketId) (p : Progress) → progress_after queue id p event told ≡ p
+  pub progress : (queue : QueueId) (id : PacketId) (p : Progress) → progress_by queue id p event told ≡ p
+  pub stays : (queue : QueueId) (id : PacketId) → list_any (releases queue id) effects ≡ false
   pub releases : (fs : List InFlight) → fold flight_after_effect fs effects ≡ fs
   pub views : (m : QueueId) (v : QueueView) → after m event told v v.places ≡ v
 
 -- An entry by which one packet comes further.
 pub record IsAdvance (q : QueueId) (id : PacketId) (g : Progress → Progress) (event : Event) (told : Outcome) (effects : List Effect) : Type 0 where
   pub launches : launched_by event told ≡ None
-  pub progress : (queue : QueueId) (i : PacketId) (p : Progress) → progress_after queue i p event told ≡ (if same_packet q id queue i then g p else p)
+  pub progress : (queue : QueueId) (i : PacketId) (p : Progress) → progress_by queue i p event told ≡ (if same_packet q id queue i then g p else p)
+  pub stays : (queue : QueueId) (i : PacketId) → list_any (releases queue i) effects ≡ false
   pub releases : (fs : List InFlight) → fold flight_after_effect fs effects ≡ fs
   pub views : (m : QueueId) (v : QueueView) (places : List Place) → after m event told v places ≡ record v { places = places }
 
 -- An entry by which one packet leaves flight: it fails, or is completed, or its queue is stopped.
 pub record IsRelease (q : QueueId) (id : PacketId) (event : Event) (told : Outcome) (effects : List Effect) : Type 0 where
   pub launches : launched_by event told ≡ None
-  pub progress : (queue : QueueId) (i : PacketId) (p : Progress) → progress_after queue i p event told ≡ p
+  pub progress : (queue : QueueId) (i : PacketId) (p : Progress) → progress_by queue i p event told ≡ p
+  pub drops : (queue : QueueId) (i : PacketId) → list_any (releases queue i) effects ≡ same_packet queue i q id
   pub releases : (fs : List InFlight) → fold flight_after_effect fs effects ≡ filter (λ f. not (is_packet q id f)) fs
 
 -- what becomes of a queue whose packet is denied, is launched, or comes further
@@ -106,8 +109,11 @@ abbrev pub advanced : PacketId → Progress → QueueView → QueueView
 advanced id so_far v = record v { places = map (with_progress id so_far) v.places }
 
 module _ (start : Start) (es : List Entry) (event : Event) (told : Outcome) (effects : List Effect) where
-  still : ((queue : QueueId) (id : PacketId) (p : Progress) → progress_after queue id p event told ≡ p) → (m : QueueId) (fs : List InFlight)
-      → map (λ f. further m event told (place_of start es m f)) fs ≡ map (place_of start es m) fs
+  abbrev made : Entry
+  made = entry_of event told effects
+
+  still : ((queue : QueueId) (id : PacketId) (p : Progress) → progress_after queue id p made ≡ p) → (m : QueueId) (fs : List InFlight)
+      → map (λ f. further m made (place_of start es m f)) fs ≡ map (place_of start es m) fs
   still same m fs = λ i. map (λ f. record { id = f.id; packet = f.packet; progress = same m f.id (progress start es m f.id) i }) fs
 
   pub flight-quiet : IsQuiet event told effects → flight start (with_entry es event told effects) ≡ flight start es
@@ -116,7 +122,7 @@ module _ (start : Start) (es : List Entry) (event : Event) (told : Outcome) (eff
   pub queue_at-quiet : IsQuiet event told effects → (m : QueueId) → queue_at start (with_entry es event told effects) m ≡ queue_at start es m
   queue_at-quiet quiet m =
       queue_at-more start es event told effects m (flight start es) (flight-quiet quiet)
-      ∙ ap (after m event told (queue_at start es m)) (still quiet.progress m (flight_of start es m)) ∙ quiet.views m (queue_at start es m)
+      ∙ ap (after m event told (queue_at start es m)) (still (λ queue id p. (rw (quiet.stays queue id) refl) ∙ quiet.progress queue id p) m (flight_of start es m)) ∙ quiet.views m (queue_at start es m)
 
   module _ (q : QueueId) (id : PacketId) (g : Progress → Progress) (is : IsAdvance q id g event told effects) where
     pub flight-advanced : flight start (with_entry es event told effects) ≡ flight start es
@@ -128,9 +134,16 @@ module _ (start : Start) (es : List Entry) (event : Event) (told : Outcome) (eff
         queue_at-more start es event told effects m (flight start es) flight-advanced ∙ is.views m (queue_at start es m) _
         ∙ (λ i. record (queue_at start es m) { places = map (λ f. comes f i) (flight_of start es m) }) ∙ either (q.0 == m.0)
       where
-        comes : (f : InFlight) → further m event told (place_of start es m f)
+        comes : (f : InFlight) → further m made (place_of start es m f)
             ≡ (if q.0 == m.0 then with_progress id so_far (place_of start es m f) else place_of start es m f)
-        comes f = grind arith
+        comes f = (λ i. record { id = f.id; packet = f.packet; progress = unreleased f i }) ∙ goes f
+          where
+            unreleased : (f : InFlight) → progress_after m f.id (progress start es m f.id) made ≡ progress_by m f.id (progress start es m f.id) event told
+            unreleased f = rw (is.stays m f.id) refl
+
+            goes : (f : InFlight) → record (place_of start es m f) { progress = progress_by m f.id (progress start es m f.id) event told }
+                ≡ (if q.0 == m.0 then with_progress id so_far (place_of start es m f) else place_of start es m f)
+            goes f = grind arith
 
         either : (b : Bool)
             → record (queue_at start es m) { places = map (λ f. if b then with_progress id so_far (place_of start es m f) else place_of start es m f) (flight_of start es m) }
@@ -142,21 +155,44 @@ module _ (start : Start) (es : List Entry) (event : Event) (told : Outcome) (eff
     pub flight-released : flight start (with_entry es event told effects) ≡ filter (λ f. not (is_packet q id f)) (flight start es)
     flight-released = flight-unlaunched start es event told effects is.launches ∙ is.releases (flight start es)
 
+    -- the others are as far as they were
+    others-still : (m : QueueId) (fs : List InFlight) → map (λ f. further m made (place_of start es m f)) (filter (of_queue m.0) (filter (λ f. not (is_packet q id f)) fs))
+        ≡ map (place_of start es m) (filter (of_queue m.0) (filter (λ f. not (is_packet q id f)) fs))
+    others-still m [] = refl
+    others-still m (f ∷ fs) = by_tests (is_packet q id f) (of_queue m.0 f) refl refl (others-still m fs)
+      where
+        by_tests : (b c : Bool) → is_packet q id f ≡ b → of_queue m.0 f ≡ c
+            → map (λ f. further m made (place_of start es m f)) (filter (of_queue m.0) (filter (λ f. not (is_packet q id f)) fs)) ≡ map (place_of start es m) (filter (of_queue m.0) (filter (λ f. not (is_packet q id f)) fs))
+            → map (λ f. further m made (place_of start es m f)) (filter (of_queue m.0) (if not b then f ∷ filter (λ f. not (is_packet q id f)) fs else filter (λ f. not (is_packet q id f)) fs))
+            ≡ map (place_of start es m) (filter (of_queue m.0) (if not b then f ∷ filter (λ f. not (is_packet q id f)) fs else filter (λ f. not (is_packet q id f)) fs))
+        by_tests true c one two rest = rest
+        by_tests false false one two rest = rw two rest
+        by_tests false true one two rest =
+            let other : same_packet m f.id q id ≡ false = grind arith in
+            let here : progress_after m f.id (progress start es m f.id) made ≡ progress start es m f.id = (rw (is.drops m f.id, other) refl) ∙ is.progress m f.id (progress start es m f.id) in
+            rw two (λ i. record { id = f.id; packet = f.packet; progress = here i } ∷ rest i)
+
     pub queue_at-released : (m : QueueId)
         → queue_at start (with_entry es event told effects) m
         ≡ after m event told (queue_at start es m) (if q.0 == m.0 then without_packet id (queue_at start es m).places else (queue_at start es m).places)
-    queue_at-released m = grind (
-      arith,
-      queue_at-more start es event told effects m _ flight-released,
-      still is.progress m,
-      released-in id.0 (place_of start es m) q.0 m.0 (flight start es) (λ f. refl),
-    )
+    queue_at-released m =
+        queue_at-more start es event told effects m _ flight-released
+        ∙ ap (after m event told (queue_at start es m))
+        (others-still m (flight start es) ∙ released-in id.0 (place_of start es m) q.0 m.0 (flight start es) (λ f. refl))
 
 module _ (start : Start) (es : List Entry) (q : QueueId) (id : PacketId) (bytes : List ℕ) where
   -- a packet is denied
   pub queue_at-denied : (rule : Rule) (m : QueueId) → queue_at start (with_entry es (Take q id bytes) (outcome.Taken (Denied (error_without_place q id.0 rule))) []) m
       ≡ (if q.0 == m.0 then denied (error_without_place q id.0 rule) (queue_at start es m) else queue_at start es m)
-  queue_at-denied rule m = grind (arith, queue_at-more, flight-unlaunched)
+  queue_at-denied rule m =
+      queue_at-more start es (Take q id bytes) (outcome.Taken (Denied (error_without_place q id.0 rule))) [] m (flight start es)
+      (flight-unlaunched start es (Take q id bytes) (outcome.Taken (Denied (error_without_place q id.0 rule))) [] refl)
+      ∙ pick (q.0 == m.0) (queue_at start es m)
+    where
+      pick : (b : Bool) (v : QueueView) → record v { next = (if b then v.next + 1 else v.next); errors = (if b then v.errors ++ error_without_place q id.0 rule ∷ [] else v.errors) }
+          ≡ (if b then denied (error_without_place q id.0 rule) v else v)
+      pick true v = refl
+      pick false v = refl
 
   -- a packet is launched
   module _ (p : Packet) (reads : decoded bytes ≡ Some p) where

@@ -1,4 +1,6 @@
 -- Groups that ran: what their writes leave, and how many there can be.
+use Rattle.access_core.proofs.Terms.{list_any, releases}
+use Rattle.core_model.specs.History.{beginning}
 use Rattle.std.proofs.Common.{◌≡◌, ℕ, ◌+◌, List, ◌++◌, refl, Bool, true, false, ℤ, fold, nat_le, arith}
 use Rattle.std.proofs.Common.{if◌then◌else◌}
 use Rattle.access_core.proofs.Terms.{Done, Effect, Entry, GivenAtLaunch, History, InFlight, Inside, IsInPlace, PacketId, Place, Progress, QueueId, Ran, Refusal, RefusedAt, RunNext}
@@ -18,6 +20,7 @@ use Rattle.core_model.specs.declared.refusal.Refusal.TheVariants as refusal
 -- changes that leave signals and packets in flight as they are
 pub record OnlyWrites (effects : List Effect) : Type 0 where
   pub flight : (flying : List InFlight) → fold flight_after_effect flying effects ≡ flying
+  pub stays : (queue : QueueId) (id : PacketId) → list_any (releases queue id) effects ≡ false
   pub signals : (values : List ℤ) → fold signals_after values effects ≡ values
 
 pub agent-writes : (start : Start) (entries : List Entry) (dispatch : AgentDispatch) → OnlyWrites (agent_writes start entries dispatch)
@@ -33,6 +36,7 @@ pub run-advances : (queue : QueueId) (id : PacketId) (start : Start) (entries : 
 run-advances queue id start entries dispatch = record {
   launches = refl;
   progress = λ q i so_far. refl;
+  stays = (agent-writes start entries dispatch).stays;
   releases = (agent-writes start entries dispatch).flight;
   views = λ m v places. refl;
 }
@@ -40,16 +44,16 @@ run-advances queue id start entries dispatch = record {
 -- ---- what is kept, and what is owed by it
 
 module _ (a : Inside) (old : History) (seen_as : history_of a ≡ old) where
-  pub pieces-inside : (dispatch : AgentDispatch) (target place : ℕ) (bytes result : List ℕ) → write_of target bytes ≡ function_writes old.start old.entries (function_of dispatch)
-      → write_of place result ≡ result_writes old.start old.entries dispatch →
+  pub pieces-inside : (dispatch : AgentDispatch) (target place : ℕ) (bytes result : List ℕ) → write_of target bytes ≡ function_writes (beginning old) old.entries (function_of dispatch)
+      → write_of place result ≡ result_writes (beginning old) old.entries dispatch →
       write_of target bytes ++ write_of place result ≡ agent_writes (start_of a) a.audit.items dispatch
   pieces-inside dispatch target place bytes result first second = grind arith
 
 -- ---- what the group of an agent dispatch is due
 
 module _ (h : History) (queue : QueueId) (id : PacketId) (place : Place) (found : IsInPlace h queue id place) (d : AgentDispatch) (packet_is : place.packet ≡ packet.Agent d) where
-  agent-owed : (ran : Bool) → nat_le 1 place.progress.groups_run ≡ ran → owed h.start h.entries (RunNext queue id)
-      ≡ (if ran then answers (outcome.Worked Done) else enters (outcome.Worked (Ran 0 0)) (agent_writes h.start h.entries d))
+  agent-owed : (ran : Bool) → nat_le 1 place.progress.groups_run ≡ ran → owed (beginning h) h.entries (RunNext queue id)
+      ≡ (if ran then answers (outcome.Worked Done) else enters (outcome.Worked (Ran 0 0)) (agent_writes (beginning h) h.entries d))
   unfolding owed
   agent-owed ran is = grind arith
 
@@ -57,12 +61,12 @@ module _ (h : History) (queue : QueueId) (id : PacketId) (place : Place) (found 
   agent-done ran = due-as h (RunNext queue id) (answers (outcome.Worked Done)) (agent-owed true ran)
 
   pub agent-due : nat_le 1 place.progress.groups_run ≡ false → (full : Bool) → is_full h ≡ full
-      → due h (RunNext queue id) ≡ (if full then refuses refusal.AuditFull else enters (outcome.Worked (Ran 0 0)) (agent_writes h.start h.entries d))
+      → due h (RunNext queue id) ≡ (if full then refuses refusal.AuditFull else enters (outcome.Worked (Ran 0 0)) (agent_writes (beginning h) h.entries d))
   agent-due ran full room = grind (arith, agent-owed false ran)
 
 -- barrier packets have no groups
 pub no-groups : (h : History) (queue : QueueId) (id : PacketId) (place : Place) → IsInPlace h queue id place
-    → ((own : GivenAtLaunch) → owed_group h.start h.entries queue id own place.packet place.progress ≡ refuses refusal.NotInFlight)
+    → ((own : GivenAtLaunch) → owed_group (beginning h) h.entries queue id own place.packet place.progress ≡ refuses refusal.NotInFlight)
     → due h (RunNext queue id) ≡ refuses refusal.NotInFlight
 unfolding owed
 no-groups h queue id place found is = grind arith
@@ -70,4 +74,4 @@ no-groups h queue id place found is = grind arith
 -- a packet that isn't in flight is refused
 pub run-refused : (h : History) (queue : QueueId) (id : PacketId) (why : Refusal) → RefusedAt h queue id why → due h (RunNext queue id) ≡ refuses why
 unfolding owed
-run-refused h queue id why refused = due-as h (RunNext queue id) (refuses why) (refused (owed_group h.start h.entries queue id (given_at_launch h.start h.entries queue id)))
+run-refused h queue id why refused = due-as h (RunNext queue id) (refuses why) (refused (owed_group (beginning h) h.entries queue id (given_at_launch (beginning h) h.entries queue id)))

@@ -43,7 +43,7 @@ abbrev pub stopped : Option PacketId → QueueView → QueueView
 stopped barrier v = record v { stopped = true; places = without_one barrier v.places }
 
 is_release : (queue : QueueId) (id : PacketId) → IsRelease queue id (Stop queue) outcome.Accepted (effect.Release queue id ∷ [])
-is_release queue id = record { launches = refl; progress = λ q i so_far. refl; releases = λ fs. refl }
+is_release queue id = record { launches = refl; progress = λ q i so_far. refl; drops = λ q i. grind arith; releases = λ fs. refl }
 
 -- a release changes neither memory nor signals
 pub memory-released : (queue : QueueId) (barrier : Option PacketId) (x byte : ℕ) → fold (byte_after x) byte (release_of queue barrier) ≡ byte
@@ -106,11 +106,13 @@ module _ (a : Inside) (kept : IsCached a) (queue : QueueId) where
   pub grants-stopped : (barrier : Option PacketId) (new : Ledger) (blocks : List ArgumentBlock) → IfSome barrier (λ id. Releases a.grants new queue id)
       → IfSome barrier (λ id. blocks ≡ filter (λ b. not (is_block queue id b)) a.blocks.items)
       → IfNone barrier (new ≡ a.grants) → IfNone barrier (blocks ≡ a.blocks.items) → GrantsAfter a new blocks (Stop queue) outcome.Accepted (release_of queue barrier)
-  grants-stopped None new blocks released dropped same same_blocks = grind (arith, grants-still, flight-unlaunched)
+  grants-stopped None new blocks released dropped same same_blocks =
+      rw (same, same_blocks) (grants-still a kept (Stop queue) outcome.Accepted [] refl (λ q i. refl) (λ client on right b. refl)
+      (flight-unlaunched (start_of a) a.audit.items (Stop queue) outcome.Accepted [] refl))
   grants-stopped (Some id) new blocks released dropped same same_blocks =
       grind (
         arith,
-        grants-released a kept (Stop queue) outcome.Accepted (effect.Release queue id ∷ []) refl refl (λ client on right b. refl) new blocks queue id
+        grants-released a kept (Stop queue) outcome.Accepted (effect.Release queue id ∷ []) refl (λ client on right b. refl) new blocks queue id (is_release queue id).drops
             (flight-released (start_of a) a.audit.items _ _ _ queue id (is_release queue id)) released dropped,
       )
 

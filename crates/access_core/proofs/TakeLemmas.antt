@@ -1,4 +1,6 @@
 -- What is owed to a packet that is handed over, by what is kept.
+use Rattle.std.proofs.Common.{fold}
+use Rattle.core_model.specs.History.{beginning}
 use Rattle.std.proofs.Common.{◌≡◌, ℕ, ◌<◌, ◌≤◌, ◌^◌, List, [], ◌∷◌, ◌++◌, length, refl, sym, ◌∙◌, ap, Bool, true, false, Option, Some, None, arith, ◌+◌}
 use Rattle.std.proofs.Common.{length-append, subst, nat_lt, All, ◌||◌, ◌==◌, map, option_map, if◌then◌else◌}
 use Rattle.access_core.proofs.Terms.{All-head, All-push, All-tail, All-weaker, CanFail, ClientId, Denied, Effect, Entry, Event, Facts, History, InFlight, Inside, IsBlockPlaced, IsCached}
@@ -32,9 +34,9 @@ owner-kept a queue kept = ap (λ (all : List Opening). numbered all queue.0) (sy
 
 -- what is found of bytes by the facts of a history is found by those of the fields
 pub judged-inside : (a : Inside) (old : History) → history_of a ≡ old → (q : Queue) (bytes : List ℕ) (found : Option Rule)
-    → first_failing_rule (facts_of old.start old.entries (cached_opening q)) bytes ≡ found
+    → first_failing_rule (facts_of (beginning old) old.entries (cached_opening q)) bytes ≡ found
     → first_failing_rule (facts_of (start_of a) a.audit.items (cached_opening q)) bytes ≡ found
-judged-inside a old seen_as q bytes found is = subst (λ (h : History). first_failing_rule (facts_of h.start h.entries (cached_opening q)) bytes ≡ found) (sym seen_as) is
+judged-inside a old seen_as q bytes found is = subst (λ (h : History). first_failing_rule (facts_of (beginning h) h.entries (cached_opening q)) bytes ≡ found) (sym seen_as) is
 
 -- its packets in flight are those of the history
 pub packets-kept : (a : Inside) (queue : QueueId) (q : Queue) → IsCached a → numbered a.queues.items queue.0 ≡ Some q
@@ -107,13 +109,13 @@ may-hold start es e opening bytes p found none =
     (arguments-held start es e opening.client p)
 
 -- its argument block has its place
-placed-block : (h : History) (client : ClientId) (p : Packet) → All (MayReachRange h.start h.entries client Read) (argument_ranges h.start p) → IsBlockPlaced h p
-placed-block h client (packet.Kernel d) all = reached (All-head (MayReachRange h.start h.entries client Read) _ [] all)
+placed-block : (h : History) (client : ClientId) (p : Packet) → All (MayReachRange (beginning h) h.entries client Read) (argument_ranges (beginning h) p) → IsBlockPlaced h p
+placed-block h client (packet.Kernel d) all = reached (All-head (MayReachRange (beginning h) h.entries client Read) _ [] all)
   where
     size : ℕ
-    size = (kernel_of h.start d).argument_bytes
+    size = (kernel_of (beginning h) d).argument_bytes
 
-    reached : (size ≡ 0) ⊎ MayReach h.start h.entries client Read d.kernarg_address.0 size → is_placed (region_lengths h.start.policy) d.kernarg_address.0 size ≡ true
+    reached : (size ≡ 0) ⊎ MayReach (beginning h) h.entries client Read d.kernarg_address.0 size → is_placed (region_lengths (beginning h).policy) d.kernarg_address.0 size ≡ true
     reached h1 = grind arith
 placed-block h client (packet.Agent _) all = tt
 placed-block h client (packet.BarrierAnd _) all = tt
@@ -124,14 +126,14 @@ pub block-placed : (h : History) (queue : QueueId) (id : PacketId) (bytes : List
 block-placed h queue id bytes p is found = grind (
   arith,
   placed-block h
-      (launch-granted h.start h.entries queue id bytes [] (entered-owed h (Take queue id bytes) (outcome.Taken Launched) [] is).0).opening.client
-      (launch-granted h.start h.entries queue id bytes [] (entered-owed h (Take queue id bytes) (outcome.Taken Launched) [] is).0).packet
-      (launch-granted h.start h.entries queue id bytes [] (entered-owed h (Take queue id bytes) (outcome.Taken Launched) [] is).0).allowed.arguments,
+      (launch-granted (beginning h) h.entries queue id bytes [] (entered-owed h (Take queue id bytes) (outcome.Taken Launched) [] is).0).opening.client
+      (launch-granted (beginning h) h.entries queue id bytes [] (entered-owed h (Take queue id bytes) (outcome.Taken Launched) [] is).0).packet
+      (launch-granted (beginning h) h.entries queue id bytes [] (entered-owed h (Take queue id bytes) (outcome.Taken Launched) [] is).0).allowed.arguments,
 )
 
 -- a launch has room where there is some for an entry and one packet more in flight
 pub room-launched : (h : History) (queue : QueueId) (id : PacketId) (bytes : List ℕ) (p : Packet) → decoded bytes ≡ Some p
-    → lacks_room h (entry_of (Take queue id bytes) (outcome.Taken Launched) []) ≡ nat_lt h.capacity (length h.entries + 1 + (length (flight h.start h.entries) + 1))
+    → lacks_room h (entry_of (Take queue id bytes) (outcome.Taken Launched) []) ≡ nat_lt h.capacity (length h.entries + 1 + (length (flight (beginning h) h.entries) + 1))
 room-launched h queue id bytes p reads = rw (reads, length-append) refl
 
 -- a packet that may start finds a slot free
@@ -151,9 +153,19 @@ takes-next a kept queue q barrier some down starts = grind (
 )
 
 -- no more packets of a queue were handed over than there are entries
-next_id-le : (start : Start) (entries : List Entry) (queue : QueueId) → next_id start entries queue ≤ length entries
+next_id-along : (queue : QueueId) (from : ℕ) (entries : List Entry) → fold (λ next entry. if hands_over_packet_of queue entry.event then next + 1 else next) from entries ≤ from + length entries
+next_id-along queue from [] = omega arith
+next_id-along queue from (e ∷ es) = by_test (hands_over_packet_of queue e.event) (next_id-along queue (from + 1) es) (next_id-along queue from es)
+  where
+    by_test : (b : Bool) → fold (λ next entry. if hands_over_packet_of queue entry.event then next + 1 else next) (from + 1) es ≤ (from + 1) + length es
+        → fold (λ next entry. if hands_over_packet_of queue entry.event then next + 1 else next) from es ≤ from + length es
+        → fold (λ next entry. if hands_over_packet_of queue entry.event then next + 1 else next) (if b then from + 1 else from) es ≤ from + length (e ∷ es)
+    by_test true one none = omega (arith, one)
+    by_test false one none = omega (arith, none)
+
+next_id-le : (start : Start) (entries : List Entry) (queue : QueueId) → next_id start entries queue ≤ start.next_id queue + length entries
 unfolding next_id
-next_id-le start entries queue = count_by-le-length (λ (entry : Entry). hands_over_packet_of queue entry.event) entries
+next_id-le start entries queue = next_id-along queue (start.next_id queue) entries
 
 no_errors : (xs : List QueueError) (s : Bool) → (nat_lt 0 (length xs) || s) ≡ false → xs ≡ []
 no_errors [] s e = refl
@@ -173,7 +185,7 @@ is-open a kept queue opening owned = grind (arith, owner-kept a queue kept, next
 -- the queue of a packet in its place is open
 pub open-of : (a : Inside) (kept : IsCached a) (old : History) → history_of a ≡ old → (queue : QueueId) (id : PacketId) (place : Place)
     → IsInPlace old queue id place → IsOpen a queue
-open-of a kept old seen_as queue id place found = is-open a kept queue found.opening (ap (λ h. owner h.start h.entries queue) seen_as ∙ found.owner_is)
+open-of a kept old seen_as queue id place found = is-open a kept queue found.opening (ap (λ h. owner (beginning h) h.entries queue) seen_as ∙ found.owner_is)
 
 -- A queue that takes its next packet has no error, and a slot free.
 pub record CanTake (a : Inside) (queue : QueueId) : Type 0 where

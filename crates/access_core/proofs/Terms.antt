@@ -6,10 +6,9 @@ pub use Rattle.access_core.specs.declared.argument_blocks.ArgumentBlock.{Argumen
 pub use Rattle.access_core.specs.declared.kernel.Kernel.{Kernel}
 pub use Rattle.access_core.specs.declared.queue.Queue.{Queue}
 pub use Rattle.access_core.specs.inner.ArgumentBlocks.{AreBlocksOf, block_behind, block_of, is_block, name_of, packet_of}
-pub use Rattle.access_core.specs.inner.Cached.{IsCached, IsEntered, core_of, error_places, history_of, is_full, start_of, table_places}
+pub use Rattle.access_core.specs.inner.Cached.{IsCached, IsEntered, core_of, error_places, history_of, is_full, origin_of, start_of, table_places}
 pub use Rattle.access_core.specs.inner.CachedQueue.{IsSound, QueueView, cached_opening, cached_view, place_of, queue_at}
 pub use Rattle.access_core.specs.inner.Deciding.{IsBlockPlaced, MayHold, TakesNext, refusal_of}
-pub use Rattle.access_core.specs.inner.Held.{holds_by, packet_holds}
 pub use Rattle.access_core.specs.inner.InPlace.{IsChanged, IsInPlace, IsSized, RefusedAt, finish_owed, is_placed}
 pub use Rattle.access_core.specs.inner.Laying.{LiesWithin}
 pub use Rattle.access_core.specs.inner.LiesInRegions.{lies_in_regions}
@@ -27,18 +26,19 @@ pub use Rattle.aql_packet.specs.declared.ids.QueueId.{QueueId}
 pub use Rattle.aql_packet.specs.declared.ids.SignalHandle.{SignalHandle}
 pub use Rattle.aql_packet.specs.declared.packet.KernelDispatch.{KernelDispatch}
 pub use Rattle.aql_packet.specs.declared.packet.Packet.{Packet}
-pub use Rattle.core_model.proofs.Holding.{arguments-held, from_launch-kept, from_launch-launch, from_launch-other, holding-legal, holds-from, owner-more, was-launched}
-pub use Rattle.core_model.proofs.Launches.{AreBelowNext-legal, IsNext-from_owed, launched_by-is, was_launched}
+pub use Rattle.core_model.proofs.Holding.{arguments-held, owner-more}
+pub use Rattle.core_model.proofs.Behind.{all, first, found-whole, granted-now, held-flies, launch-whole, same-state}
+pub use Rattle.core_model.proofs.Launches.{IsNext-from_owed, launched_by-is}
 pub use Rattle.core_model.proofs.Lists.{all-from_list_all, filter-passes, found-all, found-passes}
 pub use Rattle.core_model.proofs.Meeting.{entered-owed, refuse_unless-holds}
-pub use Rattle.core_model.proofs.More.{errors-more, flight-more, in_force-more, is_stopped-more, memory_at-more, next_id-more, openings-more, progress-more, signals-more, with_error}
+pub use Rattle.core_model.proofs.More.{arguments-more, errors-more, held-more, flight-more, in_force-more, is_stopped-more, memory_at-more, next_id-more, openings-more, progress-more, signals-more, with_error}
 pub use Rattle.core_model.proofs.More.{with_some}
-pub use Rattle.core_model.specs.Flight.{flight, flight_after_effect, flight_of, in_flight, is_packet, launched_by, progress, progress_after, satisfied_by_either}
+pub use Rattle.core_model.specs.Flight.{flight, flight_after_effect, flight_of, in_flight, is_packet, launched_by, progress, progress_after, progress_by, releases, satisfied_by_either}
 pub use Rattle.core_model.specs.Grants.{in_force, in_force_after}
-pub use Rattle.core_model.specs.Headline.{HoldsInForce, MayReach, MayReachRange, argument_ranges}
-pub use Rattle.core_model.specs.History.{History, Start}
-pub use Rattle.core_model.specs.Holds.{ObjectRight, arguments_if, arguments_of, held_by_arguments, held_by_needs, held_by_pointer, holds_one_of, is_launch, is_queue_of, is_up_to}
-pub use Rattle.core_model.specs.Holds.{least_in_flight, packet_rights, right_needed, rights_at_launch}
+pub use Rattle.core_model.specs.Headline.{AllInForce, HoldsInForce, MayReach, MayReachRange, argument_ranges}
+pub use Rattle.core_model.specs.History.{HeldRights, History, Start, opening_state}
+pub use Rattle.core_model.specs.Holds.{ObjectRight, arguments_after, arguments_if, arguments_of, gives, held, held_after, held_by_arguments, held_by_needs, held_by_pointer, holds_one_of, is_among, is_launch, is_up_to}
+pub use Rattle.core_model.specs.Holds.{least_in_flight, own_rights, right_needed, rights_at_launch}
 pub use Rattle.core_model.specs.Kernels.{grid_size, group_size, kernel_of, no_kernel, segments_of, wide_arguments}
 pub use Rattle.core_model.specs.LaunchRules.{Facts, asks_for_known_work, cause_to_wait, first_failing_rule, has_dimensions, has_segments, has_sizes, is_barrier, kernel_passes}
 pub use Rattle.core_model.specs.LaunchRules.{lies_whole}
@@ -75,8 +75,8 @@ pub use Rattle.executor.specs.Laws.{AreLentAlike, IsLentAlike}
 pub use Rattle.executor.specs.Results.{FailsAs, FinishesAs, GroupResult, broke_rule, group_result, wrote}
 pub use Rattle.executor.specs.Runs.{GroupInput, IsRunnable, input_of}
 pub use Rattle.executor.specs.declared.dispatch.Dispatch.{Dispatch}
-pub use Rattle.executor.specs.declared.run.Run.{Run}
-pub use Rattle.executor.specs.declared.view.HeldRegion.{HeldRegion}
+pub use Rattle.executor.specs.declared.written_range.WrittenRange.{WrittenRange}
+pub use Rattle.executor.specs.declared.held.HeldRegion.{HeldRegion}
 pub use Rattle.grants.specs.Holders.{IsFirstTo, IsUpTo}
 pub use Rattle.grants.specs.Ledger.{Holds, IsNew, Ledger, Releases, RevokeAnswers, are_in_force, grant_due, holds, is_holder, rules_in}
 pub use Rattle.kernel_check.specs.Programs.{Program, group_bytes_of}

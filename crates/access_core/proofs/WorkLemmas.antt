@@ -1,4 +1,6 @@
 -- Packets in flight and their completion: what an entry changes beside them, and how many are left.
+use Rattle.access_core.proofs.Terms.{list_any, releases, same_packet}
+use Rattle.core_model.specs.History.{beginning}
 use Rattle.std.proofs.Common.{◌≡◌, ℕ, ◌+◌, ◌-◌, ◌<◌, ◌≤◌, List, [], ◌∷◌, ◌++◌, length, refl, sym, subst, ◌∙◌, ap, Bool, true, false, Some, None, arith}
 use Rattle.std.proofs.Common.{get_or, length-append, ℤ, filter, find, fold, not, ◌==◌, if◌then◌else◌, ◌&&◌, option_map, map}
 use Rattle.access_core.proofs.Terms.{All-filter, All-map, B1, CanFail, Effect, Event, Failed, Faulted, Finish, History, InFlight, Inside, IsCached, IsInPlace, IsSound, Outcome, Owed}
@@ -23,6 +25,10 @@ pub flight-completed : (values : List ℤ) (signal : SignalHandle) (queue : Queu
     fold flight_after_effect flying (signal_decrement values signal ++ effect.Release queue id ∷ []) ≡ filter (λ f. not (is_packet queue id f)) flying
 flight-completed values signal queue id flying = grind arith
 
+drops-completed : (values : List ℤ) (signal : SignalHandle) (queue : QueueId) (id : PacketId) (q : QueueId) (i : PacketId) →
+    list_any (releases q i) (signal_decrement values signal ++ effect.Release queue id ∷ []) ≡ same_packet q i queue id
+drops-completed values signal queue id q i = grind arith
+
 pub memory-completed : (values : List ℤ) (signal : SignalHandle) (queue : QueueId) (id : PacketId) (x byte : ℕ) →
     fold (byte_after x) byte (signal_decrement values signal ++ effect.Release queue id ∷ []) ≡ byte
 memory-completed values signal queue id x byte = grind arith
@@ -42,7 +48,7 @@ filter-fewer test kept (x ∷ xs) f found out = grind (arith, filter-not_more ke
 
 -- a call about a packet in its place is owed what the place tells
 pub owed-in_place : (history : History) (queue : QueueId) (id : PacketId) (place : Place) → IsInPlace history queue id place → (rest : Packet → Progress → Owed)
-    → for_packet history.start history.entries queue id rest ≡ rest place.packet place.progress
+    → for_packet (beginning history) history.entries queue id rest ≡ rest place.packet place.progress
 owed-in_place history queue id place found rest = rw (found.owner_is, found.found, found.packet_is, found.progress_is) refl
 
 -- a completion that is due, by the values that are cached
@@ -107,7 +113,7 @@ sound-released q id sound =
 
 -- ---- a packet is found in its place
 
-find-placed : (g : InFlight → Place) (n i : ℕ) (fs : List InFlight) → ((f : InFlight) → (g f).id ≡ f.id)
+pub find-placed : (g : InFlight → Place) (n i : ℕ) (fs : List InFlight) → ((f : InFlight) → (g f).id ≡ f.id)
     → find (λ (p : Place). p.id.0 == i) (map g (filter (of_queue n) fs)) ≡ option_map g (find (λ (f : InFlight). f.queue.0 == n && f.id.0 == i) fs)
 find-placed g n i [] named = refl
 find-placed g n i (f ∷ fs) named = grind (arith, find-placed g n i fs named)
@@ -189,15 +195,15 @@ queues-advanced a kept queue at id g event told effects is none so_far new =
 -- ---- a packet leaves flight, for which its own entry always finds room
 
 pub finish-releases : (values : List ℤ) (queue : QueueId) (id : PacketId) (p : Packet) → IsRelease queue id (Finish queue id) outcome.Accepted (completion_of values queue id p)
-finish-releases values queue id p = record { launches = refl; progress = λ q i so_far. refl; releases = λ fs. flight-completed values (completion_signal p) queue id fs }
+finish-releases values queue id p = record { launches = refl; progress = λ q i so_far. refl; drops = λ q i. drops-completed values (completion_signal p) queue id q i; releases = λ fs. flight-completed values (completion_signal p) queue id fs }
 
 pub failure-releases : (queue : QueueId) (id : PacketId) → IsRelease queue id (Poll queue id) (outcome.Polled (Failed (error_without_place queue id.0 B1))) (effect.Release queue id ∷ [])
-failure-releases queue id = record { launches = refl; progress = λ q i so_far. refl; releases = λ fs. refl }
+failure-releases queue id = record { launches = refl; progress = λ q i so_far. refl; drops = λ q i. grind arith; releases = λ fs. refl }
 
 pub fault-releases : (queue : QueueId) (id : PacketId) (error : QueueError) → IsRelease queue id (RunNext queue id) (outcome.Worked (Faulted error)) (effect.Release queue id ∷ [])
-fault-releases queue id error = record { launches = refl; progress = λ q i so_far. refl; releases = λ fs. refl }
+fault-releases queue id error = record { launches = refl; progress = λ q i so_far. refl; drops = λ q i. grind arith; releases = λ fs. refl }
 
 pub release-due : (a : Inside) → IsCached a → (old : History) → history_of a ≡ old → (queue : QueueId) (id : PacketId) (place : Place) → IsInPlace old queue id place
     → (event : Event) (told : Outcome) (effects : List Effect)
-    → IsRelease queue id event told effects → owed old.start old.entries event ≡ enters told effects → due old event ≡ enters told effects
+    → IsRelease queue id event told effects → owed (beginning old) old.entries event ≡ enters told effects → due old event ≡ enters told effects
 release-due a kept old seen_as queue id place placed event told effects is owing = grind (arith, release-room)

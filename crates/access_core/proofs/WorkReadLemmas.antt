@@ -1,4 +1,5 @@
 -- Memory that is read and written, as the history has it.
+use Rattle.core_model.specs.History.{beginning}
 use Rattle.std.proofs.Common.{◌≡◌, ℕ, ◌+◌, ◌-◌, ◌<◌, List, length, refl, sym, ◌∙◌, true, false, Some, arith, ◌≢◌, ◌==◌, slice_get}
 use Rattle.std.proofs.Common.{slice_index, if◌then◌else◌}
 use Rattle.access_core.proofs.Terms.{History, Inside, IsCached, IsChanged, IsMemory, IsWithin, IsWithin-from_test, IsWritten, byte_at, bytes_from, covers, get_or-map-range_with_len}
@@ -25,7 +26,7 @@ read-kept a kept memory address size test =
     ∙ sym (get_or-map-range_with_len (memory_at (start_of a) a.audit.items) address size k (address + k) d below refl))
 
 pub read-inside : (a : Inside) (kept : IsCached a) (old : History) (seen_as : history_of a ≡ old) → IsMemory a.memory → (address size : ℕ)
-    → is_within (region_lengths old.start.policy) address size ≡ true → bytes_from a.memory address size ≡ memory_from old.start old.entries address size
+    → is_within (region_lengths (beginning old).policy) address size ≡ true → bytes_from a.memory address size ≡ memory_from (beginning old) old.entries address size
 read-inside a kept old seen_as memory address size = grind (arith, read-kept)
 
 -- what is written is what the change says

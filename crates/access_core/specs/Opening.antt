@@ -5,7 +5,7 @@ use Rattle.kernel_check.specs.Programs.{Program}
 use Rattle.policy.specs.Policy.{Declared, numbered}
 use Rattle.core_model.specs.declared.limits.TheConstants.{MOST_ENTRIES}
 use Rattle.core_model.specs.Kernels.{no_kernel}
-use Rattle.core_model.specs.Legal.{empty_history}
+use Rattle.core_model.specs.Legal.{IsOpening}
 use Rattle.access_core.specs.Cores.{Core}
 use Rattle.access_core.specs.declared.access.OpenFault.{OpenFault}
 use Rattle.access_core.specs.declared.access.OpenFault.TheVariants as fault
@@ -45,6 +45,6 @@ open_fault policy kernels capacity =
 -- a core is opened just where there is no fault, unless memory is wanted (own)
 abbrev pub Opens : Declared → List Kernel → ℕ → Result Core OpenFault → Type 0
 Opens policy kernels capacity (Ok core) =
-    (open_fault policy kernels capacity ≡ None) × (core.history ≡ empty_history policy (map program_of kernels) capacity)
+    (open_fault policy kernels capacity ≡ None) × IsOpening core.history policy (map program_of kernels) capacity
 Opens policy kernels capacity (Err fault.OutOfMemory) = open_fault policy kernels capacity ≡ None
 Opens policy kernels capacity (Err why) = open_fault policy kernels capacity ≡ Some why

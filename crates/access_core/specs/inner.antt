@@ -9,5 +9,5 @@ pub mod InPlace
 pub mod Polling
 pub mod Running
 pub mod Laying
-pub mod Held
 pub mod Untouched
+pub mod Origins

@@ -1,5 +1,6 @@
 //! The core: what is in force, in memory and in flight, and the audit that says how it came about.
 
+ghost use Rattle.core_model.specs.History.{beginning};
 ghost use Rattle.std.specs.Prelude.{◌≡◌, ◌+◌, ◌<◌, length, nat_lt};
 ghost use Rattle.core_model.specs.Flight.{flight};
 ghost use Rattle.core_model.specs.Legal.{entry_of};
@@ -120,7 +121,7 @@ impl AccessCore {
     // Whether it has none for an entry after which one packet more is in flight.
     fn is_full_for_launch(&self) -> bool
         ensures { result ≡ nat_lt self.now.history.capacity
-            (length self.now.history.entries + 1 + (length (flight self.now.history.start self.now.history.entries) + 1)) }
+            (length self.now.history.entries + 1 + (length (flight (beginning self.now.history) self.now.history.entries) + 1)) }
     {
         self.capacity < self.audit.len() + 1 + (self.flying + 1)
     }

@@ -3,3 +3,4 @@ pub mod ReadingLemmas
 pub mod WritingLemmas
 pub mod LaidLemmas
 pub mod SpellingLemmas
+pub mod WordLemmas

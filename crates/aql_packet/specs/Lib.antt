@@ -4,3 +4,4 @@ pub mod Reading
 pub mod Ring
 pub mod Memory
 pub mod Ids
+pub mod Words

@@ -3,6 +3,7 @@
 ghost use Rattle.aql_packet.specs.Layout.{Are64Bytes, PacketOf};
 ghost use Rattle.aql_packet.specs.Numbers.{bits, number_at};
 ghost use Rattle.aql_packet.specs.Reading.{barrier_bit, decoded, packet_type};
+ghost use Rattle.aql_packet.specs.Words.{AreEightWords, bytes_of, words_of};
 ghost use Rattle.std.specs.Prelude.{List, Some, ℕ, ◌==◌, ◌≡◌};
 
 use crate::packet::Packet;
@@ -28,4 +29,10 @@ pub fn header_in_first_word()
         → bits (number_at bytes 0 8) 7 0 ≡ packet_type bytes }
     ensures barrier { (bytes : List ℕ) → Are64Bytes bytes
         → (bits (number_at bytes 0 8) 8 8 == 1) ≡ barrier_bit bytes }
+{}
+
+/// A packet's words and its bytes tell each other.
+pub fn words_and_bytes_are_inverse()
+    ensures words { (words : List ℕ) → AreEightWords words → words_of (bytes_of words) ≡ words }
+    ensures bytes { (bytes : List ℕ) → Are64Bytes bytes → bytes_of (words_of bytes) ≡ bytes }
 {}

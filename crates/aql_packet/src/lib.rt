@@ -10,16 +10,20 @@ mod numbers;
 mod packet;
 mod reading;
 mod ring;
+mod words;
 mod writing;
 
 pub use ids::{
     Address, AgentHandle, ClientId, KernelObject, PacketId, QueueId, RegionHandle, SignalHandle,
 };
-pub use laws::{header_in_first_word, one_spelling, reading_is_layout};
+pub use laws::{
+    header_in_first_word, one_spelling, reading_is_layout, words_and_bytes_are_inverse,
+};
 pub use memory::{MOST_REGION_BYTES, MOST_REGIONS, REGION_SPAN};
 pub use packet::{
     AgentDispatch, Barrier, CodecRule, Header, KernelDispatch, Packet, RawHeader, Scope,
 };
 pub use reading::{decode, header_of};
 pub use ring::{INVALID, RING_SIZES, is_ring_size};
+pub use words::{bytes_of, is_invalid, words_of};
 pub use writing::encode;

@@ -5,7 +5,7 @@ ghost use Rattle.std.specs.Prelude.{◌≤◌, ◌^◌, length};
 
 use crate::fault::Fault;
 use aql_packet::{MOST_REGIONS, RegionHandle};
-use executor::{Dispatch, Extent, HeldRegion, Run, View, run_group};
+use executor::{Dispatch, Extent, HeldRegion, View, WrittenRange, run_group};
 use hsail_reader::read_module;
 use kernel_check::{Checked, check};
 use policy::Rights;
@@ -119,7 +119,7 @@ fn run_items(
     items: u32,
     arguments: &[u8],
     view: &View<'_>,
-) -> Result<Sequence<Run>, Fault> {
+) -> Result<Sequence<WrittenRange>, Fault> {
     if items < 1 || items > MOST_ITEMS || checked.count() < 1 {
         return Err(Fault::Kernel);
     }
@@ -157,7 +157,7 @@ pub fn count(rt: &impl Clock, alloc: Global, items: u32) -> Result<Taken, Fault>
 }
 
 /// The sum of the words that runs have.
-fn sum(runs: &Sequence<Run>) -> u64 {
+fn sum(runs: &Sequence<WrittenRange>) -> u64 {
     let mut sum = 0u64;
     for run in runs.as_slice() {
         for (place, byte) in run.bytes.as_slice().iter().enumerate() {

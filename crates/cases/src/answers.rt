@@ -4,6 +4,7 @@ use crate::file::Kind;
 use crate::kernels::kernel_answer;
 use crate::names::Names;
 use anyhow::{Error, anyhow};
+use command_line::{assemble_policy, explained, list_kernel, run_strictly};
 use commands::{Status, check_policy, run_policy};
 use std::alloc::{AllocError, Global};
 
@@ -63,6 +64,64 @@ fn script_answer(
     let policy = policy.as_bytes();
     let status = run_policy(alloc, policy, places, &mut reader, &mut out, &mut err);
     written(out, err, status)
+}
+
+// The replies to a script that is run strictly.
+fn strict_answer(alloc: Global, settings: &Settings, script: &[u8]) -> Result<String, Error> {
+    let mut out = Vec::new(alloc);
+    let mut err = Vec::new(alloc);
+    let mut reader = script;
+    let policy = settings.policy.as_bytes();
+    let places = settings.places;
+    let status = run_strictly(alloc, policy, places, &mut reader, &mut out, &mut err);
+    written(out, err, status)
+}
+
+// What a readable script is assembled to.
+fn assembled_answer(alloc: Global, policy: &str, script: &[u8]) -> Result<String, Error> {
+    let mut out = Vec::new(alloc);
+    let mut err = Vec::new(alloc);
+    let mut reader = script;
+    let status = assemble_policy(alloc, policy.as_bytes(), &mut reader, &mut out, &mut err);
+    written(out, err, status)
+}
+
+// The replies to what a readable script is assembled to; its fault comes behind the replies to the lines before it.
+fn readable_answer(alloc: Global, settings: &Settings, script: &[u8]) -> Result<String, Error> {
+    let mut assembled = Vec::new(alloc);
+    let mut err = Vec::new(alloc);
+    let mut reader = script;
+    let policy = settings.policy.as_str();
+    let status = assemble_policy(
+        alloc,
+        policy.as_bytes(),
+        &mut reader,
+        &mut assembled,
+        &mut err,
+    );
+    let mut answer = script_answer(alloc, policy, settings.places, assembled.as_slice())?;
+    add_ending(&mut answer, text_of(err)?.as_str(), status)?;
+    Ok(answer)
+}
+
+// What `brokerd kernel` tells of a text.
+fn listing_answer(alloc: Global, text: &[u8]) -> Result<String, Error> {
+    let mut out = Vec::new(alloc);
+    let mut err = Vec::new(alloc);
+    let status = list_kernel(alloc, text, &mut out, &mut err);
+    written(out, err, status)
+}
+
+// What names mean, one a line.
+fn words_answer(alloc: Global, asked: &[u8]) -> Result<String, Error> {
+    let mut answer = String::new(alloc);
+    let mut bytes = Vec::new(alloc);
+    bytes.extend_from_slice(asked)?;
+    let asked = text_of(bytes)?;
+    for word in asked.as_str().lines() {
+        answer.push_str(explained(alloc, word)?.as_str())?;
+    }
+    Ok(answer)
 }
 
 // The counts of a policy, or its fault.
@@ -160,7 +219,12 @@ pub fn answer(
         Kind::Scripts | Kind::Runs => {
             script_answer(alloc, settings.policy.as_str(), settings.places, asked)
         }
+        Kind::Strict => strict_answer(alloc, settings, asked),
+        Kind::Assembled => assembled_answer(alloc, settings.policy.as_str(), asked),
+        Kind::Readable => readable_answer(alloc, settings, asked),
         Kind::Kernels => kernel_answer(alloc, asked),
+        Kind::Listings => listing_answer(alloc, asked),
+        Kind::Words => words_answer(alloc, asked),
         Kind::Policies => policy_answer(alloc, asked),
     }
 }

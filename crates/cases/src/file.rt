@@ -14,6 +14,16 @@ pub enum Kind {
     Policies,
     /// Texts of kernels that a script launches and runs, and the replies to it.
     Runs,
+    /// Scripts that are run strictly, and the replies to them.
+    Strict,
+    /// Readable scripts, and the scripts that they are assembled to.
+    Assembled,
+    /// Readable scripts, and the replies to what they are assembled to.
+    Readable,
+    /// Texts of kernels, and what `brokerd kernel` tells of them.
+    Listings,
+    /// Names of rules, refusals and causes, and what they mean.
+    Words,
 }
 
 /// The head of a file, with the names of the files beside it that it speaks of.
@@ -112,14 +122,29 @@ fn is_remark(line: &str) -> bool {
     line.trim().is_empty() || line.starts_with("#")
 }
 
+// The kind that a word names.
+fn kind_named(word: &str) -> Option<Kind> {
+    match word {
+        "scripts" => Some(Kind::Scripts),
+        "kernels" => Some(Kind::Kernels),
+        "policies" => Some(Kind::Policies),
+        "runs" => Some(Kind::Runs),
+        "strict" => Some(Kind::Strict),
+        "assembled" => Some(Kind::Assembled),
+        "readable" => Some(Kind::Readable),
+        "listings" => Some(Kind::Listings),
+        "words" => Some(Kind::Words),
+        _ => None,
+    }
+}
+
 // The kind that a head's first word names.
 fn kind_of(word: &str) -> Result<Kind, Error> {
-    match word {
-        "scripts" => Ok(Kind::Scripts),
-        "kernels" => Ok(Kind::Kernels),
-        "policies" => Ok(Kind::Policies),
-        "runs" => Ok(Kind::Runs),
-        _ => Err(anyhow!("a file of cases begins with `scripts`, `kernels`, `policies` or `runs`")),
+    match kind_named(word) {
+        Some(kind) => Ok(kind),
+        None => Err(anyhow!(
+            "a file of cases begins with its kind, as `scripts` or `kernels`: docs/cases.md has them all"
+        )),
     }
 }
 
@@ -180,6 +205,18 @@ fn read_head<'a>(alloc: Global, line: &'a str) -> Result<Head<'a>, Error> {
     Ok(head)
 }
 
+// Whether a word names a role in a head.
+fn is_role(word: &str) -> bool {
+    !matches!(role_of(word), Role::Role)
+}
+
+// Whether a line is a head: a kind, and behind it nothing or a role.
+fn is_head(line: &str) -> bool {
+    let (kind, rest) = line.split_once(" ").unwrap_or((line, ""));
+    let (role, _) = rest.split_once(" ").unwrap_or((rest, ""));
+    kind_named(kind).is_some() && (rest.is_empty() || is_role(role))
+}
+
 // The case that a line begins, if it begins one.
 fn begun<'a>(alloc: Global, number: usize, line: &'a str) -> Result<Option<Case<'a>>, Error> {
     if let Some(name) = line.strip_prefix("== ") {
@@ -209,6 +246,9 @@ fn add_line<'a>(
     if let Some(case) = begun(alloc, number, line)? {
         cases.push(case)?;
         return Ok(());
+    }
+    if is_head(line) {
+        return Err(anyhow!("line {number} is a second head"));
     }
     match cases.last_mut() {
         Some(case) => case.add(number, line),

@@ -94,23 +94,45 @@ fn try_file(rt: &HostRuntime, path: &str) -> Result<bool, Error> {
     Ok(tally.differ == 0)
 }
 
-// Tries each file that the command line names.
-fn try_files(rt: &HostRuntime) -> Result<bool, Error> {
-    let mut well = true;
+// Whether the command line names files, and nothing else: there are no options.
+fn names_files(rt: &HostRuntime) -> Result<bool, Error> {
+    let mut some = false;
+    for word in env::args(rt)?.skip(1) {
+        if word.as_str().starts_with("-") {
+            return Ok(false);
+        }
+        some = true;
+    }
+    Ok(some)
+}
+
+// Tries each file that the command line names, and tells the exit status: 0 where all came as wanted, 1 where a case
+// differs.
+fn try_files(rt: &HostRuntime) -> Result<u8, Error> {
+    let mut status = 0;
     for path in env::args(rt)?.skip(1) {
         let path = path.as_str();
         if !try_file(rt, path).context(format_args!("in {path}"))? {
-            well = false;
+            status = 1;
         }
     }
-    Ok(well)
+    Ok(status)
 }
 
-// 0 where all came as wanted, 1 where a case differs, 3 where a file can't be read or is no file of cases.
+// Tries the files, where there are some, and nothing else is asked for.
+fn obey(rt: &HostRuntime) -> Result<u8, Error> {
+    if names_files(rt)? {
+        return try_files(rt);
+    }
+    eprintln!(rt; "usage: cases FILE..")?;
+    Ok(2)
+}
+
+// 0 where all came as wanted, 1 where a case differs, 2 where the command line names no file or an option, 3 where a
+// file can't be read or is no file of cases.
 fn main(rt: HostRuntime) -> ExitCode {
-    match try_files(&rt) {
-        Ok(true) => ExitCode::from(0),
-        Ok(false) => ExitCode::from(1),
+    match obey(&rt) {
+        Ok(status) => ExitCode::from(status),
         Err(error) => {
             let _ = eprintln!(rt; "{error:#}");
             ExitCode::from(3)

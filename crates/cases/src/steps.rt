@@ -7,8 +7,8 @@ use kernel_check::{
     AnyRegister, AnySource, ArgumentStep, AtomicOperation32, AtomicOperation64, AtomicPointer,
     AtomicStep32, AtomicStep64, BranchStep, Choice1, Choice32, Choice64, ControlOperation,
     ConvertStep, Dimension, DoubleOperation, GroupLoadStep, GroupPointer, GroupStoreStep, LoadStep,
-    NumberType, Pair1, Pair32, Pair64, Pointer, Shift64, SingleOperation, Slot, Source1, Source32,
-    Source64, Step, StoreStep, Swap32, Swap64, Triple32, Triple64, WorkItemQueryStep,
+    NumberType, Pair1, Pair32, Pair64, Pointer, RegisterNumber, Shift64, SingleOperation, Source1,
+    Source32, Source64, Step, StoreStep, Swap32, Swap64, Triple32, Triple64, WorkItemQueryStep,
 };
 use std::alloc::AllocError;
 
@@ -48,7 +48,7 @@ fn query_name(query: WorkItemQuery) -> &'static str {
     }
 }
 
-fn push_slot(line: &mut String, class: &str, slot: Slot) -> Result<(), AllocError> {
+fn push_slot(line: &mut String, class: &str, slot: RegisterNumber) -> Result<(), AllocError> {
     let number = slot.index();
     write!(line, "${class}{number}")
 }
@@ -222,7 +222,12 @@ fn push_control_sources(line: &mut String, operation: &ControlOperation) -> Resu
 }
 
 // The beginning of a step that computes: its word and its target.
-fn push_target(line: &mut String, word: &str, class: &str, target: Slot) -> Result<(), AllocError> {
+fn push_target(
+    line: &mut String,
+    word: &str,
+    class: &str,
+    target: RegisterNumber,
+) -> Result<(), AllocError> {
     line.push_str(word)?;
     line.push_str(" ")?;
     push_slot(line, class, target)?;
@@ -240,7 +245,7 @@ fn push_control_word(line: &mut String, operation: &ControlOperation) -> Result<
 
 fn push_control(
     line: &mut String,
-    target: Slot,
+    target: RegisterNumber,
     operation: &ControlOperation,
 ) -> Result<(), AllocError> {
     push_control_word(line, operation)?;
@@ -303,7 +308,7 @@ fn push_single_sources(line: &mut String, operation: &SingleOperation) -> Result
 
 fn push_single(
     line: &mut String,
-    target: Slot,
+    target: RegisterNumber,
     operation: &SingleOperation,
 ) -> Result<(), AllocError> {
     push_target(line, single_name(operation), "s", target)?;
@@ -365,7 +370,7 @@ fn push_double_sources(line: &mut String, operation: &DoubleOperation) -> Result
 
 fn push_double(
     line: &mut String,
-    target: Slot,
+    target: RegisterNumber,
     operation: &DoubleOperation,
 ) -> Result<(), AllocError> {
     push_target(line, double_name(operation), "d", target)?;
@@ -555,7 +560,7 @@ fn push_atomic_pointer(line: &mut String, pointer: AtomicPointer) -> Result<(), 
 // The beginning of an atomic operation: its word, with the segment and without order and scope, and its target.
 fn push_atomic_target(
     line: &mut String,
-    target: Option<Slot>,
+    target: Option<RegisterNumber>,
     class: &str,
     operation: &str,
     pointer: AtomicPointer,

@@ -1,30 +1,43 @@
 //! Does what a command line asks.
 
+use crate::author::{assemble_input, explain, kernel};
 use crate::request::{Request, Unread, read_words};
+use crate::strict::run_strictly;
 use clap::Error;
 use commands::{Status, check_policy, run_policy};
-use std::{fs, io};
+use policy::MOST_POLICY_BYTES;
+use std::fs::File;
+use std::io::{self, Read};
 
 /// The exit status for a command line that isn't understood.
 const NOT_UNDERSTOOD: u8 = 2;
 
-// Tells what failed.
-fn failed(rt: &HostRuntime, what: &str) -> Status {
+/// Tells what failed.
+pub fn failed(rt: &HostRuntime, what: &str) -> Status {
     let _ = eprintln!(rt; "{what}");
     Status::Failed
 }
 
-// Why a file couldn't be read.
-fn unread_file(rt: &HostRuntime, error: &io::Error) -> Status {
+/// Tells why a file couldn't be read.
+pub fn unread_file(rt: &HostRuntime, error: &io::Error) -> Status {
     match error.kind() {
         io::ErrorKind::OutOfMemory => failed(rt, "no memory"),
         _ => failed(rt, "read fault"),
     }
 }
 
+// The text of a policy file, and of one that is longer than a policy may be a byte more than that, so that it is
+// refused for its length.
+fn read_file(rt: &HostRuntime, policy: &str) -> io::Result<Vec<u8>> {
+    let most = (MOST_POLICY_BYTES as u64).saturating_add(1);
+    let mut text = Vec::new(rt.alloc());
+    File::open(rt, policy)?.take(most).read_to_end(&mut text)?;
+    Ok(text)
+}
+
 // Checks the policy in a file.
 fn check(rt: &HostRuntime, policy: &str) -> Status {
-    match fs::read(rt, policy) {
+    match read_file(rt, policy) {
         Ok(text) => check_policy(
             rt.alloc(),
             text.as_slice(),
@@ -49,22 +62,52 @@ fn run_over(rt: &HostRuntime, text: &[u8], places: usize) -> Status {
 
 // Runs the script on standard input over the policy in a file.
 fn run(rt: &HostRuntime, policy: &str, places: usize) -> Status {
-    match fs::read(rt, policy) {
+    match read_file(rt, policy) {
         Ok(text) => run_over(rt, text.as_slice(), places),
         Err(error) => unread_file(rt, &error),
     }
 }
 
-fn perform(rt: &HostRuntime, request: Request<'_>) -> Status {
-    match request {
-        Request::Check { policy } => check(rt, policy),
-        Request::Run { policy, places } => run(rt, policy, places),
+// Runs the script on standard input over the policy in a file, up to the first line that isn't done.
+fn run_strict(rt: &HostRuntime, policy: &str, places: usize) -> Status {
+    match read_file(rt, policy) {
+        Ok(text) => run_strictly(
+            rt.alloc(),
+            text.as_slice(),
+            places,
+            &mut rt.stdin(),
+            &mut rt.stdout(),
+            &mut rt.stderr(),
+        ),
+        Err(error) => unread_file(rt, &error),
     }
 }
 
-// Prints the text for the user, and tells the exit status: 0 for the help and the version.
-fn tell(rt: &HostRuntime, error: &Error) -> u8 {
-    let _ = error.print(rt);
+// Assembles the script on standard input by the policy in a file.
+fn assemble_by(rt: &HostRuntime, policy: &str) -> Status {
+    match read_file(rt, policy) {
+        Ok(text) => assemble_input(rt, text.as_slice()),
+        Err(error) => unread_file(rt, &error),
+    }
+}
+
+// Does what is asked, and tells the exit status.
+fn perform(rt: &HostRuntime, request: Request<'_>) -> u8 {
+    match request {
+        Request::Check { policy } => check(rt, policy).number(),
+        Request::Run { policy, places } => run(rt, policy, places).number(),
+        Request::RunStrictly { policy, places } => run_strict(rt, policy, places).number(),
+        Request::Kernel { file } => kernel(rt, file).number(),
+        Request::Assemble { policy } => assemble_by(rt, policy).number(),
+        Request::Explain { word } => match explain(rt, word) {
+            Some(status) => status.number(),
+            None => NOT_UNDERSTOOD,
+        },
+    }
+}
+
+// The exit status behind a text for the user: 0 for the help and the version.
+fn status_behind(error: &Error) -> u8 {
     if error.use_stderr() {
         NOT_UNDERSTOOD
     } else {
@@ -72,12 +115,28 @@ fn tell(rt: &HostRuntime, error: &Error) -> u8 {
     }
 }
 
+// Why a text for the user couldn't be printed.
+fn unprinted(rt: &HostRuntime, error: &io::Error) -> Status {
+    match error.kind() {
+        io::ErrorKind::OutOfMemory => failed(rt, "no memory"),
+        _ => failed(rt, "write fault"),
+    }
+}
+
+// Prints the text for the user, and tells the exit status.
+fn tell(rt: &HostRuntime, error: &Error) -> u8 {
+    match error.print(rt) {
+        Ok(()) => status_behind(error),
+        Err(why) => unprinted(rt, &why).number(),
+    }
+}
+
 /// Reads the words of a command line, the program's own name first, does what they ask or says how they are to be
 /// written, and tells the exit status: that of the command (`Status::number`), 0 for the help and the version, 2 for
-/// words that aren't understood.
+/// words that aren't understood, 3 where the text that says so can't be written.
 pub fn obey(rt: &HostRuntime, words: &[String]) -> u8 {
     match read_words(rt.alloc(), words) {
-        Ok(request) => perform(rt, request).number(),
+        Ok(request) => perform(rt, request),
         Err(Unread::Text(error)) => tell(rt, &error),
         Err(Unread::NoCommand) => NOT_UNDERSTOOD,
         Err(Unread::OutOfMemory) => out_of_memory(rt),

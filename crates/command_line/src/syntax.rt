@@ -1,5 +1,6 @@
 //! The commands and arguments that the command line may have.
 
+use crate::help::{HELP, VERSION};
 use clap::builder::ValueParser;
 use clap::{Arg, ArgAction, Command, Error};
 use std::alloc::Global;
@@ -9,6 +10,24 @@ pub const CHECK: &str = "check";
 
 /// The name of the command that runs a script.
 pub const RUN: &str = "run";
+
+/// The name of the command that checks a kernel's text.
+pub const KERNEL: &str = "kernel";
+
+/// The name of the command that assembles a script.
+pub const ASSEMBLE: &str = "assemble";
+
+/// The name of the command that tells what a rule, a refusal or a cause means.
+pub const EXPLAIN: &str = "explain";
+
+/// The argument that names the file of a kernel's text.
+pub const FILE: &str = "FILE";
+
+/// The argument that names a rule, a refusal or a cause.
+pub const WORD: &str = "WORD";
+
+/// The option by which a run ends at the first line that isn't done.
+pub const STRICT: &str = "strict";
 
 /// The argument that names the policy file.
 pub const POLICY: &str = "POLICY";
@@ -35,6 +54,27 @@ fn audit_places<'a>(alloc: Global) -> Arg<'a> {
         .help("How many entries the audit has place for, 1 to 1048576; 65536 if not given")
 }
 
+fn strictly<'a>(alloc: Global) -> Arg<'a> {
+    Arg::new(alloc, STRICT)
+        .long(STRICT)
+        .action(ArgAction::SetTrue)
+        .help("Ends with status 1 behind the first line that is refused, denied, faulted or failed")
+}
+
+fn kernel_file<'a>(alloc: Global) -> Arg<'a> {
+    Arg::new(alloc, FILE)
+        .required(true)
+        .action(ArgAction::Set)
+        .help("The file of the kernel's text")
+}
+
+fn explained_word<'a>(alloc: Global) -> Arg<'a> {
+    Arg::new(alloc, WORD)
+        .required(true)
+        .action(ArgAction::Set)
+        .help("A rule as L8, a refusal or a cause by its name, or a number")
+}
+
 fn check_command<'a>(alloc: Global) -> Result<Command<'a>, Error> {
     let check = Command::new(alloc, CHECK)
         .about("Checks a policy: counts its rows, or names its first fault")
@@ -46,8 +86,32 @@ fn run_command<'a>(alloc: Global) -> Result<Command<'a>, Error> {
     let run = Command::new(alloc, RUN)
         .about("Runs the script on standard input over a policy, and writes the replies")
         .arg(policy_file(alloc))?
-        .arg(audit_places(alloc))?;
+        .arg(audit_places(alloc))?
+        .arg(strictly(alloc))?;
     Ok(run)
+}
+
+fn kernel_command<'a>(alloc: Global) -> Result<Command<'a>, Error> {
+    let kernel = Command::new(alloc, KERNEL)
+        .about(
+            "Reads and checks a kernel's text, and lists its kernels with their layout and steps",
+        )
+        .arg(kernel_file(alloc))?;
+    Ok(kernel)
+}
+
+fn assemble_command<'a>(alloc: Global) -> Result<Command<'a>, Error> {
+    let assemble = Command::new(alloc, ASSEMBLE)
+        .about("Turns a script with readable packets, on standard input, into one that run takes")
+        .arg(policy_file(alloc))?;
+    Ok(assemble)
+}
+
+fn explain_command<'a>(alloc: Global) -> Result<Command<'a>, Error> {
+    let explain = Command::new(alloc, EXPLAIN)
+        .about("Tells what a rule, a refusal or a cause of a fault means")
+        .arg(explained_word(alloc))?;
+    Ok(explain)
 }
 
 // The program with one of its commands.
@@ -55,15 +119,31 @@ fn with_check<'a>(alloc: Global) -> Result<Command<'a>, Error> {
     let check = check_command(alloc)?;
     let program = Command::new(alloc, "brokerd")
         .about("A broker for user-mode queues")
-        .version("0.1.0")
+        .version(VERSION)
+        .after_help(HELP)
         .subcommand_required(true)
         .subcommand(check)?;
     Ok(program)
 }
 
-/// The program with its commands.
-pub fn program<'a>(alloc: Global) -> Result<Command<'a>, Error> {
+// The program with its commands on policies.
+fn with_run<'a>(alloc: Global) -> Result<Command<'a>, Error> {
     let run = run_command(alloc)?;
     let program = with_check(alloc)?.subcommand(run)?;
+    Ok(program)
+}
+
+// With those that read a kernel's text or a readable script, too.
+fn with_authoring<'a>(alloc: Global) -> Result<Command<'a>, Error> {
+    let kernel = kernel_command(alloc)?;
+    let assemble = assemble_command(alloc)?;
+    let program = with_run(alloc)?.subcommand(kernel)?.subcommand(assemble)?;
+    Ok(program)
+}
+
+/// The program with its commands.
+pub fn program<'a>(alloc: Global) -> Result<Command<'a>, Error> {
+    let explain = explain_command(alloc)?;
+    let program = with_authoring(alloc)?.subcommand(explain)?;
     Ok(program)
 }

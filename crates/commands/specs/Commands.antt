@@ -4,6 +4,9 @@ use Rattle.std.specs.Fmt.{decimal}
 use Rattle.std.specs.Io.KnownBytes.{Appends}
 use Rattle.policy.specs.Format.{Declares, HasFault}
 use Rattle.policy.specs.Policy.{Declared}
+use Rattle.policy.specs.declared.row.RightsRow.{RightsRow}
+use Rattle.policy.specs.declared.version.Version.{Version}
+use Rattle.policy.specs.declared.version.Version.TheVariants.{First, Second}
 use Rattle.access_core.specs.declared.access.OpenFault.{OpenFault}
 use Rattle.access_core.specs.declared.kernel.Kernel as cores
 use Rattle.script.specs.declared.answers.Answers.{Answers}
@@ -65,13 +68,18 @@ TellsEnd (Err fault) faults before after status = NamesFailure (failure_of_scrip
 abbrev pub text_of_count : List ℕ → ℕ → List ℕ
 text_of_count name count = name ++ codes " " ++ decimal count ++ 10 ∷ []
 
+-- a line for the deny rows, which the second version alone has
+abbrev pub text_of_denies : Version → List RightsRow → List ℕ
+text_of_denies First denies = []
+text_of_denies Second denies = text_of_count (codes "denies") (length denies)
+
 -- a line for each array, and `ok`
 abbrev pub text_of_counts : Declared → List ℕ
 text_of_counts policy =
     text_of_count (codes "clients") (length policy.clients) ++ text_of_count (codes "agents") (length policy.agents)
     ++ text_of_count (codes "regions") (length policy.regions) ++ text_of_count (codes "signals") (length policy.signals)
-    ++ text_of_count (codes "kernels") (length policy.kernels) ++ text_of_count (codes "allows") (length policy.allows)
-    ++ codes "ok\n"
+    ++ text_of_count (codes "kernels") (length policy.kernels) ++ text_of_count (codes "allows") (length policy.rows.allows)
+    ++ text_of_denies policy.version policy.rows.denies ++ codes "ok\n"
 
 -- how the writing of a text ended: it is written and nothing else; or memory was wanted for it, and nothing is written; or the writer
 -- failed behind a beginning of it

@@ -1,7 +1,7 @@
 //! The command that checks a policy.
 
 ghost use Rattle.std.specs.Prelude.{◌≡◌, ◌++◌, IfOk, OnOk, string_bytes, false};
-ghost use Rattle.commands.specs.Commands.{JudgesPolicy, PassesPolicy, none_noted, text_of_count, text_of_counts, WritesText, TellsCounts, ChecksPolicy};
+ghost use Rattle.commands.specs.Commands.{JudgesPolicy, PassesPolicy, none_noted, text_of_count, text_of_counts, text_of_denies, WritesText, TellsCounts, ChecksPolicy};
 ghost use Rattle.commands.specs.declared.noted.Noted.{Noted};
 
 use crate::failure::{Failure, name_failure, tell_end};
@@ -9,7 +9,7 @@ use crate::kernels::check_kernels;
 use crate::noted::Noted;
 use crate::status::Status;
 use access_core::Kernel;
-use policy::{Kind, Policy, read_policy};
+use policy::{Kind, Policy, Version, read_policy};
 use script::{Answers, ScriptFault, flush_once, write_through};
 use std::alloc::{AllocError, Global};
 use std::io;
@@ -21,6 +21,16 @@ fn write_count(out: &mut String, name: &str, count: usize) -> Result<(), AllocEr
     writeln!(out, "{name} {count}")
 }
 
+// Writes how many deny rows a policy has, if its version has any.
+fn write_denies(policy: &Policy, out: &mut String) -> Result<(), AllocError>
+    ensures { OnOk result (string_bytes out.new ≡ string_bytes out.old ++ text_of_denies policy.now.version policy.now.rows.denies) }
+{
+    match policy.version() {
+        Version::First => Ok(()),
+        Version::Second => write_count(out, "denies", policy.rows().denies.len()),
+    }
+}
+
 // Writes how many rows each array of a policy has, a line an array, and then `ok`.
 fn write_rows(policy: &Policy, out: &mut String) -> Result<(), AllocError>
     ensures { OnOk result (string_bytes out.new ≡ string_bytes out.old ++ text_of_counts policy.now) }
@@ -30,7 +40,8 @@ fn write_rows(policy: &Policy, out: &mut String) -> Result<(), AllocError>
     write_count(out, "regions", policy.object_count(Kind::Region))?;
     write_count(out, "signals", policy.object_count(Kind::Signal))?;
     write_count(out, "kernels", policy.object_count(Kind::Kernel))?;
-    write_count(out, "allows", policy.allow_rows().len())?;
+    write_count(out, "allows", policy.rows().allows.len())?;
+    write_denies(policy, out)?;
     writeln!(out, "ok")
 }
 

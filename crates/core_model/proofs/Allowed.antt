@@ -16,12 +16,12 @@ use Rattle.core_model.specs.declared.event.Event.TheVariants.{Grant, Revoke, Ope
 use Rattle.core_model.specs.declared.outcome.Outcome.{Outcome}
 use Rattle.core_model.specs.declared.entry.Effect.{Effect}
 use Rattle.core_model.specs.declared.entry.Entry.{Entry}
-use Rattle.core_model.specs.History.{Start}
+use Rattle.core_model.specs.History.{Start, opening_state}
 use Rattle.policy.specs.Pairs.{is_one_of}
 use Rattle.policy.proofs.PairLemmas.{same_object_is, each_right-has}
 use Rattle.core_model.specs.Grants.{in_force, in_force_after}
 use Rattle.core_model.specs.Owed.{owed, enters}
-use Rattle.core_model.specs.Legal.{IsLegal, IsLegalAfter}
+use Rattle.core_model.specs.Legal.{IsWhole, IsLegalAfter}
 use Rattle.core_model.proofs.More.{in_force-more}
 use Rattle.core_model.proofs.Entered.{grant-effects}
 
@@ -60,9 +60,9 @@ module _ (start : Start) (client : ClientId) (on : Object) (one : Right) where
       subst IsAllowed (append_assoc before (e ∷ []) es)
       (all-after (before ++ e ∷ []) es (λ now. after before e.event e.outcome e.effects legal.0 allowed_so (sym (in_force-more start before e client on one) ∙ now)) legal.1)
 
-  none-yet : IsAllowed []
+  none-yet : start ≡ opening_state start.policy start.kernels → IsAllowed []
   unfolding in_force
-  none-yet now = absurd cc
+  none-yet opens now = let none : start.in_force client on one ≡ false = ap (λ (s : Start). s.in_force client on one) opens in absurd cc
 
-  pub allowed-legal : (es : List Entry) → IsLegal start es → IsAllowed es
-  allowed-legal es legal = all-after [] es none-yet legal
+  pub allowed-legal : (es : List Entry) → IsWhole start es → IsAllowed es
+  allowed-legal es legal = all-after [] es (none-yet legal.opens) legal.legal

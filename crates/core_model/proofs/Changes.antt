@@ -17,7 +17,7 @@ use Rattle.aql_packet.specs.declared.packet.KernelDispatch.{KernelDispatch}
 use Rattle.aql_packet.specs.declared.packet.Packet.{Packet}
 use Rattle.aql_packet.specs.declared.packet.Packet.TheVariants as packet
 use Rattle.executor.specs.Results.{GroupResult, group_result, wrote}
-use Rattle.executor.specs.declared.run.Run.{Run}
+use Rattle.executor.specs.declared.written_range.WrittenRange.{WrittenRange}
 use Rattle.aql_packet.specs.Memory.{are_region_lengths}
 use Rattle.policy.specs.declared.object.Object.TheVariants as object
 use Rattle.policy.specs.declared.rights.Right.TheVariants as right
@@ -52,12 +52,12 @@ use Rattle.core_model.specs.Flight.{flight, flight_of, in_flight, is_packet, pro
 use Rattle.core_model.specs.Needs.{argument, range_at, completion_signal, function_of, result_range}
 use Rattle.core_model.specs.LaunchRules.{is_barrier}
 use Rattle.core_model.specs.Work.{group_count, number_in_memory, write_of, write_of_run, function_writes, function_result, result_writes, agent_writes}
-use Rattle.core_model.specs.Holds.{packet_rights}
+use Rattle.core_model.specs.Holds.{own_rights}
 use Rattle.core_model.specs.View.{given_at_launch, group_input}
 use Rattle.core_model.proofs.Viewing.{IsWithinGrant, runs-granted}
 use Rattle.core_model.specs.Owed.{owed, enters, error_without_place, group_error, barrier_in, signal_decrement, release_of}
-use Rattle.core_model.specs.Legal.{IsLegal}
-use Rattle.core_model.specs.Headline.{ChangeIsGranted, InFlightSince, MayReach, MayReachRange, MayUseSignal, IsReleasedBy, ReleaseIsDue, WriteIsGranted, packet_named, ranges_written, writes_of}
+use Rattle.core_model.specs.Legal.{IsWhole}
+use Rattle.core_model.specs.Headline.{AllInForce, ChangeIsGranted, InFlightSince, MayReach, MayReachRange, MayUseSignal, IsReleasedBy, ReleaseIsDue, WriteIsGranted, packet_named, ranges_written, writes_of}
 use Rattle.core_model.proofs.Lists.{all-left, all-one, all-right, filter-passes, found-all, found-passes}
 use Rattle.core_model.proofs.Holding.{flying-since}
 use Rattle.core_model.proofs.Entered.{named-found, IsQuiet, HasSeen, HasFailed, HasRun, GroupRan, KernelRan, GroupWrote, GroupFaulted, kernel-ended, grant-effects, revoke-effects, open-effects, stop-effects, take-decided, run-entered, poll-entered, finish-entered, write-entered, change-entered}
@@ -170,7 +170,7 @@ module _ (P : Effect → Type 0) where
 
 -- ---- each change, by the event
 
-module _ (start : Start) (es : List Entry) (legal : IsLegal start es) where
+module _ (start : Start) (es : List Entry) (legal : IsWhole start es) where
   -- what is found in flight is one of the packets in flight
   flies : (queue : QueueId) (id : PacketId) (f : InFlight) → in_flight start es queue id ≡ Some f → Contains (flight start es) f
   flies queue id f found = found-all (Contains (flight start es)) (is_packet queue id) (flight start es) f (All-contains_itself (flight start es)) found
@@ -183,8 +183,8 @@ module _ (start : Start) (es : List Entry) (legal : IsLegal start es) where
   -- the changes of an event, given what holds of each kind of change
   module _ (P : Event → Outcome → Effect → Type 0)
       (ran : (told : Outcome) (queue : QueueId) (id : PacketId) (s : InFlightSince start es queue id) (d : AgentDispatch) → s.flying.packet ≡ packet.Agent d → (progress start es queue id).groups_run < group_count s.flying.packet → All (P (RunNext queue id) told) (agent_writes start es d))
-      (kernel_ran : (told : Outcome) (queue : QueueId) (id : PacketId) (s : InFlightSince start es queue id) → All (λ h. in_force start s.launch.before s.launch.opening.client h.0 h.1 ≡ true) (packet_rights start es queue id) →
-      (d : KernelDispatch) → s.flying.packet ≡ packet.Kernel d → (progress start es queue id).groups_run < group_count s.flying.packet → (runs : List Run) →
+      (kernel_ran : (told : Outcome) (queue : QueueId) (id : PacketId) (s : InFlightSince start es queue id) → AllInForce start s.launch.before s.launch.opening.client (own_rights start es queue id) →
+      (d : KernelDispatch) → s.flying.packet ≡ packet.Kernel d → (progress start es queue id).groups_run < group_count s.flying.packet → (runs : List WrittenRange) →
       group_result (group_input start es (given_at_launch start es queue id) d (progress start es queue id).groups_run) ≡ wrote runs → All (P (RunNext queue id) told) (map write_of_run runs))
       (completed_so : (told : Outcome) (queue : QueueId) (id : PacketId) (s : InFlightSince start es queue id) (v : ℤ) → ((completion_signal s.flying.packet).0 == 0) ≡ false → value_of (signals start es) (completion_signal s.flying.packet).0 ≡ Some v →
       P (Finish queue id) told (effect.Signal (completion_signal s.flying.packet) v (applied (Subtract (pos 1)) v)))
@@ -217,7 +217,7 @@ module _ (start : Start) (es : List Entry) (legal : IsLegal start es) where
 
       -- a group that ran, of an agent dispatch or of a kernel, or that faulted
       kernel-changes : (told : Outcome) (effects : List Effect) (queue : QueueId) (id : PacketId) (flying : InFlight) → in_flight start es queue id ≡ Some flying →
-          (s : InFlightSince start es queue id) → All (λ h. in_force start s.launch.before s.launch.opening.client h.0 h.1 ≡ true) (packet_rights start es queue id) →
+          (s : InFlightSince start es queue id) → AllInForce start s.launch.before s.launch.opening.client (own_rights start es queue id) →
           (d : KernelDispatch) → s.flying.packet ≡ packet.Kernel d → (progress start es queue id).groups_run < group_count s.flying.packet →
           (result : GroupResult) → group_result (group_input start es (given_at_launch start es queue id) d (progress start es queue id).groups_run) ≡ result →
           GroupWrote start es told effects queue id d (progress start es queue id).groups_run result ⊎ GroupFaulted start es told effects queue id d (progress start es queue id).groups_run result → All (P (RunNext queue id) told) effects
@@ -230,7 +230,7 @@ module _ (start : Start) (es : List Entry) (legal : IsLegal start es) where
           (named-release (RunNext queue id) (outcome.Worked (worked.Faulted (group_error queue id (progress start es queue id).groups_run fault.item fault.line fault.rule))) queue id (λ f q i. (q, i)) flying found))))
 
       group-changes : (told : Outcome) (effects : List Effect) (queue : QueueId) (id : PacketId) (flying : InFlight) → in_flight start es queue id ≡ Some flying →
-          (since : (s : InFlightSince start es queue id) × (s.flying ≡ flying) × All (λ h. in_force start s.launch.before s.launch.opening.client h.0 h.1 ≡ true) (packet_rights start es queue id)) →
+          (since : (s : InFlightSince start es queue id) × (s.flying ≡ flying) × AllInForce start s.launch.before s.launch.opening.client (own_rights start es queue id)) →
           GroupRan start es told effects flying.packet (progress start es queue id) ⊎ KernelRan start es told effects queue id (given_at_launch start es queue id) flying.packet (progress start es queue id) → All (P (RunNext queue id) told) effects
       group-changes told effects queue id flying found since (inl group) =
           subst (All (P (RunNext queue id) told)) (sym group.effects_are)
@@ -279,7 +279,7 @@ module _ (start : Start) (es : List Entry) (legal : IsLegal start es) where
 
   -- a kernel's group writes where its packet holds WRITE, which was in force at its launch
   kernel-writes : are_region_lengths (region_lengths start.policy) ≡ true → (queue : QueueId) (id : PacketId) (s : InFlightSince start es queue id) →
-      All (λ h. in_force start s.launch.before s.launch.opening.client h.0 h.1 ≡ true) (packet_rights start es queue id) → (d : KernelDispatch) → (progress start es queue id).groups_run < group_count s.flying.packet → (runs : List Run) →
+      AllInForce start s.launch.before s.launch.opening.client (own_rights start es queue id) → (d : KernelDispatch) → (progress start es queue id).groups_run < group_count s.flying.packet → (runs : List WrittenRange) →
       group_result (group_input start es (given_at_launch start es queue id) d (progress start es queue id).groups_run) ≡ wrote runs → All (WriteIsGranted start es (RunNext queue id)) (map write_of_run runs)
   kernel-writes fit queue id s granted d left runs is =
       All-map (WriteIsGranted start es (RunNext queue id)) write_of_run runs

@@ -16,7 +16,7 @@ use Rattle.aql_packet.specs.declared.packet.Packet.{Packet}
 use Rattle.aql_packet.specs.declared.packet.Packet.TheVariants as packet
 use Rattle.aql_packet.specs.Reading.{barrier_bit}
 use Rattle.executor.specs.Results.{GroupResult, broke_rule, group_result, wrote}
-use Rattle.executor.specs.declared.run.Run.{Run}
+use Rattle.executor.specs.declared.written_range.WrittenRange.{WrittenRange}
 use Rattle.policy.specs.Rules.{knows_client, knows_object, are_allowed}
 use Rattle.policy.specs.Policy.{region_lengths, rules_of}
 use Rattle.policy.specs.declared.object.Object.{Object}
@@ -226,7 +226,7 @@ module _ (start : Start) (es : List Entry) (told : Outcome) (effects : List Effe
 
   -- a group of a kernel leaves its writes, or faults and releases its packet
   pub record GroupWrote (queue : QueueId) (id : PacketId) (d : KernelDispatch) (group : ℕ) (result : GroupResult) : Type 0 where
-    pub runs : List Run
+    pub runs : List WrittenRange
     pub result_is : result ≡ wrote runs
     pub effects_are : effects ≡ map write_of_run runs
     pub outcome_is : told ≡ outcome.Worked (worked.Ran group (group_count (packet.Kernel d) - (group + 1)))
@@ -272,6 +272,8 @@ module _ (start : Start) (es : List Entry) (told : Outcome) (effects : List Effe
     pub flying : InFlight
     pub found : in_flight start es queue id ≡ Some flying
     pub outcome_is : told ≡ sighting flying.packet (progress start es queue id).satisfied (newly_seen_positions (signals start es) flying.packet (progress start es queue id).satisfied)
+    pub none_negative : list_any (is_negative (signals start es)) (seen_dependencies flying.packet (progress start es queue id).satisfied) ≡ false
+    pub some : list_any (λ at. at) (newly_seen_positions (signals start es) flying.packet (progress start es queue id).satisfied).0 ≡ true
 
   pub record HasFailed (queue : QueueId) (id : PacketId) : Type 0 where
     pub flying : InFlight
@@ -291,9 +293,9 @@ module _ (start : Start) (es : List Entry) (told : Outcome) (effects : List Effe
       new : Satisfied
       new = newly_seen_positions (signals start es) f.packet satisfied
 
-      some_seen : (b : Bool) → error_of (sighting f.packet satisfied new) ≡ None → (if b then enters (sighting f.packet satisfied new) [] else answers (outcome.Polled (polled_as.Pending NONE_SATISFIED))) ≡ enters told effects → HasSeen queue id
-      some_seen true plain same = record { is_quiet = quiet (sighting f.packet satisfied new) plain same; flying = f; found = found; outcome_is = cc }
-      some_seen false plain same = absurd cc
+      some_seen : (b : Bool) → list_any (λ at. at) new.0 ≡ b → list_any (is_negative (signals start es)) (seen_dependencies f.packet satisfied) ≡ false → error_of (sighting f.packet satisfied new) ≡ None → (if b then enters (sighting f.packet satisfied new) [] else answers (outcome.Polled (polled_as.Pending NONE_SATISFIED))) ≡ enters told effects → HasSeen queue id
+      some_seen true some none plain same = record { is_quiet = quiet (sighting f.packet satisfied new) plain same; flying = f; found = found; outcome_is = cc; none_negative = none; some = some }
+      some_seen false some none plain same = absurd cc
 
       either : (b : Bool) → error_of (outcome.Polled (if b then polled_as.Ready new else polled_as.Pending new)) ≡ None
       either true = refl
@@ -303,7 +305,7 @@ module _ (start : Start) (es : List Entry) (told : Outcome) (effects : List Effe
           (if is then answers (outcome.Polled (polled_as.Ready NONE_SATISFIED)) else if negative then enters (outcome.Polled (polled_as.Failed (error_without_place queue id.0 B1))) (effect.Release queue id ∷ []) else owed_sight f.packet satisfied new) ≡ enters told effects → HasSeen queue id ⊎ HasFailed queue id
       ready true negative looked same = absurd cc
       ready false true looked same = inr (record { flying = f; found = found; effects_are = cc; outcome_is = cc; negative = looked })
-      ready false false looked same = inl (some_seen (list_any (λ at. at) new.0) (either (is_ready f.packet (satisfied_by_either satisfied new))) same)
+      ready false false looked same = inl (some_seen (list_any (λ at. at) new.0) refl looked (either (is_ready f.packet (satisfied_by_either satisfied new))) same)
 
   pub poll-entered : (queue : QueueId) (id : PacketId) → owed start es (Poll queue id) ≡ enters told effects → HasSeen queue id ⊎ HasFailed queue id
   unfolding owed

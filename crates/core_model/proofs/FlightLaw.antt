@@ -10,7 +10,7 @@ use Rattle.core_model.specs.declared.entry.Effect.{Effect}
 use Rattle.core_model.specs.declared.entry.Effect.TheVariants.{Write, Signal, Release}
 use Rattle.core_model.specs.declared.flight.InFlight.{InFlight}
 use Rattle.core_model.specs.History.{effects_of}
-use Rattle.core_model.specs.Flight.{flight, flight_after, flight_after_effect, is_packet, launched_by, releases_packet, with_launched, LawOfFlight, WasLaunchedAndStays}
+use Rattle.core_model.specs.Flight.{flight, flight_after, flight_after_effect, is_packet, launched_by, releases_packet, with_launched, CameAndStays, LawOfFlight, WasLaunchedAndStays}
 
 -- a packet is one of some, item by item
 abbrev among : InFlight → List InFlight → Type 0
@@ -144,15 +144,20 @@ flies (e ∷ es) fs f none h =
     let both = none-split f e.effects (effects_of es) (sym (ap (list_any (releases_packet f)) (effects_of-first e es)) ∙ none) in
     flies es (flight_after fs e) f both.1 (stays e.effects _ f both.0 (with_launched-left fs (launched_by e.event e.outcome) f h))
 
-launched-flies : (before since : List Entry) (e : Entry) (f : InFlight) → launched_by e.event e.outcome ≡ Some f → list_any (releases_packet f) (effects_of (e ∷ since)) ≡ false → among f (fold flight_after [] (before ++ e ∷ since))
-launched-flies before since e f launched none =
+launched-flies : (fs : List InFlight) (before since : List Entry) (e : Entry) (f : InFlight) → launched_by e.event e.outcome ≡ Some f → list_any (releases_packet f) (effects_of (e ∷ since)) ≡ false → among f (fold flight_after fs (before ++ e ∷ since))
+launched-flies fs before since e f launched none =
     let both = none-split f e.effects (effects_of since) (sym (ap (list_any (releases_packet f)) (effects_of-first e since)) ∙ none) in
-    rw (fold-append flight_after [] before (e ∷ since))
-    (flies since _ f both.1 (stays e.effects _ f both.0 (with_launched-last (fold flight_after [] before) _ f launched)))
+    rw (fold-append flight_after fs before (e ∷ since))
+    (flies since _ f both.1 (stays e.effects _ f both.0 (with_launched-last (fold flight_after fs before) _ f launched)))
 
 pub law-of_flight : LawOfFlight
 unfolding flight
-law-of_flight start entries f = (
-  (λ h. elim (flown entries [] f (among-Contains (fold flight_after [] entries) f h)) [ inl both ↦ absurd both.0 | inr launched ↦ launched ]),
-  (λ w. subst (λ es. Contains (fold flight_after [] es) f) (sym w.entries_are) (Contains-among _ f (launched-flies w.before w.since w.launch f w.launches w.stays))),
-)
+law-of_flight start entries f = (λ h. there (flown entries start.flight f (among-Contains (fold flight_after start.flight entries) f h)), back)
+  where
+    there : (among f start.flight × (list_any (releases_packet f) (effects_of entries) ≡ false)) ⊎ WasLaunchedAndStays entries f → CameAndStays start entries f
+    there (inl both) = inl (Contains-among start.flight f both.0, both.1)
+    there (inr launched) = inr launched
+
+    back : CameAndStays start entries f → Contains (fold flight_after start.flight entries) f
+    back (inl both) = Contains-among _ f (flies entries start.flight f both.1 (among-Contains start.flight f both.0))
+    back (inr w) = subst (λ es. Contains (fold flight_after start.flight es) f) (sym w.entries_are) (Contains-among _ f (launched-flies start.flight w.before w.since w.launch f w.launches w.stays))

@@ -1,8 +1,8 @@
 -- What packets in flight hold is in force: no revocation takes what one of them holds.
 use Rattle.std.proofs.Common.{◌≡◌, ℕ, ◌-◌, ◌<◌, List, [], ◌∷◌, ◌++◌, refl, sym, ◌∙◌, ap, subst, Bool, true, false, Option, Some, None, arith, append_assoc, zero, suc}
-use Rattle.std.specs.Prelude.{All, slice_get, nat_lt, filter, map, not, ◌&&◌, ◌||◌, ◌==◌, if◌then◌else◌}
+use Rattle.std.specs.Prelude.{All, get_or, option_map, slice_get, nat_lt, filter, map, not, ◌&&◌, ◌||◌, ◌==◌, if◌then◌else◌}
 use Rattle.std.specs.List.{flat_map, list_all, list_any}
-use Rattle.std.proofs.lemmas.Bool.{and_from, and_parts, eq-eqb}
+use Rattle.std.proofs.lemmas.Bool.{and_from, and_parts, eq-eqb, eqb-true}
 use Rattle.std.proofs.lemmas.List.{append-nil}
 use Rattle.std.proofs.lemmas.List.Elements.{All-nil, All-cons, All-head, All-tail, All-append, All-map, All-weaker}
 use Rattle.aql_packet.specs.declared.ids.ClientId.{ClientId}
@@ -18,87 +18,56 @@ use Rattle.policy.specs.declared.object.Object.TheVariants as object
 use Rattle.policy.specs.declared.rights.Right.{Right}
 use Rattle.policy.specs.declared.rights.Rights.{Rights}
 use Rattle.policy.specs.Object.{same_object}
-use Rattle.policy.specs.Rights.{all_rights, has}
+use Rattle.policy.specs.Rights.{all_rights, bit_of, has}
+use Rattle.policy.specs.declared.rights.Right.TheVariants as right
 use Rattle.queue_error.specs.declared.rule.Rule.{Rule}
 use Rattle.queue_error.specs.declared.rule.Rule.TheVariants as rule
 use Rattle.core_model.specs.declared.event.Event.{Event}
 use Rattle.core_model.specs.declared.event.Event.TheVariants.{Grant, Revoke, OpenQueue, Stop, Take, RunNext, Poll, Finish, HostWrite, ChangeSignal}
 use Rattle.core_model.specs.declared.outcome.Outcome.TheVariants as outcome
 use Rattle.core_model.specs.declared.outcome.Taken.TheVariants.{Launched}
+use Rattle.core_model.specs.declared.entry.Effect.{Effect}
 use Rattle.core_model.specs.declared.entry.Entry.{Entry}
 use Rattle.core_model.specs.declared.flight.InFlight.{InFlight}
 use Rattle.core_model.specs.declared.need.Need.{Need}
-use Rattle.core_model.specs.History.{Start}
+use Rattle.core_model.specs.History.{Start, opening_state}
 use Rattle.policy.specs.Pairs.{is_one_of}
 use Rattle.core_model.specs.Grants.{in_force, in_force_after}
 use Rattle.core_model.specs.Queues.{Opening, owner, openings, opening_of, next_id}
-use Rattle.core_model.specs.Flight.{flight, in_flight, is_packet, launched_by}
+use Rattle.core_model.specs.Flight.{flight, in_flight, is_packet, launched_by, releases, releases_packet}
 use Rattle.core_model.specs.Needs.{needs, object_of}
 use Rattle.core_model.specs.LaunchRules.{Facts, holds_rule, need_is_met, launch_rules, lies_whole}
 use Rattle.core_model.specs.Kernels.{argument_block, kernel_of, wide_arguments}
-use Rattle.core_model.specs.Holds.{ObjectRight, all_in_force, arguments, arguments_if, arguments_of, right_needed, from_launch, packet_rights, rights_at_launch, held_by_arguments, held_by_needs, held_by_pointer, rights_of_launch, is_launch, holds_one_of, is_queue_of, is_up_to, least_in_flight}
+use Rattle.core_model.specs.Holds.{ObjectRight, all_in_force, along, arguments, arguments_if, arguments_of, held, held_after, right_needed, rights_at_launch, gives, own_rights, held_by_arguments, held_by_needs, held_by_pointer, is_among, is_launch, holds_one_of, is_up_to, least_in_flight}
 use Rattle.core_model.specs.Owed.{owed, enters, facts_of}
-use Rattle.core_model.specs.Legal.{IsLegal, entry_of}
-use Rattle.core_model.specs.Headline.{HasItsRights, HoldsInForce, InFlightSince, Launch}
+use Rattle.core_model.specs.Legal.{IsWhole, entry_of}
+use Rattle.core_model.specs.Headline.{AllInForce, HasItsRights, HoldsInForce, InFlightSince, Launch}
 use Rattle.core_model.proofs.Lists.{filter-passes, found-all, none-passes, all-from_list_all, all-left, all-right}
-use Rattle.core_model.proofs.More.{openings-more, with_some, in_force-more}
-use Rattle.core_model.proofs.Launches.{launched_by-is, was_launched, AreBelowNext-legal}
+use Rattle.core_model.proofs.More.{arguments-more, held-more, in_force-more, openings-more, with_some}
+use Rattle.core_model.proofs.Launches.{AreBelowNext-legal, IsNext-from_owed, launched_by-is, was_launched}
+use Rattle.core_model.proofs.Viewing.{among-granted}
+use Rattle.policy.proofs.PairLemmas.{same_object_is}
+use Rattle.std.proofs.lemmas.List.Folds.{list_any-append}
 use Rattle.core_model.proofs.Flying.{flying-legal}
 use Rattle.core_model.proofs.Entered.{named-found, revoke-effects}
 use Rattle.core_model.proofs.Launching.{launch-granted, has-rights, needs-met}
 
--- ---- what a packet holds stays what its launch gave it
+-- ---- a packet that wasn't launched holds nothing
 
-module _ {X : Type 0} (give : List Entry → Option InFlight → List X) where
-  -- what a packet's launch gave it stays
-  pub from_launch-kept : (before es more : List Entry) (queue : QueueId) (id : PacketId) → was_launched es queue id ≡ true → from_launch give before (es ++ more) queue id ≡ from_launch give before es queue id
-  from_launch-kept before [] more queue id launched = absurd (cc)
-  from_launch-kept before (x ∷ xs) more queue id launched =
-      by_test (is_launch queue id (launched_by x.event x.outcome)) refl (from_launch-kept (before ++ x ∷ []) xs more queue id)
+module _ (start : Start) (queue : QueueId) (id : PacketId) (client : ClientId) (on : Object) (right : Right) where
+  none-along : (before es : List Entry) → was_launched es queue id ≡ false → along (held_after start queue id client on right) before false es ≡ false
+  none-along before [] none = refl
+  none-along before (e ∷ es) none = by_test (is_launch queue id (launched_by e.event e.outcome)) refl (none-along (before ++ e ∷ []) es)
     where
-      by_test : (b : Bool) → is_launch queue id (launched_by x.event x.outcome) ≡ b
-          → (was_launched xs queue id ≡ true → from_launch give (before ++ x ∷ []) (xs ++ more) queue id ≡ from_launch give (before ++ x ∷ []) xs queue id)
-          → from_launch give before (x ∷ (xs ++ more)) queue id ≡ from_launch give before (x ∷ xs) queue id
-      by_test true is rest = rw is refl
-      by_test false is rest = rw is (rest (rw is at launched))
-
-  -- an entry that launches another, or none, gives it nothing
-  pub from_launch-other : (before es : List Entry) (e : Entry) (queue : QueueId) (id : PacketId) → is_launch queue id (launched_by e.event e.outcome) ≡ false → from_launch give before (es ++ e ∷ []) queue id ≡ from_launch give before es queue id
-  from_launch-other before [] e queue id other = rw other refl
-  from_launch-other before (x ∷ xs) e queue id other =
-      by_test (is_launch queue id (launched_by x.event x.outcome)) refl (from_launch-other (before ++ x ∷ []) xs e queue id other)
-    where
-      by_test : (b : Bool) → is_launch queue id (launched_by x.event x.outcome) ≡ b
-          → from_launch give (before ++ x ∷ []) (xs ++ e ∷ []) queue id ≡ from_launch give (before ++ x ∷ []) xs queue id
-          → from_launch give before (x ∷ (xs ++ e ∷ [])) queue id ≡ from_launch give before (x ∷ xs) queue id
-      by_test true is rest = rw is refl
-      by_test false is rest = rw is rest
-
-  -- one that wasn't launched has nothing
-  pub from_launch-none : (before es : List Entry) (queue : QueueId) (id : PacketId) → was_launched es queue id ≡ false → from_launch give before es queue id ≡ []
-  from_launch-none before [] queue id none = refl
-  from_launch-none before (x ∷ xs) queue id none =
-      by_test (is_launch queue id (launched_by x.event x.outcome)) refl (from_launch-none (before ++ x ∷ []) xs queue id)
-    where
-      by_test : (b : Bool) → is_launch queue id (launched_by x.event x.outcome) ≡ b
-          → (was_launched xs queue id ≡ false → from_launch give (before ++ x ∷ []) xs queue id ≡ [])
-          → from_launch give before (x ∷ xs) queue id ≡ []
+      by_test : (b : Bool) → is_launch queue id (launched_by e.event e.outcome) ≡ b → (was_launched es queue id ≡ false → along (held_after start queue id client on right) (before ++ e ∷ []) false es ≡ false)
+          → along (held_after start queue id client on right) before false (e ∷ es) ≡ false
       by_test true is rest = absurd (cc (rw is at none))
       by_test false is rest = rw is (rest (rw is at none))
 
-  -- and it has, from the entry that launches it on, what its launch gives it
-  pub from_launch-launch : (before es : List Entry) (e : Entry) (queue : QueueId) (id : PacketId) → was_launched es queue id ≡ false → is_launch queue id (launched_by e.event e.outcome) ≡ true → from_launch give before (es ++ e ∷ []) queue id ≡ give (before ++ es) (launched_by e.event e.outcome)
-  from_launch-launch before [] e queue id none now = rw (now, append-nil) refl
-  from_launch-launch before (x ∷ xs) e queue id none now =
-      by_test (is_launch queue id (launched_by x.event x.outcome)) refl (λ others. from_launch-launch (before ++ x ∷ []) xs e queue id others now)
-    where
-      by_test : (b : Bool) → is_launch queue id (launched_by x.event x.outcome) ≡ b
-          → (was_launched xs queue id ≡ false → from_launch give (before ++ x ∷ []) (xs ++ e ∷ []) queue id ≡ give ((before ++ x ∷ []) ++ xs) (launched_by e.event e.outcome))
-          → from_launch give before (x ∷ (xs ++ e ∷ [])) queue id ≡ give (before ++ x ∷ xs) (launched_by e.event e.outcome)
-      by_test true is rest = absurd (cc (rw is at none))
-      by_test false is rest =
-          rw is (rest (rw is at none))
-          ∙ ap (λ (es : List Entry). give es (launched_by e.event e.outcome)) (append_assoc before (x ∷ []) xs)
+  pub held-none : start ≡ opening_state start.policy start.kernels → (es : List Entry) → was_launched es queue id ≡ false → held start es queue id client on right ≡ false
+  unfolding held
+  held-none opens es none =
+      ap (λ (s : Start). along (held_after start queue id client on right) [] (s.held queue id client on right) es) opens ∙ none-along [] es none
 
 -- a queue stays whose it is
 slice_get-more : {X : Type 0} (xs : List X) (x y : X) (k : ℕ) → slice_get xs k ≡ Some x → slice_get (xs ++ y ∷ []) k ≡ Some x
@@ -170,49 +139,50 @@ filtered-none test (f ∷ fs) none = by_test (test f) refl none (filtered-none t
 
 -- ---- a revocation that was made names nothing that is held
 
-numbers-turned : (n m : ℕ) → (n == m) ≡ (m == n)
-numbers-turned n m = grind arith
+object-itself : (on : Object) → same_object on on ≡ true
+object-itself (object.Agent a) = eq-eqb a.0 a.0 refl
+object-itself (object.Region a) = eq-eqb a.0 a.0 refl
+object-itself (object.Signal a) = eq-eqb a.0 a.0 refl
+object-itself (object.Kernel a) = eq-eqb a.0 a.0 refl
 
-same-turned : (a b : Object) → same_object a b ≡ same_object b a
-same-turned (object.Agent a) (object.Agent b) = numbers-turned a.0 b.0
-same-turned (object.Region a) (object.Region b) = numbers-turned a.0 b.0
-same-turned (object.Signal a) (object.Signal b) = numbers-turned a.0 b.0
-same-turned (object.Kernel a) (object.Kernel b) = numbers-turned a.0 b.0
-same-turned (object.Agent a) (object.Region b) = refl
-same-turned (object.Agent a) (object.Signal b) = refl
-same-turned (object.Agent a) (object.Kernel b) = refl
-same-turned (object.Region a) (object.Agent b) = refl
-same-turned (object.Region a) (object.Signal b) = refl
-same-turned (object.Region a) (object.Kernel b) = refl
-same-turned (object.Signal a) (object.Agent b) = refl
-same-turned (object.Signal a) (object.Region b) = refl
-same-turned (object.Signal a) (object.Kernel b) = refl
-same-turned (object.Kernel a) (object.Agent b) = refl
-same-turned (object.Kernel a) (object.Region b) = refl
-same-turned (object.Kernel a) (object.Signal b) = refl
+-- each right of a list is among it
+all-among : (hs : List ObjectRight) → All (λ h. is_among hs h.0 h.1 ≡ true) hs
+all-among [] = All-nil _
+all-among (h ∷ hs) =
+    All-cons (λ g. is_among (h ∷ hs) g.0 g.1 ≡ true) h hs (rw (and_from _ _ (object-itself h.0) (eq-eqb (bit_of h.1) (bit_of h.1) refl)) refl)
+    (All-weaker (λ g. is_among hs g.0 g.1 ≡ true) (λ g. is_among (h ∷ hs) g.0 g.1 ≡ true) (λ g is. or-right (same_object g.0 h.0 && (bit_of h.1 == bit_of g.1)) _ is) hs (all-among hs))
+  where
+    or-right : (a b : Bool) → b ≡ true → (a || b) ≡ true
+    or-right true b is = refl
+    or-right false b is = is
+
+any-right : (test : Right → Bool) (one : Right) → test one ≡ true → list_any test all_rights ≡ true
+any-right test right.Use is = grind (arith, is)
+any-right test right.Read is = grind (arith, is)
+any-right test right.Write is = grind (arith, is)
+any-right test right.Wait is = grind (arith, is)
+any-right test right.Change is = grind (arith, is)
+any-right test right.Launch is = grind (arith, is)
 
 -- rights that are in force stay so where none of them is named
 unnamed-stay : (client named : ClientId) (on : Object) (rights : Rights) (before : Object → Right → Bool) (hs : List ObjectRight) →
-    (client.0 == named.0 && list_any (λ h. same_object on h.0 && has rights h.1) hs) ≡ false → All (λ h. before h.0 h.1 ≡ true) hs →
+    (client.0 == named.0 && list_any (λ one. has rights one && is_among hs on one) all_rights) ≡ false → All (λ h. before h.0 h.1 ≡ true) hs →
     All (λ h. (before h.0 h.1 && not (is_one_of client h.0 h.1 named on rights)) ≡ true) hs
-unnamed-stay client named on rights before [] none all = All-nil _
-unnamed-stay client named on rights before (h ∷ hs) none all =
-    let parts = spread (client.0 == named.0) (same_object on h.0 && has rights h.1) (list_any (λ g. same_object on g.0 && has rights g.1) hs) none in
-    All-cons (λ g. (before g.0 g.1 && not (is_one_of client g.0 g.1 named on rights)) ≡ true) h hs
-    (stays (before h.0 h.1) (All-head (λ g. before g.0 g.1 ≡ true) h hs all) (gathered (client.0 == named.0) (same_object h.0 on) (has rights h.1) ∙ ap (λ b. client.0 == named.0 && (b && has rights h.1)) (same-turned h.0 on) ∙ parts.0))
-    (unnamed-stay client named on rights before hs parts.1 (All-tail (λ g. before g.0 g.1 ≡ true) h hs all))
+unnamed-stay client named on rights before hs none all = λ k d below. stays (get_or hs k d) (all k d below) (all-among hs k d below)
   where
-    spread : (a b c : Bool) → (a && (b || c)) ≡ false → ((a && b) ≡ false) × ((a && c) ≡ false)
-    spread true true c same = absurd cc
-    spread true false c same = (refl, same)
-    spread false b c same = (refl, refl)
-
-    gathered : (a b c : Bool) → ((a && b) && c) ≡ (a && (b && c))
-    gathered true b c = refl
-    gathered false b c = refl
-
-    stays : (b : Bool) → b ≡ true → is_one_of client h.0 h.1 named on rights ≡ false → (b && not (is_one_of client h.0 h.1 named on rights)) ≡ true
-    stays b is unnamed = rw (is, unnamed) refl
+    stays : (h : ObjectRight) → before h.0 h.1 ≡ true → is_among hs h.0 h.1 ≡ true → (before h.0 h.1 && not (is_one_of client h.0 h.1 named on rights)) ≡ true
+    stays h is here = by_test (is_one_of client h.0 h.1 named on rights) refl
+      where
+        by_test : (b : Bool) → is_one_of client h.0 h.1 named on rights ≡ b → (before h.0 h.1 && not (is_one_of client h.0 h.1 named on rights)) ≡ true
+        by_test false other = rw (is, other) refl
+        by_test true names =
+            let rest = and_parts (client.0 == named.0 && same_object h.0 on) (has rights h.1) names in
+            let both = and_parts (client.0 == named.0) (same_object h.0 on) rest.0 in
+            let on_is : h.0 ≡ on = same_object_is h.0 on both.1 in
+            let held_so : is_among hs on h.1 ≡ true = subst (λ o. is_among hs o h.1 ≡ true) on_is here in
+            let some : list_any (λ one. has rights one && is_among hs on one) all_rights ≡ true = any-right (λ one. has rights one && is_among hs on one) h.1 (and_from _ _ rest.1 held_so) in
+            let whole : (client.0 == named.0 && list_any (λ one. has rights one && is_among hs on one) all_rights) ≡ true = and_from _ _ both.0 some in
+            absurd cc
 
 -- ---- what a packet in flight holds is in force
 
@@ -221,14 +191,11 @@ pub record HoldsNow (start : Start) (es : List Entry) (f : InFlight) : Type 0 wh
   pub launch : Launch start es f.queue f.id
   pub packet_is : launch.packet ≡ f.packet
   pub owner_is : owner start es f.queue ≡ Some launch.opening
-  pub held_is : packet_rights start es f.queue f.id ≡ rights_at_launch start launch.before launch.opening f.packet
+  pub held_is : (client : ClientId) (on : Object) (right : Right) →
+      held start es f.queue f.id client on right ≡ (launch.opening.client.0 == client.0 && is_among (rights_at_launch start launch.before launch.opening f.packet) on right)
   pub arguments_are : arguments start es f.queue f.id ≡ arguments_of start launch.before f.packet
   pub granted_then : All (λ h. in_force start launch.before launch.opening.client h.0 h.1 ≡ true) (rights_at_launch start launch.before launch.opening f.packet)
   pub granted : All (λ h. in_force start es launch.opening.client h.0 h.1 ≡ true) (rights_at_launch start launch.before launch.opening f.packet)
-
--- what a launch behind these entries gives a packet of a queue to hold
-abbrev pub holds-from : Start → QueueId → List Entry → Option InFlight → List ObjectRight
-holds-from start queue before f = rights_of_launch start before (owner start before queue) f
 
 module _ (start : Start) (es : List Entry) (e : Entry) where
   abbrev later : List Entry
@@ -244,38 +211,84 @@ module _ (start : Start) (es : List Entry) (e : Entry) where
     allowed = l.allowed;
   }
 
-  pub was-launched : (queue : QueueId) (id : PacketId) (before : List Entry) (opening : Opening) (p : Packet) → packet_rights start es queue id ≡ rights_at_launch start before opening p → was_launched es queue id ≡ true
-  was-launched queue id before opening p is = by_test (was_launched es queue id) refl
+  pub was-launched : (queue : QueueId) (id : PacketId) → Launch start es queue id → was_launched es queue id ≡ true
+  was-launched queue id l =
+      let entry = entry_of (Take queue id l.bytes) (outcome.Taken Launched) [] in
+      let read : launched_by (Take queue id l.bytes) (outcome.Taken Launched) ≡ Some (record { queue = queue; id = id; packet = l.packet }) =
+      ap (option_map (λ p. record { queue = queue; id = id; packet = p })) l.allowed.is_read in
+      let itself : is_packet queue id (record { queue = queue; id = id; packet = l.packet }) ≡ true = and_from _ _ (eq-eqb queue.0 queue.0 refl) (eq-eqb id.0 id.0 refl) in
+      let here : is_launch queue id (launched_by (Take queue id l.bytes) (outcome.Taken Launched)) ≡ true = rw read itself in
+      ap (λ (all : List Entry). was_launched all queue id) l.place.whole
+      ∙ list_any-append (λ (x : Entry). is_launch queue id (launched_by x.event x.outcome)) l.before (entry ∷ l.place.after)
+      ∙ (rw here (or-true (was_launched l.before queue id)))
     where
-      by_test : (b : Bool) → was_launched es queue id ≡ b → was_launched es queue id ≡ true
-      by_test true was = was
-      by_test false was = let none = from_launch-none (holds-from start queue) [] es queue id was in absurd (cc)
+      or-true : (b : Bool) → (b || true) ≡ true
+      or-true true = refl
+      or-true false = refl
+
+  -- a packet that was launched isn't launched again
+  pub launched-once : IsWhole start es → owed start es e.event ≡ enters e.outcome e.effects → (queue : QueueId) (id : PacketId) → was_launched es queue id ≡ true → is_launch queue id (launched_by e.event e.outcome) ≡ false
+  launched-once legal owing queue id was = by_launch (launched_by e.event e.outcome) refl
+    where
+      by_launch : (o : Option InFlight) → launched_by e.event e.outcome ≡ o → is_launch queue id o ≡ false
+      by_launch None is = refl
+      by_launch (Some g) is = by_test (is_packet queue id g) refl
+        where
+          by_test : (b : Bool) → is_packet queue id g ≡ b → is_packet queue id g ≡ false
+          by_test false other = other
+          by_test true same =
+              let both = and_parts (g.queue.0 == queue.0) _ same in
+              let queue_is : g.queue ≡ queue = ap (λ n. record { 0 = n }) (eqb-true _ _ both.0) in
+              let id_is : g.id.0 ≡ id.0 = eqb-true _ _ both.1 in
+              let launch = launched_by-is e.event e.outcome g is in
+              let next = IsNext-from_owed start es g.queue g.id launch.bytes e.outcome e.effects (rw launch.event_is at owing) in
+              let next_is : g.id.0 ≡ next_id start es queue = subst (λ q. g.id.0 ≡ next_id start es q) queue_is next.id_is in
+              let below : id.0 < next_id start es queue = AreBelowNext-legal start es legal queue id was in
+              absurd (omega arith)
+
+  -- a packet holds what it held, unless an entry launches or releases it
+  pub held-kept : (queue : QueueId) (id : PacketId) → is_launch queue id (launched_by e.event e.outcome) ≡ false → list_any (releases queue id) e.effects ≡ false →
+      (client : ClientId) (on : Object) (right : Right) → held start later queue id client on right ≡ held start es queue id client on right
+  held-kept queue id none stays client on right = held-more start es e queue id client on right ∙ (rw (none, stays) (same (held start es queue id client on right)))
+    where
+      same : (b : Bool) → ((b || false) && true) ≡ b
+      same true = refl
+      same false = refl
+
+  pub arguments-kept : (queue : QueueId) (id : PacketId) → is_launch queue id (launched_by e.event e.outcome) ≡ false → list_any (releases queue id) e.effects ≡ false → arguments start later queue id ≡ arguments start es queue id
+  arguments-kept queue id none stays = arguments-more start es e queue id ∙ (rw (stays, none) refl)
 
   -- one entry more, after which the rights are in force yet
-  holds-more : (f : InFlight) (h : HoldsNow start es f) →
+  holds-more : IsWhole start es → owed start es e.event ≡ enters e.outcome e.effects → (f : InFlight) (h : HoldsNow start es f) → list_any (releases_packet f) e.effects ≡ false →
       All (λ g. in_force_after h.launch.opening.client g.0 g.1 (in_force start es h.launch.opening.client g.0 g.1) e.event ≡ true) (rights_at_launch start h.launch.before h.launch.opening f.packet) → HoldsNow start later f
-  holds-more f h stays = record {
-    launch = launch-more f.queue f.id h.launch;
-    packet_is = h.packet_is;
-    owner_is = owner-more start es e f.queue h.launch.opening h.owner_is;
-    held_is = from_launch-kept (holds-from start f.queue) [] es (e ∷ []) f.queue f.id (was-launched f.queue f.id h.launch.before h.launch.opening f.packet h.held_is) ∙ h.held_is;
-    arguments_are = from_launch-kept (arguments_if start) [] es (e ∷ []) f.queue f.id (was-launched f.queue f.id h.launch.before h.launch.opening f.packet h.held_is) ∙ h.arguments_are;
-    granted_then = h.granted_then;
-    granted = All-weaker (λ g. in_force_after h.launch.opening.client g.0 g.1 (in_force start es h.launch.opening.client g.0 g.1) e.event ≡ true) (λ g. in_force start later h.launch.opening.client g.0 g.1 ≡ true)
-        (λ g is. in_force-more start es e h.launch.opening.client g.0 g.1 ∙ is) (rights_at_launch start h.launch.before h.launch.opening f.packet) stays;
-  }
+  holds-more legal owing f h stays in_force_yet =
+      let none = launched-once legal owing f.queue f.id (was-launched f.queue f.id h.launch) in
+      record {
+        launch = launch-more f.queue f.id h.launch;
+        packet_is = h.packet_is;
+        owner_is = owner-more start es e f.queue h.launch.opening h.owner_is;
+        held_is = λ client on right. held-kept f.queue f.id none stays client on right ∙ h.held_is client on right;
+        arguments_are = arguments-kept f.queue f.id none stays ∙ h.arguments_are;
+        granted_then = h.granted_then;
+        granted = All-weaker (λ g. in_force_after h.launch.opening.client g.0 g.1 (in_force start es h.launch.opening.client g.0 g.1) e.event ≡ true) (λ g. in_force start later h.launch.opening.client g.0 g.1 ≡ true)
+            (λ g is. in_force-more start es e h.launch.opening.client g.0 g.1 ∙ is) (rights_at_launch start h.launch.before h.launch.opening f.packet) in_force_yet;
+      }
 
   -- what an event does to rights in force that are held by none that it names
   kept-by : (event : Event) (f : InFlight) (h : HoldsNow start es f) →
-      ((client : ClientId) (on : Object) (rights : Rights) → event ≡ Revoke client on rights → (is_queue_of start es client f.queue && list_any (λ g. same_object on g.0 && has rights g.1) (packet_rights start es f.queue f.id)) ≡ false) →
+      ((client : ClientId) (on : Object) (rights : Rights) → event ≡ Revoke client on rights → holds_one_of start es client on rights f ≡ false) →
       All (λ g. in_force_after h.launch.opening.client g.0 g.1 (in_force start es h.launch.opening.client g.0 g.1) event ≡ true) (rights_at_launch start h.launch.before h.launch.opening f.packet)
   kept-by (Grant c o rights) f h none =
       All-weaker (λ g. in_force start es h.launch.opening.client g.0 g.1 ≡ true) (λ g. (in_force start es h.launch.opening.client g.0 g.1 || is_one_of h.launch.opening.client g.0 g.1 c o rights) ≡ true)
       (λ g is. rw is refl) (rights_at_launch start h.launch.before h.launch.opening f.packet) h.granted
   kept-by (Revoke c o rights) f h none =
-      let own : is_queue_of start es c f.queue ≡ (h.launch.opening.client.0 == c.0) = ap (λ (found : Option Opening). elim found [ None ↦ false | Some opening ↦ opening.client.0 == c.0 ]) h.owner_is in
-      let named = λ (g : ObjectRight). same_object o g.0 && has rights g.1 in
-      unnamed-stay h.launch.opening.client c o rights (in_force start es h.launch.opening.client) (rights_at_launch start h.launch.before h.launch.opening f.packet) (sym (λ i. own i && list_any named (h.held_is i)) ∙ none c o rights refl) h.granted
+      unnamed-stay h.launch.opening.client c o rights (in_force start es h.launch.opening.client) (rights_at_launch start h.launch.before h.launch.opening f.packet)
+      (sym (any-own (h.launch.opening.client.0 == c.0) (is_among (rights_at_launch start h.launch.before h.launch.opening f.packet) o) all_rights)
+      ∙ sym (λ i. list_any (λ one. has rights one && h.held_is c o one i) all_rights) ∙ none c o rights refl) h.granted
+    where
+      any-own : (own : Bool) (test : Right → Bool) (all : List Right) → list_any (λ one. has rights one && (own && test one)) all ≡ (own && list_any (λ one. has rights one && test one) all)
+      any-own own test [] = grind arith
+      any-own own test (one ∷ more) = grind (arith, any-own own test more)
   kept-by (OpenQueue _ _ _) f h none = h.granted
   kept-by (Stop _) f h none = h.granted
   kept-by (Take _ _ _) f h none = h.granted
@@ -287,15 +300,15 @@ module _ (start : Start) (es : List Entry) (e : Entry) where
 
   -- a revocation that was made names nothing that a packet in flight holds
   unheld : owed start es e.event ≡ enters e.outcome e.effects → (client : ClientId) (on : Object) (rights : Rights) → e.event ≡ Revoke client on rights →
-      All (λ f. (is_queue_of start es client f.queue && holds_one_of start es on rights f) ≡ false) (flight start es)
+      All (λ f. holds_one_of start es client on rights f ≡ false) (flight start es)
   unheld owing client on rights is =
       let revoked = revoke-effects start es e.outcome e.effects client on rights (rw is at owing) in
-      filtered-none (λ f. is_queue_of start es client f.queue && holds_one_of start es on rights f) (flight start es) (least-none _ revoked.unheld)
+      filtered-none (holds_one_of start es client on rights) (flight start es) (least-none _ revoked.unheld)
 
-  more : IsLegal start es → owed start es e.event ≡ enters e.outcome e.effects → All (HoldsNow start es) (flight start es) → All (HoldsNow start later) (flight start es)
-  more legal owing all k d below =
+  more : IsWhole start es → owed start es e.event ≡ enters e.outcome e.effects → All (HoldsNow start es) (flight start es) → All (λ f. list_any (releases_packet f) e.effects ≡ false → HoldsNow start later f) (flight start es)
+  more legal owing all k d below stays =
       let h = all k d below in
-      holds-more _ h (kept-by e.event _ h (λ client on rights is. unheld owing client on rights is k d below))
+      holds-more legal owing _ h stays (kept-by e.event _ h (λ client on rights is. unheld owing client on rights is k d below))
 
   -- ---- at its launch
 
@@ -329,8 +342,24 @@ module _ (start : Start) (es : List Entry) (e : Entry) where
   arguments-held client (packet.BarrierAnd _) = All-nil _
   arguments-held client (packet.BarrierOr _) = All-nil _
 
+  -- what a launch gives
+  given : (opening : Opening) (f : InFlight) → is_packet f.queue f.id f ≡ true → (client : ClientId) (on : Object) (right : Right) (was : Bool) (o : Option InFlight) (owned : Option Opening) (effects : List Effect) →
+      was ≡ false → o ≡ Some f → owned ≡ Some opening → effects ≡ [] →
+      ((was || (is_launch f.queue f.id o && gives start es client on right owned o)) && not (list_any (releases f.queue f.id) effects))
+      ≡ (opening.client.0 == client.0 && is_among (rights_at_launch start es opening f.packet) on right)
+  given opening f itself client on right was o owned effects none launches owner_is nothing =
+      rw (none, launches, owner_is, nothing, itself) (plain (opening.client.0 == client.0 && is_among (rights_at_launch start es opening f.packet) on right))
+    where
+      plain : (b : Bool) → (b && true) ≡ b
+      plain true = refl
+      plain false = refl
+
+  given-arguments : (f : InFlight) → is_packet f.queue f.id f ≡ true → (was : List ℕ) (o : Option InFlight) (effects : List Effect) → o ≡ Some f → effects ≡ [] →
+      (if list_any (releases f.queue f.id) effects then [] else if is_launch f.queue f.id o then arguments_if start es o else was) ≡ arguments_of start es f.packet
+  given-arguments f itself was o effects launches nothing = rw (launches, nothing, itself) refl
+
   -- whatever packet a launch is told of, it holds what its launch gives it
-  launched : IsLegal start es → owed start es e.event ≡ enters e.outcome e.effects → (f : InFlight) → launched_by e.event e.outcome ≡ Some f → HoldsNow start later f
+  launched : IsWhole start es → owed start es e.event ≡ enters e.outcome e.effects → (f : InFlight) → launched_by e.event e.outcome ≡ Some f → HoldsNow start later f
   launched legal owing f launches =
       let launch = launched_by-is e.event e.outcome f launches in
       let event_is = launch.event_is in
@@ -341,7 +370,6 @@ module _ (start : Start) (es : List Entry) (e : Entry) where
       let entry_is : e ≡ entry_of (Take f.queue f.id launch.bytes) (outcome.Taken Launched) [] = λ i. record { event = event_is i; outcome = outcome_is i; effects = granted.effects_are i } in
       let none : was_launched es f.queue f.id ≡ false = by_test (was_launched es f.queue f.id) refl granted.allowed.id_is_next in
       let itself : is_packet f.queue f.id f ≡ true = and_from _ _ (eq-eqb f.queue.0 f.queue.0 refl) (eq-eqb f.id.0 f.id.0 refl) in
-      let now : is_launch f.queue f.id (launched_by e.event e.outcome) ≡ true = rw launches itself in
       let facts : Facts = facts_of start es opening in
       let needed = rules-met facts granted.packet launch_rules (needs-met facts launch.bytes granted.packet granted.allowed.every_rule) in
       let met : All (λ h. in_force start es opening.client h.0 h.1 ≡ true) (rights_at_launch start es opening granted.packet) =
@@ -350,8 +378,8 @@ module _ (start : Start) (es : List Entry) (e : Entry) where
         launch = record { before = es; bytes = launch.bytes; opening = opening; packet = granted.packet; place = record { after = []; whole = ap (λ x. es ++ x ∷ []) entry_is }; allowed = granted.allowed };
         packet_is = packet_is;
         owner_is = owner-more start es e f.queue opening granted.allowed.owner_is;
-        held_is = ◌∙◌ {b = rights_of_launch start es (owner start es f.queue) (launched_by e.event e.outcome)} (from_launch-launch (holds-from start f.queue) [] es e f.queue f.id none now) (λ i. rights_of_launch start es (granted.allowed.owner_is i) (launches i));
-        arguments_are = from_launch-launch (arguments_if start) [] es e f.queue f.id none now ∙ ap (arguments_if start es) launches;
+        held_is = λ client on right. held-more start es e f.queue f.id client on right ∙ given opening f itself client on right _ _ _ _ (held-none start f.queue f.id client on right legal.opens es none) launches granted.allowed.owner_is granted.effects_are;
+        arguments_are = arguments-more start es e f.queue f.id ∙ given-arguments f itself (arguments start es f.queue f.id) _ _ launches granted.effects_are;
         granted_then = subst (λ q. All (λ h. in_force start es opening.client h.0 h.1 ≡ true) (rights_at_launch start es opening q)) packet_is met;
         granted = subst (λ q. All (λ h. in_force start later opening.client h.0 h.1 ≡ true) (rights_at_launch start es opening q)) packet_is
             (All-weaker (λ h. in_force start es opening.client h.0 h.1 ≡ true) (λ h. in_force start later opening.client h.0 h.1 ≡ true)
@@ -365,7 +393,7 @@ module _ (start : Start) (es : List Entry) (e : Entry) where
       by_test true was at = let below : f.id.0 < next_id start es f.queue = AreBelowNext-legal start es legal f.queue f.id was in absurd (omega arith)
       by_test false was at = was
 
-module _ (start : Start) (es : List Entry) (legal : IsLegal start es) where
+module _ (start : Start) (es : List Entry) (legal : IsWhole start es) where
   holding : All (HoldsNow start es) (flight start es)
   holding = flying-legal start (HoldsNow start) (more start) (launched start) es legal
 
@@ -428,21 +456,27 @@ module _ (start : Start) (es : List Entry) (legal : IsLegal start es) where
         rights = rights-now f.queue f.id f.packet h.launch h.packet_is h.granted;
         held_is = h.held_is;
         arguments_are = h.arguments_are;
-        holds = subst (All (λ g. in_force start es h.launch.opening.client g.0 g.1 ≡ true)) (sym h.held_is) h.granted;
+        holds = λ on right has_it. among-granted start es h.launch.opening.client (rights_at_launch start h.launch.before h.launch.opening f.packet) h.granted on right
+            (and_parts (h.launch.opening.client.0 == h.launch.opening.client.0) _ (sym (h.held_is h.launch.opening.client on right) ∙ has_it)).1;
       })
       (flight start es) holding
 
   -- a launch of a packet, at which all was in force that it holds
   abbrev LaunchOf : QueueId → PacketId → Packet → Type 0
-  LaunchOf queue id p = (l : Launch start es queue id) × (l.packet ≡ p) × All (λ h. in_force start l.before l.opening.client h.0 h.1 ≡ true) (packet_rights start es queue id)
+  LaunchOf queue id p = (l : Launch start es queue id) × (l.packet ≡ p) × AllInForce start l.before l.opening.client (own_rights start es queue id)
 
   -- a packet that is found in flight has a launch
   pub flying-since : (queue : QueueId) (id : PacketId) (f : InFlight) → in_flight start es queue id ≡ Some f →
-      (s : InFlightSince start es queue id) × (s.flying ≡ f) × All (λ h. in_force start s.launch.before s.launch.opening.client h.0 h.1 ≡ true) (packet_rights start es queue id)
+      (s : InFlightSince start es queue id) × (s.flying ≡ f) × AllInForce start s.launch.before s.launch.opening.client (own_rights start es queue id)
   flying-since queue id f found =
       let named = named-found start es queue id f found in
       let h : HoldsNow start es f = found-all (HoldsNow start es) (is_packet queue id) (flight start es) f holding found in
-      let own : LaunchOf f.queue f.id f.packet =
-      (h.launch, h.packet_is, subst (All (λ g. in_force start h.launch.before h.launch.opening.client g.0 g.1 ≡ true)) (sym h.held_is) h.granted_then) in
+      let own : LaunchOf f.queue f.id f.packet = (
+        h.launch,
+        h.packet_is,
+        λ on right has_it. among-granted start h.launch.before h.launch.opening.client (rights_at_launch start h.launch.before h.launch.opening f.packet) h.granted_then on right
+            (and_parts (h.launch.opening.client.0 == h.launch.opening.client.0) _ (sym (h.held_is h.launch.opening.client on right)
+            ∙ sym (ap (λ (o : Option Opening). elim o [ None ↦ false | Some opening ↦ held start es f.queue f.id opening.client on right ]) h.owner_is) ∙ has_it)).1,
+      ) in
       let l : LaunchOf queue id f.packet = subst (λ i. LaunchOf queue i f.packet) named.1 (subst (λ q. LaunchOf q f.id f.packet) named.0 own) in
       (record { flying = f; is_found = found; launch = l.0; packet_is = l.1 }, refl, l.2)

@@ -25,7 +25,7 @@ use Rattle.core_model.specs.Holds.{is_launch}
 use Rattle.std.proofs.Math.Bool.{or-false}
 use Rattle.core_model.specs.Owed.{Owed, owed, enters, refuses, owed_take}
 use Rattle.core_model.specs.Refusals.{for_some, refuse_unless}
-use Rattle.core_model.specs.Legal.{IsLegal, IsLegalAfter}
+use Rattle.core_model.specs.Legal.{IsWhole, IsLegalAfter}
 use Rattle.core_model.proofs.More.{next_id-more}
 
 -- ---- what an owed entry tells of the tests before it
@@ -113,7 +113,7 @@ AreBelowNext start entries = (queue : QueueId) (id : PacketId) → was_launched 
 was_launched-more : (entries : List Entry) (e : Entry) (queue : QueueId) (id : PacketId) → was_launched (entries ++ e ∷ []) queue id ≡ (was_launched entries queue id || (is_launch queue id (launched_by e.event e.outcome) || false))
 was_launched-more entries e queue id = list_any-append (λ (entry : Entry). is_launch queue id (launched_by entry.event entry.outcome)) entries (e ∷ [])
 
-next_id-grows : (start : Start) (entries : List Entry) (e : Entry) (queue : QueueId) → next_id start entries queue ≤ next_id start (entries ++ e ∷ []) queue
+pub next_id-grows : (start : Start) (entries : List Entry) (e : Entry) (queue : QueueId) → next_id start entries queue ≤ next_id start (entries ++ e ∷ []) queue
 next_id-grows start entries e queue = by_test (hands_over_packet_of queue e.event) (next_id-more start entries e queue)
   where
     by_test : (b : Bool) → next_id start (entries ++ e ∷ []) queue ≡ (if b then next_id start entries queue + 1 else next_id start entries queue) → next_id start entries queue ≤ next_id start (entries ++ e ∷ []) queue
@@ -148,5 +148,5 @@ below_after start before (e ∷ es) below legal =
     subst (AreBelowNext start) (append_assoc before (e ∷ []) es) (below_after start (before ++ e ∷ []) es (AreBelowNext-more start before e below legal.0) legal.1)
 
 -- so it is in a legal history
-pub AreBelowNext-legal : (start : Start) (entries : List Entry) → IsLegal start entries → AreBelowNext start entries
-AreBelowNext-legal start entries legal = below_after start [] entries (λ queue id launched. absurd (cc)) legal
+pub AreBelowNext-legal : (start : Start) (entries : List Entry) → IsWhole start entries → AreBelowNext start entries
+AreBelowNext-legal start entries legal = below_after start [] entries (λ queue id launched. absurd (cc)) legal.legal

@@ -40,7 +40,7 @@ use Rattle.core_model.specs.Needs.{needs, function_of, function_needs, range_nee
 use Rattle.core_model.specs.Kernels.{kernel_of, no_kernel, segments_of}
 use Rattle.core_model.specs.LaunchRules.{Facts, first_failing_rule, has_arguments, has_form, holds_rule, need_is_met, launch_rules}
 use Rattle.core_model.specs.Owed.{owed, enters, error_without_place, facts_of}
-use Rattle.core_model.specs.Legal.{IsLegal, IsLegalAfter}
+use Rattle.core_model.specs.Legal.{IsWhole, IsLegalAfter}
 use Rattle.core_model.specs.Headline.{IsEntryBehind, MayBeLaunched, MayReachRange, MayUseSignal, HasItsRights, argument_ranges, kernels_of, ranges_read, ranges_written, reads_of, writes_of}
 use Rattle.core_model.proofs.Lists.{none-passes}
 use Rattle.core_model.proofs.Entered.{take-decided}
@@ -55,9 +55,11 @@ legal-split start pre (x ∷ xs) e after legal =
     let owing = rest.1 in
     ((legal.0, rest.0), rw append_assoc at owing)
 
-pub legal-at : (start : Start) (entries before : List Entry) (e : Entry) → IsLegal start entries → IsEntryBehind entries before e →
-    IsLegal start before × (owed start before e.event ≡ enters e.outcome e.effects)
-legal-at start entries before e legal stands = legal-split start [] before e stands.after (subst (IsLegal start) stands.whole legal)
+pub legal-at : (start : Start) (entries before : List Entry) (e : Entry) → IsWhole start entries → IsEntryBehind entries before e →
+    IsWhole start before × (owed start before e.event ≡ enters e.outcome e.effects)
+legal-at start entries before e legal stands =
+    let both = legal-split start [] before e stands.after (subst (IsLegalAfter start []) stands.whole legal.legal) in
+    (record { opens = legal.opens; legal = both.0 }, both.1)
 
 -- ---- launches
 

@@ -1,4 +1,5 @@
 pub mod More
+pub mod States
 pub mod Meeting
 pub mod Legality
 pub mod Lists
@@ -7,12 +8,16 @@ pub mod Entered
 pub mod Flying
 pub mod Launching
 pub mod Holding
+pub mod Behind
 pub mod Viewing
 pub mod Changes
+pub mod Absent
+pub mod Apart
 pub mod Turns
 pub mod Seeing
 pub mod Served
 pub mod FlightLaw
+pub mod Room
 mod Allowed
 mod Denied
 mod Working

@@ -6,7 +6,7 @@ use Rattle.core_model.specs.declared.event.Event.{Event}
 use Rattle.core_model.specs.declared.outcome.Outcome.{Outcome}
 use Rattle.core_model.specs.declared.refusal.Refusal.{Refusal}
 use Rattle.core_model.specs.declared.refusal.Refusal.TheVariants as refusal
-use Rattle.core_model.specs.History.{History}
+use Rattle.core_model.specs.History.{beginning, History}
 use Rattle.core_model.specs.Owed.{Owed, refuses, answers, enters, owed}
 use Rattle.core_model.specs.Refusals.{refuse_unless}
 use Rattle.core_model.specs.Legal.{due, entry_of, lacks_room, within_room}
@@ -20,8 +20,8 @@ refuse_unless-fails test why rest fails = rw fails refl
 
 -- an event that is due an entry is owed it, and the audit has room for it
 pub entered-owed : (history : History) (event : Event) (outcome : Outcome) (effects : List Effect) → due history event ≡ enters outcome effects →
-    (owed history.start history.entries event ≡ enters outcome effects) × (lacks_room history (entry_of event outcome effects) ≡ false)
-entered-owed history event outcome effects due = by_owed (owed history.start history.entries event) due
+    (owed (beginning history) history.entries event ≡ enters outcome effects) × (lacks_room history (entry_of event outcome effects) ≡ false)
+entered-owed history event outcome effects due = by_owed (owed (beginning history) history.entries event) due
   where
     by_room : (o : Outcome) (es : List Effect) (b : Bool) → lacks_room history (entry_of event o es) ≡ b → (if b then refuses refusal.AuditFull else enters o es) ≡ enters outcome effects →
         (enters o es ≡ enters outcome effects) × (lacks_room history (entry_of event outcome effects) ≡ false)

@@ -37,7 +37,7 @@ use Rattle.core_model.specs.declared.flight.Progress.{Progress}
 use Rattle.core_model.specs.Flight.{flight_of, in_flight, progress}
 use Rattle.executor.specs.Items.{LentRegion}
 use Rattle.executor.specs.Results.{group_result}
-use Rattle.core_model.specs.Holds.{ObjectRight, packet_rights}
+use Rattle.core_model.specs.Holds.{own_rights}
 use Rattle.core_model.specs.View.{GivenAtLaunch, given_at_launch, group_input, held_regions}
 use Rattle.policy.specs.Rights.{has, rights_that}
 use Rattle.core_model.proofs.Lists.{filter-passes}
@@ -49,7 +49,7 @@ use Rattle.core_model.specs.declared.entry.Entry.{Entry}
 use Rattle.core_model.specs.declared.need.AgentFunction.{AgentFunction}
 use Rattle.core_model.specs.declared.need.AgentFunction.TheVariants.{Fill, Copy, Add64}
 use Rattle.core_model.specs.declared.need.Range.{Range}
-use Rattle.core_model.specs.History.{Start}
+use Rattle.core_model.specs.History.{HeldRights, Start}
 use Rattle.core_model.specs.Grants.{in_force}
 use Rattle.core_model.specs.Memory.{memory_from, signals}
 use Rattle.core_model.specs.Queues.{Opening, owner, is_down, next_id}
@@ -57,11 +57,11 @@ use Rattle.core_model.specs.Needs.{function_of}
 use Rattle.core_model.specs.LaunchRules.{Facts, first_failing_rule, holds_rule, launch_rules, cause_to_wait}
 use Rattle.core_model.specs.Work.{group_count, number_in_memory, write_of, function_writes, function_result, agent_writes}
 use Rattle.core_model.specs.Owed.{owed, answers, enters, error_without_place, facts_of, is_host_size, group_owed, owed_group}
-use Rattle.core_model.specs.Legal.{IsLegal}
+use Rattle.core_model.specs.Legal.{IsWhole}
 use Rattle.core_model.specs.Refusals.{for_some, refuse_unless}
 use Rattle.core_model.specs.Queries.{AnswerOrRefusal, query_answer, has_some_right, listing}
 use Rattle.policy.specs.Listing.{all_objects, listing_by}
-use Rattle.core_model.specs.Headline.{InFlightSince, IsDenied, IsListed, MayReach, MayReachRange, range_of, ranges_read, ranges_seen, reads_of}
+use Rattle.core_model.specs.Headline.{AllInForce, InFlightSince, IsDenied, IsListed, MayReach, MayReachRange, range_of, ranges_read, ranges_seen, reads_of}
 use Rattle.core_model.proofs.Entered.{GroupRan, KernelRan, take-decided, run-entered}
 use Rattle.core_model.proofs.Holding.{flying-since}
 use Rattle.core_model.proofs.Changes.{add-size}
@@ -112,18 +112,18 @@ all-both P Q R each [] ps qs = All-nil R
 all-both P Q R each (x ∷ xs) ps qs = All-cons R x xs (each x (All-head P x xs ps) (All-head Q x xs qs)) (all-both P Q R each xs (All-tail P x xs ps) (All-tail Q x xs qs))
 
 -- a packet whose group runs is in flight, and may read what its work reads
-pub group-reads : (start : Start) (es : List Entry) (told : Outcome) (effects : List Effect) (queue : QueueId) (id : PacketId) → IsLegal start es → owed start es (RunNext queue id) ≡ enters told effects →
-    (s : InFlightSince start es queue id) × All (MayReachRange start s.launch.before s.launch.opening.client right.Read) (ranges_seen start (packet_rights start es queue id) s.flying.packet)
+pub group-reads : (start : Start) (es : List Entry) (told : Outcome) (effects : List Effect) (queue : QueueId) (id : PacketId) → IsWhole start es → owed start es (RunNext queue id) ≡ enters told effects →
+    (s : InFlightSince start es queue id) × All (MayReachRange start s.launch.before s.launch.opening.client right.Read) (ranges_seen start (own_rights start es queue id) s.flying.packet)
 group-reads start es told effects queue id legal owing =
     let ran = run-entered start es told effects queue id owing in
     let since = flying-since start es legal queue id ran.flying ran.found in
     let s = since.0 in (
       s,
-      by_kind start s.launch.before s.launch.opening.client (packet_rights start es queue id) since.2 s.flying.packet
+      by_kind start s.launch.before s.launch.opening.client (own_rights start es queue id) since.2 s.flying.packet
           (subst (λ p. All (MayReachRange start s.launch.before s.launch.opening.client right.Read) (reads_of p)) s.packet_is s.launch.allowed.rights.reads),
     )
   where
-    by_kind : (start : Start) (before : List Entry) (client : ClientId) (hs : List ObjectRight) → All (λ h. in_force start before client h.0 h.1 ≡ true) hs → (p : Packet) →
+    by_kind : (start : Start) (before : List Entry) (client : ClientId) (hs : HeldRights) → AllInForce start before client hs → (p : Packet) →
         All (MayReachRange start before client right.Read) (reads_of p) → All (MayReachRange start before client right.Read) (ranges_seen start hs p)
     by_kind start before client hs granted (packet.Agent d) own = own
     by_kind start before client hs granted (packet.BarrierAnd _) own = own

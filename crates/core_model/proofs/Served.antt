@@ -8,28 +8,29 @@ use Rattle.core_model.specs.declared.event.Request.TheVariants as request
 use Rattle.core_model.specs.declared.outcome.Outcome.{Outcome}
 use Rattle.core_model.specs.declared.refusal.Refusal.{Refusal}
 use Rattle.core_model.specs.declared.refusal.Refusal.TheVariants as refusal
-use Rattle.core_model.specs.History.{History}
+use Rattle.core_model.specs.History.{beginning, History}
 use Rattle.core_model.specs.Owed.{Owed, owed, refuses, answers, enters}
 use Rattle.core_model.specs.Legal.{IsLegal, IsServed, MeetsOrLacks, AreReplies, as_reply, reply_of, due, entry_of, history_after, lacks_room, within_room}
 use Rattle.core_model.specs.Queries.{AnswerOrRefusal}
 use Rattle.core_model.specs.Headline.{GoesOn}
-use Rattle.core_model.proofs.Legality.{IsLegal-more}
+use Rattle.core_model.proofs.States.{IsLegal-more}
 
 abbrev Legal : History → Type 0
-Legal history = IsLegal history.start history.entries
+Legal history = IsLegal (beginning history) history.entries
 
 stays : (old new : History) → Legal old → new ≡ old → GoesOn old new
 stays old new legal is = record {
-  start_is = ap (λ h. h.start) is;
+  origin_is = ap (λ h. h.origin) is;
+  kernels_are = ap (λ h. h.kernels) is;
   capacity_is = ap (λ h. h.capacity) is;
   more = [];
   entries_are = ap (λ h. h.entries) is ∙ sym (append-nil old.entries);
-  legal = subst (λ h. IsLegal h.start h.entries) (sym is) legal;
+  legal = subst (λ h. IsLegal (beginning h) h.entries) (sym is) legal;
 }
 
 -- one entry more, where there is room for it
 module _ (old : History) (legal : Legal old) (event : Event) where
-  entered : (owing : Owed) → owed old.start old.entries event ≡ owing → GoesOn old (history_after old event (within_room old event owing))
+  entered : (owing : Owed) → owed (beginning old) old.entries event ≡ owing → GoesOn old (history_after old event (within_room old event owing))
   entered (refuses why) is = stays old old legal refl
   entered (answers outcome) is = stays old old legal refl
   entered (enters outcome effects) is = by_room (lacks_room old (entry_of event outcome effects))
@@ -37,15 +38,16 @@ module _ (old : History) (legal : Legal old) (event : Event) where
       by_room : (b : Bool) → GoesOn old (history_after old event (if b then refuses refusal.AuditFull else enters outcome effects))
       by_room true = stays old old legal refl
       by_room false = record {
-        start_is = refl;
+        origin_is = refl;
+        kernels_are = refl;
         capacity_is = refl;
         more = entry_of event outcome effects ∷ [];
         entries_are = refl;
-        legal = IsLegal-more old.start old.entries event outcome effects legal is;
+        legal = IsLegal-more (beginning old) old.entries (entry_of event outcome effects) legal is;
       }
 
   after-due : (new : History) → new ≡ history_after old event (due old event) → GoesOn old new
-  after-due new is = subst (GoesOn old) (sym is) (entered (owed old.start old.entries event) refl)
+  after-due new is = subst (GoesOn old) (sym is) (entered (owed (beginning old) old.entries event) refl)
 
   pub event-goes_on : (new : History) (reply : Result Outcome Refusal) → MeetsOrLacks event old new reply → GoesOn old new
   event-goes_on new reply (inl meets) = after-due new meets.history_is
@@ -57,14 +59,15 @@ request-goes_on old new (request.Query query) reply legal served = stays old new
 
 through : (old mid new : History) → GoesOn old mid → GoesOn mid new → GoesOn old new
 through old mid new one two = record {
-  start_is = two.start_is ∙ one.start_is;
+  origin_is = two.origin_is ∙ one.origin_is;
+  kernels_are = two.kernels_are ∙ one.kernels_are;
   capacity_is = two.capacity_is ∙ one.capacity_is;
   more = one.more ++ two.more;
   entries_are = two.entries_are ∙ ap (λ es. es ++ two.more) one.entries_are ∙ append_assoc old.entries one.more two.more;
   legal = two.legal;
 }
 
-pub list-goes_on : (old new : History) (requests : List Request) (replies : List AnswerOrRefusal) → IsLegal old.start old.entries → AreReplies old requests replies new → GoesOn old new
+pub list-goes_on : (old new : History) (requests : List Request) (replies : List AnswerOrRefusal) → IsLegal (beginning old) old.entries → AreReplies old requests replies new → GoesOn old new
 list-goes_on old new [] [] legal is = stays old new legal is
 list-goes_on old new (asked ∷ requests) (reply ∷ replies) legal are =
     let one = request-goes_on old are.0 asked reply legal are.1 in

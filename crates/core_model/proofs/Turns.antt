@@ -21,7 +21,7 @@ use Rattle.core_model.specs.declared.flight.InFlight.{InFlight}
 use Rattle.core_model.specs.Flight.{launched_by}
 use Rattle.core_model.specs.Holds.{is_launch}
 use Rattle.core_model.specs.Owed.{owed, enters, error_without_place}
-use Rattle.core_model.specs.Legal.{IsLegal, IsLegalAfter, entry_of}
+use Rattle.core_model.specs.Legal.{IsWhole, IsLegalAfter, entry_of}
 use Rattle.core_model.specs.Headline.{Launch, IsOpened}
 use Rattle.std.proofs.lemmas.List.{append-nil}
 use Rattle.core_model.proofs.Holding.{owner-more}
@@ -29,15 +29,6 @@ use Rattle.core_model.proofs.More.{openings-more}
 use Rattle.core_model.proofs.Launches.{was_launched, AreBelowNext-legal}
 use Rattle.core_model.proofs.Launching.{legal-at}
 use Rattle.core_model.proofs.Entered.{open-effects, take-decided}
-
--- ---- beginnings
-
-legal-before : (start : Start) (pre before more : List Entry) → IsLegalAfter start pre (before ++ more) → IsLegalAfter start pre before
-legal-before start pre [] more legal = tt
-legal-before start pre (x ∷ xs) more legal = (legal.0, legal-before start (pre ++ x ∷ []) xs more legal.1)
-
-pub legal-beginning : (start : Start) (before more : List Entry) → IsLegal start (before ++ more) → IsLegal start before
-legal-beginning start before more legal = legal-before start [] before more legal
 
 -- ---- a packet that is taken is launched or denied
 
@@ -81,7 +72,7 @@ module _ (queue : QueueId) (id : PacketId) where
       later true rest is = absurd cc
       later false rest is = is
 
-  pub one-launch : (start : Start) (es : List Entry) → IsLegal start es → (one other : Launch start es queue id) → (one.before ≡ other.before) × (one.packet ≡ other.packet)
+  pub one-launch : (start : Start) (es : List Entry) → IsWhole start es → (one other : Launch start es queue id) → (one.before ≡ other.before) × (one.packet ≡ other.packet)
   one-launch start es legal one other =
       let same = same-place one.before other.before one.place.after other.place.after _ _ (sym one.place.whole ∙ other.place.whole) (none one) (none other) (now one) (now other) in
       let launches_same : Some (as_launched one) ≡ Some (as_launched other) = sym (read one) ∙ ap (λ e. launched_by e.event e.outcome) same.1 ∙ read other in

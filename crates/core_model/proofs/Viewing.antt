@@ -14,7 +14,7 @@ use Rattle.executor.specs.Accesses.{covers_address}
 use Rattle.executor.specs.Items.{LentRegion}
 use Rattle.executor.specs.Laws.{AreShort, IsHeldAt, IsHeldRun}
 use Rattle.executor.specs.Results.{group_result, wrote}
-use Rattle.executor.specs.declared.run.Run.{Run}
+use Rattle.executor.specs.declared.written_range.WrittenRange.{WrittenRange}
 use Rattle.policy.proofs.RightsLemmas.{has-rights_that}
 use Rattle.policy.specs.Object.{same_object}
 use Rattle.policy.specs.Rights.{bit_of, has}
@@ -26,13 +26,13 @@ use Rattle.aql_packet.specs.Memory.{are_region_lengths, is_region_length}
 use Rattle.regions.specs.Memory.{is_within, region_length, region_of}
 use Rattle.core_model.specs.declared.entry.Entry.{Entry}
 use Rattle.core_model.specs.declared.need.Range.{Range}
-use Rattle.core_model.specs.History.{Start}
+use Rattle.core_model.specs.History.{HeldRights, Start}
 use Rattle.core_model.specs.Grants.{in_force}
 use Rattle.policy.specs.Policy.{region_lengths}
 use Rattle.core_model.specs.Memory.{memory_at, memory_from}
-use Rattle.core_model.specs.Holds.{ObjectRight}
+use Rattle.core_model.specs.Holds.{ObjectRight, is_among}
 use Rattle.core_model.specs.View.{GivenAtLaunch, RegionRights, first_address, group_input, held_region, held_regions, as_lent, rights_held, view}
-use Rattle.core_model.specs.Headline.{MayReach, MayReachRange, range_of}
+use Rattle.core_model.specs.Headline.{AllInForce, MayReach, MayReachRange, range_of}
 use Rattle.policy.proofs.PairLemmas.{same_object_is}
 use Rattle.core_model.proofs.Lists.{found-all, found-passes}
 
@@ -65,9 +65,12 @@ module _ (start : Start) (before : List Entry) (client : ClientId) where
           ap (λ o. in_force start before client o one) on_is ∙ (ap (in_force start before client h.0) (sym one_is) ∙ All-head Granted h hs all)
       by_test false is some rest = rest some
 
-  right-granted : (hs : List ObjectRight) (on : Object) (one : Right) → All Granted hs → has (rights_held hs on) one ≡ true → in_force start before client on one ≡ true
-  right-granted hs on one all has_it =
-      any-granted on one hs (sym (has-rights_that (λ right. list_any (λ h. same_object on h.0 && (bit_of h.1 == bit_of right)) hs) one) ∙ has_it) all
+  -- so it is with all that some list names
+  pub among-granted : (hs : List ObjectRight) → All Granted hs → AllInForce start before client (is_among hs)
+  among-granted hs all on one some = any-granted on one hs some all
+
+  right-granted : (hs : HeldRights) (on : Object) (one : Right) → AllInForce start before client hs → has (rights_held hs on) one ≡ true → in_force start before client on one ≡ true
+  right-granted hs on one all has_it = all on one (sym (has-rights_that (hs on) one) ∙ has_it)
 
 -- ---- the lengths of regions
 
@@ -91,13 +94,13 @@ small-at (x ∷ xs) all zero =
     leb-true x (2 ^ 24) (and_parts (nat_le 1 x) _ both.0).1
 small-at (x ∷ xs) all (suc k) = small-at xs (and_parts (is_region_length x) (list_all is_region_length xs) all).1 k
 
-small-region : (lengths : List ℕ) → are_region_lengths lengths ≡ true → (k : ℕ) → region_length lengths k ≤ 2 ^ 24
+pub small-region : (lengths : List ℕ) → are_region_lengths lengths ≡ true → (k : ℕ) → region_length lengths k ≤ 2 ^ 24
 small-region lengths fit zero = omega arith
 small-region lengths fit (suc k) = small-at lengths (and_parts (nat_le (length lengths) 64) _ fit).1 k
 
 -- ---- the regions that are held
 
-module _ (start : Start) (before : List Entry) (client : ClientId) (hs : List ObjectRight) (granted : All (Granted start before client) hs) where
+module _ (start : Start) (before : List Entry) (client : ClientId) (hs : HeldRights) (granted : AllInForce start before client hs) where
   -- what is known of a region that is held
   pub record IsKnown (region : RegionRights) : Type 0 where
     pub size_is : region_length (region_lengths start.policy) region.number ≡ region.size
@@ -201,13 +204,13 @@ module _ (start : Start) (before : List Entry) (client : ClientId) (hs : List Ob
           }
 
 -- a run has bytes, and lies whole in a region on which WRITE was in force
-pub record IsWithinGrant (start : Start) (before : List Entry) (client : ClientId) (run : Run) : Type 0 where
+pub record IsWithinGrant (start : Start) (before : List Entry) (client : ClientId) (run : WrittenRange) : Type 0 where
   pub 0 : 0 < length run.bytes
   pub 1 : MayReach start before client right.Write run.address (length run.bytes)
 
 -- so each run that a group writes does
 pub runs-granted : (start : Start) (es before : List Entry) (client : ClientId) (own : GivenAtLaunch) (d : KernelDispatch) (group : ℕ) → are_region_lengths (region_lengths start.policy) ≡ true →
-    All (λ h. in_force start before client h.0 h.1 ≡ true) own.rights → (runs : List Run) → group_result (group_input start es own d group) ≡ wrote runs → All (IsWithinGrant start before client) runs
+    AllInForce start before client own.rights → (runs : List WrittenRange) → group_result (group_input start es own d group) ≡ wrote runs → All (IsWithinGrant start before client) runs
 runs-granted start es before client own d group fit granted runs is =
     All-weaker (IsHeldRun (view start es own.rights) right.Write) (IsWithinGrant start before client)
     (λ run lies. record {

@@ -21,12 +21,12 @@ use Rattle.core_model.specs.Flight.{progress, satisfied_by_either}
 use Rattle.core_model.specs.Needs.{completion_signal}
 use Rattle.core_model.specs.Work.{seen_dependencies, is_negative, is_ready, newly_seen_positions}
 use Rattle.core_model.specs.Owed.{signal_decrement, enters, error_without_place, is_finished, owed}
-use Rattle.core_model.specs.Legal.{IsLegal}
-use Rattle.core_model.specs.Headline.{InFlightSince, IsCompleted, IsPolled}
+use Rattle.core_model.specs.Legal.{IsWhole}
+use Rattle.core_model.specs.Headline.{InFlightSince, IsCompleted, IsPolled, SeesAnew}
 use Rattle.core_model.proofs.Holding.{flying-since}
 use Rattle.core_model.proofs.Entered.{HasSeen, HasFailed, finish-entered, poll-entered}
 
-module _ (start : Start) (es : List Entry) (legal : IsLegal start es) (told : Outcome) (effects : List Effect) (queue : QueueId) (id : PacketId) where
+module _ (start : Start) (es : List Entry) (legal : IsWhole start es) (told : Outcome) (effects : List Effect) (queue : QueueId) (id : PacketId) where
   pub completion-due : owed start es (Finish queue id) ≡ enters told effects → (told ≡ outcome.Accepted) × IsCompleted start es queue id effects
   completion-due owing =
       let done = finish-entered start es told effects queue id owing in
@@ -46,9 +46,13 @@ module _ (start : Start) (es : List Entry) (legal : IsLegal start es) (told : Ou
   sight p = newly_seen_positions (signals start es) p satisfied
 
   -- what was seen suffices or doesn't
-  as-polled : (p : Packet) (b : Bool) → is_ready p (satisfied_by_either satisfied (sight p)) ≡ b → IsPolled start es queue id p satisfied (if b then polled_as.Ready (sight p) else polled_as.Pending (sight p))
-  as-polled p true is = (refl, is)
-  as-polled p false is = (refl, is)
+  as-polled : (p : Packet) → SeesAnew start es p satisfied (sight p) → (b : Bool) → is_ready p (satisfied_by_either satisfied (sight p)) ≡ b →
+      IsPolled start es queue id p satisfied (if b then polled_as.Ready (sight p) else polled_as.Pending (sight p))
+  as-polled p anew true is = (anew, is)
+  as-polled p anew false is = (anew, is)
+
+  seen-anew : (p : Packet) → list_any (is_negative (signals start es)) (seen_dependencies p satisfied) ≡ false → list_any (λ at. at) (sight p).0 ≡ true → SeesAnew start es p satisfied (sight p)
+  seen-anew p none some = record { none_negative = none; seen = refl; some = some }
 
   pub poll-due : owed start es (Poll queue id) ≡ enters told effects →
       (s : InFlightSince start es queue id) × (found : Polled) × (told ≡ outcome.Polled found) × IsPolled start es queue id s.flying.packet satisfied found
@@ -62,7 +66,10 @@ module _ (start : Start) (es : List Entry) (legal : IsLegal start es) (told : Ou
             since.0,
             (if is_ready p (satisfied_by_either satisfied (sight p)) then polled_as.Ready (sight p) else polled_as.Pending (sight p)),
             seen.outcome_is ∙ sym (ap (λ f. outcome.Polled (if is_ready f.packet (satisfied_by_either satisfied (sight f.packet)) then polled_as.Ready (sight f.packet) else polled_as.Pending (sight f.packet))) since.1),
-            as-polled p (is_ready p (satisfied_by_either satisfied (sight p))) refl,
+            as-polled p
+                (seen-anew p (ap (λ f. list_any (is_negative (signals start es)) (seen_dependencies f.packet satisfied)) since.1 ∙ seen.none_negative)
+                (ap (λ f. list_any (λ at. at) (sight f.packet).0) since.1 ∙ seen.some))
+                (is_ready p (satisfied_by_either satisfied (sight p))) refl,
           )
       by_end (inr failed) =
           let since = flying-since start es legal queue id failed.flying failed.found in (

@@ -1,5 +1,5 @@
 -- Packets in flight: those that were launched and not released since, and how far each has come.
-use Rattle.std.specs.Prelude.{◌≡◌, ◌+◌, ◌==◌, ◌||◌, Bool, false, not, List, [], ◌∷◌, ◌++◌, map, filter, fold, find, Option, Some, None, option_map, if◌then◌else◌}
+use Rattle.std.specs.Prelude.{◌≡◌, ◌⊎◌, ◌+◌, ◌==◌, ◌||◌, Bool, false, not, List, [], ◌∷◌, ◌++◌, map, filter, fold, find, Option, Some, None, option_map, if◌then◌else◌}
 use Rattle.std.specs.List.{zip, list_any, Contains}
 use Rattle.aql_packet.specs.declared.ids.QueueId.{QueueId}
 use Rattle.aql_packet.specs.declared.ids.PacketId.{PacketId}
@@ -46,7 +46,7 @@ flight_after before entry = fold flight_after_effect (with_launched before (laun
 
 -- the packets in flight, in the order in which they were launched (own)
 unfoldable pub flight : Start → List Entry → List InFlight
-flight start entries = fold flight_after [] entries
+flight start entries = fold flight_after start.flight entries
 
 -- the packets of a queue in flight (own)
 abbrev pub flight_of : Start → List Entry → QueueId → List InFlight
@@ -56,10 +56,14 @@ flight_of start entries queue = filter (λ f. f.queue.0 == queue.0) (flight star
 abbrev pub in_flight : Start → List Entry → QueueId → PacketId → Option InFlight
 in_flight start entries queue id = find (is_packet queue id) (flight start entries)
 
+-- whether a change releases the packet with this queue and id (own)
+abbrev pub releases : QueueId → PacketId → Effect → Bool
+releases queue id (Release q i) = same_packet queue id q i
+releases queue id _ = false
+
 -- whether a change releases a packet (own)
 abbrev pub releases_packet : InFlight → Effect → Bool
-releases_packet f (Release queue id) = is_packet queue id f
-releases_packet f _ = false
+releases_packet f effect = releases f.queue f.id effect
 
 -- a packet was launched by one of these entries, and neither that one nor any since released it (own)
 pub record WasLaunchedAndStays (entries : List Entry) (f : InFlight) : Type 0 where
@@ -70,23 +74,36 @@ pub record WasLaunchedAndStays (entries : List Entry) (f : InFlight) : Type 0 wh
   pub launches : launched_by launch.event launch.outcome ≡ Some f
   pub stays : list_any (releases_packet f) (effects_of (launch ∷ since)) ≡ false
 
--- after any entries, in flight are just the packets that were launched and not released since (own)
+-- a packet was in flight at the start, or was launched by one of these entries, and none since released it (own)
+abbrev pub CameAndStays : Start → List Entry → InFlight → Type 0
+CameAndStays start entries f = (Contains start.flight f × (list_any (releases_packet f) (effects_of entries) ≡ false)) ⊎ WasLaunchedAndStays entries f
+
+-- after any entries, in flight are just the packets that were so at the start, or were launched, and not released since (own)
 abbrev pub LawOfFlight : Type 0
 LawOfFlight = (start : Start) (entries : List Entry) (f : InFlight)
-    → (Contains (flight start entries) f → WasLaunchedAndStays entries f) × (WasLaunchedAndStays entries f → Contains (flight start entries) f)
+    → (Contains (flight start entries) f → CameAndStays start entries f) × (CameAndStays start entries f → Contains (flight start entries) f)
 
 -- the positions seen by either (own)
 abbrev pub satisfied_by_either : Satisfied → Satisfied → Satisfied
 satisfied_by_either a b = record { 0 = map (λ pair. pair.0 || pair.1) (zip a.0 b.0) }
 
--- how far a packet has come after an event: one of its groups ran, or dependencies were seen (own)
-abbrev pub progress_after : QueueId → PacketId → Progress → Event → Outcome → Progress
-progress_after queue id p (Take q i _) (outcome.Taken Launched) = if same_packet q i queue id then LAUNCH_PROGRESS else p
-progress_after queue id p (RunNext q i) (outcome.Worked (Ran _ _)) = if same_packet q i queue id then record p { groups_run = p.groups_run + 1 } else p
-progress_after queue id p (Poll q i) (outcome.Polled (Pending seen)) = if same_packet q i queue id then record p { satisfied = satisfied_by_either p.satisfied seen } else p
-progress_after queue id p (Poll q i) (outcome.Polled (Ready seen)) = if same_packet q i queue id then record p { satisfied = satisfied_by_either p.satisfied seen } else p
-progress_after queue id p _ _ = p
+-- how far a packet has come by an event: it is launched anew, one of its groups ran, or dependencies were seen (own)
+abbrev pub progress_by : QueueId → PacketId → Progress → Event → Outcome → Progress
+progress_by queue id p (Take q i _) (outcome.Taken Launched) = if same_packet q i queue id then LAUNCH_PROGRESS else p
+progress_by queue id p (RunNext q i) (outcome.Worked (Ran _ _)) = if same_packet q i queue id then record p { groups_run = p.groups_run + 1 } else p
+progress_by queue id p (Poll q i) (outcome.Polled (Pending seen)) = if same_packet q i queue id then record p { satisfied = satisfied_by_either p.satisfied seen } else p
+progress_by queue id p (Poll q i) (outcome.Polled (Ready seen)) = if same_packet q i queue id then record p { satisfied = satisfied_by_either p.satisfied seen } else p
+progress_by queue id p _ _ = p
+
+-- and after its entry: of a packet that is released nothing is known (own)
+abbrev pub progress_after : QueueId → PacketId → Progress → Entry → Progress
+progress_after queue id p entry = if list_any (releases queue id) entry.effects then LAUNCH_PROGRESS else progress_by queue id p entry.event entry.outcome
 
 -- how far a packet has come since its launch (own)
 unfoldable pub progress : Start → List Entry → QueueId → PacketId → Progress
-progress start entries queue id = fold (λ before entry. progress_after queue id before entry.event entry.outcome) LAUNCH_PROGRESS entries
+progress start entries queue id = fold (progress_after queue id) (start.progress queue id) entries
+
+-- each packet has another queue or id than those behind it (own)
+abbrev pub AreApart : List InFlight → Type 0
+AreApart [] = Unit {0}
+AreApart (f ∷ fs) = (list_any (is_packet f.queue f.id) fs ≡ false) × AreApart fs

@@ -18,9 +18,9 @@ in_force_after client object right before (Grant c o rights) = before || is_one_
 in_force_after client object right before (Revoke c o rights) = before && not (is_one_of client object right c o rights)
 in_force_after client object right before _ = before
 
--- whether a client's right on an object is in force: a grant gave it, and no later revocation took it (own)
+-- whether a client's right on an object is in force: it was at the start, or a grant gave it, and no later revocation took it (own)
 unfoldable pub in_force : Start → List Entry → ClientId → Object → Right → Bool
-in_force start entries client object right = fold (λ before entry. in_force_after client object right before entry.event) false entries
+in_force start entries client object right = fold (λ before entry. in_force_after client object right before entry.event) (start.in_force client object right) entries
 
 -- whether a range lies whole in one region, and the client's right on that region is in force (own)
 abbrev pub in_force_on_range : Start → List Entry → ClientId → Right → ℕ → ℕ → Bool

@@ -1,5 +1,5 @@
 -- What a legal history shows: for each thing that it tells, who asked for it and which grant in force allowed it.
-use Rattle.std.specs.Prelude.{ℕ, ℤ, pos, ◌≡◌, ◌<◌, ◌⊎◌, true, false, List, [], ◌∷◌, ◌++◌, length, map, filter, Option, Some, None, All}
+use Rattle.std.specs.Prelude.{ℕ, ℤ, pos, ◌==◌, ◌&&◌, ◌≡◌, ◌<◌, ◌⊎◌, true, false, List, [], ◌∷◌, ◌++◌, length, map, filter, Option, Some, None, All}
 use Rattle.std.specs.List.{Contains, list_any}
 use Rattle.aql_packet.specs.declared.ids.AgentHandle.{AgentHandle}
 use Rattle.aql_packet.specs.declared.ids.ClientId.{ClientId}
@@ -40,7 +40,7 @@ use Rattle.core_model.specs.declared.flight.InFlight.{InFlight}
 use Rattle.core_model.specs.declared.need.AgentFunction.{AgentFunction}
 use Rattle.core_model.specs.declared.need.AgentFunction.TheVariants.{Fill, Copy, Add64}
 use Rattle.core_model.specs.declared.need.Range.{Range}
-use Rattle.core_model.specs.History.{Start, History}
+use Rattle.core_model.specs.History.{beginning, HeldRights, Start, History}
 use Rattle.core_model.specs.Grants.{in_force}
 use Rattle.policy.specs.Policy.{region_lengths}
 use Rattle.core_model.specs.Memory.{signals}
@@ -50,7 +50,7 @@ use Rattle.core_model.specs.Kernels.{kernel_of}
 use Rattle.core_model.specs.Needs.{range_at, function_of, result_range, dependencies, completion_signal}
 use Rattle.core_model.specs.LaunchRules.{holds_rule, launch_rules, cause_to_wait, is_barrier}
 use Rattle.core_model.specs.Work.{seen_dependencies, group_count, is_negative, is_ready, newly_seen_positions}
-use Rattle.core_model.specs.Holds.{ObjectRight, arguments, arguments_of, packet_rights, rights_at_launch}
+use Rattle.core_model.specs.Holds.{arguments, arguments_of, held, is_among, rights_at_launch}
 use Rattle.core_model.specs.View.{RegionRights, first_address, held_regions}
 use Rattle.core_model.specs.Owed.{completion_of, error_without_place, facts_of, is_finished}
 use Rattle.core_model.specs.Legal.{IsLegal, entry_of}
@@ -62,6 +62,10 @@ pub record IsEntryBehind (entries before : List Entry) (entry : Entry) : Type 0 
   pub whole : entries ≡ before ++ entry ∷ after
 
 -- ---- the rights that a packet works with
+
+-- all of some rights are in force for a client (own)
+abbrev pub AllInForce : Start → List Entry → ClientId → HeldRights → Type 0
+AllInForce start entries client rights = (on : Object) (right : Right) → rights on right ≡ true → in_force start entries client on right ≡ true
 
 -- a client may reach a range: it lies whole in one region, on which this right is in force (own)
 pub record MayReach (start : Start) (entries : List Entry) (client : ClientId) (right : Right) (address size : ℕ) : Type 0 where
@@ -110,9 +114,9 @@ range_of region = range_at (first_address region) region.size
 
 -- the ranges that a packet's groups read: a kernel's are lent the regions that it holds with READ, an agent dispatch has those of its
 -- function (own)
-abbrev pub ranges_seen : Start → List ObjectRight → Packet → List Range
-ranges_seen start packet_rights (Kernel dispatch) = map range_of (filter (λ region. has region.rights right.Read) (held_regions start packet_rights))
-ranges_seen start packet_rights p = reads_of p
+abbrev pub ranges_seen : Start → HeldRights → Packet → List Range
+ranges_seen start rights (Kernel dispatch) = map range_of (filter (λ region. has region.rights right.Read) (held_regions start rights))
+ranges_seen start rights p = reads_of p
 
 -- the ranges that the function of a packet's dispatch writes, and its result (own)
 abbrev pub writes_of : Packet → List Range
@@ -256,21 +260,28 @@ pub record IsCompleted (start : Start) (before : List Entry) (queue : QueueId) (
   pub is_done : is_finished packet.flying.packet (progress start before queue id) ≡ true
   pub effects_are : effects ≡ completion_of (signals start before) queue id packet.flying.packet
 
+-- a poll of a barrier packet has seen something: no dependency still looked at is negative, it saw those that are 0, and there is one (own)
+pub record SeesAnew (start : Start) (before : List Entry) (p : Packet) (satisfied new : Satisfied) : Type 0 where
+  pub none_negative : list_any (is_negative (signals start before)) (seen_dependencies p satisfied) ≡ false
+  pub seen : new ≡ newly_seen_positions (signals start before) p satisfied
+  pub some : list_any (λ at. at) new.0 ≡ true
+
 -- what a poll of a barrier packet tells, by the signals just before and by what polls since its launch have seen: it failed where a
--- dependency still looked at is negative; else it saw those that are 0, and is ready where they suffice with those seen before (own)
+-- dependency still looked at is negative; else it saw something, and is ready where that suffices with what was seen before (own)
 abbrev pub IsPolled : Start → List Entry → QueueId → PacketId → Packet → Satisfied → Polled → Type 0
 IsPolled start before queue id p satisfied (Failed error) =
     (error ≡ error_without_place queue id.0 B1) × (list_any (is_negative (signals start before)) (seen_dependencies p satisfied) ≡ true)
 IsPolled start before queue id p satisfied (Pending new) =
-    (new ≡ newly_seen_positions (signals start before) p satisfied) × (is_ready p (satisfied_by_either satisfied new) ≡ false)
+    SeesAnew start before p satisfied new × (is_ready p (satisfied_by_either satisfied new) ≡ false)
 IsPolled start before queue id p satisfied (Ready new) =
-    (new ≡ newly_seen_positions (signals start before) p satisfied) × (is_ready p (satisfied_by_either satisfied new) ≡ true)
+    SeesAnew start before p satisfied new × (is_ready p (satisfied_by_either satisfied new) ≡ true)
 
 -- the packet that an event concerns, if it concerns one (own)
 abbrev pub packet_named : Event → Option (QueueId × PacketId)
 packet_named (Take queue id bytes) = Some (queue, id)
 packet_named (RunNext queue id) = Some (queue, id)
 packet_named (Poll queue id) = Some (queue, id)
+packet_named (Finish queue id) = Some (queue, id)
 packet_named _ = None
 
 -- ---- rights held
@@ -282,9 +293,10 @@ pub record HoldsInForce (start : Start) (entries : List Entry) (f : InFlight) : 
   pub owner_is : owner start entries f.queue ≡ Some launch.opening
   pub rights : HasItsRights start entries launch.opening f.packet
   -- what it holds, and its arguments, are what its launch gave it
-  pub held_is : packet_rights start entries f.queue f.id ≡ rights_at_launch start launch.before launch.opening f.packet
+  pub held_is : (client : ClientId) (on : Object) (right : Right) →
+      held start entries f.queue f.id client on right ≡ (launch.opening.client.0 == client.0 && is_among (rights_at_launch start launch.before launch.opening f.packet) on right)
   pub arguments_are : arguments start entries f.queue f.id ≡ arguments_of start launch.before f.packet
-  pub holds : All (λ h. in_force start entries launch.opening.client h.0 h.1 ≡ true) (packet_rights start entries f.queue f.id)
+  pub holds : AllInForce start entries launch.opening.client (held start entries f.queue f.id launch.opening.client)
 
 -- ---- queues
 
@@ -308,8 +320,9 @@ pub record IsListed (start : Start) (entries : List Entry) (client : ClientId) (
 
 -- a history goes on as another: from the same start, with entries behind its own, and legal (own)
 pub record GoesOn (old new : History) : Type 0 where
-  pub start_is : new.start ≡ old.start
+  pub origin_is : new.origin ≡ old.origin
+  pub kernels_are : new.kernels ≡ old.kernels
   pub capacity_is : new.capacity ≡ old.capacity
   pub more : List Entry
   pub entries_are : new.entries ≡ old.entries ++ more
-  pub legal : IsLegal new.start new.entries
+  pub legal : IsLegal (beginning new) new.entries

@@ -1,5 +1,5 @@
 -- What packets in flight hold, and which of them stands against a revocation.
-use Rattle.std.specs.Prelude.{ℕ, ◌==◌, ◌&&◌, ◌||◌, Bool, false, nat_lt, nat_le, List, [], ◌∷◌, ◌++◌, map, filter, find, Option, Some, None, if◌then◌else◌}
+use Rattle.std.specs.Prelude.{ℕ, ◌==◌, ◌&&◌, ◌||◌, Bool, false, not, nat_lt, nat_le, List, [], ◌∷◌, ◌++◌, map, filter, find, Option, Some, None, if◌then◌else◌}
 use Rattle.std.specs.List.{flat_map, list_all, list_any}
 use Rattle.aql_packet.specs.declared.ids.ClientId.{ClientId}
 use Rattle.aql_packet.specs.declared.ids.QueueId.{QueueId}
@@ -12,15 +12,15 @@ use Rattle.regions.specs.Memory.{lies_in_region, region_of}
 use Rattle.policy.specs.declared.rights.Right.{Right}
 use Rattle.policy.specs.declared.rights.Rights.{Rights}
 use Rattle.policy.specs.Object.{same_object}
-use Rattle.policy.specs.Rights.{all_rights, has}
+use Rattle.policy.specs.Rights.{all_rights, bit_of, has}
 use Rattle.core_model.specs.declared.entry.Entry.{Entry}
 use Rattle.core_model.specs.declared.flight.InFlight.{InFlight}
-use Rattle.core_model.specs.History.{Start}
+use Rattle.core_model.specs.History.{HeldRights, Start}
 use Rattle.core_model.specs.Grants.{in_force}
 use Rattle.policy.specs.Policy.{region_lengths}
 use Rattle.core_model.specs.Kernels.{argument_block, kernel_of, wide_arguments}
 use Rattle.core_model.specs.Queues.{Opening, owner}
-use Rattle.core_model.specs.Flight.{flight, is_packet, launched_by}
+use Rattle.core_model.specs.Flight.{flight, is_packet, launched_by, releases}
 use Rattle.core_model.specs.declared.need.Need.{Need}
 use Rattle.core_model.specs.Needs.{needs, object_of}
 use Rattle.core_model.specs.LaunchRules.{launch_rules}
@@ -57,16 +57,21 @@ held_by_arguments start entries client _ = []
 abbrev pub rights_at_launch : Start → List Entry → Opening → Packet → List ObjectRight
 rights_at_launch start entries opening p = held_by_needs opening p ++ held_by_arguments start entries opening.client p
 
--- what a packet holds that is launched behind these entries in a queue with this opening, if there are both
-abbrev pub rights_of_launch : Start → List Entry → Option Opening → Option InFlight → List ObjectRight
-rights_of_launch start entries (Some opening) (Some f) = rights_at_launch start entries opening f.packet
-rights_of_launch start entries _ _ = []
+-- whether a right on an object is one of these (own)
+abbrev pub is_among : List ObjectRight → HeldRights
+is_among all on right = list_any (λ h. same_object on h.0 && (bit_of h.1 == bit_of right)) all
+
+-- whether a packet that is launched behind these entries, in a queue with this opening, holds a client's right, if there are both
+abbrev pub gives : Start → List Entry → ClientId → Object → Right → Option Opening → Option InFlight → Bool
+gives start entries client on right (Some opening) (Some f) = opening.client.0 == client.0 && is_among (rights_at_launch start entries opening f.packet) on right
+gives start entries client on right _ _ = false
 
 -- the argument block of a packet that is launched behind these entries, if it is a kernel dispatch
 abbrev pub arguments_of : Start → List Entry → Packet → List ℕ
 arguments_of start entries (packet.Kernel d) = argument_block start entries d
 arguments_of start entries _ = []
 
+-- the argument block of a packet that is launched behind these entries, if one is (own)
 abbrev pub arguments_if : Start → List Entry → Option InFlight → List ℕ
 arguments_if start entries None = []
 arguments_if start entries (Some f) = arguments_of start entries f.packet
@@ -76,34 +81,44 @@ abbrev pub is_launch : QueueId → PacketId → Option InFlight → Bool
 is_launch queue id None = false
 is_launch queue id (Some f) = is_packet queue id f
 
--- what a packet's launch gives it, by the part of the history before the launch: `before` comes before the entries
-abbrev pub from_launch : {X : Type 0} → (List Entry → Option InFlight → List X) → List Entry → List Entry → QueueId → PacketId → List X
-from_launch give before [] queue id = []
-from_launch give before (entry ∷ entries) queue id =
-    if is_launch queue id (launched_by entry.event entry.outcome)
-    then give before (launched_by entry.event entry.outcome)
-    else from_launch give (before ++ entry ∷ []) entries queue id
+-- what follows along some entries, each taken with those that come before it (own)
+abbrev pub along : {X : Type 0} → (List Entry → X → Entry → X) → List Entry → X → List Entry → X
+along step before x [] = x
+along step before x (entry ∷ entries) = along step (before ++ entry ∷ []) (step before x entry) entries
 
--- what a packet that was launched holds (own)
-abbrev pub packet_rights : Start → List Entry → QueueId → PacketId → List ObjectRight
-packet_rights start entries queue id = from_launch (λ before f. rights_of_launch start before (owner start before queue) f) [] entries queue id
+-- whether a packet holds a client's right on an object after an entry behind others, by whether it did before: its launch gives it, its
+-- release takes it (own)
+abbrev pub held_after : Start → QueueId → PacketId → ClientId → Object → Right → List Entry → Bool → Entry → Bool
+held_after start queue id client on right before was entry =
+    (was || (is_launch queue id (launched_by entry.event entry.outcome) && gives start before client on right (owner start before queue) (launched_by entry.event entry.outcome)))
+    && not (list_any (releases queue id) entry.effects)
 
--- the argument block of a packet that was launched, as it was at its launch
-abbrev pub arguments : Start → List Entry → QueueId → PacketId → List ℕ
-arguments start entries queue id = from_launch (arguments_if start) [] entries queue id
+-- what a packet holds of a client's rights (own)
+unfoldable pub held : Start → List Entry → QueueId → PacketId → ClientId → HeldRights
+held start entries queue id client on right = along (held_after start queue id client on right) [] (start.held queue id client on right) entries
 
--- whether a packet in flight holds one of these rights on the object (own)
-abbrev pub holds_one_of : Start → List Entry → Object → Rights → InFlight → Bool
-holds_one_of start entries on rights f = list_any (λ h. same_object on h.0 && has rights h.1) (packet_rights start entries f.queue f.id)
+-- what a packet holds, for the owner of its queue (own)
+abbrev pub own_rights : Start → List Entry → QueueId → PacketId → HeldRights
+own_rights start entries queue id on right = elim (owner start entries queue) [ None ↦ false | Some opening ↦ held start entries queue id opening.client on right ]
 
--- whether a queue is the client's (own)
-abbrev pub is_queue_of : Start → List Entry → ClientId → QueueId → Bool
-is_queue_of start entries client queue = elim (owner start entries queue) [ None ↦ false | Some opening ↦ opening.client.0 == client.0 ]
+-- the argument block of a packet after an entry behind others, by what it was before
+abbrev pub arguments_after : Start → QueueId → PacketId → List Entry → List ℕ → Entry → List ℕ
+arguments_after start queue id before was entry =
+    if list_any (releases queue id) entry.effects then []
+    else if is_launch queue id (launched_by entry.event entry.outcome) then arguments_if start before (launched_by entry.event entry.outcome)
+    else was
 
--- the packets in flight, of the client's queues, that hold one of these rights on the object (own)
+-- the argument block of a packet in flight, as it was at its launch
+unfoldable pub arguments : Start → List Entry → QueueId → PacketId → List ℕ
+arguments start entries queue id = along (arguments_after start queue id) [] (start.arguments queue id) entries
+
+-- whether a packet in flight holds one of these rights of the client on the object (own)
+abbrev pub holds_one_of : Start → List Entry → ClientId → Object → Rights → InFlight → Bool
+holds_one_of start entries client on rights f = list_any (λ right. has rights right && held start entries f.queue f.id client on right) all_rights
+
+-- the packets in flight that hold one of these rights of the client on the object (own)
 abbrev pub holders : Start → List Entry → ClientId → Object → Rights → List InFlight
-holders start entries client on rights =
-    filter (λ f. is_queue_of start entries client f.queue && holds_one_of start entries on rights f) (flight start entries)
+holders start entries client on rights = filter (holds_one_of start entries client on rights) (flight start entries)
 
 -- whether a packet comes before another, or is it: by queue, then by id (own)
 abbrev pub is_up_to : InFlight → InFlight → Bool

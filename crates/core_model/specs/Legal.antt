@@ -16,14 +16,24 @@ use Rattle.core_model.specs.declared.refusal.Refusal.TheVariants as refusal
 use Rattle.kernel_check.specs.Programs.{Program}
 use Rattle.policy.specs.Policy.{Declared}
 use Rattle.policy.specs.Results.{map_ok}
-use Rattle.core_model.specs.History.{Start, History}
+use Rattle.core_model.specs.History.{History, Origin, Part, Start, begin, beginning, opening_state}
+use Rattle.grants.specs.Ledger as ledger
+use Rattle.aql_packet.specs.declared.ids.ClientId.{ClientId}
+use Rattle.aql_packet.specs.declared.ids.QueueId.{QueueId}
+use Rattle.aql_packet.specs.declared.ids.PacketId.{PacketId}
+use Rattle.policy.specs.declared.object.Object.{Object}
+use Rattle.policy.specs.declared.rights.Right.{Right}
+use Rattle.core_model.specs.States.{state_after}
 use Rattle.core_model.specs.Flight.{flight, flight_after}
 use Rattle.core_model.specs.Owed.{Owed, refuses, answers, enters, owed}
 use Rattle.core_model.specs.Queries.{AnswerOrRefusal, query_answer}
 
--- the history of a core that was just opened: no entry yet (own)
-abbrev pub empty_history : Declared → List Program → ℕ → History
-empty_history policy kernels capacity = record { start = record { policy = policy; kernels = kernels }; capacity = capacity; entries = [] }
+-- the history of a core that was just opened: it begins from the opening state, and has no entry yet (own)
+pub record IsOpening (history : History) (policy : Declared) (kernels : List Program) (capacity : ℕ) : Type 0 where
+  pub start_is : beginning history ≡ opening_state policy kernels
+  pub kernels_are : history.kernels ≡ kernels
+  pub capacity_is : history.capacity ≡ capacity
+  pub entries_are : history.entries ≡ []
 
 -- the entries follow each other lawfully after those before: each is what its event was owed at that point (own)
 abbrev pub IsLegalAfter : Start → List Entry → List Entry → Type 0
@@ -31,9 +41,42 @@ IsLegalAfter start before [] = Unit {0}
 IsLegalAfter start before (entry ∷ entries) =
     (owed start before entry.event ≡ enters entry.outcome entry.effects) × IsLegalAfter start (before ++ entry ∷ []) entries
 
--- a history is legal: each entry is what its event was owed by the entries before it (own)
-abbrev pub IsLegal : Start → List Entry → Type 0
-IsLegal start entries = IsLegalAfter start [] entries
+-- a whole history is legal: it begins from an opening state, and each entry is what its event was owed by the entries before it (own)
+pub record IsWhole (start : Start) (entries : List Entry) : Type 0 where
+  pub opens : start ≡ opening_state start.policy start.kernels
+  pub legal : IsLegalAfter start [] entries
+
+-- a history is legal: it is the rest of a whole one, with the same kernels, and begins from the state behind the part before (own)
+pub record IsLegal (start : Start) (entries : List Entry) : Type 0 where
+  -- the policy at the opening, and the entries before the start
+  pub first : Declared
+  pub prior : List Entry
+  pub start_is : start ≡ state_after (opening_state first start.kernels) prior
+  pub whole : IsWhole (opening_state first start.kernels) (prior ++ entries)
+
+-- a part is legal for these kernels: its entries are, from what it begins from, and it ends in the state behind them (own)
+pub record IsLegalPart (kernels : List Program) (part : Part) : Type 0 where
+  pub legal : IsLegal (begin kernels part.start) part.entries
+  pub end_is : begin kernels part.end ≡ state_after (begin kernels part.start) part.entries
+
+-- two are the same to begin from: the same data, with grants told by their look-ups (own)
+pub record SameOrigin (one other : Origin) : Type 0 where
+  pub policy : one.policy ≡ other.policy
+  pub granted : (client : ClientId) (on : Object) (right : Right) → ledger.in_force one.grants client on right ≡ ledger.in_force other.grants client on right
+  pub held : (queue : QueueId) (id : PacketId) (client : ClientId) (on : Object) (right : Right) → ledger.holds one.grants queue id client on right ≡ ledger.holds other.grants queue id client on right
+  pub memory : one.memory ≡ other.memory
+  pub signals : one.signals ≡ other.signals
+  pub queues : one.queues ≡ other.queues
+  pub packets : one.packets ≡ other.packets
+  pub before : one.before ≡ other.before
+
+-- a part ends where another begins (own)
+abbrev pub IsFollowedBy : Part → Part → Type 0
+IsFollowedBy first second = SameOrigin second.start first.end
+
+-- two parts in one (own)
+abbrev pub joined : Part → Part → Part
+joined first second = record { start = first.start; entries = first.entries ++ second.entries; end = second.end }
 
 -- the entry of an event (own)
 abbrev pub entry_of : Event → Outcome → List Effect → Entry
@@ -42,7 +85,7 @@ entry_of event outcome effects = record { event = event; outcome = outcome; effe
 -- whether an audit has no room for one entry more: after it fewer places would be free than packets are in flight (own)
 abbrev pub lacks_room : History → Entry → Bool
 lacks_room history entry =
-    nat_lt history.capacity (length history.entries + 1 + length (flight_after (flight history.start history.entries) entry))
+    nat_lt history.capacity (length history.entries + 1 + length (flight_after (flight (beginning history) history.entries) entry))
 
 -- what is due where an event is owed this: an entry that the audit has no room for is refused, after every other refusal (own)
 abbrev pub within_room : History → Event → Owed → Owed
@@ -54,7 +97,7 @@ within_room history event (enters outcome effects) =
 
 -- what is due to an event: what it is owed, or that the audit has no room for its entry (own)
 abbrev pub due : History → Event → Owed
-due history event = within_room history event (owed history.start history.entries event)
+due history event = within_room history event (owed (beginning history) history.entries event)
 
 -- the reply to an event that is owed this (own)
 abbrev pub reply_of : Owed → Result Outcome Refusal
@@ -115,12 +158,12 @@ as_reply made = map_ok answer.Outcome made
 
 -- a query got its answer, or its refusal, and changed nothing (own)
 abbrev pub Replies : Query → History → AnswerOrRefusal → Type 0
-Replies asked history reply = reply ≡ query_answer history.start history.entries asked
+Replies asked history reply = reply ≡ query_answer (beginning history) history.entries asked
 
 -- it did, or it may want memory, and was told so (own)
 abbrev pub RepliesOrLacks : Query → History → AnswerOrRefusal → Type 0
 RepliesOrLacks asked history reply =
-    Replies asked history reply ⊎ ((query_may_lack_memory (query_answer history.start history.entries asked) ≡ true) × (reply ≡ Err refusal.OutOfMemory))
+    Replies asked history reply ⊎ ((query_may_lack_memory (query_answer (beginning history) history.entries asked) ≡ true) × (reply ≡ Err refusal.OutOfMemory))
 
 -- a request was served: an event got and left what was due, and a query, which changes nothing, got its reply; or either was told that
 -- memory was wanted, and then it counts as not made (own)

@@ -10,8 +10,10 @@ pub mod LaunchRules
 pub mod Work
 pub mod Holds
 pub mod View
+pub mod States
 pub mod Owed
 pub mod Queries
 pub mod Legal
+pub mod Room
 pub mod Headline
 pub mod inner

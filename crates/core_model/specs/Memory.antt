@@ -1,7 +1,6 @@
 -- The byte at each address, and the value of each signal: where they begin, with all changes laid over in order.
 use Rattle.std.specs.Prelude.{ℕ, ℤ, ◌+◌, ◌-◌, List, fold, map, length, slice_index, slice_set, ◌&&◌, nat_le, nat_lt, if◌then◌else◌}
 use Rattle.std.specs.List.{range_with_len}
-use Rattle.policy.specs.Policy.{initial_values}
 use Rattle.core_model.specs.declared.entry.Entry.{Entry}
 use Rattle.core_model.specs.declared.entry.Effect.{Effect}
 use Rattle.core_model.specs.declared.entry.Effect.TheVariants.{Write, Signal}
@@ -13,9 +12,9 @@ byte_after x before (Write address bytes) =
     if nat_le address.0 x && nat_lt x (address.0 + length bytes) then slice_index bytes (x - address.0) else before
 byte_after x before _ = before
 
--- the byte at an address: 0 at first, then what was last written there (own)
+-- the byte at an address: the start's, then what was last written there (own)
 unfoldable pub memory_at : Start → List Entry → ℕ → ℕ
-memory_at start entries x = fold (byte_after x) 0 (effects_of entries)
+memory_at start entries x = fold (byte_after x) (start.memory x) (effects_of entries)
 
 -- `size` bytes of memory from an address on (own)
 abbrev pub memory_from : Start → List Entry → ℕ → ℕ → List ℕ
@@ -26,6 +25,6 @@ abbrev pub signals_after : List ℤ → Effect → List ℤ
 signals_after before (Signal signal old new) = slice_set before (signal.0 - 1) new
 signals_after before _ = before
 
--- the values of all signals in order: the policy's at first, then what each was last changed to (own)
+-- the values of all signals in order: the start's, then what each was last changed to (own)
 unfoldable pub signals : Start → List Entry → List ℤ
-signals start entries = fold signals_after (initial_values start.policy) (effects_of entries)
+signals start entries = fold signals_after start.signals (effects_of entries)

@@ -1,6 +1,6 @@
 -- What a work-group is given: the regions that its packet holds, and the arguments that it had at its launch.
-use Rattle.std.specs.Prelude.{ℕ, ◌*◌, ◌==◌, ◌&&◌, not, List, filter, length, map, replicate, if◌then◌else◌}
-use Rattle.std.specs.List.{list_any, range_with_len, zip}
+use Rattle.std.specs.Prelude.{ℕ, ◌*◌, ◌==◌, not, List, filter, length, map, replicate, if◌then◌else◌}
+use Rattle.std.specs.List.{range_with_len, zip}
 use Rattle.aql_packet.specs.declared.memory.TheConstants.{REGION_SPAN}
 use Rattle.aql_packet.specs.declared.ids.QueueId.{QueueId}
 use Rattle.aql_packet.specs.declared.ids.PacketId.{PacketId}
@@ -11,27 +11,26 @@ use Rattle.policy.specs.declared.object.Object.{Object}
 use Rattle.policy.specs.declared.object.Object.TheVariants as object
 use Rattle.policy.specs.declared.rights.Right.TheVariants.{Read}
 use Rattle.policy.specs.declared.rights.Rights.{Rights}
-use Rattle.policy.specs.Object.{same_object}
-use Rattle.policy.specs.Rights.{bit_of, has, rights_that}
+use Rattle.policy.specs.Rights.{has, rights_that}
 use Rattle.core_model.specs.declared.entry.Entry.{Entry}
-use Rattle.core_model.specs.History.{Start}
+use Rattle.core_model.specs.History.{HeldRights, Start}
 use Rattle.policy.specs.Policy.{region_lengths}
 use Rattle.core_model.specs.Memory.{memory_from}
 use Rattle.core_model.specs.Kernels.{grid_size, group_size, kernel_of}
-use Rattle.core_model.specs.Holds.{ObjectRight, arguments, packet_rights}
+use Rattle.core_model.specs.Holds.{arguments, own_rights}
 
 -- what a packet was given at its launch: what it holds, and its argument block
 pub record GivenAtLaunch : Type 0 where
-  pub rights : List ObjectRight
+  pub rights : HeldRights
   pub arguments : List ℕ
 
 -- what the packet with this queue and id was given
 abbrev pub given_at_launch : Start → List Entry → QueueId → PacketId → GivenAtLaunch
-given_at_launch start entries queue id = record { rights = packet_rights start entries queue id; arguments = arguments start entries queue id }
+given_at_launch start entries queue id = record { rights = own_rights start entries queue id; arguments = arguments start entries queue id }
 
 -- the rights that are held on an object
-abbrev pub rights_held : List ObjectRight → Object → Rights
-rights_held all on = rights_that (λ right. list_any (λ h. same_object on h.0 && (bit_of h.1 == bit_of right)) all)
+abbrev pub rights_held : HeldRights → Object → Rights
+rights_held all on = rights_that (all on)
 
 -- a region with the rights that are held on it
 pub record RegionRights : Type 0 where
@@ -40,11 +39,11 @@ pub record RegionRights : Type 0 where
   pub rights : Rights
 
 -- the region of a number, and of a size
-abbrev pub held_region : List ObjectRight → ℕ × ℕ → RegionRights
+abbrev pub held_region : HeldRights → ℕ × ℕ → RegionRights
 held_region all row = record { number = row.0; size = row.1; rights = rights_held all (object.Region (record { 0 = row.0 })) }
 
 -- the regions on which a right is held, by number
-abbrev pub held_regions : Start → List ObjectRight → List RegionRights
+abbrev pub held_regions : Start → HeldRights → List RegionRights
 held_regions start all =
     filter (λ region. not (region.rights.0 == 0))
     (map (held_region all) (zip (range_with_len 1 (length (region_lengths start.policy))) (region_lengths start.policy)))
@@ -62,7 +61,7 @@ as_lent start entries region = record {
 }
 
 -- the memory that a packet's groups see
-abbrev pub view : Start → List Entry → List ObjectRight → List LentRegion
+abbrev pub view : Start → List Entry → HeldRights → List LentRegion
 view start entries all = map (as_lent start entries) (held_regions start all)
 
 -- all that a group of a kernel dispatch is given to run on

@@ -10,7 +10,7 @@ use Rattle.aql_packet.specs.declared.packet.Packet.{Packet}
 use Rattle.aql_packet.specs.declared.packet.Packet.TheVariants as packet
 use Rattle.executor.specs.Locations as locations
 use Rattle.executor.specs.Locations.{count_of}
-use Rattle.executor.specs.declared.run.Run.{Run}
+use Rattle.executor.specs.declared.written_range.WrittenRange.{WrittenRange}
 use Rattle.signals.specs.Values.{value_of}
 use Rattle.core_model.specs.declared.entry.Effect.{Effect}
 use Rattle.core_model.specs.declared.entry.Effect.TheVariants.{Write}
@@ -62,7 +62,7 @@ group_count (packet.Agent _) = 1
 group_count _ = 0
 
 -- the change of memory that a run of written bytes is
-abbrev pub write_of_run : Run → Effect
+abbrev pub write_of_run : WrittenRange → Effect
 write_of_run run = Write (record { 0 = run.address }) run.bytes
 
 -- a dependency with whether it was seen as 0 before (PSA, Architected Queuing Language: barrier packets)

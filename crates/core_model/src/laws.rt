@@ -1,7 +1,7 @@
 //! What a legal history shows: for each thing that it tells, who asked for it, and which grant in
 //! force allowed it; and what clients are told.
 
-ghost use Rattle.std.specs.Prelude.{ℕ, ℤ, List, [], ◌∷◌, ◌++◌, ◌≡◌, ◌⊎◌, All, Some, Result, Ok, Err, true, false, length};
+ghost use Rattle.std.specs.Prelude.{ℕ, ℤ, List, [], ◌∷◌, ◌++◌, ◌≡◌, ◌⊎◌, All, None, Some, Result, Ok, Err, true, false, length};
 ghost use Rattle.aql_packet.specs.declared.ids.Address.{Address};
 ghost use Rattle.aql_packet.specs.declared.ids.AgentHandle.{AgentHandle};
 ghost use Rattle.aql_packet.specs.declared.ids.ClientId.{ClientId};
@@ -15,7 +15,7 @@ ghost use Rattle.signals.specs.Values.{applied, meets, value_of};
 ghost use Rattle.signals.specs.declared.operation.Condition.{Condition};
 ghost use Rattle.signals.specs.declared.operation.SignalOp.{SignalOp};
 ghost use Rattle.policy.specs.Rules.{is_allowed, are_allowed, knows_client};
-ghost use Rattle.policy.specs.Policy.{region_lengths, rules_of};
+ghost use Rattle.policy.specs.Policy.{Declared, region_lengths, rules_of};
 ghost use Rattle.policy.specs.declared.object.Object.{Object};
 ghost use Rattle.policy.specs.declared.object.Object.TheVariants as object;
 ghost use Rattle.policy.specs.declared.rights.Right.{Right};
@@ -28,7 +28,8 @@ ghost use Rattle.core_model.specs.declared.entry.Effect.{Effect};
 ghost use Rattle.core_model.specs.declared.entry.Effect.TheVariants as effect;
 ghost use Rattle.core_model.specs.declared.entry.Entry.{Entry};
 ghost use Rattle.core_model.specs.declared.event.Event.{Event};
-ghost use Rattle.core_model.specs.declared.event.Event.TheVariants.{ChangeSignal, Finish, Grant, HostWrite, OpenQueue, Poll, RunNext, Take};
+ghost use Rattle.core_model.specs.declared.event.Event.TheVariants.{ChangeSignal, Finish, Grant, HostWrite, OpenQueue, Poll, RunNext, Stop, Take};
+ghost use Rattle.core_model.specs.declared.event.Query.{Query};
 ghost use Rattle.core_model.specs.declared.event.Query.TheVariants as query;
 ghost use Rattle.core_model.specs.declared.event.Request.{Request};
 ghost use Rattle.core_model.specs.declared.flight.InFlight.{InFlight};
@@ -41,25 +42,30 @@ ghost use Rattle.core_model.specs.declared.outcome.Taken.TheVariants as taken;
 ghost use Rattle.core_model.specs.declared.outcome.Worked.TheVariants as worked;
 ghost use Rattle.core_model.specs.declared.refusal.Refusal.{Refusal};
 ghost use Rattle.core_model.specs.declared.refusal.Refusal.TheVariants as refusal;
-ghost use Rattle.core_model.specs.History.{Start, History};
+ghost use Rattle.core_model.specs.History.{History, Part, Start, begin, beginning, opening_origin, opening_state};
+ghost use Rattle.core_model.specs.States.{state_after};
+ghost use Rattle.kernel_check.specs.Programs.{Program};
 ghost use Rattle.core_model.specs.Grants.{in_force};
-ghost use Rattle.core_model.specs.Memory.{memory_from, signals};
+ghost use Rattle.core_model.specs.Memory.{memory_at, memory_from, signals};
+ghost use Rattle.regions.specs.Memory.{lies_in_region};
+ghost use Rattle.core_model.specs.declared.flight.TheConstants.{LAUNCH_PROGRESS};
 ghost use Rattle.aql_packet.specs.Memory.{are_region_lengths};
-ghost use Rattle.core_model.specs.Holds.{packet_rights};
+ghost use Rattle.core_model.specs.Holds.{arguments, held, own_rights};
 ghost use Rattle.core_model.specs.View.{GivenAtLaunch, given_at_launch};
-ghost use Rattle.core_model.specs.Queues.{Opening, error_of, next_id};
-ghost use Rattle.core_model.specs.Flight.{LawOfFlight, flight, in_flight, progress};
+ghost use Rattle.core_model.specs.Queues.{Opening, error_of, next_id, owner};
+ghost use Rattle.core_model.specs.Flight.{AreApart, LawOfFlight, flight, flight_of, in_flight, progress};
 ghost use Rattle.core_model.specs.Work.{agent_writes};
-ghost use Rattle.core_model.specs.Owed.{enters, is_host_size, old_if_asked, owed, owed_group, refuses};
-ghost use Rattle.core_model.specs.Legal.{AreReplies, IsLegal, IsServed, MeetsOrLacks, entry_of};
+ghost use Rattle.core_model.specs.Owed.{barrier_in, enters, is_host_size, old_if_asked, owed, owed_group, refuses};
+ghost use Rattle.core_model.specs.Legal.{AreReplies, IsFollowedBy, IsLegal, IsLegalPart, IsOpening, IsServed, IsWhole, joined, MeetsOrLacks, entry_of};
 ghost use Rattle.core_model.specs.Queries.{AnswerOrRefusal, query_answer};
-ghost use Rattle.core_model.specs.Headline.{ChangeIsGranted, GoesOn, HoldsInForce, InFlightSince, IsCompleted, IsDenied, IsEntryBehind, IsListed, IsOpened, IsPolled, Launch, MayBeLaunched, MayReach, MayReachRange, ReleaseIsDue, WriteIsGranted, packet_named, ranges_seen};
+ghost use Rattle.core_model.specs.Room.{FindsRoom, HasRoom};
+ghost use Rattle.core_model.specs.Headline.{AllInForce, ChangeIsGranted, GoesOn, HoldsInForce, InFlightSince, IsCompleted, IsDenied, IsEntryBehind, IsListed, IsOpened, IsPolled, Launch, MayBeLaunched, MayReach, MayReachRange, ReleaseIsDue, WriteIsGranted, packet_named, ranges_seen};
 
 /// A launched packet is the next of a queue that is open and need not wait, is laid out by its bytes, and
 /// meets every launch rule by the grants in force just before; its launch has no effect.
 pub fn each_launch_was_granted()
     ensures { (start : Start) (entries before : List Entry) (queue : QueueId) (id : PacketId) (bytes : List ℕ) (effects : List Effect) →
-        IsLegal start entries → IsEntryBehind entries before (entry_of (Take queue id bytes) (outcome.Taken taken.Launched) effects) →
+        IsWhole start entries → IsEntryBehind entries before (entry_of (Take queue id bytes) (outcome.Taken taken.Launched) effects) →
         (opening : Opening) × (packet : Packet) × MayBeLaunched start before queue id bytes opening packet × (effects ≡ []) }
 {}
 
@@ -67,19 +73,19 @@ pub fn each_launch_was_granted()
 /// once at most.
 pub fn each_packet_is_taken_in_turn()
     ensures turn { (start : Start) (entries before : List Entry) (queue : QueueId) (id : PacketId) (bytes : List ℕ) (told : Outcome) (effects : List Effect) →
-        IsLegal start entries → IsEntryBehind entries before (entry_of (Take queue id bytes) told effects) → id.0 ≡ next_id start before queue }
+        IsWhole start entries → IsEntryBehind entries before (entry_of (Take queue id bytes) told effects) → id.0 ≡ next_id start before queue }
     ensures decided { (start : Start) (entries before : List Entry) (queue : QueueId) (id : PacketId) (bytes : List ℕ) (told : Outcome) (effects : List Effect) →
-        IsLegal start entries → IsEntryBehind entries before (entry_of (Take queue id bytes) told effects) →
+        IsWhole start entries → IsEntryBehind entries before (entry_of (Take queue id bytes) told effects) →
         (told ≡ outcome.Taken taken.Launched) ⊎ (error : QueueError) × (told ≡ outcome.Taken (taken.Denied error)) }
     ensures once { (start : Start) (entries : List Entry) (queue : QueueId) (id : PacketId) →
-        IsLegal start entries → (one other : Launch start entries queue id) → (one.before ≡ other.before) × (one.packet ≡ other.packet) }
+        IsWhole start entries → (one other : Launch start entries queue id) → (one.before ≡ other.before) × (one.packet ≡ other.packet) }
 {}
 
 /// A denied packet's error names the packet and the first launch rule that fails by the grants in force
 /// just before; a denial has no effect.
 pub fn denials_name_the_first_rule()
     ensures { (start : Start) (entries before : List Entry) (queue : QueueId) (id : PacketId) (bytes : List ℕ) (error : QueueError) (effects : List Effect) →
-        IsLegal start entries → IsEntryBehind entries before (entry_of (Take queue id bytes) (outcome.Taken (taken.Denied error)) effects) →
+        IsWhole start entries → IsEntryBehind entries before (entry_of (Take queue id bytes) (outcome.Taken (taken.Denied error)) effects) →
         IsDenied start before queue id bytes error × (effects ≡ []) }
 {}
 
@@ -88,28 +94,28 @@ pub fn denials_name_the_first_rule()
 /// owner of its queue. The regions are as many and as long as there may be.
 pub fn each_write_was_granted()
     ensures { (start : Start) (entries before : List Entry) (entry : Entry) → are_region_lengths (region_lengths start.policy) ≡ true →
-        IsLegal start entries → IsEntryBehind entries before entry → All (WriteIsGranted start before entry.event) entry.effects }
+        IsWhole start entries → IsEntryBehind entries before entry → All (WriteIsGranted start before entry.event) entry.effects }
 {}
 
 /// Each change of a signal is a client's own, with CHANGE in force; or the decrement of the completion
 /// signal of a packet in flight that was launched with CHANGE in force for the owner of its queue.
 pub fn each_signal_change_was_granted()
     ensures { (start : Start) (entries before : List Entry) (entry : Entry) →
-        IsLegal start entries → IsEntryBehind entries before entry → All (ChangeIsGranted start before entry.event) entry.effects }
+        IsWhole start entries → IsEntryBehind entries before entry → All (ChangeIsGranted start before entry.event) entry.effects }
 {}
 
 /// Each packet that is released is in flight, and is the one that completes, or faults, or is the
 /// barrier packet of a queue that is stopped.
 pub fn each_release_is_due()
     ensures { (start : Start) (entries before : List Entry) (entry : Entry) →
-        IsLegal start entries → IsEntryBehind entries before entry → All (ReleaseIsDue start before entry.event entry.outcome) entry.effects }
+        IsWhole start entries → IsEntryBehind entries before entry → All (ReleaseIsDue start before entry.event entry.outcome) entry.effects }
 {}
 
 /// A packet that completes is in flight and has its work done; its completion signal, unless it is null,
 /// is decremented once, and it is released.
 pub fn each_completion_comes_after_the_work()
     ensures { (start : Start) (entries before : List Entry) (queue : QueueId) (id : PacketId) (told : Outcome) (effects : List Effect) →
-        IsLegal start entries → IsEntryBehind entries before (entry_of (Finish queue id) told effects) →
+        IsWhole start entries → IsEntryBehind entries before (entry_of (Finish queue id) told effects) →
         (told ≡ outcome.Accepted) × IsCompleted start before queue id effects }
 {}
 
@@ -118,7 +124,7 @@ pub fn each_completion_comes_after_the_work()
 /// suffices.
 pub fn each_poll_is_by_the_signals()
     ensures { (start : Start) (entries before : List Entry) (queue : QueueId) (id : PacketId) (told : Outcome) (effects : List Effect) →
-        IsLegal start entries → IsEntryBehind entries before (entry_of (Poll queue id) told effects) →
+        IsWhole start entries → IsEntryBehind entries before (entry_of (Poll queue id) told effects) →
         (s : InFlightSince start before queue id) × (found : Polled) × (told ≡ outcome.Polled found)
         × IsPolled start before queue id s.flying.packet (progress start before queue id).satisfied found }
 {}
@@ -128,13 +134,13 @@ pub fn each_poll_is_by_the_signals()
 /// its result's 8 bytes, as the function says, and what comes of a kernel's group is its meaning.
 pub fn each_read_of_a_group_was_granted()
     ensures reads { (start : Start) (entries before : List Entry) (queue : QueueId) (id : PacketId) (told : Outcome) (effects : List Effect) →
-        IsLegal start entries → IsEntryBehind entries before (entry_of (RunNext queue id) told effects) →
-        (s : InFlightSince start before queue id) × All (MayReachRange start s.launch.before s.launch.opening.client right.Read) (ranges_seen start (packet_rights start before queue id) s.flying.packet) }
+        IsWhole start entries → IsEntryBehind entries before (entry_of (RunNext queue id) told effects) →
+        (s : InFlightSince start before queue id) × All (MayReachRange start s.launch.before s.launch.opening.client right.Read) (ranges_seen start (own_rights start before queue id) s.flying.packet) }
     ensures agents { (start : Start) (entries before : List Entry) (queue : QueueId) (id : PacketId) (told : Outcome) (effects : List Effect) (flying : InFlight) (dispatch : AgentDispatch) →
-        IsLegal start entries → IsEntryBehind entries before (entry_of (RunNext queue id) told effects) →
+        IsWhole start entries → IsEntryBehind entries before (entry_of (RunNext queue id) told effects) →
         in_flight start before queue id ≡ Some flying → flying.packet ≡ packet.Agent dispatch → effects ≡ agent_writes start before dispatch }
     ensures means { (start : Start) (entries before : List Entry) (queue : QueueId) (id : PacketId) (told : Outcome) (effects : List Effect) (flying : InFlight) →
-        IsLegal start entries → IsEntryBehind entries before (entry_of (RunNext queue id) told effects) →
+        IsWhole start entries → IsEntryBehind entries before (entry_of (RunNext queue id) told effects) →
         in_flight start before queue id ≡ Some flying → owed_group start before queue id (given_at_launch start before queue id) flying.packet (progress start before queue id) ≡ enters told effects }
 {}
 
@@ -150,24 +156,27 @@ pub fn groups_depend_on_what_they_read()
 /// has no other effect.
 pub fn faults_release_alone()
     ensures names { (start : Start) (entries before : List Entry) (entry : Entry) (error : QueueError) →
-        IsLegal start entries → IsEntryBehind entries before entry → error_of entry.outcome ≡ Some error →
+        IsWhole start entries → IsEntryBehind entries before entry → error_of entry.outcome ≡ Some error →
         packet_named entry.event ≡ Some (error.queue, error.packet) }
     ensures releases { (start : Start) (entries before : List Entry) (entry : Entry) (error : QueueError) →
-        IsLegal start entries → IsEntryBehind entries before entry →
+        IsWhole start entries → IsEntryBehind entries before entry →
         (entry.outcome ≡ outcome.Worked (worked.Faulted error)) ⊎ (entry.outcome ≡ outcome.Polled (polled.Failed error)) →
         entry.effects ≡ effect.Release error.queue error.packet ∷ [] }
 {}
 
 /// A packet in flight was launched, and its rights, with all that it holds, are in force for the
-/// owner of its queue.
+/// owner of its queue; what it holds, wherever its history begins.
 pub fn held_rights_are_in_force()
-    ensures { (start : Start) (entries : List Entry) → IsLegal start entries → All (HoldsInForce start entries) (flight start entries) }
+    ensures whole { (start : Start) (entries : List Entry) → IsWhole start entries → All (HoldsInForce start entries) (flight start entries) }
+    ensures anywhere { (start : Start) (entries : List Entry) (queue : QueueId) (id : PacketId) (flying : InFlight) →
+        IsLegal start entries → in_flight start entries queue id ≡ Some flying →
+        (opening : Opening) × (owner start entries queue ≡ Some opening) × AllInForce start entries opening.client (own_rights start entries queue id) }
 {}
 
 /// A grant gives what the policy allows the client, and has no effect.
 pub fn each_grant_is_allowed()
     ensures { (start : Start) (entries before : List Entry) (client : ClientId) (on : Object) (rights : Rights) (told : Outcome) (effects : List Effect) →
-        IsLegal start entries → IsEntryBehind entries before (entry_of (Grant client on rights) told effects) →
+        IsWhole start entries → IsEntryBehind entries before (entry_of (Grant client on rights) told effects) →
         (are_allowed (rules_of start.policy) client on rights ≡ true) × (effects ≡ []) }
 {}
 
@@ -175,7 +184,7 @@ pub fn each_grant_is_allowed()
 /// then on.
 pub fn each_queue_is_its_openers()
     ensures { (start : Start) (entries before : List Entry) (client : ClientId) (agent : AgentHandle) (size : ℕ) (told : Outcome) (effects : List Effect) →
-        IsLegal start entries → IsEntryBehind entries before (entry_of (OpenQueue client agent size) told effects) →
+        IsWhole start entries → IsEntryBehind entries before (entry_of (OpenQueue client agent size) told effects) →
         IsOpened start before (entry_of (OpenQueue client agent size) told effects) client agent }
 {}
 
@@ -183,10 +192,10 @@ pub fn each_queue_is_its_openers()
 /// CHANGE in force, and then as the operation says, and it is told the old value only where it asked.
 pub fn each_host_call_was_granted()
     ensures write { (start : Start) (entries before : List Entry) (client : ClientId) (address : Address) (bytes : List ℕ) (told : Outcome) (effects : List Effect) →
-        IsLegal start entries → IsEntryBehind entries before (entry_of (HostWrite client address bytes) told effects) →
+        IsWhole start entries → IsEntryBehind entries before (entry_of (HostWrite client address bytes) told effects) →
         MayReach start before client right.Write address.0 (length bytes) × (effects ≡ effect.Write address bytes ∷ []) × (told ≡ outcome.Accepted) }
     ensures change { (start : Start) (entries before : List Entry) (client : ClientId) (signal : SignalHandle) (operation : SignalOp) (told : Outcome) (effects : List Effect) →
-        IsLegal start entries → IsEntryBehind entries before (entry_of (ChangeSignal client signal operation) told effects) →
+        IsWhole start entries → IsEntryBehind entries before (entry_of (ChangeSignal client signal operation) told effects) →
         (in_force start before client (object.Signal signal) right.Change ≡ true) × (old : ℤ) × (value_of (signals start before) signal.0 ≡ Some old)
         × (effects ≡ effect.Signal signal old (applied operation old) ∷ []) × (told ≡ outcome.Changed (old_if_asked operation old)) }
 {}
@@ -221,7 +230,7 @@ pub fn each_listed_right_is_in_force()
 /// Each right in force is one that the policy allows the client.
 pub fn each_right_in_force_is_allowed()
     ensures { (start : Start) (entries : List Entry) (client : ClientId) (on : Object) (right : Right) →
-        IsLegal start entries → in_force start entries client on right ≡ true → is_allowed (rules_of start.policy) client on right ≡ true }
+        IsWhole start entries → in_force start entries client on right ≡ true → is_allowed (rules_of start.policy) client on right ≡ true }
 {}
 
 /// A known client's own call is denied where the right that it needs is not in force: a write or a read of
@@ -256,14 +265,83 @@ pub fn refusals_change_nothing()
 /// entries so far as they were; and each beginning of a legal history is legal.
 pub fn serving_keeps_a_history_legal()
     ensures call { (old new : History) (event : Event) (reply : Result Outcome Refusal) →
-        IsLegal old.start old.entries → MeetsOrLacks event old new reply → GoesOn old new }
+        IsLegal (beginning old) old.entries → MeetsOrLacks event old new reply → GoesOn old new }
     ensures list { (old new : History) (requests : List Request) (replies : List AnswerOrRefusal) →
-        IsLegal old.start old.entries → AreReplies old requests replies new → GoesOn old new }
+        IsLegal (beginning old) old.entries → AreReplies old requests replies new → GoesOn old new }
     ensures beginnings { (start : Start) (before more : List Entry) → IsLegal start (before ++ more) → IsLegal start before }
 {}
 
-/// After any entries, a packet is in flight just where one of them launched it, and neither that one
-/// nor any since released it.
+/// After any entries, a packet is in flight just where it was so at the start, or one of them launched
+/// it, and none since, the launch's own among them, released it.
 pub fn law_of_flight()
     ensures { LawOfFlight }
+{}
+
+/// Two parts of a history of which the second begins where the first ends, both legal for the same
+/// kernels, are joined to one part that is legal for them.
+pub fn joined_parts_are_legal()
+    ensures { (kernels : List Program) (first second : Part) → IsLegalPart kernels first → IsLegalPart kernels second → IsFollowedBy first second → IsLegalPart kernels (joined first second) }
+{}
+
+/// A history goes on from the state behind its entries: that state begins a legal one, where they are
+/// legal, and a legal history may be parted and joined at any place. What a legal history ends in is what
+/// the whole one does that led to it, so that each law of whole histories speaks of it too. What an event
+/// is owed from there, and what a query is answered, is what it was owed behind those entries. The audit
+/// alone answers the entries since its start.
+pub fn histories_go_on_from_their_states()
+    ensures rotated { (start : Start) (entries : List Entry) → IsLegal start entries → IsLegal (state_after start entries) [] }
+    ensures state { (start : Start) (before more : List Entry) → state_after start (before ++ more) ≡ state_after (state_after start before) more }
+    ensures behind { (start : Start) (entries : List Entry) (legal : IsLegal start entries) → state_after (opening_state legal.first start.kernels) (legal.prior ++ entries) ≡ state_after start entries }
+    ensures parted { (start : Start) (before more : List Entry) → IsLegal start (before ++ more) → IsLegal (state_after start before) more }
+    ensures joined { (start : Start) (before more : List Entry) → IsLegal start before → IsLegal (state_after start before) more → IsLegal start (before ++ more) }
+    ensures owed { (start : Start) (before more : List Entry) (event : Event) → owed start (before ++ more) event ≡ owed (state_after start before) more event }
+    ensures answered { (start : Start) (before more : List Entry) (asked : Query) → (asked ≡ query.Audit → ⊥) →
+        query_answer start (before ++ more) asked ≡ query_answer (state_after start before) more asked }
+{}
+
+/// What an opened core begins from is the opening state; a history that begins there is legal just where
+/// it is whole: no entry came before.
+pub fn whole_histories_begin_at_an_opening()
+    ensures opened { (policy : Declared) (kernels : List Program) → begin kernels (opening_origin policy) ≡ opening_state policy kernels }
+    ensures legal { (start : Start) (entries : List Entry) → IsWhole start entries → IsLegal start entries }
+    ensures whole { (start : Start) (entries : List Entry) → start.before ≡ 0 → IsLegal start entries → IsWhole start entries }
+{}
+
+/// Of what isn't there a legal history tells nothing: memory outside the regions stays 0; a packet that
+/// isn't in flight holds no right, has no arguments, and its progress is that of a launch; and no two
+/// packets in flight have one name, so that each is found by its queue and id.
+pub fn nothing_is_told_of_what_is_not_there()
+    ensures memory { (start : Start) (entries : List Entry) (address : ℕ) → are_region_lengths (region_lengths start.policy) ≡ true →
+        IsLegal start entries → lies_in_region (region_lengths start.policy) address ≡ false → memory_at start entries address ≡ 0 }
+    ensures rights { (start : Start) (entries : List Entry) (queue : QueueId) (id : PacketId) (client : ClientId) (on : Object) (right : Right) →
+        IsLegal start entries → in_flight start entries queue id ≡ None → held start entries queue id client on right ≡ false }
+    ensures progress { (start : Start) (entries : List Entry) (queue : QueueId) (id : PacketId) →
+        IsLegal start entries → in_flight start entries queue id ≡ None → progress start entries queue id ≡ LAUNCH_PROGRESS }
+    ensures arguments { (start : Start) (entries : List Entry) (queue : QueueId) (id : PacketId) →
+        IsLegal start entries → in_flight start entries queue id ≡ None → arguments start entries queue id ≡ [] }
+    ensures apart { (start : Start) (entries : List Entry) → IsLegal start entries → AreApart (flight start entries) }
+    ensures named { (start : Start) (entries : List Entry) →
+        IsLegal start entries → All (λ f. in_flight start entries f.queue f.id ≡ Some f) (flight start entries) }
+{}
+
+/// An audit keeps a place for each packet in flight: one that was just opened does, and whatever is
+/// served, an event or any list of requests, leaves it so.
+pub fn audits_keep_room_for_packets_in_flight()
+    ensures opened { (history : History) (policy : Declared) (kernels : List Program) (capacity : ℕ) → IsOpening history policy kernels capacity → HasRoom history }
+    ensures event { (old new : History) (event : Event) (reply : Result Outcome Refusal) → HasRoom old → MeetsOrLacks event old new reply → HasRoom new }
+    ensures list { (old new : History) (requests : List Request) (replies : List AnswerOrRefusal) → HasRoom old → AreReplies old requests replies new → HasRoom new }
+{}
+
+/// Where an audit keeps them, what takes a packet out of flight is never refused for want of room: a
+/// completion, a group that is owed a fault, a poll that is owed a failure, and the stop of a queue that has
+/// a barrier packet in flight are due what they are owed, and nothing is owed that refusal.
+pub fn what_leaves_flight_finds_room()
+    ensures completion { (history : History) (queue : QueueId) (id : PacketId) → HasRoom history → FindsRoom history (Finish queue id) }
+    ensures fault { (history : History) (queue : QueueId) (id : PacketId) (error : QueueError) (effects : List Effect) → HasRoom history →
+        owed (beginning history) history.entries (RunNext queue id) ≡ enters (outcome.Worked (worked.Faulted error)) effects → FindsRoom history (RunNext queue id) }
+    ensures failure { (history : History) (queue : QueueId) (id : PacketId) (error : QueueError) (effects : List Effect) → HasRoom history →
+        owed (beginning history) history.entries (Poll queue id) ≡ enters (outcome.Polled (polled.Failed error)) effects → FindsRoom history (Poll queue id) }
+    ensures stop { (history : History) (queue : QueueId) (barrier : PacketId) → HasRoom history →
+        barrier_in (flight_of (beginning history) history.entries queue) ≡ Some barrier → FindsRoom history (Stop queue) }
+    ensures owes { (start : Start) (entries : List Entry) (event : Event) → owed start entries event ≡ refuses refusal.AuditFull → ⊥ }
 {}

@@ -1,12 +1,12 @@
 -- An item that runs until it stops is the least item first.
 use Rattle.executor.proofs.Maps.{get_past}
 use Rattle.std.proofs.Common.{◌≡◌, ◌==◌, false, cond, Option, Some, length, ℕ, zero, suc, ◌+◌, ◌<◌, ◌≤◌, List, [], ◌∷◌, ◌++◌, slice_index, arith, refl, sym, ap, ◌∙◌, subst}
-use Rattle.executor.specs.Group.{Standing, ready, waiting, ended, Advance, stepped, settled, failed, around_item, taken, behind, advance, Status, running, faulted, least_waiting, met, followed, follow, LeadsIn, Leads}
+use Rattle.executor.specs.Group.{Standing, ready, waiting, ended, Advance, stepped, settled, failed, context_of_item, taken, behind, advance, Status, running, faulted, least_waiting, met, followed, follow, LeadsIn, Leads}
 use Rattle.executor.specs.Items.{Contents, Surroundings}
-use Rattle.executor.specs.Stops.{AreStopped}
+use Rattle.executor.specs.inner.Stops.{AreStopped}
 use Rattle.executor.specs.Meaning.{Act, goes_on, arrives, ends, broke, act, turn, turn_at}
 use Rattle.executor.specs.declared.rounds.Waiter.{Waiter}
-use Rattle.executor.specs.Turns.{Acts}
+use Rattle.executor.specs.inner.Turns.{Acts}
 use Rattle.executor.specs.declared.act.Outcome.{Outcome}
 use Rattle.kernel_check.specs.declared.step.Step.{Step}
 use Rattle.queue_error.specs.declared.rule.Rule.TheVariants.{A5}
@@ -33,10 +33,10 @@ module _ (a : Surroundings) (p : Program) where
   -- the least item that can take a turn is the first behind those that can't
   advance_after : (earlier : List Standing) (first n : ℕ) (i : Item) (executed : ℕ) (rest : List Standing) (m : Contents) → AreStopped earlier → first + length earlier ≡ n
       → advance a p first (earlier ++ ready i executed ∷ rest) m
-      ≡ behind_all earlier (taken n (slice_index p.lines i.next) executed rest (turn (around_item a n) p.steps i executed m))
+      ≡ behind_all earlier (taken n (slice_index p.lines i.next) executed rest (turn (context_of_item a n) p.steps i executed m))
   advance_after [] first n i executed rest m are e =
       let same : first ≡ n = omega (arith, e) in
-      ap (λ k. taken k (slice_index p.lines i.next) executed rest (turn (around_item a k) p.steps i executed m)) same
+      ap (λ k. taken k (slice_index p.lines i.next) executed rest (turn (context_of_item a k) p.steps i executed m)) same
   advance_after (ready j spent ∷ earlier) first n i executed rest m are e = absurd are
   advance_after (waiting j spent ∷ earlier) first n i executed rest m are e =
       let next : first + 1 + length earlier ≡ n = omega (arith, e) in
@@ -75,13 +75,13 @@ module _ (a : Surroundings) (p : Program) where
     abbrev line : ℕ
     line = slice_index p.lines i.next
 
-    one_turn : (x : Act) → turn (around_item a n) p.steps i executed m ≡ x
+    one_turn : (x : Act) → turn (context_of_item a n) p.steps i executed m ≡ x
         → follow a p (running (at earlier i executed rest) m) ≡ followed p (at earlier i executed rest) m (behind_all earlier (taken n line executed rest x))
     one_turn x is =
         ap (followed p (at earlier i executed rest) m)
         (advance_after earlier 0 n i executed rest m are (omega (arith, many)) ∙ ap (λ t. behind_all earlier (taken n line executed rest t)) is)
 
-    steps_to : (x : Act) (items : List Standing) (now : Contents) → taken n line executed rest x ≡ stepped items now → turn (around_item a n) p.steps i executed m ≡ x
+    steps_to : (x : Act) (items : List Standing) (now : Contents) → taken n line executed rest x ≡ stepped items now → turn (context_of_item a n) p.steps i executed m ≡ x
         → Leads a p from (running (earlier ++ items) now)
     steps_to x items now made is =
         leads_trans from (running (at earlier i executed rest) m) (running (earlier ++ items) now) before
@@ -89,19 +89,19 @@ module _ (a : Surroundings) (p : Program) where
         (one_turn x is ∙ ap (followed p (at earlier i executed rest) m) (ap (behind_all earlier) made ∙ stepped_behind earlier items now)))
 
     -- one more turn of the item
-    pub goes_more : (now : Item) (after_m : Contents) → turn (around_item a n) p.steps i executed m ≡ goes_on now after_m
+    pub goes_more : (now : Item) (after_m : Contents) → turn (context_of_item a n) p.steps i executed m ≡ goes_on now after_m
         → Leads a p from (running (at earlier now (executed + 1) rest) after_m)
     goes_more now after_m is = steps_to (goes_on now after_m) (ready now (executed + 1) ∷ rest) after_m refl is
 
-    pub arrives_now : (now : Item) (after_m : Contents) → turn (around_item a n) p.steps i executed m ≡ arrives now after_m
+    pub arrives_now : (now : Item) (after_m : Contents) → turn (context_of_item a n) p.steps i executed m ≡ arrives now after_m
         → Leads a p from (running (earlier ++ waiting now (executed + 1) ∷ rest) after_m)
     arrives_now now after_m is = steps_to (arrives now after_m) (waiting now (executed + 1) ∷ rest) after_m refl is
 
-    pub ends_now : (after_m : Contents) → turn (around_item a n) p.steps i executed m ≡ ends after_m
+    pub ends_now : (after_m : Contents) → turn (context_of_item a n) p.steps i executed m ≡ ends after_m
         → Leads a p from (running (earlier ++ ended ∷ rest) after_m)
     ends_now after_m is = steps_to (ends after_m) (ended ∷ rest) after_m refl is
 
-    pub breaks_now : (rule : Rule) → turn (around_item a n) p.steps i executed m ≡ broke rule → Leads a p from (faulted n (slice_index p.lines i.next) rule)
+    pub breaks_now : (rule : Rule) → turn (context_of_item a n) p.steps i executed m ≡ broke rule → Leads a p from (faulted n (slice_index p.lines i.next) rule)
     breaks_now rule is =
         leads_trans from (running (at earlier i executed rest) m) (faulted n line rule) before
         (leads_one (running (at earlier i executed rest) m) (faulted n line rule)

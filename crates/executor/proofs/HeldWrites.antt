@@ -19,7 +19,7 @@ use Rattle.kernel_check.specs.declared.step.Step.TheVariants as step
 use Rattle.executor.specs.Accesses.{covers_address, region_of, atomic_broken, atomic_broken_in, broken, broken_in, group_loaded, group_stored, lent, loaded, or_misaligned, stored, unless_broken}
 use Rattle.executor.specs.Addresses.{address_of, group_address_of}
 use Rattle.executor.specs.Atomics.{bytes_found, left32, left64, place_of, put, replacing32, replacing64}
-use Rattle.executor.specs.Group.{Standing, ready, waiting, ended, Advance, stepped, settled, failed, around_item, taken, behind, advance, Status, running, done, faulted, least_waiting, waits_before, released, met, followed, follow}
+use Rattle.executor.specs.Group.{Standing, ready, waiting, ended, Advance, stepped, settled, failed, context_of_item, taken, behind, advance, Status, running, done, faulted, least_waiting, waits_before, released, met, followed, follow}
 use Rattle.executor.specs.Items.{Contents, LentRegion, Surroundings}
 use Rattle.executor.specs.Laws.{AreShort, IsHeldAt, IsHeldRun}
 use Rattle.executor.specs.Meaning.{Act, goes_on, arrives, ends, broke, act, after_load, after_store, after_group_store, after_atomic32, after_atomic64, turn, turn_at}
@@ -32,7 +32,7 @@ use Rattle.executor.specs.declared.atomic_place.AtomicPlace.{AtomicPlace}
 use Rattle.executor.specs.declared.atomic_place.AtomicPlace.TheVariants as place
 use Rattle.executor.specs.declared.item.Item.{Item}
 use Rattle.executor.specs.declared.rounds.Waiter.{Waiter}
-use Rattle.executor.specs.declared.run.Run.{Run}
+use Rattle.executor.specs.declared.written_range.WrittenRange.{WrittenRange}
 use Rattle.executor.proofs.Maps.{by_range, laid_below, laid_past}
 use Rattle.executor.proofs.OnlyRuns.{each_covered}
 use Rattle.executor.proofs.RunLemmas.{told_below, told_cut}
@@ -236,7 +236,7 @@ module _ (view : List LentRegion) (short : AreShort view) where
     advance_kept a same (ended ∷ rest) n m kept = behind_kept ended (advance a p (n + 1) rest m) (advance_kept a same rest (n + 1) m kept)
     advance_kept a same (waiting i executed ∷ rest) n m kept = behind_kept (waiting i executed) (advance a p (n + 1) rest m) (advance_kept a same rest (n + 1) m kept)
     advance_kept a same (ready i executed ∷ rest) n m kept =
-        taken_kept n (slice_index p.lines i.next) executed rest (turn (around_item a n) p.steps i executed m) (turn_kept (around_item a n) same i executed m kept)
+        taken_kept n (slice_index p.lines i.next) executed rest (turn (context_of_item a n) p.steps i executed m) (turn_kept (context_of_item a n) same i executed m kept)
 
     met_kept : (items : List Standing) (m : Contents) (o : Option Waiter) → Kept m.written → KeptStatus (met p items m o)
     met_kept items m None kept = kept
@@ -271,18 +271,18 @@ module _ (view : List LentRegion) (short : AreShort view) where
 
   runs_held : (written : ℕ → Option ℕ) → Kept written → All (IsHeldRun view Write) (runs_of written)
   runs_held written kept =
-      All-weaker (λ (run : Run). (0 < length run.bytes) × ((x : ℕ) → run.address ≤ x → x < run.address + length run.bytes → IsHeldAt view Write x)) (IsHeldRun view Write)
+      All-weaker (λ (run : WrittenRange). (0 < length run.bytes) × ((x : ℕ) → run.address ≤ x → x < run.address + length run.bytes → IsHeldAt view Write x)) (IsHeldRun view Write)
       (λ run holds. record { has_bytes = holds.0; each = λ x inside. let both = and_parts (nat_le run.address x) _ inside in holds.1 x (leb-true _ _ both.0) (ltb-true _ _ both.1) })
       (runs_of written)
       (each_covered (IsHeldAt view Write) (λ x. if nat_lt x (2 ^ 64) then written x else None) (runs_of written) (told_cut written (2 ^ 64) (runs_of written) (told_below written (2 ^ 64)))
       (λ x byte is. kept x byte (within_limit (2 ^ 64) x byte written is)))
 
-  result_held : (s : Status) (runs : List Run) → KeptStatus s → result_at s ≡ wrote runs → All (IsHeldRun view Write) runs
+  result_held : (s : Status) (runs : List WrittenRange) → KeptStatus s → result_at s ≡ wrote runs → All (IsHeldRun view Write) runs
   result_held (running items m) runs kept is = let e : [] ≡ runs = cc in subst (All (IsHeldRun view Write)) e (All-nil (IsHeldRun view Write))
   result_held (done m) runs kept is = let e : runs_of m.written ≡ runs = cc in subst (All (IsHeldRun view Write)) e (runs_held m.written kept)
   result_held (faulted item line rule) runs kept is = absurd cc
 
-pub group_held : (i : GroupInput) (runs : List Run) → AreShort i.view → group_result i ≡ wrote runs → All (IsHeldRun i.view Write) runs
+pub group_held : (i : GroupInput) (runs : List WrittenRange) → AreShort i.view → group_result i ≡ wrote runs → All (IsHeldRun i.view Write) runs
 unfolding group_result
 group_held i runs short is =
     result_held i.view short (after_turns (surroundings_of i) i.program most_turns (begun i)) runs

@@ -10,3 +10,4 @@ mod ViewLemmas
 mod RoundLemmas
 mod GroupEnds
 mod ReadBytes
+mod RightRuns

@@ -12,7 +12,8 @@ use Rattle.std.proofs.lemmas.Nat.Bits.{bit_at_set_same, bit_at_set_other, shr_an
 use Rattle.std.proofs.lemmas.Option.{slice_get-get_or}
 use Rattle.executor.specs.declared.page.Page.{Page}
 use Rattle.aql_packet.specs.Memory.{covers}
-use Rattle.executor.specs.Written.{laid, seen, page_byte, in_blocks}
+use Rattle.executor.specs.Written.{laid, seen}
+use Rattle.executor.specs.inner.Pages.{page_byte, in_blocks}
 
 -- ---- reading lists
 pub get_set_same : {X : Type 0} (xs : List X) (i : ℕ) (v : X) → i < length xs → slice_get (slice_set xs i v) i ≡ Some v

@@ -13,7 +13,7 @@ use Rattle.kernel_check.specs.declared.step.Step.TheVariants as step
 use Rattle.executor.specs.Accesses.{covers_address, region_of, atomic_broken_in, broken_in, lent_in, unless_broken}
 use Rattle.executor.specs.Addresses.{address_of}
 use Rattle.executor.specs.Atomics.{bytes_found, place_of}
-use Rattle.executor.specs.Group.{Standing, ready, waiting, ended, around_item, taken, behind, advance, Status, running, done, faulted, followed, follow}
+use Rattle.executor.specs.Group.{Standing, ready, waiting, ended, context_of_item, taken, behind, advance, Status, running, done, faulted, followed, follow}
 use Rattle.executor.specs.Items.{Contents, LentRegion, Surroundings}
 use Rattle.executor.specs.Laws.{AreLentAlike, IsLentAlike}
 use Rattle.executor.specs.Meaning.{broke, act, after_load, after_store, after_atomic32, after_atomic64, turn_at}
@@ -126,7 +126,7 @@ module _ (ones others : List LentRegion) (alike : AreLentAlike ones others) (p :
   same_advance a (ended ∷ rest) n m = ap (behind ended) (same_advance a rest (n + 1) m)
   same_advance a (waiting i executed ∷ rest) n m = ap (behind (waiting i executed)) (same_advance a rest (n + 1) m)
   same_advance a (ready i executed ∷ rest) n m =
-      ap (taken n (slice_index p.lines i.next) executed rest) (same_turn (around_item a n) i executed m (slice_get p.steps i.next))
+      ap (taken n (slice_index p.lines i.next) executed rest) (same_turn (context_of_item a n) i executed m (slice_get p.steps i.next))
 
   same_follow : (a : Surroundings) (s : Status) → follow (seeing ones a) p s ≡ follow (seeing others a) p s
   same_follow a (running items m) = ap (followed p items m) (same_advance a items 0 m)

@@ -6,8 +6,9 @@ use Rattle.std.proofs.lemmas.Bool.{and_parts}
 use Rattle.std.proofs.Math.Seq.{take-append_seam}
 use Rattle.executor.specs.Group.{Standing, ready, ended, Status, running, done, faulted, least_waiting, waits_before, released, met, Leads, beginning}
 use Rattle.executor.specs.Items.{Contents, Surroundings, fresh}
-use Rattle.executor.specs.Runs.{Fails, ItemRuns, ItemFails}
-use Rattle.executor.specs.Stops.{after, is_barrier, standing, standing_at, stopped_again, told, waits, AreStopped, CanGoOn, CanGoOnFrom}
+use Rattle.executor.specs.Runs.{Fails}
+use Rattle.executor.specs.inner.ItemRuns.{ItemRuns, ItemFails}
+use Rattle.executor.specs.inner.Stops.{after, is_barrier, standing, standing_at, stopped_again, keep_stopped, waits, AreStopped, CanGoOn, CanGoOnFrom}
 use Rattle.executor.specs.declared.fault.RunFault.{RunFault}
 use Rattle.executor.specs.declared.fault.RunFault.TheVariants as fault
 use Rattle.executor.specs.declared.item.Item.{Item}
@@ -181,7 +182,7 @@ module _ (a : Surroundings) (p : Program) (count : ℕ) (first : Contents) where
               let there : Leads a p from (running (after n [] ++ standing x ∷ rest) now) = subst (λ k. Leads a p from (running (after k [] ++ standing x ∷ rest) now)) no_less leads in
               (omega arith, subst (λ k. Leads a p from (running (after k [] ++ rest) now)) (sym less) (subst (λ zs. Leads a p from (running zs now)) place there))
 
-      pub one_ran : (ys : List StoppedItem) → ys ≡ told xs x → HaveRun (n + 1) ys now
+      pub one_ran : (ys : List StoppedItem) → ys ≡ keep_stopped xs x → HaveRun (n + 1) ys now
       one_ran ys is = by_list xs refl
         where
           by_waits : (b : Bool) → waits x ≡ b → xs ≡ [] → HaveRun (n + 1) (if b then x ∷ [] else []) now
@@ -189,8 +190,8 @@ module _ (a : Surroundings) (p : Program) (count : ℕ) (first : Contents) where
           by_waits false waits_there none = subst (λ zs. HaveRun (n + 1) zs now) none (one_left_out (ap length none) waits_there)
 
           by_list : (zs : List StoppedItem) → xs ≡ zs → HaveRun (n + 1) ys now
-          by_list [] same = subst (λ ws. HaveRun (n + 1) ws now) (sym (is ∙ ap (λ ws. told ws x) same)) (by_waits (waits x) refl same)
-          by_list (z ∷ zs) same = one_told ys (is ∙ ap (λ ws. told ws x) same ∙ ap (λ ws. ws ++ x ∷ []) (sym same))
+          by_list [] same = subst (λ ws. HaveRun (n + 1) ws now) (sym (is ∙ ap (λ ws. keep_stopped ws x) same)) (by_waits (waits x) refl same)
+          by_list (z ∷ zs) same = one_told ys (is ∙ ap (λ ws. keep_stopped ws x) same ∙ ap (λ ws. ws ++ x ∷ []) (sym same))
 
   pub all_ran : (n : ℕ) (xs : List StoppedItem) (m : Contents) → n ≡ count → HaveRun n xs m
       → Leads a p from (running (after (count - length xs) (map standing xs)) m)

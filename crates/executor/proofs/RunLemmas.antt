@@ -10,26 +10,28 @@ use Rattle.executor.specs.declared.page.Page.{Page}
 use Rattle.std.proofs.Math.Nat.{add-mul, one-mul}
 use Rattle.std.proofs.lemmas.Bool.{cases_lt, lt-ltb, le-ltb}
 use Rattle.std.proofs.lemmas.Bool.Decides.{nat_tests}
-use Rattle.executor.specs.declared.run.Run.{Run}
-use Rattle.executor.specs.Written.{laid, all_laid, end_of, nothing, in_blocks, byte_at, region_byte, AreRuns}
-use Rattle.executor.specs.Told.{noted, adjoins_last, Ascends, Follows, Told, Agrees, Gathers, runs_below, runs_of, with_byte}
+use Rattle.executor.specs.declared.written_range.WrittenRange.{WrittenRange}
+use Rattle.executor.specs.Written.{laid, all_laid, end_of, nothing, AreRuns}
+use Rattle.executor.specs.inner.Pages.{in_blocks, byte_at, region_byte}
+use Rattle.executor.specs.Told.{noted, runs_below, runs_of, with_byte}
+use Rattle.executor.specs.inner.Told.{adjoins_last, Ascends, Follows, Told, Agrees, Gathers}
 use Rattle.executor.proofs.OnlyRuns.{only_runs}
 use Rattle.executor.proofs.Maps.{laid_inside, laid_below, laid_past, laid_same, laid_twice, by_range, get_read, get_past, at_known, at_unknown, IsSize, size_region}
 
 -- a run of one byte, and a run with one more
-abbrev pub single : ℕ → ℕ → Run
+abbrev pub single : ℕ → ℕ → WrittenRange
 single address byte = record { address = address; bytes = byte ∷ [] }
 
-abbrev pub longer : Run → ℕ → Run
+abbrev pub longer : WrittenRange → ℕ → WrittenRange
 longer run byte = record { address = run.address; bytes = run.bytes ++ byte ∷ [] }
 
 -- ---- what the code does is `noted`
-pub noted_apart : (runs : List Run) (address byte : ℕ) → adjoins_last runs address ≡ false → runs ++ single address byte ∷ [] ≡ noted runs address byte
+pub noted_apart : (runs : List WrittenRange) (address byte : ℕ) → adjoins_last runs address ≡ false → runs ++ single address byte ∷ [] ≡ noted runs address byte
 noted_apart [] address byte e = refl
 noted_apart (run ∷ []) address byte e = rw e refl
 noted_apart (run ∷ (next ∷ rest)) address byte e = ap (λ rs. run ∷ rs) (noted_apart (next ∷ rest) address byte e)
 
-pub noted_longer : (runs : List Run) (address byte place : ℕ) (old : Run) → place + 1 ≡ length runs → old ≡ get_or runs place old → adjoins_last runs address ≡ true
+pub noted_longer : (runs : List WrittenRange) (address byte place : ℕ) (old : WrittenRange) → place + 1 ≡ length runs → old ≡ get_or runs place old → adjoins_last runs address ≡ true
     → slice_set runs place (longer old byte) ≡ noted runs address byte
 noted_longer [] address byte place old is was e = absurd (omega arith)
 noted_longer (run ∷ []) address byte zero old is was e = rw (e, was) refl
@@ -38,24 +40,24 @@ noted_longer (run ∷ (next ∷ rest)) address byte zero old is was e = absurd (
 noted_longer (run ∷ (next ∷ rest)) address byte (suc place) old is was e =
     ap (λ rs. run ∷ rs) (noted_longer (next ∷ rest) address byte place old (omega arith) was e)
 
-pub adjoins_at : (runs : List Run) (address place : ℕ) (old : Run) → place + 1 ≡ length runs → old ≡ get_or runs place old → adjoins_last runs address ≡ (end_of old == address)
+pub adjoins_at : (runs : List WrittenRange) (address place : ℕ) (old : WrittenRange) → place + 1 ≡ length runs → old ≡ get_or runs place old → adjoins_last runs address ≡ (end_of old == address)
 adjoins_at [] address place old is was = absurd (omega arith)
 adjoins_at (run ∷ []) address zero old is was = ap (λ r. end_of r == address) (sym was)
 adjoins_at (run ∷ []) address (suc place) old is was = absurd (omega arith)
 adjoins_at (run ∷ (next ∷ rest)) address zero old is was = absurd (omega arith)
 adjoins_at (run ∷ (next ∷ rest)) address (suc place) old is was = adjoins_at (next ∷ rest) address place old (omega arith) was
 
-same_run : (new old : Run) (byte : ℕ) → new.address ≡ old.address → new.bytes ≡ old.bytes ++ byte ∷ [] → new ≡ longer old byte
+same_run : (new old : WrittenRange) (byte : ℕ) → new.address ≡ old.address → new.bytes ≡ old.bytes ++ byte ∷ [] → new ≡ longer old byte
 same_run new old byte p q = λ i. record { address = p i; bytes = q i }
 
-pub noted_pushed : {T E : Type 0} (r : Result T E) (runs : List Run) (address byte place : ℕ) (old new : Run) → adjoins_last runs address ≡ true
+pub noted_pushed : {T E : Type 0} (r : Result T E) (runs : List WrittenRange) (address byte place : ℕ) (old new : WrittenRange) → adjoins_last runs address ≡ true
     → place + 1 ≡ length runs → old ≡ get_or runs place old → new.address ≡ old.address → OnOk r (new.bytes ≡ old.bytes ++ byte ∷ [])
     → OnOk r (slice_set runs place new ≡ noted runs address byte)
 noted_pushed (Err e) runs address byte place old new adjoins last was p q = tt
 noted_pushed (Ok x) runs address byte place old new adjoins last was p q =
     ap (λ r. slice_set runs place r) (same_run new old byte p q) ∙ noted_longer runs address byte place old last was adjoins
 
-pub has_last : (runs : List Run) (address : ℕ) → adjoins_last runs address ≡ true → 0 < length runs
+pub has_last : (runs : List WrittenRange) (address : ℕ) → adjoins_last runs address ≡ true → 0 < length runs
 has_last [] address e = absurd (grind arith)
 has_last (run ∷ runs) address e = omega arith
 
@@ -72,7 +74,7 @@ by_test : (P : Bool → Type 0) (t : Bool) → (t ≡ true → P true) → (t �
 by_test P true yes_case no_case = yes_case refl
 by_test P false yes_case no_case = no_case refl
 
-pub noted_laid : (runs : List Run) (a byte x : ℕ) → Ascends a runs → all_laid (noted runs a byte) x ≡ laid (all_laid runs) a (byte ∷ []) x
+pub noted_laid : (runs : List WrittenRange) (a byte x : ℕ) → Ascends a runs → all_laid (noted runs a byte) x ≡ laid (all_laid runs) a (byte ∷ []) x
 noted_laid [] a byte x up = refl
 noted_laid (run ∷ []) a byte x up =
     by_test (λ t. all_laid (if t then longer run byte ∷ [] else run ∷ single a byte ∷ []) x ≡ laid (laid nothing run.address run.bytes) a (byte ∷ []) x) (end_of run == a)
@@ -83,18 +85,18 @@ noted_laid (run ∷ (next ∷ rest)) a byte x up =
     laid_same (all_laid (noted (next ∷ rest) a byte)) (laid (all_laid (next ∷ rest)) a (byte ∷ [])) run.address run.bytes x (noted_laid (next ∷ rest) a byte x up.1.1.1)
     ∙ laid_swap (all_laid (next ∷ rest)) a run.address (byte ∷ []) run.bytes x up.1.0
 
-noted_follows : (end a byte : ℕ) (run : Run) (rest : List Run) → end < run.address → Follows end (noted (run ∷ rest) a byte)
+noted_follows : (end a byte : ℕ) (run : WrittenRange) (rest : List WrittenRange) → end < run.address → Follows end (noted (run ∷ rest) a byte)
 noted_follows end a byte run [] h =
     by_test (λ t. Follows end (if t then longer run byte ∷ [] else run ∷ single a byte ∷ [])) (end_of run == a) (λ e. h) (λ e. h)
 noted_follows end a byte run (next ∷ rest) h = h
 
-pub ascends_weaker : (limit more : ℕ) (runs : List Run) → limit ≤ more → Ascends limit runs → Ascends more runs
+pub ascends_weaker : (limit more : ℕ) (runs : List WrittenRange) → limit ≤ more → Ascends limit runs → Ascends more runs
 ascends_weaker limit more [] le up = tt
 ascends_weaker limit more (run ∷ runs) le up =
     let within : end_of run ≤ limit = up.1.0 in
     (up.0, (omega arith, (up.1.1.0, ascends_weaker limit more runs le up.1.1.1)))
 
-pub noted_ascends : (runs : List Run) (a byte : ℕ) → Ascends a runs → Ascends (a + 1) (noted runs a byte)
+pub noted_ascends : (runs : List WrittenRange) (a byte : ℕ) → Ascends a runs → Ascends (a + 1) (noted runs a byte)
 noted_ascends [] a byte up = (omega arith, (omega arith, (tt, tt)))
 noted_ascends (run ∷ []) a byte up =
     let has : 0 < length run.bytes = up.0 in
@@ -114,7 +116,7 @@ up_to at limit x p = rw (lt-ltb x limit p) refl
 from_on : (at : ℕ → Option ℕ) (limit x : ℕ) → limit ≤ x → (if nat_lt x limit then at x else None) ≡ None
 from_on at limit x p = rw (le-ltb x limit p) refl
 
-pub told_noted : (at : ℕ → Option ℕ) (limit byte : ℕ) (runs : List Run) → at limit ≡ Some byte → Told at limit runs → Told at (limit + 1) (noted runs limit byte)
+pub told_noted : (at : ℕ → Option ℕ) (limit byte : ℕ) (runs : List WrittenRange) → at limit ≡ Some byte → Told at limit runs → Told at (limit + 1) (noted runs limit byte)
 told_noted at limit byte runs has told = record {
   ascends = noted_ascends runs limit byte told.ascends;
   exact = λ x. noted_laid runs limit byte x told.ascends
@@ -125,7 +127,7 @@ told_noted at limit byte runs has told = record {
       (λ p. laid_past (all_laid runs) limit (byte ∷ []) x p ∙ (told.exact x ∙ (from_on at limit x (omega arith) ∙ sym (from_on at (limit + 1) x p))));
 }
 
-pub told_skipped : (at : ℕ → Option ℕ) (limit next : ℕ) (runs : List Run) → limit ≤ next → ((x : ℕ) → limit ≤ x → x < next → at x ≡ None) → Told at limit runs → Told at next runs
+pub told_skipped : (at : ℕ → Option ℕ) (limit next : ℕ) (runs : List WrittenRange) → limit ≤ next → ((x : ℕ) → limit ≤ x → x < next → at x ≡ None) → Told at limit runs → Told at next runs
 told_skipped at limit next runs le none told = record {
   ascends = ascends_weaker limit next runs le told.ascends;
   exact = λ x. told.exact x ∙ by_limits x (cases_lt x limit) (cases_lt x next);
@@ -136,20 +138,20 @@ told_skipped at limit next runs le none told = record {
     by_limits x (inr p) (inl q) = from_on at limit x p ∙ (sym (none x p q) ∙ sym (up_to at next x q))
     by_limits x (inr p) (inr q) = from_on at limit x p ∙ sym (from_on at next x q)
 
-told_at : (at : ℕ → Option ℕ) (limit other : ℕ) (runs : List Run) → limit ≡ other → Told at limit runs → Told at other runs
+told_at : (at : ℕ → Option ℕ) (limit other : ℕ) (runs : List WrittenRange) → limit ≡ other → Told at limit runs → Told at other runs
 told_at at limit other runs e told = subst (λ n. Told at n runs) e told
 
 -- ---- gathering
-pub gathers_none : (base size : ℕ) (part : ℕ → Option ℕ) (runs : List Run) → Gathers base size part 0 runs runs
+pub gathers_none : (base size : ℕ) (part : ℕ → Option ℕ) (runs : List WrittenRange) → Gathers base size part 0 runs runs
 gathers_none base size part runs = λ at told agrees. told_at at base (base + 0) runs (omega arith) told
 
-pub gathers_byte : (base size place byte : ℕ) (part : ℕ → Option ℕ) (before runs new : List Run) → Gathers base size part place before runs → place < size
+pub gathers_byte : (base size place byte : ℕ) (part : ℕ → Option ℕ) (before runs new : List WrittenRange) → Gathers base size part place before runs → place < size
     → part place ≡ Some byte → new ≡ noted runs (base + place) byte → Gathers base size part (place + 1) before new
 gathers_byte base size place byte part before runs new so_far inside has is = λ at told agrees.
     let more : Told at (base + place + 1) (noted runs (base + place) byte) = told_noted at (base + place) byte runs (agrees place inside ∙ has) (so_far at told agrees) in
     told_at at (base + place + 1) (base + (place + 1)) new (omega arith) (subst (λ rs. Told at (base + place + 1) rs) (sym is) more)
 
-pub gathers_gap : (base size place : ℕ) (part : ℕ → Option ℕ) (before runs : List Run) → Gathers base size part place before runs → place < size
+pub gathers_gap : (base size place : ℕ) (part : ℕ → Option ℕ) (before runs : List WrittenRange) → Gathers base size part place before runs → place < size
     → part place ≡ None → Gathers base size part (place + 1) before runs
 gathers_gap base size place part before runs so_far inside lacks = λ at told agrees.
     told_skipped at (base + place) (base + (place + 1)) runs (omega arith)
@@ -158,7 +160,7 @@ gathers_gap base size place part before runs so_far inside lacks = λ at told ag
 
 module _ {Block : Type 0} (byte_of : Block → ℕ → Option ℕ) (size : ℕ) (is : IsSize size) (base whole : ℕ) (blocks : List Block) where
   -- one more block
-  pub gathers_block : (index : ℕ) (block : Block) (before runs new : List Run) → block ≡ get_or blocks index block → index < length blocks → (index + 1) * size ≤ whole
+  pub gathers_block : (index : ℕ) (block : Block) (before runs new : List WrittenRange) → block ≡ get_or blocks index block → index < length blocks → (index + 1) * size ≤ whole
       → Gathers base whole (in_blocks byte_of size blocks) (index * size) before runs → Gathers (base + index * size) size (byte_of block) size runs new
       → Gathers base whole (in_blocks byte_of size blocks) ((index + 1) * size) before new
   gathers_block index block before runs new was known fits so_far more = λ at told agrees.
@@ -173,7 +175,7 @@ module _ {Block : Type 0} (byte_of : Block → ℕ → Option ℕ) (size : ℕ) 
       ∙ (at_known byte_of size is blocks block (index * size + x) got ∙ ap (byte_of block) (is.place index x p)))))
 
   -- behind the last block nothing is written
-  pub gathers_rest : (index : ℕ) (before runs : List Run) → length blocks ≤ index → index * size ≤ whole
+  pub gathers_rest : (index : ℕ) (before runs : List WrittenRange) → length blocks ≤ index → index * size ≤ whole
       → Gathers base whole (in_blocks byte_of size blocks) (index * size) before runs → Gathers base whole (in_blocks byte_of size blocks) whole before runs
   gathers_rest index before runs done fits so_far = λ at told agrees.
       told_skipped at (base + index * size) (base + whole) runs (omega arith)
@@ -185,27 +187,27 @@ module _ {Block : Type 0} (byte_of : Block → ℕ → Option ℕ) (size : ℕ) 
       (so_far at told agrees)
 
 -- ---- the runs of a whole map
-follows_later : (end other : ℕ) (runs : List Run) → end ≤ other → Follows other runs → Follows end runs
+follows_later : (end other : ℕ) (runs : List WrittenRange) → end ≤ other → Follows other runs → Follows end runs
 follows_later end other [] le f = tt
 follows_later end other (run ∷ runs) le f = omega (arith, f)
 
-all_above : (end limit : ℕ) (runs : List Run) → Follows end runs → Ascends limit runs → All (λ later. end < later.address) runs
+all_above : (end limit : ℕ) (runs : List WrittenRange) → Follows end runs → Ascends limit runs → All (λ later. end < later.address) runs
 all_above end limit [] f up = All-nil (λ later. end < later.address)
 all_above end limit (run ∷ runs) f up =
     let before : end < run.address = f in
     All-cons (λ later. end < later.address) run runs before
     (all_above end limit runs (follows_later end (end_of run) runs (omega arith) up.1.1.0) up.1.1.1)
 
-all_filled : (limit : ℕ) (runs : List Run) → Ascends limit runs → All (λ run. 0 < length run.bytes) runs
+all_filled : (limit : ℕ) (runs : List WrittenRange) → Ascends limit runs → All (λ run. 0 < length run.bytes) runs
 all_filled limit [] up = All-nil (λ run. 0 < length run.bytes)
 all_filled limit (run ∷ runs) up = All-cons (λ run. 0 < length run.bytes) run runs up.0 (all_filled limit runs up.1.1.1)
 
-pairs_apart : (limit : ℕ) (runs : List Run) → Ascends limit runs → AllPairs (λ run later. end_of run < later.address) runs
+pairs_apart : (limit : ℕ) (runs : List WrittenRange) → Ascends limit runs → AllPairs (λ run later. end_of run < later.address) runs
 pairs_apart limit [] up = λ i j d p q. absurd (omega (arith, q))
 pairs_apart limit (run ∷ runs) up =
     AllPairs-cons (λ run later. end_of run < later.address) run runs (all_above (end_of run) limit runs up.1.1.0 up.1.1.1) (pairs_apart limit runs up.1.1.1)
 
-pub told_runs : (at : ℕ → Option ℕ) (limit : ℕ) (runs : List Run) → Told at limit runs → ((x : ℕ) → limit ≤ x → at x ≡ None) → AreRuns at runs
+pub told_runs : (at : ℕ → Option ℕ) (limit : ℕ) (runs : List WrittenRange) → Told at limit runs → ((x : ℕ) → limit ≤ x → at x ≡ None) → AreRuns at runs
 told_runs at limit runs told none =
     let each : (x : ℕ) → all_laid runs x ≡ at x = λ x. told.exact x ∙ within x (cases_lt x limit) in
     record {
@@ -219,14 +221,14 @@ told_runs at limit runs told none =
     within x (inr p) = from_on at limit x p ∙ sym (none x p)
 
 -- a map has one list of runs below a limit
-pub told_cut : (at : ℕ → Option ℕ) (limit : ℕ) (runs : List Run) → Told at limit runs → AreRuns (λ x. if nat_lt x limit then at x else None) runs
+pub told_cut : (at : ℕ → Option ℕ) (limit : ℕ) (runs : List WrittenRange) → Told at limit runs → AreRuns (λ x. if nat_lt x limit then at x else None) runs
 told_cut at limit runs told = record {
   filled = all_filled limit runs told.ascends;
   apart = pairs_apart limit runs told.ascends;
   exact = λ i. λ x. told.exact x i;
 }
 
-told_only : (at : ℕ → Option ℕ) (limit : ℕ) (runs others : List Run) → Told at limit runs → Told at limit others → runs ≡ others
+told_only : (at : ℕ → Option ℕ) (limit : ℕ) (runs others : List WrittenRange) → Told at limit runs → Told at limit others → runs ≡ others
 told_only at limit runs others one other =
     only_runs (λ x. if nat_lt x limit then at x else None) runs others (told_cut at limit runs one) (told_cut at limit others other)
 
@@ -243,7 +245,7 @@ told_below at (suc limit) = one_more (at limit) refl (told_below at limit)
         told_skipped at limit (suc limit) (runs_below at limit) (omega arith) (λ x p q. let e : x ≡ limit = omega arith in ap at e ∙ is) told
     one_more (Some byte) is told = told_at at (limit + 1) (suc limit) (noted (runs_below at limit) limit byte) (omega arith) (told_noted at limit byte (runs_below at limit) is told)
 
-pub gathers_all : (regions : List (List (List Page))) (index : ℕ) (runs : List Run) → length regions ≤ 2 ^ 32 → length regions ≤ index → index ≤ 2 ^ 32
+pub gathers_all : (regions : List (List (List Page))) (index : ℕ) (runs : List WrittenRange) → length regions ≤ 2 ^ 32 → length regions ≤ index → index ≤ 2 ^ 32
     → Gathers 0 (2 ^ 64) (byte_at regions) (index * 2 ^ 32) [] runs → AreRuns (byte_at regions) runs
 gathers_all regions index runs few done below gathered =
     let start : Told (byte_at regions) 0 [] = record { ascends = tt; exact = λ x. sym (from_on (byte_at regions) 0 x (omega arith)) } in
@@ -251,7 +253,7 @@ gathers_all regions index runs few done below gathered =
     told_runs (byte_at regions) (0 + index * 2 ^ 32) runs (gathered (byte_at regions) start agrees)
     (λ x p. at_unknown region_byte (2 ^ 32) size_region regions x (get_past regions (x / 2 ^ 32) (omega arith)))
 
-pub gathers_value : (regions : List (List (List Page))) (index : ℕ) (runs : List Run) → length regions ≤ index → index ≤ 2 ^ 32
+pub gathers_value : (regions : List (List (List Page))) (index : ℕ) (runs : List WrittenRange) → length regions ≤ index → index ≤ 2 ^ 32
     → Gathers 0 (2 ^ 64) (byte_at regions) (index * 2 ^ 32) [] runs → runs ≡ runs_of (byte_at regions)
 gathers_value regions index runs done below gathered =
     let agrees : Agrees (byte_at regions) 0 (2 ^ 64) (byte_at regions) = λ x p. let e : 0 + x ≡ x = omega arith in ap (byte_at regions) e in

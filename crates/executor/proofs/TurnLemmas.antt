@@ -4,21 +4,15 @@ use Rattle.std.specs.Prelude.{◌==◌, map, slice_get, if◌then◌else◌}
 use Rattle.std.specs.List.{list_all}
 use Rattle.std.proofs.lemmas.Bool.{cases_lt}
 use Rattle.std.proofs.lemmas.Bool.Decides.{nat_tests}
-use Rattle.executor.specs.Group.{Standing, ready, waiting, ended, Advance, stepped, settled, failed, around_item, taken, behind, advance, Status, running, done, faulted, least_waiting, waits_before, released, met, followed, follow, LeadsIn, Leads, beginning}
+use Rattle.executor.specs.Group.{Standing, ready, waiting, ended, Advance, stepped, settled, failed, context_of_item, taken, behind, advance, Status, running, done, faulted, least_waiting, waits_before, released, met, followed, follow, LeadsIn, Leads, beginning}
 use Rattle.executor.specs.Items.{Contents, Surroundings, fresh}
 use Rattle.executor.specs.Meaning.{Act, goes_on, arrives, ends, broke, act, turn, turn_at}
-use Rattle.executor.specs.Results.{after_turns, most_turns}
+use Rattle.executor.specs.Results.{IsOver, after_turns, most_turns}
 use Rattle.executor.specs.declared.item.Item.{Item}
 use Rattle.executor.specs.declared.rounds.Waiter.{Waiter}
 use Rattle.kernel_check.specs.Programs.{Program}
 use Rattle.kernel_check.specs.declared.step.Step.{Step}
 use Rattle.queue_error.specs.declared.rule.Rule.TheVariants.{A5, A6}
-
--- a status from which none follows
-abbrev pub IsOver : Status → Type 0
-IsOver (running items m) = ⊥
-IsOver (done m) = Unit {0}
-IsOver (faulted item line rule) = Unit {0}
 
 -- as many turns as items have left, and one more for each that waits
 abbrev pub left : List Standing → ℕ
@@ -48,7 +42,7 @@ taken_less n line executed i rest (broke rule) some few = tt
 
 module _ (a : Surroundings) (p : Program) where
   turn_less : (n : ℕ) (i : Item) (executed : ℕ) (rest : List Standing) (m : Contents) → executed ≤ 65536 → Few rest
-      → Less (ready i executed ∷ rest) (taken n (slice_index p.lines i.next) executed rest (turn (around_item a n) p.steps i executed m))
+      → Less (ready i executed ∷ rest) (taken n (slice_index p.lines i.next) executed rest (turn (context_of_item a n) p.steps i executed m))
   turn_less n i executed rest m within few = by_step (slice_get p.steps i.next)
     where
       line : ℕ
@@ -58,9 +52,9 @@ module _ (a : Surroundings) (p : Program) where
       by_test true x is = tt
       by_test false x is = let some : executed < 65536 = grind (arith, nat_tests) in taken_less n line executed i rest x some few
 
-      by_step : (o : Option Step) → Less (ready i executed ∷ rest) (taken n line executed rest (turn_at (around_item a n) i executed m o))
+      by_step : (o : Option Step) → Less (ready i executed ∷ rest) (taken n line executed rest (turn_at (context_of_item a n) i executed m o))
       by_step None = (few, omega arith)
-      by_step (Some s) = by_test (executed == 65536) (act (around_item a n) i m s) refl
+      by_step (Some s) = by_test (executed == 65536) (act (context_of_item a n) i m s) refl
 
   behind_ended_less : (rest : List Standing) (next : Advance) → Less rest next → Less (ended ∷ rest) (behind ended next)
   behind_ended_less rest (stepped items m) less = less
@@ -184,6 +178,13 @@ module _ (a : Surroundings) (p : Program) where
   unfolding most_turns
   enough count few = omega arith
 
+  -- a group has come to an end after the most turns
+  pub ends_within : (count : ℕ) (first : Contents) → count ≤ 1024 → IsOver (after_turns a p most_turns (beginning count first))
+  ends_within count first few =
+      let all = fresh_left count in
+      let most = enough count few in
+      over_within most_turns (replicate count (ready fresh 0)) first (fresh_few count) (omega arith)
+
   -- where a group comes to an end, that is where it stands after the most turns
   pub one_end : (count : ℕ) (first : Contents) (to : Status) → count ≤ 1024 → IsOver to → Leads a p (beginning count first) to → after_turns a p most_turns (beginning count first) ≡ to
   one_end count first to few over leads = by_order (cases_lt most_turns leads.0)
@@ -191,19 +192,13 @@ module _ (a : Surroundings) (p : Program) where
       from : Status
       from = beginning count first
 
-      ended_there : IsOver (after_turns a p most_turns from)
-      ended_there =
-          let all = fresh_left count in
-          let most = enough count few in
-          over_within most_turns (replicate count (ready fresh 0)) first (fresh_few count) (omega arith)
-
       reached : after_turns a p leads.0 from ≡ to
       reached = in_turns leads.0 from to leads.1
 
       by_order : (most_turns < leads.0) ⊎ (leads.0 ≤ most_turns) → after_turns a p most_turns from ≡ to
       by_order (inl longer) =
           let split : leads.0 ≡ most_turns + (leads.0 - most_turns) = omega arith in
-          sym (over_stays (leads.0 - most_turns) (after_turns a p most_turns from) ended_there)
+          sym (over_stays (leads.0 - most_turns) (after_turns a p most_turns from) (ends_within count first few))
           ∙ (sym (more_turns most_turns (leads.0 - most_turns) from) ∙ (sym (ap (λ n. after_turns a p n from) split) ∙ reached))
       by_order (inr shorter) =
           let split : most_turns ≡ leads.0 + (most_turns - leads.0) = omega arith in

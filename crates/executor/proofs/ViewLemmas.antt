@@ -10,8 +10,9 @@ use Rattle.std.proofs.lemmas.Option.{slice_get-get_or}
 use Rattle.std.proofs.Math.Seq.{get_or-append_seam}
 use Rattle.executor.specs.Accesses.{covers_address, region_of}
 use Rattle.executor.specs.Items.{lent_region}
-use Rattle.executor.specs.Views.{Finds, at_place, has_byte_at, if_long}
-use Rattle.executor.specs.declared.view.HeldRegion.{HeldRegion}
+use Rattle.executor.specs.inner.Places.{Finds, at_place, if_long}
+use Rattle.executor.specs.Views.{has_byte_at}
+use Rattle.executor.specs.declared.held.HeldRegion.{HeldRegion}
 use Rattle.executor.proofs.Maps.{get_append_left}
 
 -- the region that is found among those that are lent is the one that items see

@@ -1,5 +1,5 @@
 -- Atomic operations: what they find, and what they leave in its place (PRM, Atomic Memory Operations).
-use Rattle.std.specs.Prelude.{ℕ, ◌+◌, ◌^◌, ◌==◌, ◌≤◌, if◌then◌else◌, List, length, take, drop, Option, Some, None, Result, bit_and, bit_or, bit_xor}
+use Rattle.std.specs.Prelude.{ℕ, ◌==◌, if◌then◌else◌, List, take, drop, Option, Some, None, Result, bit_and, bit_or, bit_xor}
 use Rattle.std.specs.Int.{w32, w64, to_le_bytes}
 use Rattle.executor.specs.Accesses.{atomic_broken, group_atomic_broken, lent, overlaid, unless_broken}
 use Rattle.executor.specs.Addresses.{address_of, group_address_of}
@@ -32,11 +32,6 @@ bytes_found view m (place.Group x) n = unless_broken (group_atomic_broken m.grou
 abbrev pub put : Contents → AtomicPlace → List ℕ → Contents
 put m (place.Global x) bytes = record m { written = laid m.written x bytes }
 put m (place.Group x) bytes = record m { group = overlaid m.group x bytes }
-
--- that n bytes at a place lie in memory
-abbrev pub HasRoom : Contents → AtomicPlace → ℕ → Type 0
-HasRoom m (place.Global x) n = x + n ≤ 2 ^ 64
-HasRoom m (place.Group x) n = x + n ≤ length m.group
 
 -- what an operation of 32 bits leaves in place of an old value; a cas that finds another than the expected one stores
 -- nothing (PRM, Atomic (atomic) Operations)

@@ -1,5 +1,5 @@
 -- What cvt and loads make of bits.
-use Rattle.std.specs.Prelude.{ℕ, ◌+◌, ◌-◌, ◌%◌, ◌^◌, ◌<◌, if◌then◌else◌, nat_lt, ℤ, pos, unsigned_abs}
+use Rattle.std.specs.Prelude.{ℕ, ◌-◌, ◌%◌, ◌^◌, if◌then◌else◌, ℤ, pos}
 use Rattle.std.specs.Ordering.{int_eq}
 use Rattle.std.specs.Int.{w8, w16, w32, w64}
 use Rattle.kernel_check.specs.declared.step.NumberType.{NumberType}
@@ -34,11 +34,3 @@ written_as S64 n = wrapped w64 n
 -- cvt: the bits of a register of one type as the bits of a register of another (PRM, Conversion (cvt) Operation)
 abbrev pub converted : NumberType → NumberType → ℕ → ℕ
 converted from to value = written_as to (read_as from value)
-
--- an extension to 64 bits of bits below twice a half: from the half on they mean negative numbers
-abbrev pub extended_bits : ℕ → ℕ → ℕ
-extended_bits value half = if nat_lt value half then value else value + (2 ^ 64 - (half + half))
-
--- a number in the ranges of the 64-bit types
-abbrev pub IsShort : ℤ → Type 0
-IsShort n = unsigned_abs n < 2 ^ 64

@@ -26,8 +26,8 @@ pub data Advance : Type 0 where
   failed : ℕ → ℕ → Rule → Advance
 
 -- what surrounds the item of a number
-abbrev pub around_item : Surroundings → ℕ → Surroundings
-around_item a n = record a { location = record a.location { item = id_of a.location.current_size n } }
+abbrev pub context_of_item : Surroundings → ℕ → Surroundings
+context_of_item a n = record a { location = record a.location { item = id_of a.location.current_size n } }
 
 -- what an item's turn makes of it and those behind it
 abbrev pub taken : ℕ → ℕ → ℕ → List Standing → Act → Advance
@@ -48,7 +48,7 @@ advance a p n [] m = settled
 advance a p n (ended ∷ rest) m = behind ended (advance a p (n + 1) rest m)
 advance a p n (waiting i executed ∷ rest) m = behind (waiting i executed) (advance a p (n + 1) rest m)
 advance a p n (ready i executed ∷ rest) m =
-    taken n (slice_index p.lines i.next) executed rest (turn (around_item a n) p.steps i executed m)
+    taken n (slice_index p.lines i.next) executed rest (turn (context_of_item a n) p.steps i executed m)
 
 -- where a group stands
 pub data Status : Type 0 where

@@ -1,13 +1,11 @@
 -- A work-item as it begins, what surrounds it, and what a group's memory has.
-use Rattle.std.specs.Prelude.{ℕ, List, Option, map, replicate}
+use Rattle.std.specs.Prelude.{ℕ, List, Option, replicate}
 use Rattle.policy.specs.declared.rights.Rights.{Rights}
 use Rattle.executor.specs.Registers.{cleared}
-use Rattle.executor.specs.Written.{byte_at, nothing}
-use Rattle.executor.specs.declared.item.Around.{Around}
+use Rattle.executor.specs.Written.{nothing}
 use Rattle.executor.specs.declared.item.Item.{Item}
 use Rattle.executor.specs.declared.location.Location.{Location}
-use Rattle.executor.specs.declared.memory.Memory.{Memory}
-use Rattle.executor.specs.declared.view.HeldRegion.{HeldRegion}
+use Rattle.executor.specs.declared.held.HeldRegion.{HeldRegion}
 
 -- registers are zero, and the first step is next (own)
 abbrev pub fresh : Item
@@ -17,9 +15,6 @@ fresh = record { registers = cleared; next = 0 }
 pub record Contents : Type 0 where
   pub group : List ℕ
   pub written : ℕ → Option ℕ
-
-abbrev pub contents : Memory → Contents
-contents m = record { group = m.group.items; written = byte_at m.written }
 
 -- memory as a group begins: group memory is zeros, and nothing is written (own)
 abbrev pub blank : ℕ → Contents
@@ -39,6 +34,3 @@ pub record Surroundings : Type 0 where
   pub arguments : List ℕ
   pub view : List LentRegion
   pub location : Location
-
-abbrev pub surroundings : Around → Surroundings
-surroundings a = record { arguments = a.arguments.now; view = map lent_region a.view.now; location = a.location }

@@ -7,14 +7,12 @@ pub mod Registers
 pub mod Values
 pub mod Locations
 pub mod Accesses
-pub mod Outcomes
 pub mod Addresses
 pub mod Atomics
 pub mod Items
 pub mod Meaning
-pub mod Turns
 pub mod Group
-pub mod Stops
 pub mod Runs
 pub mod Results
 pub mod Laws
+pub mod inner

@@ -6,7 +6,7 @@ use Rattle.executor.specs.Runs.{GroupInput, Fails, Finishes, begun, surroundings
 use Rattle.executor.specs.Told.{runs_of}
 use Rattle.executor.specs.declared.fault.RunFault.{RunFault}
 use Rattle.executor.specs.declared.fault.RunFault.TheVariants as fault
-use Rattle.executor.specs.declared.run.Run.{Run}
+use Rattle.executor.specs.declared.written_range.WrittenRange.{WrittenRange}
 use Rattle.kernel_check.specs.Programs.{Program}
 use Rattle.queue_error.specs.declared.rule.Rule.{Rule}
 
@@ -20,9 +20,15 @@ after_turns a p (suc n) from = after_turns a p n (follow a p from)
 unfoldable pub most_turns : ℕ
 most_turns = 2 * (1024 * 65537) + 1
 
+-- a status from which none follows: all items have ended, or one broke a rule
+abbrev pub IsOver : Status → Type 0
+IsOver (running items m) = ⊥
+IsOver (done m) = Unit {0}
+IsOver (faulted item line rule) = Unit {0}
+
 -- what a group comes to: it wrote the bytes of these runs, or the item of a number broke a rule on a line
 pub data GroupResult : Type 0 where
-  wrote : List Run → GroupResult
+  wrote : List WrittenRange → GroupResult
   broke_rule : ℕ → ℕ → Rule → GroupResult
 
 -- what a group has come to where it stands
@@ -35,8 +41,13 @@ result_at (faulted item line rule) = broke_rule item line rule
 unfoldable pub group_result : GroupInput → GroupResult
 group_result i = result_at (after_turns (surroundings_of i) i.program most_turns (begun i))
 
+-- the number of a refusal (own)
+abbrev pub fault_number : RunFault → ℕ
+fault_number fault.OutOfMemory = 0
+fault_number (fault.Fault f) = 1
+
 -- a group that is done has written the bytes of these runs, and comes to them
-abbrev pub FinishesAs : GroupInput → List Run → Type 0
+abbrev pub FinishesAs : GroupInput → List WrittenRange → Type 0
 FinishesAs i runs = Finishes (surroundings_of i) i.program (begun i) runs × (group_result i ≡ wrote runs)
 
 -- a group in which an item broke a rule, and that comes to it; without memory nothing is said

@@ -1,17 +1,16 @@
 -- What running a work-group answers (own).
-use Rattle.std.specs.Prelude.{◌≡◌, ℕ, ◌^◌, ◌≤◌, ◌<◌, List, ◌∷◌, ◌++◌, length, map}
-use Rattle.executor.specs.Group.{Standing, Status, running, done, faulted, Leads, beginning}
+use Rattle.std.specs.Prelude.{◌≡◌, ℕ, ◌^◌, ◌≤◌, ◌<◌, List, length, map}
+use Rattle.executor.specs.Group.{Status, done, faulted, Leads, beginning}
 use Rattle.executor.specs.Items.{Contents, LentRegion, Surroundings, blank, lent_region}
 use Rattle.executor.specs.Locations.{id_of, count_of, groups_of, current_of}
-use Rattle.executor.specs.Stops.{AreStopped}
 use Rattle.executor.specs.Written.{AreRuns}
 use Rattle.executor.specs.declared.dispatch.Dispatch.{Dispatch}
 use Rattle.executor.specs.declared.fault.RunFault.{RunFault}
 use Rattle.executor.specs.declared.fault.RunFault.TheVariants as fault
 use Rattle.executor.specs.declared.location.Extent.{Extent}
 use Rattle.executor.specs.declared.location.Location.{Location}
-use Rattle.executor.specs.declared.run.Run.{Run}
-use Rattle.executor.specs.declared.view.HeldRegion.{HeldRegion}
+use Rattle.executor.specs.declared.written_range.WrittenRange.{WrittenRange}
+use Rattle.executor.specs.declared.held.HeldRegion.{HeldRegion}
 use Rattle.kernel_check.specs.Programs.{Program, group_bytes_of}
 
 -- sizes that a dispatch may have (own limits)
@@ -73,19 +72,8 @@ location_of group_size grid_size group =
 abbrev pub surroundings_of : GroupInput → Surroundings
 surroundings_of i = record { arguments = i.arguments; view = i.view; location = location_of i.group_size i.grid_size i.group }
 
--- an item that ran from where it stood until it stopped, none of those before it being able to take a turn
-abbrev pub ItemRuns : Surroundings → Program → ℕ → Standing → Contents → Standing → Contents → Type 0
-ItemRuns a p n from before to now = (earlier rest : List Standing) → AreStopped earlier → length earlier ≡ n
-    → Leads a p (running (earlier ++ from ∷ rest) before) (running (earlier ++ to ∷ rest) now)
-
--- an item that broke a rule; without memory nothing is said
-abbrev pub ItemFails : Surroundings → Program → ℕ → Standing → Contents → RunFault → Type 0
-ItemFails a p n from before fault.OutOfMemory = Unit {0}
-ItemFails a p n from before (fault.Fault f) = (earlier rest : List Standing) → AreStopped earlier → length earlier ≡ n
-    → Leads a p (running (earlier ++ from ∷ rest) before) (faulted f.item f.line f.rule)
-
 -- a group that is done has written the bytes of these runs
-abbrev pub Finishes : Surroundings → Program → Status → List Run → Type 0
+abbrev pub Finishes : Surroundings → Program → Status → List WrittenRange → Type 0
 Finishes a p from runs = (m : Contents) × (Leads a p from (done m) × AreRuns m.written runs)
 
 -- a group in which an item broke a rule; without memory nothing is said

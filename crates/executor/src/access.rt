@@ -3,11 +3,11 @@ ghost use Rattle.std.specs.Prelude.{◌≡◌, ◌+◌, ◌/◌, ◌==◌, ◌�
 ghost use Rattle.std.specs.Option.{option_copied};
 ghost use Rattle.executor.specs.Accesses.{region_of, broken, lent, loaded, stored};
 ghost use Rattle.executor.specs.Items.{lent_region};
-ghost use Rattle.executor.specs.Outcomes.{StoreFails};
-ghost use Rattle.executor.specs.Written.{byte_at};
+ghost use Rattle.executor.specs.inner.Outcomes.{StoreFails};
+ghost use Rattle.executor.specs.inner.Pages.{byte_at};
 
-use crate::held::View;
-use crate::view::HeldRegion;
+use crate::held::HeldRegion;
+use crate::view::View;
 use crate::written::WrittenBytes;
 use byteorder::{ByteOrder, LittleEndian};
 use policy::Right;

@@ -4,17 +4,17 @@ ghost use Rattle.byteorder.specs.Endian.{little_number};
 ghost use Rattle.kernel_check.specs.Steps.{number_bytes};
 ghost use Rattle.kernel_check.specs.declared.step.Step.TheVariants as step_arm;
 ghost use Rattle.executor.specs.Conversions.{converted};
-ghost use Rattle.executor.specs.Items.{contents, surroundings};
+ghost use Rattle.executor.specs.inner.Held.{contents, surroundings};
 ghost use Rattle.executor.specs.Meaning.{act, onward};
 ghost use Rattle.executor.specs.Registers.{with_any};
-ghost use Rattle.executor.specs.Turns.{Acts, ReadsWithin};
+ghost use Rattle.executor.specs.inner.Turns.{Acts, ReadsWithin};
 
 use crate::access::{StoreError, load, store};
 use crate::address::{address_of, group_address_of};
 use crate::atomic::{atomic_step32, atomic_step64};
 use crate::conversion::{bytes_of, convert};
 use crate::group_access;
-use crate::item::{Around, Item};
+use crate::item::{Item, ItemContext};
 use crate::memory::Memory;
 use crate::registers::Registers;
 use crate::values::{value1, value32, value64};
@@ -60,12 +60,17 @@ fn set(item: &mut Item, target: AnyRegister, bits: u64)
 }
 
 #[inline(always)]
-fn load_step(around: &Around<'_>, item: &mut Item, memory: &Memory, step: &LoadStep) -> Outcome
+fn load_step(
+    context: &ItemContext<'_>,
+    item: &mut Item,
+    memory: &Memory,
+    step: &LoadStep,
+) -> Outcome
     requires { item.old.next < 2 ^ 32 }
-    ensures { Acts (act (surroundings around.now) item.old (contents memory.now) (step_arm.Load step.now)) result item.new (contents memory.now) }
+    ensures { Acts (act (surroundings context.now) item.old (contents memory.now) (step_arm.Load step.now)) result item.new (contents memory.now) }
 {
     let address = address_of(&item.registers, step.pointer);
-    match load(around.view, &memory.written, address, bytes_of(step.kind)) {
+    match load(context.view, &memory.written, address, bytes_of(step.kind)) {
         Ok(value) => {
             set(item, step.target, convert(step.kind, step.kind, value));
             Outcome::GoesOn
@@ -77,20 +82,20 @@ fn load_step(around: &Around<'_>, item: &mut Item, memory: &Memory, step: &LoadS
 #[inline(always)]
 fn store_step(
     alloc: Global,
-    around: &Around<'_>,
+    context: &ItemContext<'_>,
     item: &mut Item,
     memory: &mut Memory,
     step: &StoreStep,
 ) -> Outcome
     requires { item.old.next < 2 ^ 32 }
-    ensures { Acts (act (surroundings around.now) item.old (contents memory.old) (step_arm.Store step.now)) result item.new (contents memory.new) }
+    ensures { Acts (act (surroundings context.now) item.old (contents memory.old) (step_arm.Store step.now)) result item.new (contents memory.new) }
 {
     let address = address_of(&item.registers, step.pointer);
     let value = item.registers.read_any(step.source);
     let size = bytes_of(step.kind);
     match store(
         alloc,
-        around.view,
+        context.view,
         &mut memory.written,
         address,
         size,
@@ -107,13 +112,13 @@ fn store_step(
 
 #[inline(always)]
 fn group_load_step(
-    around: &Around<'_>,
+    context: &ItemContext<'_>,
     item: &mut Item,
     memory: &Memory,
     step: &GroupLoadStep,
 ) -> Outcome
     requires { item.old.next < 2 ^ 32 }
-    ensures { Acts (act (surroundings around.now) item.old (contents memory.now) (step_arm.LoadGroup step.now)) result item.new (contents memory.now) }
+    ensures { Acts (act (surroundings context.now) item.old (contents memory.now) (step_arm.LoadGroup step.now)) result item.new (contents memory.now) }
 {
     let address = group_address_of(&item.registers, step.pointer);
     match group_access::load(memory.group.as_slice(), address, bytes_of(step.kind)) {
@@ -127,13 +132,13 @@ fn group_load_step(
 
 #[inline(always)]
 fn group_store_step(
-    around: &Around<'_>,
+    context: &ItemContext<'_>,
     item: &mut Item,
     memory: &mut Memory,
     step: &GroupStoreStep,
 ) -> Outcome
     requires { item.old.next < 2 ^ 32 }
-    ensures { Acts (act (surroundings around.now) item.old (contents memory.old) (step_arm.StoreGroup step.now)) result item.new (contents memory.new) }
+    ensures { Acts (act (surroundings context.now) item.old (contents memory.old) (step_arm.StoreGroup step.now)) result item.new (contents memory.new) }
 {
     let address = group_address_of(&item.registers, step.pointer);
     let value = item.registers.read_any(step.source);
@@ -151,14 +156,14 @@ fn group_store_step(
 #[inline]
 pub fn act(
     alloc: Global,
-    around: &Around<'_>,
+    context: &ItemContext<'_>,
     item: &mut Item,
     memory: &mut Memory,
     step: &Step,
 ) -> Outcome
     requires next { item.old.next < 2 ^ 32 }
-    requires within { ReadsWithin (length around.now.arguments.now) step.now }
-    ensures { Acts (act (surroundings around.now) item.old (contents memory.old) step.now) result item.new (contents memory.new) }
+    requires within { ReadsWithin (length context.now.arguments.now) step.now }
+    ensures { Acts (act (surroundings context.now) item.old (contents memory.old) step.now) result item.new (contents memory.new) }
 {
     match step {
         Step::Control(set) => {
@@ -180,13 +185,13 @@ pub fn act(
             let source = item.registers.read_any(step.source);
             set(item, step.target, convert(step.from, step.to, source));
         }
-        Step::Argument(step) => set(item, step.target, argument(around.arguments, step)),
-        Step::Load(step) => return load_step(around, item, memory, step),
-        Step::Store(step) => return store_step(alloc, around, item, memory, step),
-        Step::LoadGroup(step) => return group_load_step(around, item, memory, step),
-        Step::StoreGroup(step) => return group_store_step(around, item, memory, step),
-        Step::Atomic32(step) => return atomic_step32(alloc, around, item, memory, step),
-        Step::Atomic64(step) => return atomic_step64(alloc, around, item, memory, step),
+        Step::Argument(step) => set(item, step.target, argument(context.arguments, step)),
+        Step::Load(step) => return load_step(context, item, memory, step),
+        Step::Store(step) => return store_step(alloc, context, item, memory, step),
+        Step::LoadGroup(step) => return group_load_step(context, item, memory, step),
+        Step::StoreGroup(step) => return group_store_step(context, item, memory, step),
+        Step::Atomic32(step) => return atomic_step32(alloc, context, item, memory, step),
+        Step::Atomic64(step) => return atomic_step64(alloc, context, item, memory, step),
         Step::Branch(next) => item.next = *next,
         Step::ConditionalBranch(branch) => {
             let next = item.next + 1;
@@ -202,7 +207,7 @@ pub fn act(
             return Outcome::Arrived;
         }
         Step::WorkItemQuery(query) => {
-            let answer = around.location.answer(query.query, query.dimension);
+            let answer = context.location.answer(query.query, query.dimension);
             set(item, query.target, answer);
         }
     }

@@ -12,7 +12,7 @@ pub fn address_of(registers: &Registers, pointer: Pointer) -> u64
 {
     match pointer.base {
         None => pointer.offset,
-        Some(slot) => registers.double[slot.index()].wrapping_add(pointer.offset),
+        Some(number) => registers.double[number.index()].wrapping_add(pointer.offset),
     }
 }
 
@@ -23,6 +23,6 @@ pub fn group_address_of(registers: &Registers, pointer: GroupPointer) -> u32
 {
     match pointer.base {
         None => pointer.offset,
-        Some(slot) => registers.single[slot.index()].wrapping_add(pointer.offset),
+        Some(number) => registers.single[number.index()].wrapping_add(pointer.offset),
     }
 }

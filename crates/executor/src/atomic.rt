@@ -2,18 +2,20 @@
 ghost use Rattle.std.specs.Prelude.{◌≡◌, ◌<◌, ◌^◌};
 ghost use Rattle.kernel_check.specs.declared.step.Step.TheVariants as step_arm;
 ghost use Rattle.executor.specs.Atomics.{replacing32, replacing64, told32, told64};
-ghost use Rattle.executor.specs.Items.{contents, surroundings};
+ghost use Rattle.executor.specs.inner.Held.{contents, surroundings};
 ghost use Rattle.executor.specs.Meaning.{act, onward};
-ghost use Rattle.executor.specs.Turns.{Acts};
+ghost use Rattle.executor.specs.inner.Turns.{Acts};
 
 use crate::act::Outcome;
 use crate::atomic_place::{find, place_of, put};
-use crate::item::{Around, Item};
+use crate::item::{Item, ItemContext};
 use crate::memory::Memory;
 use crate::registers::Registers;
 use crate::{number32, number64};
 use byteorder::{ByteOrder, LittleEndian};
-use kernel_check::{AtomicOperation32, AtomicOperation64, AtomicStep32, AtomicStep64, Slot};
+use kernel_check::{
+    AtomicOperation32, AtomicOperation64, AtomicStep32, AtomicStep64, RegisterNumber,
+};
 use std::alloc::Global;
 
 /// What an operation of 32 bits leaves in place of an old value, if it stores.
@@ -86,24 +88,24 @@ fn replacing64(r: &Registers, operation: &AtomicOperation64, old: u64) -> Option
 
 /// Goes on with the old value in the target of 32 bits, if there is one.
 #[inline(always)]
-fn tell32(item: &mut Item, target: Option<Slot>, old: u32)
+fn tell32(item: &mut Item, target: Option<RegisterNumber>, old: u32)
     requires { item.old.next < 2 ^ 32 }
     ensures { item.new ≡ onward item.old (told32 item.old.registers target old) }
 {
-    if let Some(slot) = target {
-        item.registers.set32(slot, old);
+    if let Some(number) = target {
+        item.registers.set32(number, old);
     }
     item.next += 1;
 }
 
 /// Goes on with the old value in the target of 64 bits, if there is one.
 #[inline(always)]
-fn tell64(item: &mut Item, target: Option<Slot>, old: u64)
+fn tell64(item: &mut Item, target: Option<RegisterNumber>, old: u64)
     requires { item.old.next < 2 ^ 32 }
     ensures { item.new ≡ onward item.old (told64 item.old.registers target old) }
 {
-    if let Some(slot) = target {
-        item.registers.set64(slot, old);
+    if let Some(number) = target {
+        item.registers.set64(number, old);
     }
     item.next += 1;
 }
@@ -112,17 +114,17 @@ fn tell64(item: &mut Item, target: Option<Slot>, old: u64)
 #[inline]
 pub fn atomic_step32(
     alloc: Global,
-    around: &Around<'_>,
+    context: &ItemContext<'_>,
     item: &mut Item,
     memory: &mut Memory,
     step: &AtomicStep32,
 ) -> Outcome
     requires { item.old.next < 2 ^ 32 }
-    ensures { Acts (act (surroundings around.now) item.old (contents memory.old) (step_arm.Atomic32 step.now)) result item.new (contents memory.new) }
+    ensures { Acts (act (surroundings context.now) item.old (contents memory.old) (step_arm.Atomic32 step.now)) result item.new (contents memory.new) }
 {
     let place = place_of(&item.registers, step.pointer);
     let mut bytes = [0; 4];
-    if let Err(rule) = find(around.view, memory, place, &mut bytes) {
+    if let Err(rule) = find(context.view, memory, place, &mut bytes) {
         return Outcome::Broke(rule);
     }
     let old = LittleEndian::read_u32(&bytes);
@@ -139,17 +141,17 @@ pub fn atomic_step32(
 #[inline]
 pub fn atomic_step64(
     alloc: Global,
-    around: &Around<'_>,
+    context: &ItemContext<'_>,
     item: &mut Item,
     memory: &mut Memory,
     step: &AtomicStep64,
 ) -> Outcome
     requires { item.old.next < 2 ^ 32 }
-    ensures { Acts (act (surroundings around.now) item.old (contents memory.old) (step_arm.Atomic64 step.now)) result item.new (contents memory.new) }
+    ensures { Acts (act (surroundings context.now) item.old (contents memory.old) (step_arm.Atomic64 step.now)) result item.new (contents memory.new) }
 {
     let place = place_of(&item.registers, step.pointer);
     let mut bytes = [0; 8];
-    if let Err(rule) = find(around.view, memory, place, &mut bytes) {
+    if let Err(rule) = find(context.view, memory, place, &mut bytes) {
         return Outcome::Broke(rule);
     }
     let old = LittleEndian::read_u64(&bytes);

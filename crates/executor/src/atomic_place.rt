@@ -1,15 +1,17 @@
 //! The places of atomic operations.
 ghost use Rattle.std.specs.Prelude.{◌≡◌, ◌+◌, ◌≤◌, ◌^◌, None, Some, Ok, Err, IfOk, IfErr, OnOk, length, map};
 ghost use Rattle.executor.specs.Accesses.{atomic_broken, lent};
-ghost use Rattle.executor.specs.Atomics.{bytes_found, place_of, put, HasRoom};
-ghost use Rattle.executor.specs.Items.{contents, lent_region};
+ghost use Rattle.executor.specs.Atomics.{bytes_found, place_of, put};
+ghost use Rattle.executor.specs.inner.Room.{HasRoom};
+ghost use Rattle.executor.specs.inner.Held.{contents};
+ghost use Rattle.executor.specs.Items.{lent_region};
 
 use crate::access::region_of;
 use crate::address::{address_of, group_address_of};
 use crate::group_access;
-use crate::held::View;
 use crate::memory::Memory;
 use crate::registers::Registers;
+use crate::view::View;
 use kernel_check::AtomicPointer;
 use policy::Right;
 use queue_error::Rule;

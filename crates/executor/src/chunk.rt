@@ -1,10 +1,11 @@
 //! Chunks of 256 pages.
 ghost use Rattle.std.specs.Prelude.{◌≡◌, ◌+◌, ◌%◌, ◌^◌, ◌<◌, ◌≤◌, ℕ, [], OnOk, OnErr, length, max};
-ghost use Rattle.executor.specs.Written.{chunk_byte, laid, seen};
-ghost use Rattle.executor.specs.Told.{Gathers};
+ghost use Rattle.executor.specs.inner.Pages.{chunk_byte};
+ghost use Rattle.executor.specs.Written.{laid, seen};
+ghost use Rattle.executor.specs.inner.Told.{Gathers};
 
 use crate::page::Page;
-use crate::run::Run;
+use crate::written_range::WrittenRange;
 use std::alloc::{AllocError, Global};
 use std::marker::Model;
 
@@ -66,7 +67,12 @@ impl Chunk {
     }
 
     /// Adds the written bytes to runs of addresses below `base`, the chunk's first.
-    pub fn add_runs(&self, alloc: Global, base: u64, runs: &mut Vec<Run>) -> Result<(), AllocError>
+    pub fn add_runs(
+        &self,
+        alloc: Global,
+        base: u64,
+        runs: &mut Vec<WrittenRange>,
+    ) -> Result<(), AllocError>
         requires { base + 2 ^ 14 ≤ 2 ^ 64 }
         ensures { OnOk result (Gathers base (2 ^ 14) (chunk_byte self.now) (2 ^ 14) runs.old.items runs.new.items) }
     {

@@ -3,7 +3,8 @@ ghost use Rattle.std.specs.Prelude.{◌≡◌, ◌+◌, ◌%◌, ◌<◌, ◌≤
 ghost use Rattle.std.specs.Int.{w64};
 ghost use Rattle.executor.specs.Numbers.{wrapped};
 ghost use Rattle.kernel_check.specs.Steps.{number_bytes};
-ghost use Rattle.executor.specs.Conversions.{converted, read_as, written_as, extended_bits, IsShort};
+ghost use Rattle.executor.specs.Conversions.{converted, read_as, written_as};
+ghost use Rattle.executor.specs.inner.Extended.{extended_bits, IsShort};
 
 use kernel_check::NumberType;
 

@@ -1,5 +1,8 @@
 //! Why a work-group has no writes.
 
+ghost use Rattle.std.specs.Prelude.{◌≡◌};
+ghost use Rattle.executor.specs.Results.{fault_number};
+
 use queue_error::Rule;
 use std::alloc::AllocError;
 
@@ -19,6 +22,18 @@ pub enum RunFault {
     /// A growth was refused.
     OutOfMemory,
     Fault(ItemFault),
+}
+
+impl RunFault {
+    /// The number of the refusal: 0 for want of memory, 1 for a rule that was broken.
+    pub fn number(self) -> u8
+        ensures { result ≡ fault_number self }
+    {
+        match self {
+            RunFault::OutOfMemory => 0,
+            RunFault::Fault(_) => 1,
+        }
+    }
 }
 
 impl From<AllocError> for RunFault {

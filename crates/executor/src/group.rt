@@ -1,6 +1,7 @@
 //! A work-group: where it stands in the grid, and its run from memory that is lent to its writes.
 ghost use Rattle.std.specs.Prelude.{◌≡◌, ◌<◌, ◌≤◌, IfOk, IfErr, length, slice_get, Some};
-ghost use Rattle.executor.specs.Items.{blank, contents};
+ghost use Rattle.executor.specs.Items.{blank};
+ghost use Rattle.executor.specs.inner.Held.{contents};
 ghost use Rattle.executor.specs.Locations.{count_of, current_along, current_of, groups_along, groups_of};
 ghost use Rattle.executor.specs.Runs.{HasSizes, IsRunnable, input_of, location_of};
 ghost use Rattle.executor.specs.Results.{FinishesAs, FailsAs};
@@ -8,14 +9,14 @@ ghost use Rattle.kernel_check.specs.Programs.{Program as ProgramValue};
 
 use crate::dispatch::Dispatch;
 use crate::fault::RunFault;
-use crate::held::View;
-use crate::item::Around;
+use crate::item::ItemContext;
 use crate::item_run::id_of;
 use crate::location::{Extent, Location};
 use crate::memory::Memory;
 use crate::rounds::run_items;
-use crate::run::Run;
+use crate::view::View;
 use crate::written::WrittenBytes;
+use crate::written_range::WrittenRange;
 use kernel_check::{Checked, Program};
 use sequences::Sequence;
 use std::alloc::{AllocError, Global};
@@ -121,20 +122,20 @@ fn run_program(
     dispatch: &Dispatch<'_>,
     group: u32,
     view: &View<'_>,
-) -> Result<Sequence<Run>, RunFault>
+) -> Result<Sequence<WrittenRange>, RunFault>
     requires { IsRunnable program.now dispatch.now group }
     ensures ok { IfOk result (FinishesAs (input_of program.now dispatch.now group view.now)) }
     ensures err { IfErr result (FailsAs (input_of program.now dispatch.now group view.now)) }
 {
     let location = location_of(dispatch, group);
     let count = count_of(&location.current_size, &dispatch.group_size);
-    let around = Around {
+    let context = ItemContext {
         arguments: dispatch.arguments,
         view,
         location,
     };
     let mut memory = blank(alloc, dispatch.group_segment_size)?;
-    if let Err(fault) = run_items(alloc, &around, program, count, &mut memory) {
+    if let Err(fault) = run_items(alloc, &context, program, count, &mut memory) {
         return Err(fault);
     }
     let runs = memory.written.runs(alloc)?;
@@ -150,7 +151,7 @@ pub fn run_group(
     dispatch: &Dispatch<'_>,
     group: u32,
     view: &View<'_>,
-) -> Result<Sequence<Run>, RunFault>
+) -> Result<Sequence<WrittenRange>, RunFault>
     requires kernel { dispatch.now.kernel < length checked.now }
     requires runnable { (p : ProgramValue) → slice_get checked.now dispatch.now.kernel ≡ Some p → IsRunnable p dispatch.now group }
     ensures ok { (p : ProgramValue) → slice_get checked.now dispatch.now.kernel ≡ Some p

@@ -1,12 +1,12 @@
 //! A work-item, and what surrounds it.
 ghost use Rattle.std.specs.Prelude.{◌≡◌};
 ghost use Rattle.executor.specs.Items.{fresh};
-ghost use Rattle.executor.specs.Stops.{waits};
+ghost use Rattle.executor.specs.inner.Stops.{waits};
 ghost use Rattle.executor.specs.declared.item.Stop.TheVariants as stop_arm;
 
-use crate::held::View;
 use crate::location::Location;
 use crate::registers::Registers;
+use crate::view::View;
 
 /// A work-item between two instructions.
 #[derive(Clone, Copy)]
@@ -72,7 +72,7 @@ impl StoppedItem {
 
 /// What a work-item can see and not change.
 #[derive(Clone, Copy)]
-pub struct Around<'a> {
+pub struct ItemContext<'a> {
     /// The bytes of the argument block.
     pub arguments: &'a [u8],
     /// The regions that the packet holds.

@@ -1,17 +1,17 @@
 //! A work-item run until it waits at a barrier or ends.
 ghost use Rattle.std.specs.Prelude.{◌≡◌, ◌<◌, ◌≤◌, ℕ, IfErr, OnOk, length, slice_index};
 ghost use Rattle.executor.specs.declared.fault.RunFault.TheVariants as fault_arm;
-ghost use Rattle.executor.specs.Group.{ready, around_item};
-ghost use Rattle.executor.specs.Items.{contents, surroundings};
+ghost use Rattle.executor.specs.Group.{ready, context_of_item};
+ghost use Rattle.executor.specs.inner.Held.{contents, surroundings};
 ghost use Rattle.executor.specs.Locations.{id_of};
 ghost use Rattle.executor.specs.Meaning.{turn};
-ghost use Rattle.executor.specs.Runs.{ItemRuns, ItemFails};
-ghost use Rattle.executor.specs.Stops.{standing};
-ghost use Rattle.executor.specs.Turns.{Acts};
+ghost use Rattle.executor.specs.inner.ItemRuns.{ItemRuns, ItemFails};
+ghost use Rattle.executor.specs.inner.Stops.{standing};
+ghost use Rattle.executor.specs.inner.Turns.{Acts};
 
 use crate::act::{Outcome, act};
 use crate::fault::{ItemFault, RunFault};
-use crate::item::{Around, Item, Stop, StoppedItem};
+use crate::item::{Item, ItemContext, Stop, StoppedItem};
 use crate::location::{Extent, Location};
 use crate::memory::Memory;
 use kernel_check::Program;
@@ -35,19 +35,19 @@ pub fn id_of(sizes: &Extent, number: u32) -> Extent
 }
 
 /// What surrounds the item of a number.
-fn around_item<'a>(around: &Around<'a>, number: u32) -> Around<'a>
-    requires x { 1 ≤ around.now.location.current_size.x }
-    requires y { 1 ≤ around.now.location.current_size.y }
-    ensures surroundings { surroundings result ≡ around_item (surroundings around.now) number }
-    ensures arguments { result.arguments.now ≡ around.now.arguments.now }
+fn context_of_item<'a>(context: &ItemContext<'a>, number: u32) -> ItemContext<'a>
+    requires x { 1 ≤ context.now.location.current_size.x }
+    requires y { 1 ≤ context.now.location.current_size.y }
+    ensures surroundings { surroundings result ≡ context_of_item (surroundings context.now) number }
+    ensures arguments { result.arguments.now ≡ context.now.arguments.now }
 {
     let location = Location {
-        item: id_of(&around.location.current_size, number),
-        ..around.location
+        item: id_of(&context.location.current_size, number),
+        ..context.location
     };
-    Around {
+    ItemContext {
         location,
-        ..*around
+        ..*context
     }
 }
 
@@ -65,40 +65,40 @@ fn line_of(program: &Program, step: usize) -> u32
 #[inline]
 fn turn(
     alloc: Global,
-    around: &Around<'_>,
+    context: &ItemContext<'_>,
     program: &Program,
     item: &mut Item,
     memory: &mut Memory,
 ) -> Outcome
-    requires { length around.now.arguments.now ≡ program.now.argument_bytes }
+    requires { length context.now.arguments.now ≡ program.now.argument_bytes }
     ensures { (executed : ℕ) → executed < 65536
-        → Acts (turn (surroundings around.now) program.now.steps item.old executed (contents memory.old)) result item.new (contents memory.new) }
+        → Acts (turn (surroundings context.now) program.now.steps item.old executed (contents memory.old)) result item.new (contents memory.new) }
 {
     match program.steps().get(item.next) {
         None => Outcome::Ended,
-        Some(step) => act(alloc, around, item, memory, step),
+        Some(step) => act(alloc, context, item, memory, step),
     }
 }
 
 /// Runs an item on until it waits at a barrier or ends, or breaks a rule.
 pub fn run_item(
     alloc: Global,
-    around: &Around<'_>,
+    context: &ItemContext<'_>,
     program: &Program,
     number: u32,
     stopped: &mut StoppedItem,
     memory: &mut Memory,
 ) -> Result<(), RunFault>
-    requires arguments { length around.now.arguments.now ≡ program.now.argument_bytes }
-    requires x { 1 ≤ around.now.location.current_size.x }
-    requires y { 1 ≤ around.now.location.current_size.y }
+    requires arguments { length context.now.arguments.now ≡ program.now.argument_bytes }
+    requires x { 1 ≤ context.now.location.current_size.x }
+    requires y { 1 ≤ context.now.location.current_size.y }
     requires within { stopped.old.executed ≤ 65536 }
-    ensures ok { OnOk result (ItemRuns (surroundings around.now) program.now number
+    ensures ok { OnOk result (ItemRuns (surroundings context.now) program.now number
         (ready stopped.old.item stopped.old.executed) (contents memory.old) (standing stopped.new) (contents memory.new)) }
-    ensures err { IfErr result (ItemFails (surroundings around.now) program.now number
+    ensures err { IfErr result (ItemFails (surroundings context.now) program.now number
         (ready stopped.old.item stopped.old.executed) (contents memory.old)) }
 {
-    let own = around_item(around, number);
+    let own = context_of_item(context, number);
     let begin = stopped.executed;
     let mut item = stopped.item;
     'turns: for executed in begin..BUDGET {

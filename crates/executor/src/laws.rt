@@ -1,21 +1,41 @@
 //! Laws of work-groups.
 
-ghost use Rattle.std.specs.Prelude.{◌≡◌, List, All};
+ghost use Rattle.std.specs.Prelude.{◌≡◌, ◌≤◌, ℕ, List, All, Some, slice_get};
 ghost use Rattle.policy.specs.declared.rights.Right.TheVariants as right;
-ghost use Rattle.executor.specs.Laws.{AreLentAlike, AreShort, IsHeldRun};
+ghost use Rattle.executor.specs.Laws.{AreLentAlike, AreShort, IsHeldRun, RunsRight};
 ghost use Rattle.executor.specs.Items.{LentRegion};
-ghost use Rattle.executor.specs.Results.{group_result, wrote};
-ghost use Rattle.executor.specs.Runs.{GroupInput};
-ghost use Rattle.executor.specs.declared.run.Run.{Run};
+ghost use Rattle.executor.specs.Locations.{count_of};
+ghost use Rattle.executor.specs.Results.{IsOver, after_turns, group_result, most_turns, wrote};
+ghost use Rattle.executor.specs.Runs.{GroupInput, begun, surroundings_of};
+ghost use Rattle.executor.specs.declared.written_range.WrittenRange.{WrittenRange};
+
+use kernel_check::Checked;
+
+/// A checked kernel never meets a wrong register, an unknown label or a missing argument: as long as a
+/// work-group of it runs, each of its items stands at the kernel's end or at a step whose registers are of the
+/// classes that it asks, whose label is there, and whose argument is one of the kernel's, as wide as it reads. It
+/// does nothing.
+pub fn law_checked_kernels_run_right(checked: &Checked)
+    ensures { (index : ℕ) (input : GroupInput) → slice_get checked.now index ≡ Some input.program → RunsRight input }
+{
+    checked.law_are_sound();
+}
+
+/// A work-group has come to its end after as many turns as `most_turns` says, whatever its kernel does: all of its
+/// items have ended, or one has broken a rule. It does nothing.
+pub fn law_groups_come_to_an_end()
+    ensures { (input : GroupInput) → count_of input.group_size ≤ 1024
+        → IsOver (after_turns (surroundings_of input) input.program most_turns (begun input)) }
+{}
 
 /// Each run that a work-group writes has bytes, and each of its addresses lies in a held region on which
 /// WRITE is held. It does nothing.
-pub fn writes_lie_in_held_regions()
-    ensures { (input : GroupInput) (runs : List Run) → AreShort input.view → group_result input ≡ wrote runs → All (IsHeldRun input.view right.Write) runs }
+pub fn law_writes_lie_in_held_regions()
+    ensures { (input : GroupInput) (runs : List WrittenRange) → AreShort input.view → group_result input ≡ wrote runs → All (IsHeldRun input.view right.Write) runs }
 {}
 
 /// What a work-group comes to depends on the bytes of those held regions alone on which READ is held. It
 /// does nothing.
-pub fn groups_read_where_they_may()
+pub fn law_groups_read_where_they_may()
     ensures { (input : GroupInput) (others : List LentRegion) → AreLentAlike input.view others → group_result input ≡ group_result (record input { view = others }) }
 {}

@@ -22,19 +22,22 @@ mod memory;
 mod number32;
 mod number64;
 mod page;
-mod region;
 mod registers;
 mod rounds;
-mod run;
 mod values;
 mod view;
 mod written;
+mod written_range;
+mod written_region;
 
 pub use dispatch::Dispatch;
 pub use fault::{ItemFault, RunFault};
 pub use group::run_group;
-pub use held::View;
-pub use laws::{groups_read_where_they_may, writes_lie_in_held_regions};
+pub use held::HeldRegion;
+pub use laws::{
+    law_checked_kernels_run_right, law_groups_come_to_an_end, law_groups_read_where_they_may,
+    law_writes_lie_in_held_regions,
+};
 pub use location::Extent;
-pub use run::Run;
-pub use view::HeldRegion;
+pub use view::View;
+pub use written_range::WrittenRange;

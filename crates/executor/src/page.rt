@@ -1,9 +1,10 @@
 //! Pages of 64 bytes.
 ghost use Rattle.std.specs.Prelude.{◌≡◌, ◌+◌, ◌^◌, ◌<◌, ◌≤◌, ℕ, Option, None, OnOk, length};
-ghost use Rattle.executor.specs.Written.{page_byte, laid, seen};
-ghost use Rattle.executor.specs.Told.{Gathers};
+ghost use Rattle.executor.specs.inner.Pages.{page_byte};
+ghost use Rattle.executor.specs.Written.{laid, seen};
+ghost use Rattle.executor.specs.inner.Told.{Gathers};
 
-use crate::run::{Run, note};
+use crate::written_range::{WrittenRange, note};
 use std::alloc::{AllocError, Global};
 use std::marker::Model;
 
@@ -70,7 +71,12 @@ impl Page {
     }
 
     /// Adds the written bytes to runs of addresses below `base`, the page's first.
-    pub fn add_runs(&self, alloc: Global, base: u64, runs: &mut Vec<Run>) -> Result<(), AllocError>
+    pub fn add_runs(
+        &self,
+        alloc: Global,
+        base: u64,
+        runs: &mut Vec<WrittenRange>,
+    ) -> Result<(), AllocError>
         requires { base + 64 ≤ 2 ^ 64 }
         ensures { OnOk result (Gathers base 64 (page_byte self.now) 64 runs.old.items runs.new.items) }
     {

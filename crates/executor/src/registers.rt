@@ -2,7 +2,7 @@
 ghost use Rattle.std.specs.Prelude.{◌≡◌, false};
 ghost use Rattle.executor.specs.Registers.{cleared, read1, read32, read64, read_any, with1, with32, with64, with_any};
 
-use kernel_check::{AnyRegister, AnySource, Slot, Source1, Source32, Source64};
+use kernel_check::{AnyRegister, AnySource, RegisterNumber, Source1, Source32, Source64};
 
 /// The registers of a work-item, by class and number (PRM, Registers).
 #[derive(Clone, Copy)]
@@ -33,7 +33,7 @@ impl Registers {
         ensures { result ≡ read1 self.now source }
     {
         match source {
-            Source1::Register(slot) => self.control[slot.index()],
+            Source1::Register(number) => self.control[number.index()],
             Source1::Constant(bit) => bit,
         }
     }
@@ -44,7 +44,7 @@ impl Registers {
         ensures { result ≡ read32 self.now source }
     {
         match source {
-            Source32::Register(slot) => self.single[slot.index()],
+            Source32::Register(number) => self.single[number.index()],
             Source32::Constant(bits) => bits,
         }
     }
@@ -55,7 +55,7 @@ impl Registers {
         ensures { result ≡ read64 self.now source }
     {
         match source {
-            Source64::Register(slot) => self.double[slot.index()],
+            Source64::Register(number) => self.double[number.index()],
             Source64::Constant(bits) => bits,
         }
     }
@@ -73,24 +73,24 @@ impl Registers {
     }
 
     #[inline(always)]
-    pub fn set1(&mut self, slot: Slot, bit: bool)
-        ensures { self.new ≡ with1 self.old slot bit }
+    pub fn set1(&mut self, number: RegisterNumber, bit: bool)
+        ensures { self.new ≡ with1 self.old number bit }
     {
-        self.control[slot.index()] = bit;
+        self.control[number.index()] = bit;
     }
 
     #[inline(always)]
-    pub fn set32(&mut self, slot: Slot, bits: u32)
-        ensures { self.new ≡ with32 self.old slot bits }
+    pub fn set32(&mut self, number: RegisterNumber, bits: u32)
+        ensures { self.new ≡ with32 self.old number bits }
     {
-        self.single[slot.index()] = bits;
+        self.single[number.index()] = bits;
     }
 
     #[inline(always)]
-    pub fn set64(&mut self, slot: Slot, bits: u64)
-        ensures { self.new ≡ with64 self.old slot bits }
+    pub fn set64(&mut self, number: RegisterNumber, bits: u64)
+        ensures { self.new ≡ with64 self.old number bits }
     {
-        self.double[slot.index()] = bits;
+        self.double[number.index()] = bits;
     }
 
     /// Sets a register to the low bits of a number, as many as it has.
@@ -99,9 +99,9 @@ impl Registers {
         ensures { self.new ≡ with_any self.old register bits }
     {
         match register {
-            AnyRegister::Control(slot) => self.set1(slot, bits % 2 == 1),
-            AnyRegister::Single(slot) => self.set32(slot, (bits % (1 << 32)) as u32),
-            AnyRegister::Double(slot) => self.set64(slot, bits),
+            AnyRegister::Control(number) => self.set1(number, bits % 2 == 1),
+            AnyRegister::Single(number) => self.set32(number, (bits % (1 << 32)) as u32),
+            AnyRegister::Double(number) => self.set64(number, bits),
         }
     }
 }

@@ -2,13 +2,13 @@
 ghost use Rattle.std.specs.Prelude.{◌≡◌, ◌+◌, ◌-◌, ◌≤◌, IfOk, IfErr, OnOk, length, map};
 ghost use Rattle.std.specs.List.{list_all};
 ghost use Rattle.executor.specs.Group.{beginning, done, running, least_waiting, waits_before, Leads};
-ghost use Rattle.executor.specs.Items.{contents, surroundings};
+ghost use Rattle.executor.specs.inner.Held.{contents, surroundings};
 ghost use Rattle.executor.specs.Locations.{count_of};
 ghost use Rattle.executor.specs.Runs.{Fails};
-ghost use Rattle.executor.specs.Stops.{after, standing, stopped_again, told, CanGoOnFrom};
+ghost use Rattle.executor.specs.inner.Stops.{after, standing, stopped_again, keep_stopped, CanGoOnFrom};
 
 use crate::fault::RunFault;
-use crate::item::{Around, StoppedItem};
+use crate::item::{ItemContext, StoppedItem};
 use crate::item_run::{fault, run_item};
 use crate::memory::Memory;
 use kernel_check::Program;
@@ -28,18 +28,18 @@ pub struct Waiter {
 /// breaks a rule.
 pub fn run_items(
     alloc: Global,
-    around: &Around<'_>,
+    context: &ItemContext<'_>,
     program: &Program,
     count: u32,
     memory: &mut Memory,
 ) -> Result<(), RunFault>
-    requires arguments { length around.now.arguments.now ≡ program.now.argument_bytes }
-    requires count { count ≡ count_of around.now.location.current_size }
+    requires arguments { length context.now.arguments.now ≡ program.now.argument_bytes }
+    requires count { count ≡ count_of context.now.location.current_size }
     requires few { count ≤ 1024 }
-    ensures ok { OnOk result (Leads (surroundings around.now) program.now (beginning count (contents memory.old)) (done (contents memory.new))) }
-    ensures err { IfErr result (Fails (surroundings around.now) program.now (beginning count (contents memory.old))) }
+    ensures ok { OnOk result (Leads (surroundings context.now) program.now (beginning count (contents memory.old)) (done (contents memory.new))) }
+    ensures err { IfErr result (Fails (surroundings context.now) program.now (beginning count (contents memory.old))) }
 {
-    let mut stopped = run_first(alloc, around, program, count, memory)?;
+    let mut stopped = run_to_first_barrier(alloc, context, program, count, memory)?;
     let ended = count - stopped.len() as u32;
     'rounds: loop {
         let Some(waiter) = least_waiting(ended, stopped.as_slice()) else {
@@ -49,42 +49,48 @@ pub fn run_items(
             let barrier = waiter.next.saturating_sub(1);
             return Err(fault(program, waiter.number, barrier, Rule::A6));
         }
-        if let Err(fault) = run_on(alloc, around, program, stopped.as_mut_slice(), memory) {
+        if let Err(fault) = run_past_barrier(
+            alloc,
+            context,
+            program,
+            stopped.as_mut_slice(),
+            memory,
+        ) {
             return Err(fault);
         }
     }
 }
 
 /// Runs items that begin, one after another, each until it stops; those that ended before the first that
-/// waits aren't told.
-fn run_first(
+/// waits aren't kept.
+fn run_to_first_barrier(
     alloc: Global,
-    around: &Around<'_>,
+    context: &ItemContext<'_>,
     program: &Program,
     count: u32,
     memory: &mut Memory,
 ) -> Result<Vec<StoppedItem>, RunFault>
-    requires arguments { length around.now.arguments.now ≡ program.now.argument_bytes }
-    requires count { count ≡ count_of around.now.location.current_size }
-    ensures ok { IfOk result (λ stopped. Leads (surroundings around.now) program.now (beginning count (contents memory.old))
+    requires arguments { length context.now.arguments.now ≡ program.now.argument_bytes }
+    requires count { count ≡ count_of context.now.location.current_size }
+    ensures ok { IfOk result (λ stopped. Leads (surroundings context.now) program.now (beginning count (contents memory.old))
         (running (after (count - length stopped.items) (map standing stopped.items)) (contents memory.new))) }
     ensures few { IfOk result (λ stopped. length stopped.items ≤ count) }
-    ensures err { IfErr result (Fails (surroundings around.now) program.now (beginning count (contents memory.old))) }
+    ensures err { IfErr result (Fails (surroundings context.now) program.now (beginning count (contents memory.old))) }
 {
     let mut stopped: Vec<StoppedItem> = Vec::new(alloc);
     'items: for number in 0..count {
         let mut item = StoppedItem::fresh();
-        if let Err(fault) = run_item(alloc, around, program, number, &mut item, memory) {
+        if let Err(fault) = run_item(alloc, context, program, number, &mut item, memory) {
             return Err(fault);
         }
-        tell(&mut stopped, item)?;
+        keep_stopped(&mut stopped, item)?;
     }
     Ok(stopped)
 }
 
 /// Puts an item behind others, but one that ended before any waits.
-fn tell(stopped: &mut Vec<StoppedItem>, item: StoppedItem) -> Result<(), AllocError>
-    ensures { OnOk result (stopped.new.items ≡ told stopped.old.items item) }
+fn keep_stopped(stopped: &mut Vec<StoppedItem>, item: StoppedItem) -> Result<(), AllocError>
+    ensures { OnOk result (stopped.new.items ≡ keep_stopped stopped.old.items item) }
 {
     if stopped.len() > 0 || item.waits() {
         stopped.push(item)?;
@@ -93,25 +99,25 @@ fn tell(stopped: &mut Vec<StoppedItem>, item: StoppedItem) -> Result<(), AllocEr
 }
 
 /// Runs items that wait, one after another, each until it stops again.
-fn run_on(
+fn run_past_barrier(
     alloc: Global,
-    around: &Around<'_>,
+    context: &ItemContext<'_>,
     program: &Program,
     stopped: &mut [StoppedItem],
     memory: &mut Memory,
 ) -> Result<(), RunFault>
-    requires arguments { length around.now.arguments.now ≡ program.now.argument_bytes }
-    requires count { length stopped.old ≡ count_of around.now.location.current_size }
+    requires arguments { length context.now.arguments.now ≡ program.now.argument_bytes }
+    requires count { length stopped.old ≡ count_of context.now.location.current_size }
     requires few { length stopped.old ≤ 1024 }
     requires can { CanGoOnFrom 0 stopped.old }
-    ensures ok { OnOk result (Leads (surroundings around.now) program.now (running (stopped_again 0 stopped.old) (contents memory.old))
+    ensures ok { OnOk result (Leads (surroundings context.now) program.now (running (stopped_again 0 stopped.old) (contents memory.old))
         (running (map standing stopped.new) (contents memory.new))) }
     ensures count { OnOk result (length stopped.new ≡ length stopped.old) }
-    ensures err { IfErr result (Fails (surroundings around.now) program.now (running (stopped_again 0 stopped.old) (contents memory.old))) }
+    ensures err { IfErr result (Fails (surroundings context.now) program.now (running (stopped_again 0 stopped.old) (contents memory.old))) }
 {
     'items: for number in 0..stopped.len() {
         let item = &mut stopped[number];
-        if let Err(fault) = run_item(alloc, around, program, number as u32, item, memory) {
+        if let Err(fault) = run_item(alloc, context, program, number as u32, item, memory) {
             return Err(fault);
         }
     }

@@ -1,17 +1,77 @@
-//! The memory that a work-group is lent.
-ghost use Rattle.std.specs.Prelude.{◌≤◌, ◌^◌, length};
+//! The regions that a packet holds, and how the one that an address lies in is found.
+ghost use Rattle.std.specs.Prelude.{◌≡◌, ◌<◌, ◌≤◌, ◌++◌, ◌∷◌, [], All, OnErr, OnOk, find};
+ghost use Rattle.std.specs.Option.{option_copied};
+ghost use Rattle.executor.specs.Views.{has_byte_at};
 
-use aql_packet::RegionHandle;
-use policy::Rights;
+use crate::held::HeldRegion;
+use aql_packet::MOST_REGIONS;
+use std::alloc::{AllocError, Global};
+use std::marker::Model;
 
-/// A region that a packet holds: its number, the rights that are held, and its bytes, lent and not copied.
-#[derive(Clone, Copy)]
-pub struct HeldRegion<'a> {
-    /// The region's number.
-    pub handle: RegionHandle,
-    /// The rights that the packet holds on it.
-    pub rights: Rights,
-    /// Its bytes, at most 2^24.
-    pub bytes: &'a [u8],
-    pub ghost short: { length bytes.now ≤ 2 ^ 24 },
+/// The regions that a packet holds, in the order of their numbers. However many there are, the one that an
+/// address lies in is found by two look-ups. A contract sees the list of regions.
+#[derive(Drop)]
+pub struct View<'a> {
+    regions: Vec<HeldRegion<'a>>,
+    // Where the region of a number stands among these, counted from 1, or 0 where it isn't held.
+    places: [u8; MOST_REGIONS + 1],
+}
+
+impl<'a> Model for View<'a> {
+    ghost use Rattle.std.specs.Prelude.{List};
+    ghost use Rattle.executor.specs.inner.Places.{Finds};
+    ghost use Rattle.executor.specs.declared.held.HeldRegion.{HeldRegion};
+
+    ghost Value = { List HeldRegion };
+
+    ghost view = { λ x. x.regions.items };
+
+    ghost invariant = { λ x. Finds x.places x.regions.items };
+}
+
+impl<'a> View<'a> {
+    /// No region. It takes no memory.
+    pub fn new(alloc: Global) -> View<'a>
+        ensures { result ≡ [] }
+    {
+        View {
+            regions: Vec::new(alloc),
+            places: [0; MOST_REGIONS + 1],
+        }
+    }
+
+    /// Puts a region behind others, whose numbers are less.
+    pub fn put(&mut self, region: HeldRegion<'a>) -> Result<(), AllocError>
+        requires begins { 1 ≤ region.handle.0 }
+        requires ends { region.handle.0 ≤ MOST_REGIONS }
+        requires behind { All (λ before. before.handle.0 < region.handle.0) self.old }
+        ensures ok { OnOk result (self.new ≡ self.old ++ region.entry ∷ []) }
+        ensures err { OnErr result (self.new ≡ self.old) }
+    {
+        self.regions.push(region)?;
+        self.places[region.handle.0 as usize] = self.regions.len() as u8;
+        Ok(())
+    }
+
+    /// The region that an address lies in.
+    #[inline(always)]
+    pub fn find(&self, address: u64) -> Option<&HeldRegion<'a>>
+        ensures { option_copied result ≡ find (λ region. has_byte_at region address) self.now }
+    {
+        let places = &self.places;
+        let number = (address >> 32) as usize;
+        if number >= places.len() {
+            return None;
+        }
+        let place = places[number] as usize;
+        if place == 0 {
+            return None;
+        }
+        let region = &self.regions[place - 1];
+        if address % (1 << 32) < region.bytes.len() as u64 {
+            Some(region)
+        } else {
+            None
+        }
+    }
 }

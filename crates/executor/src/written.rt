@@ -1,10 +1,11 @@
 //! What a work-group has written.
 ghost use Rattle.std.specs.Prelude.{◌≡◌, ◌+◌, ◌%◌, ◌^◌, ◌<◌, ◌≤◌, ℕ, List, None, OnOk, OnErr, IfOk, length, max};
-ghost use Rattle.executor.specs.Written.{byte_at, laid, seen, AreRuns, BreaksOff};
+ghost use Rattle.executor.specs.inner.Pages.{byte_at, BreaksOff};
+ghost use Rattle.executor.specs.Written.{laid, seen, AreRuns};
 ghost use Rattle.executor.specs.Told.{runs_of};
 
-use crate::region::WrittenRegion;
-use crate::run::Run;
+use crate::written_range::WrittenRange;
+use crate::written_region::WrittenRegion;
 use sequences::Sequence;
 use std::alloc::{AllocError, Global};
 use std::marker::Model;
@@ -80,9 +81,9 @@ impl WrittenBytes {
     }
 
     /// The maximal runs of written addresses, ascending, with their bytes.
-    pub fn runs(&self, alloc: Global) -> Result<Sequence<Run>, AllocError>
+    pub fn runs(&self, alloc: Global) -> Result<Sequence<WrittenRange>, AllocError>
         ensures runs { IfOk result (λ runs. AreRuns (byte_at self.now) runs) }
-        ensures only { IfOk result (λ runs. (others : List Run) → AreRuns (byte_at self.now) others → others ≡ runs) }
+        ensures only { IfOk result (λ runs. (others : List WrittenRange) → AreRuns (byte_at self.now) others → others ≡ runs) }
         ensures value { IfOk result (λ runs. runs ≡ runs_of (byte_at self.now)) }
     {
         let mut runs = Vec::new(alloc);

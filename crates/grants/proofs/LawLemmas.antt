@@ -1,14 +1,21 @@
 -- What a call leads to, and what a list of calls leads to.
-use Rattle.std.proofs.Common.{[], ◌≡◌, Bool, true, ◌||◌, List, ◌∷◌, map, fold, refl, sym, ◌∙◌, true≢false, arith}
+use Rattle.std.proofs.Common.{[], ◌≡◌, Bool, true, ◌||◌, List, ◌∷◌, map, fold, refl, sym, ap, ◌∙◌, true≢false, arith}
 use Rattle.grants.proofs.Terms.{ClientId, Ledger, Object, PacketId, QueueId, Right, Rights, both, each_right, holds}
 use Rattle.grants.proofs.Terms.{in_force, is_named, is_one_of, list_all, rules_in, same_pair_is}
-use Rattle.grants.specs.Laws.{Call, LeadsTo, AreMade, last_ledger, in_force_after, holds_after, LawOfCalls}
-use Rattle.grants.specs.Laws.Call.{Grant, Revoke, Hold, Release}
+use Rattle.policy.specs.declared.rows.PolicyRows.{PolicyRows}
+use Rattle.policy.specs.Rules.{Rules}
+use Rattle.grants.specs.Laws.{Call, LeadsTo, AreMade, last_ledger, in_force_after, holds_after, rows_after, LawOfCalls}
+use Rattle.grants.specs.Laws.Call.{Grant, Revoke, Hold, Release, FindBlocked, Reload}
 
 -- ---- one call
 
-step-rules : (call : Call) (old new : Ledger) → LeadsTo old call new → rules_in new ≡ rules_in old
-step-rules call old new h4 = grind arith
+step-rules : (call : Call) (old new : Ledger) → LeadsTo old call new → rules_in new ≡ record (rules_in old) { rows = rows_after (rules_in old).rows call }
+step-rules (Grant client object rights) old new l = l.1.same_rules
+step-rules (Revoke client object rights) old new l = l.1.same_rules
+step-rules (Hold client queue packet rights) old new l = l.1.same_rules
+step-rules (Release queue packet) old new l = l.same_rules
+step-rules (FindBlocked rows) old new l = ap rules_in l
+step-rules (Reload rows) old new l = l.1.rules
 
 -- ---- a right that is held is in force
 
@@ -32,6 +39,8 @@ step-sound (Grant client object rights) old new l sound q p c o right h = grind 
 step-sound (Revoke client object rights) old new l sound q p c o right h = grind (arith, both, same_pair_is)
 step-sound (Hold client queue packet rights) old new l sound q p c o right h = grind (arith, named-in_force (λ x r. in_force old client x r) rights client c o right l.0)
 step-sound (Release queue packet) old new l sound q p c o right h = grind arith
+step-sound (FindBlocked rows) old new l sound q p c o right h = grind arith
+step-sound (Reload rows) old new l sound q p c o right h = grind arith
 
 -- ---- a list of calls
 
@@ -48,9 +57,10 @@ held-by : (steps : List (Call × Ledger)) (old : Ledger) → AreMade old steps �
 held-by [] old made q p c o right = refl
 held-by (step ∷ steps) old made q p c o right = grind (arith, held-by steps step.1 made.1 q p c o right)
 
-rules-by : (steps : List (Call × Ledger)) (old : Ledger) → AreMade old steps → rules_in (last_ledger old steps) ≡ rules_in old
+rules-by : (steps : List (Call × Ledger)) (old : Ledger) → AreMade old steps → rules_in (last_ledger old steps) ≡ record (rules_in old) { rows = fold rows_after (rules_in old).rows (calls_of steps) }
 rules-by [] old made = refl
-rules-by (step ∷ steps) old made = rules-by steps step.1 made.1 ∙ step-rules step.0 old step.1 made.0
+rules-by (step ∷ steps) old made =
+    rules-by steps step.1 made.1 ∙ ap (λ (r : Rules). record r { rows = fold rows_after r.rows (calls_of steps) }) (step-rules step.0 old step.1 made.0)
 
 sound-by : (steps : List (Call × Ledger)) (old : Ledger) → AreMade old steps → AreHeldInForce old → AreHeldInForce (last_ledger old steps)
 sound-by [] old made sound = sound

@@ -1,9 +1,10 @@
 pub mod Terms
 pub mod HoldLemmas
-pub mod SetLemmas
 pub mod PlaceLemmas
 pub mod CellLemmas
 pub mod CountLemmas
 pub mod ListingLemmas
 pub mod LedgerLemmas
+pub mod ReloadLemmas
+pub mod CompareLemmas
 pub mod LawLemmas

@@ -1,5 +1,5 @@
 -- Grants as contracts see them: what is in force, and which packet holds what, by look-ups that hide how they are kept.
-use Rattle.std.specs.Prelude.{◌≡◌, ◌+◌, ◌≤◌, Bool, true, false, not, ◌&&◌, ◌||◌, ℕ, List, length, None, Some, Result, Ok, Err, if◌then◌else◌}
+use Rattle.std.specs.Prelude.{◌≡◌, ◌+◌, ◌≤◌, Bool, true, false, not, ◌&&◌, ◌||◌, ℕ, List, length, Option, None, Some, Result, Ok, Err, if◌then◌else◌}
 use Rattle.std.specs.List.{list_any, list_all}
 use Rattle.aql_packet.specs.declared.ids.ClientId.{ClientId}
 use Rattle.aql_packet.specs.declared.ids.QueueId.{QueueId}
@@ -7,14 +7,15 @@ use Rattle.aql_packet.specs.declared.ids.PacketId.{PacketId}
 use Rattle.policy.specs.declared.object.Object.{Object}
 use Rattle.policy.specs.declared.rights.Right.{Right}
 use Rattle.policy.specs.declared.rights.Rights.{Rights}
+use Rattle.policy.specs.declared.rows.PolicyRows.{PolicyRows}
 use Rattle.policy.specs.Listing.{all_objects, listing_by}
 use Rattle.policy.specs.Rights.{has, all_rights, each_right, rights_that}
 use Rattle.grants.specs.declared.refusal.GrantRefusal.{GrantRefusal}
 use Rattle.grants.specs.declared.refusal.GrantRefusal.TheVariants.{NotAllowed, Busy, UnknownObject, UnknownClient}
 use Rattle.grants.specs.declared.hold.Hold.{Hold}
-use Rattle.policy.specs.Rules.{Rules, count, knows_client, knows_object, are_allowed}
+use Rattle.policy.specs.Rules.{Rules, count, knows_client, knows_object, are_allowed, rows_allow}
 use Rattle.grants.specs.Pairs.{is_one_of, is_named}
-use Rattle.grants.specs.Holders.{same_packet, IsFirstTo}
+use Rattle.grants.specs.Holders.{same_packet, IsFirstTo, IsUpTo}
 use Rattle.grants.specs.Holds.{is_held}
 use Rattle.grants.specs.Cells.{Table, in_table}
 
@@ -105,6 +106,15 @@ pub record Releases (old new : Ledger) (queue : QueueId) (packet : PacketId) : T
   pub room : old.room ≤ new.room
   pub same_places : places new ≡ places old
 
+-- what these rows don't allow went out of force, and from then on they decide what is allowed; nothing else changed
+pub record Reloads (old new : Ledger) (rows : PolicyRows) : Type 0 where
+  pub kept : (client : ClientId) (object : Object) (right : Right)
+      → in_force new client object right ≡ (in_force old client object right && rows_allow rows client object right)
+  pub rules : rules_in new ≡ record (rules_in old) { rows = rows }
+  pub same_holds : SameHolds old new
+  pub same_room : new.room ≡ old.room
+  pub same_places : places new ≡ places old
+
 -- ---- answers
 
 -- a grant is refused by the first of these that stands, and made where none does
@@ -126,6 +136,32 @@ RevokeAnswers grants client object rights (Err (Busy queue packet)) =
     × IsFirstTo (is_holder grants client object rights) (Some (queue, packet))
 RevokeAnswers grants client object rights (Ok x) =
     (knows_client (rules_in grants) client ≡ true) × (knows_object (rules_in grants) object ≡ true) × IsFirstTo (is_holder grants client object rights) None
+
+-- the packet holds a right that these rows don't allow the client of its queue
+pub record HoldsDenied (grants : Ledger) (rows : PolicyRows) (queue : QueueId) (packet : PacketId) : Type 0 where
+  pub client : ClientId
+  pub object : Object
+  pub right : Right
+  pub held : holds grants queue packet client object right ≡ true
+  pub denied : rows_allow rows client object right ≡ false
+
+-- the first packet that does, over all clients; none where these rows allow all that is held
+abbrev pub IsBlockedBy : Ledger → PolicyRows → Option (QueueId × PacketId) → Type 0
+IsBlockedBy grants rows None = (queue : QueueId) (packet : PacketId) (client : ClientId) (object : Object) (right : Right)
+    → holds grants queue packet client object right ≡ true → rows_allow rows client object right ≡ true
+IsBlockedBy grants rows (Some first) =
+    HoldsDenied grants rows first.0 first.1 × ((queue : QueueId) (packet : PacketId) → HoldsDenied grants rows queue packet → IsUpTo first.0 first.1 queue packet)
+
+-- ---- the same grants
+
+-- the copy has the same in force and held, and the same rules; only the room for further holds may be another
+abbrev pub IsCopy : Ledger → Ledger → Type 0
+IsCopy grants copy = copy ≡ record grants { room = copy.room }
+
+-- two have the same in force, and the same packets hold the same
+pub record SameGrants (grants other : Ledger) : Type 0 where
+  pub in_force : SameRights grants other
+  pub held : SameHolds grants other
 
 -- ---- listing
 

@@ -6,7 +6,7 @@ ghost use Rattle.policy.specs.declared.rights.Right.{Right};
 ghost use Rattle.policy.specs.Rights.{has, all_rights};
 ghost use Rattle.grants.specs.inner.Counts.{count_of, one_for_right};
 
-use crate::sets::{difference, union};
+use crate::sets::union;
 use policy::{Right, Rights};
 
 /// How many holds there are of each right.
@@ -117,7 +117,7 @@ impl Cell {
         ensures held { result.held ≡ self.held }
     {
         Cell {
-            rights: difference(self.rights, rights),
+            rights: self.rights.without(rights),
             held: self.held,
         }
     }

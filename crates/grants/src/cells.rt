@@ -15,9 +15,9 @@ ghost use Rattle.grants.specs.Cells.{cell_of, in_table};
 
 use crate::cell::Cell;
 use crate::hold::Hold;
-use crate::rules::Rules;
+use crate::policy_grid::PolicyGrid;
 use aql_packet::ClientId;
-use policy::{Object, Policy, Rights};
+use policy::{Object, Policy, PolicyRows, Rights};
 use std::alloc::{AllocError, Global};
 use std::boxed::BoxedSlice;
 use std::marker::Model;
@@ -27,7 +27,7 @@ use std::marker::Model;
 /// longer.
 #[derive(Drop)]
 pub struct Cells {
-    rules: Rules,
+    rules: PolicyGrid,
     cells: BoxedSlice<Cell>,
 }
 
@@ -72,13 +72,29 @@ impl Cells {
         ensures empty { IfOk result (λ table. (client : ClientId) (object : Object) (right : Right)
             → (in_table table client object right ≡ false) × (hold_count table client object right ≡ 0)) }
     {
-        let rules = Rules::of(alloc, policy)?;
+        let rules = PolicyGrid::of(alloc, policy)?;
         let cells = empty_cells(alloc, rules.cell_count())?;
         Ok(Cells { rules, cells })
     }
 
+    /// The same table in memory of its own.
+    pub fn copy(&self, alloc: Global) -> Result<Cells, AllocError>
+        ensures { IfOk result (λ copy. copy ≡ self.now) }
+    {
+        let rules = self.rules.copy(alloc)?;
+        let cells = BoxedSlice::from_slice(alloc, self.cells.as_slice())?;
+        Ok(Cells { rules, cells })
+    }
+
+    /// Puts rows on rights in the place of those before. The cells stay.
+    pub fn set_rows(&mut self, rows: PolicyRows)
+        ensures { self.new ≡ record self.old { rules = record self.old.rules { rows = rows } } }
+    {
+        self.rules.set_rows(rows);
+    }
+
     /// What the policy declares and allows.
-    pub fn rules(&self) -> &Rules
+    pub fn rules(&self) -> &PolicyGrid
         ensures { result.now ≡ self.now.rules }
     {
         &self.rules

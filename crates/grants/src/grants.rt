@@ -1,6 +1,6 @@
 //! Grants and holds.
 
-ghost use Rattle.std.specs.Prelude.{◌≡◌, ◌+◌, ◌<◌, ◌≤◌, ◌++◌, ◌∷◌, [], true, IfOk, OnOk, OnErr, Ok, length};
+ghost use Rattle.std.specs.Prelude.{◌≡◌, ◌↔◌, ◌+◌, ◌<◌, ◌≤◌, ◌++◌, ◌∷◌, [], true, None, IfOk, OnOk, OnErr, Ok, length};
 ghost use Rattle.policy.specs.declared.rights.Right.{Right};
 ghost use Rattle.policy.specs.Rights.{has, each_right, rights_that};
 ghost use Rattle.policy.specs.Listing.{objects_of_kind, listing_by};
@@ -8,13 +8,15 @@ ghost use Rattle.policy.specs.Policy.{rules_of};
 ghost use Rattle.policy.specs.Rules.{count};
 
 use crate::cells::Cells;
+use crate::comparing::{are_held_too, includes_all};
 use crate::counting::{put_holds, uncount_packet};
-use crate::hold::{Hold, drop_holds, first_holder, is_held};
+use crate::hold::{Hold, drop_holds, first_denied, first_holder, is_held};
 use crate::refusal::GrantRefusal;
+use crate::reloading::take_all_denied;
 use crate::sets::known;
 use aql_packet::{ClientId, PacketId, QueueId};
 use bitflags::Flags;
-use policy::{Kind, Object, Policy, Right, Rights};
+use policy::{Kind, Object, Policy, PolicyRows, Right, Rights};
 use sequences::Sequence;
 use std::alloc::{AllocError, Global};
 use std::marker::Model;
@@ -45,7 +47,7 @@ impl Model for Grants {
 }
 
 impl Grants {
-    ghost use Rattle.grants.specs.Ledger.{IsNew, PutsInForce, TakesOutOfForce, Holds, Releases, RevokeAnswers, rules_in, in_force, holds, grant_due, rights_on, are_in_force, listing, places};
+    ghost use Rattle.grants.specs.Ledger.{IsNew, PutsInForce, TakesOutOfForce, Holds, Releases, Reloads, RevokeAnswers, IsBlockedBy, IsCopy, SameGrants, rules_in, in_force, holds, grant_due, rights_on, are_in_force, listing, places};
 
     /// No right is in force yet, and no packet holds one.
     pub fn new(alloc: Global, policy: &Policy) -> Result<Grants, AllocError>
@@ -259,6 +261,57 @@ impl Grants {
     {
         uncount_packet(&mut self.table, self.holds.as_slice(), queue, packet);
         drop_holds(&mut self.holds, queue, packet);
+    }
+
+    /// The first packet, by queue and then by id, that holds a right that a policy doesn't allow, over all
+    /// clients. It takes no memory.
+    pub fn blocked(&self, policy: &Policy) -> Option<(QueueId, PacketId)>
+        ensures { IsBlockedBy self.now policy.now.rows result }
+    {
+        first_denied(self.holds.as_slice(), policy.rows())
+    }
+
+    /// Takes all rights that another policy doesn't allow out of force; from then on it decides what may be
+    /// granted. It declares the same clients and objects, and allows all that is held.
+    pub fn reload(&mut self, alloc: Global, policy: &Policy) -> Result<(), AllocError>
+        requires declared { rules_of policy.now ≡ record (rules_in self.old) { rows = policy.now.rows } }
+        requires allowed { IsBlockedBy self.old policy.now.rows None }
+        ensures ok { OnOk result (Reloads self.old self.new policy.now.rows) }
+        ensures err { OnErr result (self.new ≡ self.old) }
+    {
+        let rows = policy.rows().copy(alloc)?;
+        self.put_rows(rows);
+        Ok(())
+    }
+
+    /// Puts the rows of another policy in force as `reload` does, in memory that was got before. It takes none.
+    pub fn put_rows(&mut self, rows: PolicyRows)
+        requires { IsBlockedBy self.old rows None }
+        ensures { Reloads self.old self.new rows }
+    {
+        take_all_denied(&mut self.table, &rows);
+        self.table.set_rows(rows);
+    }
+
+    /// The same grants and holds in memory of their own, with no more room than they take.
+    pub fn copy(&self, alloc: Global) -> Result<Grants, AllocError>
+        ensures { IfOk result (IsCopy self.now) }
+    {
+        Ok(Grants {
+            table: self.table.copy(alloc)?,
+            holds: Vec::from_slice(alloc, self.holds.as_slice())?,
+        })
+    }
+
+    /// Whether other grants have the same rights in force, and the same packets hold the same. Room, and the order
+    /// in which holds came, don't count. It takes no memory.
+    pub fn is_same(&self, other: &Grants) -> bool
+        ensures { result ≡ true ↔ SameGrants self.now other.now }
+    {
+        includes_all(&self.table, &other.table)
+            & includes_all(&other.table, &self.table)
+            & are_held_too(self.holds.as_slice(), other.holds.as_slice())
+            & are_held_too(other.holds.as_slice(), self.holds.as_slice())
     }
 
     /// The rights on an object that a packet holds, of a queue of a client.

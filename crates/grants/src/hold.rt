@@ -5,9 +5,10 @@ ghost use Rattle.grants.specs.Pairs.{same_pair};
 ghost use Rattle.grants.specs.Holders.{IsUpTo, IsFirstTo};
 ghost use Rattle.grants.specs.Holds.{is_held, is_on};
 ghost use Rattle.grants.specs.inner.PacketHolds.{holds_one, is_of, have_common_right};
+ghost use Rattle.grants.specs.inner.Reloading.{has_denied, is_denied};
 
 use aql_packet::{ClientId, PacketId, QueueId};
-use policy::{Object, Right, Rights};
+use policy::{Object, PolicyRows, Right, Rights};
 
 /// Rights on an object that a packet holds.
 #[derive(Clone, Copy)]
@@ -47,6 +48,13 @@ impl Hold {
         ensures { result ≡ (same_pair client object self.now.client self.now.object && have_common_right rights self.now.rights) }
     {
         client == self.client && object == self.object && have_common_right(rights, self.rights)
+    }
+
+    // Whether it has a right that rows don't allow.
+    fn is_denied(&self, rows: &PolicyRows) -> bool
+        ensures { result ≡ is_denied rows.now self.now }
+    {
+        !rows.allow(self.client, self.object, self.rights)
     }
 }
 
@@ -107,6 +115,23 @@ pub fn first_holder(
     let mut first = None;
     for hold in holds {
         if hold.blocks(client, object, rights) {
+            let packet = (hold.queue, hold.packet);
+            first = Some(match first {
+                Some(other) => first_of(other, packet),
+                None => packet,
+            });
+        }
+    }
+    first
+}
+
+/// The first packet that holds a right that rows don't allow, if any does.
+pub fn first_denied(holds: &[Hold], rows: &PolicyRows) -> Option<(QueueId, PacketId)>
+    ensures { IsFirstTo (has_denied rows.now holds.now) result }
+{
+    let mut first = None;
+    for hold in holds {
+        if hold.is_denied(rows) {
             let packet = (hold.queue, hold.packet);
             first = Some(match first {
                 Some(other) => first_of(other, packet),

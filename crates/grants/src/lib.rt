@@ -5,12 +5,14 @@
 
 mod cell;
 mod cells;
+mod comparing;
 mod counting;
 mod grants;
 mod hold;
 mod laws;
+mod policy_grid;
 mod refusal;
-mod rules;
+mod reloading;
 mod sets;
 
 pub use grants::Grants;

@@ -1,6 +1,6 @@
 //! Sets of rights that two sets make.
 
-ghost use Rattle.std.specs.Prelude.{◌≡◌, ◌&&◌, ◌||◌, not};
+ghost use Rattle.std.specs.Prelude.{◌≡◌, ◌||◌};
 ghost use Rattle.policy.specs.declared.rights.Right.{Right};
 ghost use Rattle.policy.specs.Rights.{has, rights_that};
 
@@ -12,13 +12,6 @@ pub fn union(rights: Rights, more: Rights) -> Rights
     ensures { (right : Right) → has result right ≡ (has rights right || has more right) }
 {
     rights.union(more)
-}
-
-/// What is left of a set of rights without those of another.
-pub fn difference(rights: Rights, taken: Rights) -> Rights
-    ensures { (right : Right) → has result right ≡ (has rights right && not (has taken right)) }
-{
-    rights.difference(taken)
 }
 
 /// The rights of a set, without bits that mean nothing.

@@ -1,7 +1,8 @@
 -- The first fault of items that stand behind others.
 use Rattle.std.proofs.Common.{◌≡◌, ℕ, List, [], ◌∷◌, ◌++◌, Option, Some, None, refl, sym, ap, ◌∙◌}
-use Rattle.kernel_check.specs.Faults.{Checkpoint, first_fault, fault_or, unless, FailsAs, Stops}
-use Rattle.kernel_check.specs.Names.{or_else}
+use Rattle.kernel_check.specs.Faults.{Checkpoint, first_fault, fault_or, unless, FailsAs}
+use Rattle.kernel_check.specs.inner.Judged.{Stops}
+use Rattle.kernel_check.specs.inner.Bound.{or_else}
 use Rattle.kernel_check.specs.declared.fault.CheckCause.{CheckCause}
 use Rattle.kernel_check.specs.declared.fault.CheckError.{CheckError}
 use Rattle.kernel_check.specs.declared.fault.CheckError.TheVariants as error

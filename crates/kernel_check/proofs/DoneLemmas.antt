@@ -1,10 +1,11 @@
 -- What a kernel comes to, from what its arguments and items come to.
 use Rattle.std.proofs.Common.{◌≡◌, ℕ, List, [], Option, Some, None, Ok, Err, ◌≤◌, length, arith, subst, refl, sym, ap, ◌∙◌}
+use Rattle.std.specs.List.{All}
 use Rattle.hsail_reader.specs.declared.module.Kernel.{Kernel}
 use Rattle.kernel_check.specs.Checks.{Before, Worked, argument_checks, before_of, first_before, item_checks, labels_of, body_checks, program_of, worked}
 use Rattle.kernel_check.specs.Faults.{first_fault, unless, FailsAs}
-use Rattle.kernel_check.specs.Layout.{Laid, laid_out}
-use Rattle.kernel_check.specs.Programs.{Program, IsSound, program}
+use Rattle.kernel_check.specs.inner.Laid.{Laid, laid_out}
+use Rattle.kernel_check.specs.Programs.{HasItsClasses, Program, IsSound, program}
 use Rattle.kernel_check.specs.declared.fault.CheckError.{CheckError}
 use Rattle.kernel_check.specs.declared.fault.CheckError.TheVariants as error
 use Rattle.kernel_check.specs.declared.fault.CheckFault.{CheckFault}
@@ -88,11 +89,12 @@ module _ (k : Kernel) (laid : Laid) (labels : List ℕ → Option ℕ) (w : Work
   done = ap (λ f. unless f (program_of k)) nothing_fails ∙ ap Ok (sym parts_are)
 
   -- and they are sound
-  pub sound_parts : laid.end ≤ 4096 → w.group_bytes ≤ 65536 → length w.steps ≤ 4096
+  pub sound_parts : laid.end ≤ 4096 → w.group_bytes ≤ 65536 → length w.steps ≤ 4096 → All (λ s. HasItsClasses s.step) w.steps
       → IsSound (program name laid.end w.group_bytes laid.wide w.steps)
-  sound_parts few_bytes few_group_bytes few_steps =
+  sound_parts few_bytes few_group_bytes few_steps classes =
       subst IsSound (sym parts_are)
       (sound k (sym (items_decide k (before_of k) (labels_of k) refl refl arguments_none.0) ∙ nothing_fails)
       (omega (arith, ap (λ (l : Laid). l.end) arguments_none.1))
       (omega (arith, ap (λ (x : Worked). x.group_bytes) same_items))
-      (omega (arith, ap (λ (x : Worked). length x.steps) same_items)))
+      (omega (arith, ap (λ (x : Worked). length x.steps) same_items))
+      (subst (λ (x : Worked). All (λ s. HasItsClasses s.step) x.steps) same_items classes))

@@ -2,7 +2,7 @@
 use Rattle.std.proofs.Common.{◌≡◌, ℕ, List, [], ◌∷◌, ◌++◌, Bool, true, false, ◌&&◌, Option, Some, None, is_some, length, refl, sym, ap, subst, ◌∙◌, arith}
 use Rattle.kernel_check.specs.Needs.{is_set, is_read, is_loaded, is_written, is_label, is_dimension, is_wide, has_type, has_needed}
 use Rattle.kernel_check.specs.Reads.{AreSources, AreAllSources, IsTarget, KeepsAll, sources_by}
-use Rattle.kernel_check.specs.Steps.{atomic32_of, atomic32_reads, atomic64_of, atomic64_reads, atomic_in, atomic_pointer, as_atomic, as_no_return, as_ternary, as_unary, binary1, binary32, binary64, binary_of, is_signed, load_from, read_in, reads, sets, slot_of, step_of, store_from, ternary_in, unary_by, unary_in}
+use Rattle.kernel_check.specs.Steps.{atomic32_of, atomic32_reads, atomic64_of, atomic64_reads, atomic_in, atomic_pointer, as_atomic, as_no_return, as_ternary, as_unary, binary1, binary32, binary64, binary_of, is_signed, load_from, read_in, reads, sets, register_number, step_of, store_from, ternary_in, unary_by, unary_in}
 use Rattle.kernel_check.specs.declared.layout.Placed.{Placed}
 use Rattle.kernel_check.specs.declared.memory.Atomic.{Atomic}
 use Rattle.kernel_check.specs.declared.step.AnySource.{AnySource}
@@ -102,7 +102,7 @@ all_read [] (t ∷ sources) more e are = absurd (omega (arith, e))
 all_read (a ∷ found) [] more e are = absurd (omega (arith, e))
 all_read (a ∷ found) (t ∷ sources) more e are = (are.0, all_read found sources more (omega (arith, e)) are.1)
 
-set_all : (o : Option ℕ) (r : Register) → is_some o ≡ true → IsTarget o r → o ≡ Some (slot_of r)
+set_all : (o : Option ℕ) (r : Register) → is_some o ≡ true → IsTarget o r → o ≡ Some (register_number r)
 set_all None r some is = cc
 set_all (Some n) r some is = ap Some is
 
@@ -112,7 +112,7 @@ Counts s n = (length (reads s) ≡ n) × (is_some (sets s) ≡ true)
 
 -- what keeps the order, and has as many, keeps all
 all_kept : (s : Step) (r : Register) (sources more : List TypedSource) → Keeps s r (sources ++ more)
-    → Counts s (length sources) → (sets s ≡ Some (slot_of r)) × AreAllSources (reads s) sources
+    → Counts s (length sources) → (sets s ≡ Some (register_number r)) × AreAllSources (reads s) sources
 all_kept s r sources more keeps counts =
     (set_all (sets s) r counts.1 keeps.0, all_read (reads s) sources more counts.0 keeps.1)
 
@@ -126,7 +126,7 @@ unary_in_counts class.Double _ n s = (refl, refl)
 
 unary_counts : (f : UnaryOperation) (u : Unary) → Counts (unary_by f u) 1
 unary_counts (Convert to) u = (refl, refl)
-unary_counts f u = unary_in_counts (type_class u.kind) f (slot_of u.target) u.source
+unary_counts f u = unary_in_counts (type_class u.kind) f (register_number u.target) u.source
 
 abbrev binary : BinaryOperation → DataType → Register → TypedSource → TypedSource → Binary
 binary f t r left right = record { operation = f; kind = t; target = r; left = left; right = right }
@@ -154,10 +154,10 @@ double_counts _ false n p s = (refl, refl)
 binary_counts : (f : BinaryOperation) (t : DataType) (r : Register) (left right : TypedSource) → has_type f t ≡ true
     → Counts (binary_of (binary f t r left right)) 2
 binary_counts f type.B1 r left right has = bit_counts f r left right has
-binary_counts f type.B64 r left right has = double_counts f false (slot_of r) _ _
-binary_counts f type.U64 r left right has = double_counts f false (slot_of r) _ _
-binary_counts f type.S64 r left right has = double_counts f true (slot_of r) _ _
-binary_counts f t r left right has = single_counts f (is_signed t) (slot_of r) _
+binary_counts f type.B64 r left right has = double_counts f false (register_number r) _ _
+binary_counts f type.U64 r left right has = double_counts f false (register_number r) _ _
+binary_counts f type.S64 r left right has = double_counts f true (register_number r) _ _
+binary_counts f t r left right has = single_counts f (is_signed t) (register_number r) _
 
 add_counts : (t : DataType) (u : Ternary) → is_wide t ≡ true → Counts (ternary_in (type_class t) MultiplyAdd u) 3
 add_counts type.B1 u is = cc

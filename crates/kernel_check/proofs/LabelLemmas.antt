@@ -3,7 +3,8 @@ use Rattle.std.proofs.Common.{◌≡◌, ℕ, ◌+◌, ◌≤◌, List, ◌∷�
 use Rattle.hsail_reader.specs.declared.module.Item.{Item}
 use Rattle.hsail_reader.specs.declared.module.Item.TheVariants as item
 use Rattle.kernel_check.specs.Checks.{label_at, number_behind, labels_from}
-use Rattle.kernel_check.specs.Names.{Known, find, or_else}
+use Rattle.kernel_check.specs.Names.{Known, find}
+use Rattle.kernel_check.specs.inner.Bound.{or_else}
 use Rattle.kernel_check.proofs.NameLemmas.{find-append, or_else-assoc}
 
 pub noted : (q : List ℕ) (names new : Known ℕ) (n m : ℕ) (x : Item) (rest : List Item)

@@ -4,11 +4,14 @@ pub mod LabelLemmas
 pub mod CheckLemmas
 pub mod BlockLemmas
 pub mod BodyLemmas
+mod StepCases
+mod LayoutLemmas
 pub mod SoundLemmas
 pub mod DoneLemmas
 pub mod ModuleLemmas
 pub mod LawLemmas
-mod WideLemmas
 mod OrderLemmas
 mod NeedLemmas
+mod ClassLemmas
+mod WordLemmas
 mod ExactLemmas

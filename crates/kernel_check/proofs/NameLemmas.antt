@@ -8,7 +8,8 @@ use Rattle.indexmap.proofs.CallerLemmas.{insert_entry-new}
 use Rattle.std.proofs.lemmas.List.{map-append}
 use Rattle.std.specs.Str.{bytes_eq}
 use Rattle.std.proofs.lemmas.Slice.Eq.{bytes_eq-Decides}
-use Rattle.kernel_check.specs.Names.{Known, find, plain, or_else}
+use Rattle.kernel_check.specs.Names.{Known, find}
+use Rattle.kernel_check.specs.inner.Bound.{or_else, plain}
 
 -- a lent name as a key
 abbrev pub same_name : Bor (List ℕ) → Bor (List ℕ) → Bool

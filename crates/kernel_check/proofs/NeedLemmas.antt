@@ -32,10 +32,10 @@ use Rattle.hsail_reader.specs.declared.types.UnaryOperation.TheVariants.{Convert
 use Rattle.hsail_reader.proofs.WordRows.{every, every_passes}
 
 -- an operand as a row has it at its place, with some register, address, name and number
-abbrev some_register : Register
+abbrev pub some_register : Register
 some_register = record { class = class.Control; number = 0 }
 
-abbrev sample : Shape → DataType → Operand
+abbrev pub sample : Shape → DataType → Operand
 sample shape.Absent kind = operand.Absent
 sample (shape.Target at) kind = operand.Target (record { kind = kind_at at kind; register = some_register })
 sample (shape.Source at) kind = operand.Source (record { kind = kind_at at kind; source = source.Register some_register })
@@ -43,7 +43,7 @@ sample (shape.Address s) kind = operand.Address (record { segment = s; kind = ki
 sample shape.Label kind = operand.Label []
 sample shape.Dimension kind = operand.Dimension 0
 
-abbrev samples : Shapes → DataType → Operands
+abbrev pub samples : Shapes → DataType → Operands
 samples s kind = record {
   first = sample s.0 kind;
   second = sample s.1 kind;
@@ -56,7 +56,7 @@ is_absent operand.Absent = true
 is_absent _ = false
 
 -- two operands of which each test tells the same
-record Alike (a b : Operand) : Type 0 where
+pub record Alike (a b : Operand) : Type 0 where
   set : (c : RegisterClass) → is_set c a ≡ is_set c b
   read : (c : RegisterClass) → is_read c a ≡ is_read c b
   loaded : is_loaded a ≡ is_loaded b
@@ -154,26 +154,26 @@ module _ (t : DataType) (o p : Operands) (a : Alike o.first p.first) (b : Alike 
   no_more_alike _ = rw (c.absent, d.absent) refl
 
 -- the types of a row's words
-abbrev word_types : TypeSet → List DataType
+abbrev pub word_types : TypeSet → List DataType
 word_types types.Untyped = type.B1 ∷ []
 word_types set = types_of set
 
-is_word_type : (set : TypeSet) (t : DataType) → HasType set t → Contains (word_types set) t
+pub is_word_type : (set : TypeSet) (t : DataType) → HasType set t → Contains (word_types set) t
 is_word_type types.Untyped t has = (0, omega arith, sym has)
 is_word_type set t has = has
 
 -- a test of operations tells the same of operands that are alike
-abbrev TellsAlike : (Form → DataType → Operands → Bool) → Type 0
+abbrev pub TellsAlike : (Form → DataType → Operands → Bool) → Type 0
 TellsAlike test =
     (t : DataType) (o p : Operands) → Alike o.first p.first → Alike o.second p.second → Alike o.third p.third
     → Alike o.fourth p.fourth → (f : Form) → test f t o ≡ test f t p
 
 -- a row passes a test, at each of its types
-abbrev row_passes : (Form → DataType → Operands → Bool) → InstructionRow → Bool
+abbrev pub row_passes : (Form → DataType → Operands → Bool) → InstructionRow → Bool
 row_passes test row = every (λ t. test row.form t (samples row.operands t)) (word_types row.types)
 
 -- what all rows pass is passed by an operation of a row
-passes : (test : Form → DataType → Operands → Bool) → TellsAlike test → every (row_passes test) rows ≡ true
+pub passes : (test : Form → DataType → Operands → Bool) → TellsAlike test → every (row_passes test) rows ≡ true
     → (op : Operation) → IsOfRow op → test op.form op.kind op.operands ≡ true
 passes test same all op is =
     let row = is.row in

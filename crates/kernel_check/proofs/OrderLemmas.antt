@@ -25,7 +25,7 @@ use Rattle.hsail_reader.specs.declared.types.TernaryOperation.TheVariants.{Multi
 use Rattle.hsail_reader.specs.declared.types.UnaryOperation.{UnaryOperation}
 use Rattle.hsail_reader.specs.declared.types.UnaryOperation.TheVariants.{Move, Not, Convert}
 use Rattle.kernel_check.specs.Reads.{Is1, Is32, Is64, IsSource, AreSources, IsTarget, KeepsOrder}
-use Rattle.kernel_check.specs.Steps.{reads, sets, number_in, sources_of, step_of, form_step, slot_of, register_in, source1_at, source1_of, source32_at, source32_of, source64_at, source64_of, source_in, unary_in, unary_by, binary1, binary32, binary64, binary_in, ternary_in, is_signed, load_from, load_at, store_from, store_at, atomic_pointer, atomic32_of, atomic64_of, atomic32_reads, atomic64_reads, atomic_in, atomic_at, as_atomic, as_no_return, target_in, read_in, as_unary, as_binary, as_ternary}
+use Rattle.kernel_check.specs.Steps.{reads, sets, number_in, sources_of, step_of, form_step, register_number, register_in, source1_at, source1_of, source32_at, source32_of, source64_at, source64_of, source_in, unary_in, unary_by, binary1, binary32, binary64, binary_in, ternary_in, is_signed, load_from, load_at, store_from, store_at, atomic_pointer, atomic32_of, atomic64_of, atomic32_reads, atomic64_reads, atomic_in, atomic_at, as_atomic, as_no_return, target_in, read_in, as_unary, as_binary, as_ternary}
 use Rattle.kernel_check.specs.declared.layout.Placed.{Placed}
 use Rattle.kernel_check.specs.declared.memory.Atomic.{Atomic}
 use Rattle.kernel_check.specs.declared.step.AtomicPointer.{AtomicPointer}
@@ -60,7 +60,7 @@ is_source class.Control t = is1 t
 is_source class.Single t = is32 t
 is_source class.Double t = is64 t
 
-pub same_number : (k : RegisterClass) (r : Register) → number_in (register_in k r) ≡ slot_of r
+pub same_number : (k : RegisterClass) (r : Register) → number_in (register_in k r) ≡ register_number r
 same_number class.Control r = refl
 same_number class.Single r = refl
 same_number class.Double r = refl
@@ -70,7 +70,7 @@ abbrev pub Keeps : Step → Register → List TypedSource → Type 0
 Keeps s r sources = IsTarget (sets s) r × AreSources (reads s) sources
 
 unary_keeps_in : (k : RegisterClass) (f : UnaryOperation) (r : Register) (s : TypedSource)
-    → Keeps (unary_in k f (slot_of r) s) r (s ∷ [])
+    → Keeps (unary_in k f (register_number r) s) r (s ∷ [])
 unary_keeps_in class.Control Not r s = (refl, (is1 s, tt))
 unary_keeps_in class.Control Move r s = (refl, (is1 s, tt))
 unary_keeps_in class.Control (Convert to) r s = (refl, (is1 s, tt))
@@ -96,14 +96,14 @@ bits_keep (Compare c) kind r left right = (refl, (is1 left, (is1 right, tt)))
 bits_keep _ kind r left right = (refl, (is1 left, tt))
 
 singles_keep : (f : BinaryOperation) (signed : Bool) (r : Register) (left right : TypedSource)
-    → Keeps (binary32 f signed (slot_of r) (record { left = source32_of left; right = source32_of right })) r (left ∷ right ∷ [])
+    → Keeps (binary32 f signed (register_number r) (record { left = source32_of left; right = source32_of right })) r (left ∷ right ∷ [])
 singles_keep (Compare c) true r left right = (refl, (is32 left, (is32 right, tt)))
 singles_keep (Compare c) false r left right = (refl, (is32 left, (is32 right, tt)))
 singles_keep _ true r left right = (refl, (is32 left, (is32 right, tt)))
 singles_keep _ false r left right = (refl, (is32 left, (is32 right, tt)))
 
 doubles_keep : (f : BinaryOperation) (signed : Bool) (r : Register) (left right : TypedSource)
-    → Keeps (binary64 f signed (slot_of r) (record { left = source64_of left; right = source64_of right })
+    → Keeps (binary64 f signed (register_number r) (record { left = source64_of left; right = source64_of right })
     (record { value = source64_of left; count = source32_of right })) r (left ∷ right ∷ [])
 doubles_keep ShiftLeft signed r left right = (refl, (is64 left, (is32 right, tt)))
 doubles_keep ShiftRight true r left right = (refl, (is64 left, (is32 right, tt)))

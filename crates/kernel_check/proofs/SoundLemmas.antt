@@ -1,6 +1,6 @@
 -- A kernel in which nothing fails is sound: its steps stay within its steps and its argument block.
 use Rattle.std.proofs.Common.{◌≡◌, ℕ, ⊎_elim, ◌+◌, ◌-◌, ◌*◌, ◌/◌, ◌%◌, ◌^◌, ◌<◌, ◌≤◌, Bool, true, false, not, ◌||◌, ◌==◌, nat_le, if◌then◌else◌, cond, List, [], ◌∷◌, ◌++◌, length, Option, Some, None, is_none, unwrap_or, map, arith, refl, ap, sym, ◌∙◌, subst, lit≤}
-use Rattle.std.specs.List.{All}
+use Rattle.std.specs.List.{All, Contains}
 use Rattle.std.specs.Str.{bytes_eq}
 use Rattle.std.proofs.lemmas.Bool.Decides.{eqb_tells, nat_tests}
 use Rattle.std.proofs.Math.Nat.{mod-le}
@@ -32,11 +32,12 @@ use Rattle.kernel_check.specs.Causes.{instruction_fails, differs, is_same_segmen
 use Rattle.kernel_check.specs.Checks.{Before, behind, before_of, item_checks, steps_from, labels_from, lined, labels_of, program_of, worked}
 use Rattle.kernel_check.specs.Constants.{deepest, is_in_range, constant_bits}
 use Rattle.kernel_check.specs.Faults.{first_fault, fault_or, least_cause}
-use Rattle.kernel_check.specs.Layout.{kind_bytes, is_wide, boundary_of, next_multiple, end_behind, group_placed, placed_from, end_from, wide_at, wide_from}
-use Rattle.kernel_check.specs.Names.{Known, find, or_else}
+use Rattle.kernel_check.specs.Layout.{kind_bytes, is_wide, boundary_of, next_multiple, end_behind, group_placed, placed_at, placed_from, end_from, wide_at, wide_from}
+use Rattle.kernel_check.specs.Names.{Known, find}
+use Rattle.kernel_check.specs.inner.Bound.{or_else}
 use Rattle.kernel_check.specs.Operands.{any_operand, is_over, is_over_source}
-use Rattle.kernel_check.specs.Programs.{FitsIn, StaysWithin, IsSound}
-use Rattle.kernel_check.specs.Steps.{step_of, form_step, known_offset, offset_of, load_from, load_at, store_from, store_at, atomic_pointer, atomic_in, atomic_at, as_atomic, as_no_return, next_at, target_in, read_in, as_unary, as_binary, as_ternary, number_type, number_bytes, source32_at, source_in, source_of, unary_in, unary_by, binary32, binary64, binary_in, ternary_in, slot_of, is_signed, pair32_of, pair64_of, shift64_of}
+use Rattle.kernel_check.specs.Programs.{AreLaid, ArgumentPlace, FitsIn, HasItsClasses, LoadsOneOf, StaysWithin, IsSound, wide_offsets}
+use Rattle.kernel_check.specs.Steps.{step_of, form_step, known_offset, offset_of, load_from, load_at, store_from, store_at, atomic_pointer, atomic_in, atomic_at, as_atomic, as_no_return, next_at, target_in, read_in, as_unary, as_binary, as_ternary, number_type, number_bytes, source32_at, source_in, source_of, unary_in, unary_by, binary32, binary64, binary_in, ternary_in, register_number, is_signed, pair32_of, pair64_of, shift64_of}
 use Rattle.kernel_check.specs.declared.fault.CheckCause.{CheckCause}
 use Rattle.kernel_check.specs.declared.fault.CheckCause.TheVariants as cause
 use Rattle.kernel_check.specs.declared.fault.CheckFault.{CheckFault}
@@ -61,7 +62,10 @@ use Rattle.hsail_reader.specs.declared.types.TernaryOperation.{TernaryOperation}
 use Rattle.hsail_reader.specs.declared.types.TernaryOperation.TheVariants.{MultiplyAdd, ConditionalMove}
 use Rattle.hsail_reader.specs.declared.types.UnaryOperation.{UnaryOperation}
 use Rattle.hsail_reader.specs.declared.types.UnaryOperation.TheVariants.{Move, Not, Convert}
+use Rattle.kernel_check.specs.declared.step.Step.{Step}
 use Rattle.kernel_check.proofs.NameLemmas.{find-append}
+use Rattle.kernel_check.proofs.StepCases.{of_unary, of_binary, of_ternary, of_atomic}
+use Rattle.kernel_check.proofs.LayoutLemmas.{argument_stands, argument_within, found_here, number_bytes_are, place, places_from, places_laid, wide_are, wide_ascends, wide_within}
 
 -- a first test that finds nothing
 no_first : {X : Type 0} (b : Bool) (x : X) (rest : Option X) → cond b (Some x) rest ≡ None → (b ≡ false) × (rest ≡ None)
@@ -101,73 +105,6 @@ pub no_fault : (line : ℕ) (c : Option CheckCause) (rest : Option CheckFault) �
 no_fault line None rest e = (refl, e)
 no_fault line (Some c) rest e = cc
 
-pub kind_bytes_positive : (kind : DataType) → 1 ≤ kind_bytes kind
-kind_bytes_positive type.B1 = lit≤ tt
-kind_bytes_positive type.B8 = lit≤ tt
-kind_bytes_positive type.B16 = lit≤ tt
-kind_bytes_positive type.B32 = lit≤ tt
-kind_bytes_positive type.B64 = lit≤ tt
-kind_bytes_positive type.U8 = lit≤ tt
-kind_bytes_positive type.U16 = lit≤ tt
-kind_bytes_positive type.U32 = lit≤ tt
-kind_bytes_positive type.U64 = lit≤ tt
-kind_bytes_positive type.S8 = lit≤ tt
-kind_bytes_positive type.S16 = lit≤ tt
-kind_bytes_positive type.S32 = lit≤ tt
-kind_bytes_positive type.S64 = lit≤ tt
-
--- a number takes as many bytes as its type
-number_bytes_are : (kind : DataType) → number_bytes (number_type kind) ≡ kind_bytes kind
-number_bytes_are type.B1 = refl
-number_bytes_are type.B8 = refl
-number_bytes_are type.B16 = refl
-number_bytes_are type.B32 = refl
-number_bytes_are type.B64 = refl
-number_bytes_are type.U8 = refl
-number_bytes_are type.U16 = refl
-number_bytes_are type.U32 = refl
-number_bytes_are type.U64 = refl
-number_bytes_are type.S8 = refl
-number_bytes_are type.S16 = refl
-number_bytes_are type.S32 = refl
-number_bytes_are type.S64 = refl
-
-pub boundary_positive : (kind : DataType) (a : Option Alignment) → 1 ≤ boundary_of kind a
-boundary_positive kind None = kind_bytes_positive kind
-boundary_positive kind (Some a) = let p : 1 ≤ kind_bytes kind = kind_bytes_positive kind in omega arith
-
--- the next multiple isn't before
-pub le_next_multiple : (end n : ℕ) → 1 ≤ n → end ≤ next_multiple end n
-le_next_multiple end n p = omega (arith, p)
-
-end_behind_above : (end : ℕ) (a : Argument) → end ≤ end_behind end a
-end_behind_above end a =
-    let p : end ≤ next_multiple end (boundary_of a.kind a.align) = le_next_multiple end (boundary_of a.kind a.align) (boundary_positive a.kind a.align) in
-    omega arith
-
-end_from_above : (end : ℕ) (args : List Argument) → end ≤ end_from end args
-end_from_above end [] = omega arith
-end_from_above end (a ∷ args) =
-    let p : end ≤ end_behind end a = end_behind_above end a in
-    let q : end_behind end a ≤ end_from (end_behind end a) args = end_from_above (end_behind end a) args in
-    omega arith
-
-found_here : {X : Type 0} (b : Bool) (x y : X) (rest : Option X) (P : X → Type 0) → P x → (rest ≡ Some y → P y)
-    → cond b (Some x) rest ≡ Some y → P y
-found_here true x y rest P here there e = let same : x ≡ y = cc in subst P same here
-found_here false x y rest P here there e = there e
-
--- an argument lies within the block
-pub argument_within : (end : ℕ) (args : List Argument) (x : List ℕ) (p : Placed) → find (placed_from end args) x ≡ Some p
-    → p.offset + kind_bytes p.kind ≤ end_from end args
-argument_within end [] x p e = cc
-argument_within end (a ∷ args) x p e =
-    found_here (bytes_eq x a.name) (record { segment = segment.Kernarg; kind = a.kind; offset = next_multiple end (boundary_of a.kind a.align) }) p
-    (find (placed_from (end_behind end a) args) x)
-    (λ r. r.offset + kind_bytes r.kind ≤ end_from (end_behind end a) args)
-    (end_from_above (end_behind end a) args)
-    (argument_within (end_behind end a) args x p) e
-
 -- a label stands before no more instructions than there are steps
 pub label_within : (labels : List ℕ → Option ℕ) (b : Before) (n : ℕ) (items : List Item) (x : List ℕ) (v : ℕ)
     → find (labels_from n items) x ≡ Some v → v ≤ n + length (steps_from labels b items)
@@ -182,44 +119,31 @@ label_within labels b n ((item.Instruction i) ∷ items) x v e =
     label_within labels (behind b (item.Instruction i)) (n + 1) items x v e in
     omega arith
 
--- the arguments among some variables lie within the block
-abbrev Within : ℕ → (List ℕ → Option Placed) → Type 0
-Within bytes variables =
-    (x : List ℕ) (p : Placed) → variables x ≡ Some p → p.segment ≡ segment.Kernarg → p.offset + kind_bytes p.kind ≤ bytes
+-- an argument lies within the block, at one of its places
+abbrev Lies : ℕ → List ArgumentPlace → Placed → Type 0
+Lies bytes places p = (p.offset + kind_bytes p.kind ≤ bytes) × Contains places (place p)
+
+-- the arguments among some variables do
+abbrev Within : ℕ → List ArgumentPlace → (List ℕ → Option Placed) → Type 0
+Within bytes places variables =
+    (x : List ℕ) (p : Placed) → variables x ≡ Some p → p.segment ≡ segment.Kernarg → Lies bytes places p
 
 -- a group variable is none of them
-group_none : (bytes end : ℕ) (v : GroupVariable) (p : Placed) (b : Bool) → cond b (Some (group_placed end v)) None ≡ Some p
-    → p.segment ≡ segment.Kernarg → p.offset + kind_bytes p.kind ≤ bytes
-group_none bytes end v p b e =
-    found_here b (group_placed end v) p None (λ r. r.segment ≡ segment.Kernarg → r.offset + kind_bytes r.kind ≤ bytes)
-    (λ same. cc) (λ none. cc) e
+group_none : (bytes end : ℕ) (places : List ArgumentPlace) (v : GroupVariable) (p : Placed) (b : Bool)
+    → cond b (Some (group_placed end v)) None ≡ Some p → p.segment ≡ segment.Kernarg → Lies bytes places p
+group_none bytes end places v p b e =
+    found_here b (group_placed end v) p None (λ r. r.segment ≡ segment.Kernarg → Lies bytes places r)
+    (λ same. absurd cc) (λ none. absurd cc) e
 
-within_more : (bytes end : ℕ) (names : Known Placed) (v : GroupVariable) → Within bytes (find names)
-    → Within bytes (find (names ++ (v.name, group_placed end v) ∷ []))
-within_more bytes end names v within x p e =
+within_more : (bytes end : ℕ) (places : List ArgumentPlace) (names : Known Placed) (v : GroupVariable) → Within bytes places (find names)
+    → Within bytes places (find (names ++ (v.name, group_placed end v) ∷ []))
+within_more bytes end places names v within x p e =
     by (find names x) refl (sym (find-append x names ((v.name, group_placed end v) ∷ [])) ∙ e)
   where
     by : (o : Option Placed) → find names x ≡ o → or_else o (cond (bytes_eq x v.name) (Some (group_placed end v)) None) ≡ Some p
-        → p.segment ≡ segment.Kernarg → p.offset + kind_bytes p.kind ≤ bytes
-    by None found same = group_none bytes end v p (bytes_eq x v.name) same
+        → p.segment ≡ segment.Kernarg → Lies bytes places p
+    by None found same = group_none bytes end places v p (bytes_eq x v.name) same
     by (Some q) found same = within x p (found ∙ same)
-
-wide_here : (end bytes : ℕ) (a : Argument) (b : Bool) → is_wide a.kind ≡ b → end_behind end a ≤ bytes
-    → All (λ offset. offset + 8 ≤ bytes) (cond b (next_multiple end (boundary_of a.kind a.align) ∷ []) [])
-wide_here end bytes a true is le =
-    let bits : type_bits a.kind ≡ 64 = grind (arith, nat_tests) in
-    let eight : kind_bytes a.kind ≡ 8 = ap (λ n. (n + 7) / 8) bits in
-    All-cons (λ (offset : ℕ). offset + 8 ≤ bytes) (next_multiple end (boundary_of a.kind a.align)) [] (omega arith)
-    (All-nil (λ (offset : ℕ). offset + 8 ≤ bytes))
-wide_here end bytes a false is le = All-nil (λ (offset : ℕ). offset + 8 ≤ bytes)
-
--- the arguments of 64 bits lie within the block
-pub wide_within : (end : ℕ) (args : List Argument) → All (λ offset. offset + 8 ≤ end_from end args) (wide_from end args)
-wide_within end [] = All-nil (λ (offset : ℕ). offset + 8 ≤ end)
-wide_within end (a ∷ args) =
-    All-append (λ (offset : ℕ). offset + 8 ≤ end_from (end_behind end a) args) (wide_at end a) (wide_from (end_behind end a) args)
-    (wide_here end (end_from (end_behind end a) args) a (is_wide a.kind) refl (end_from_above (end_behind end a) args))
-    (wide_within (end_behind end a) args)
 
 pub second_false : (a b : Bool) → (a || b) ≡ false → b ≡ false
 second_false true b e = cc
@@ -271,72 +195,67 @@ same_kernarg : (s : Segment) → is_same_segment segment.Kernarg s ≡ true → 
 same_kernarg segment.Kernarg e = refl
 same_kernarg _ e = cc
 
-module _ (variables : List ℕ → Option Placed) (labels : List ℕ → Option ℕ) (count bytes : ℕ)
-    (known_label : (x : List ℕ) (v : ℕ) → labels x ≡ Some v → v ≤ count) (known_argument : Within bytes variables) where
+module _ (variables : List ℕ → Option Placed) (labels : List ℕ → Option ℕ) (count bytes : ℕ) (places : List ArgumentPlace)
+    (known_label : (x : List ℕ) (v : ℕ) → labels x ≡ Some v → v ≤ count) (known_argument : Within bytes places variables) where
+  -- a step stays within the kernel, and the argument that it loads stands there
+  abbrev Stays : Step → Type 0
+  Stays s = StaysWithin count bytes s × LoadsOneOf places s
+
   next_within : (x : List ℕ) (o : Option ℕ) → labels x ≡ o → unwrap_or o 0 ≤ count
   next_within x None e = omega arith
   next_within x (Some v) e = known_label x v e
 
   known_within : (kind : DataType) (x : List ℕ) (o : Option Placed) → variables x ≡ o → is_none o ≡ false → differs kind o ≡ false
-      → lies_elsewhere segment.Kernarg o ≡ false → known_offset o + kind_bytes kind ≤ bytes
-  known_within kind x None e known same there = cc
+      → lies_elsewhere segment.Kernarg o ≡ false
+      → (known_offset o + kind_bytes kind ≤ bytes) × Contains places (record { offset = known_offset o; bytes = kind_bytes kind })
+  known_within kind x None e known same there = absurd cc
   known_within kind x (Some p) e known same there =
       let argument : is_same_segment segment.Kernarg p.segment ≡ true = holds_not (is_same_segment segment.Kernarg p.segment) there in
       let no_other : not (type_bits p.kind == type_bits kind) ≡ false = rw argument at same in
       let width : type_bits p.kind ≡ type_bits kind = grind (arith, nat_tests) in
       let bits : kind_bytes p.kind ≡ kind_bytes kind = ap (λ n. (n + 7) / 8) width in
-      let fits : p.offset + kind_bytes p.kind ≤ bytes = known_argument x p e (same_kernarg p.segment argument) in
-      omega arith
+      let lies = known_argument x p e (same_kernarg p.segment argument) in
+      let fits : p.offset + kind_bytes p.kind ≤ bytes = lies.0 in
+      (omega arith, subst (λ n. Contains places (record { offset = p.offset; bytes = n })) bits lies.1)
 
   offset_within : (kind : DataType) (a : Address) → is_of_other_width variables kind segment.Kernarg a ≡ false → names_unknown variables a ≡ false
-      → is_bad variables segment.Kernarg a ≡ false → offset_of variables a + kind_bytes kind ≤ bytes
+      → is_bad variables segment.Kernarg a ≡ false
+      → (offset_of variables a + kind_bytes kind ≤ bytes) × Contains places (record { offset = offset_of variables a; bytes = kind_bytes kind })
   offset_within kind (address.Variable x) same known good = known_within kind x (variables x) refl known same good
-  offset_within kind (address.Place p) same known good = cc
-  offset_within kind (address.Indexed i) same known good = cc
+  offset_within kind (address.Place p) same known good = absurd cc
+  offset_within kind (address.Indexed i) same known good = absurd cc
 
   load_within : (d : Register) (a : Access) (s : Segment) → is_of_other_width variables a.kind s a.address ≡ false
-      → names_unknown variables a.address ≡ false → is_bad variables s a.address ≡ false → StaysWithin count bytes (load_from variables s d a)
+      → names_unknown variables a.address ≡ false → is_bad variables s a.address ≡ false → Stays (load_from variables s d a)
   load_within d a segment.Kernarg same known good =
-      let fits : offset_of variables a.address + kind_bytes a.kind ≤ bytes = offset_within a.kind a.address same known good in
+      let lies = offset_within a.kind a.address same known good in
+      let fits : offset_of variables a.address + kind_bytes a.kind ≤ bytes = lies.0 in
       let same_bytes : number_bytes (number_type a.kind) ≡ kind_bytes a.kind = number_bytes_are a.kind in
-      omega arith
-  load_within d a _ same known good = tt
+      (omega arith, subst (λ n. Contains places (record { offset = offset_of variables a.address; bytes = n })) (sym same_bytes) lies.1)
+  load_within d a segment.Global same known good = (tt, tt)
+  load_within d a segment.Group same known good = (tt, tt)
 
   load_at_within : (d : Register) (o : Operand) → has_wrong_type variables o ≡ false → misses_argument variables o ≡ false
-      → has_bad_address variables o ≡ false → StaysWithin count bytes (load_at variables d o)
+      → has_bad_address variables o ≡ false → Stays (load_at variables d o)
   load_at_within d (operand.Address a) same known good = load_within d a a.segment same known good
-  load_at_within d operand.Absent same known good = tt
-  load_at_within d (operand.Target t) same known good = tt
-  load_at_within d (operand.Source s) same known good = tt
-  load_at_within d (operand.Label x) same known good = tt
-  load_at_within d (operand.Dimension n) same known good = tt
+  load_at_within d operand.Absent same known good = (tt, tt)
+  load_at_within d (operand.Target t) same known good = (tt, tt)
+  load_at_within d (operand.Source s) same known good = (tt, tt)
+  load_at_within d (operand.Label x) same known good = (tt, tt)
+  load_at_within d (operand.Dimension n) same known good = (tt, tt)
 
-  store_within : (g : Segment) (s : TypedSource) (a : Access) → FitsIn (number_type s.kind) (source_of s)
-      → StaysWithin count bytes (store_from variables g s a)
-  store_within segment.Group s a fits = fits
-  store_within segment.Kernarg s a fits = fits
-  store_within segment.Global s a fits = fits
+  store_within : (g : Segment) (s : TypedSource) (a : Access) → FitsIn (number_type s.kind) (source_of s) → Stays (store_from variables g s a)
+  store_within segment.Group s a fits = (fits, tt)
+  store_within segment.Kernarg s a fits = (fits, tt)
+  store_within segment.Global s a fits = (fits, tt)
 
-  store_at_within : (s : TypedSource) (o : Operand) → FitsIn (number_type s.kind) (source_of s) → StaysWithin count bytes (store_at variables s o)
+  store_at_within : (s : TypedSource) (o : Operand) → FitsIn (number_type s.kind) (source_of s) → Stays (store_at variables s o)
   store_at_within s (operand.Address a) fits = store_within a.segment s a fits
-  store_at_within s operand.Absent fits = tt
-  store_at_within s (operand.Target t) fits = tt
-  store_at_within s (operand.Source r) fits = tt
-  store_at_within s (operand.Label x) fits = tt
-  store_at_within s (operand.Dimension n) fits = tt
-
-  atomic_within : (k : RegisterClass) (a : Atomic) (p : AtomicPointer) → StaysWithin count bytes (atomic_in k a p)
-  atomic_within class.Double a p = tt
-  atomic_within class.Control a p = tt
-  atomic_within class.Single a p = tt
-
-  atomic_at_within : (a : Atomic) (o : Operand) → StaysWithin count bytes (atomic_at variables a o)
-  atomic_at_within a (operand.Address x) = atomic_within (type_class a.kind) a (atomic_pointer variables x.segment x.address)
-  atomic_at_within a operand.Absent = tt
-  atomic_at_within a (operand.Target t) = tt
-  atomic_at_within a (operand.Source r) = tt
-  atomic_at_within a (operand.Label x) = tt
-  atomic_at_within a (operand.Dimension n) = tt
+  store_at_within s operand.Absent fits = (tt, tt)
+  store_at_within s (operand.Target t) fits = (tt, tt)
+  store_at_within s (operand.Source r) fits = (tt, tt)
+  store_at_within s (operand.Label x) fits = (tt, tt)
+  store_at_within s (operand.Dimension n) fits = (tt, tt)
 
   next_at_within : (o : Operand) → next_at labels o ≤ count
   next_at_within (operand.Label x) = next_within x (labels x) refl
@@ -346,98 +265,77 @@ module _ (variables : List ℕ → Option Placed) (labels : List ℕ → Option 
   next_at_within (operand.Address a) = omega arith
   next_at_within (operand.Dimension n) = omega arith
 
-  -- steps that set a register lead nowhere
-  unary_within : (k : RegisterClass) (op : UnaryOperation) (target : ℕ) (s : TypedSource)
-      → StaysWithin count bytes (unary_in k op target s)
-  unary_within class.Control Not target s = tt
-  unary_within class.Control Move target s = tt
-  unary_within class.Control (Convert to) target s = tt
-  unary_within class.Single Not target s = tt
-  unary_within class.Single Move target s = tt
-  unary_within class.Single (Convert to) target s = tt
-  unary_within class.Double Not target s = tt
-  unary_within class.Double Move target s = tt
-  unary_within class.Double (Convert to) target s = tt
+  unary_by_within : (op : UnaryOperation) (u : Unary) → FitsIn (number_type u.source.kind) (source_of u.source) → Stays (unary_by op u)
+  unary_by_within (Convert to) u fits = (fits, tt)
+  unary_by_within Move u fits = of_unary Stays (λ s. (tt, tt)) (λ s. (tt, tt)) (λ s. (tt, tt)) (λ s. (tt, tt)) (λ s. (tt, tt)) (tt, tt) (type_class u.kind) Move (register_number u.target) u.source
+  unary_by_within Not u fits = of_unary Stays (λ s. (tt, tt)) (λ s. (tt, tt)) (λ s. (tt, tt)) (λ s. (tt, tt)) (λ s. (tt, tt)) (tt, tt) (type_class u.kind) Not (register_number u.target) u.source
 
-  unary_by_within : (op : UnaryOperation) (u : Unary) → FitsIn (number_type u.source.kind) (source_of u.source)
-      → StaysWithin count bytes (unary_by op u)
-  unary_by_within (Convert to) u fits = fits
-  unary_by_within Move u fits = unary_within (type_class u.kind) Move (slot_of u.target) u.source
-  unary_by_within Not u fits = unary_within (type_class u.kind) Not (slot_of u.target) u.source
-
-  single_within : (op : BinaryOperation) (signed : Bool) (target : ℕ) (p : Pair32) → StaysWithin count bytes (binary32 op signed target p)
-  single_within (Compare c) signed target p = tt
-  single_within _ signed target p = tt
-
-  double_within : (op : BinaryOperation) (signed : Bool) (target : ℕ) (p : Pair64) (s : Shift64)
-      → StaysWithin count bytes (binary64 op signed target p s)
-  double_within (Compare c) signed target p s = tt
-  double_within _ signed target p s = tt
-
-  binary_within : (k : RegisterClass) (b : Binary) → StaysWithin count bytes (binary_in k b)
-  binary_within class.Control b = tt
-  binary_within class.Single b = single_within b.operation (is_signed b.kind) (slot_of b.target) (pair32_of b)
-  binary_within class.Double b = double_within b.operation (is_signed b.kind) (slot_of b.target) (pair64_of b) (shift64_of b)
-
-  ternary_within : (k : RegisterClass) (op : TernaryOperation) (t : Ternary) → StaysWithin count bytes (ternary_in k op t)
-  ternary_within class.Control MultiplyAdd t = tt
-  ternary_within class.Control ConditionalMove t = tt
-  ternary_within class.Single MultiplyAdd t = tt
-  ternary_within class.Single ConditionalMove t = tt
-  ternary_within class.Double MultiplyAdd t = tt
-  ternary_within class.Double ConditionalMove t = tt
+  atomic_within : (a : Atomic) (o : Operand) → Stays (atomic_at variables a o)
+  atomic_within a o = of_atomic Stays (λ s. (tt, tt)) (λ s. (tt, tt)) (λ s. (tt, tt)) (λ s. (tt, tt)) (λ s. (tt, tt)) (tt, tt) variables a o
 
   form_within : (number : ℕ) (f : Form) (op : Operation) → ((c : CheckCause) → instruction_fails variables labels number op c ≡ false)
-      → StaysWithin count bytes (form_step variables labels f op)
+      → Stays (form_step variables labels f op)
   form_within number (form.Unary u) op fine = unary_by_within u (as_unary u op)
       (fits_read op.operands.second (four _ _ _ _ (second_false (nat_le 4096 number) (any_operand is_over op.operands) (fine cause.TooLarge))).1)
-  form_within number (form.Binary b) op fine = binary_within (type_class op.kind) (as_binary b op)
-  form_within number (form.Ternary t) op fine = ternary_within (type_class op.kind) t (as_ternary t op)
+  form_within number (form.Binary b) op fine = of_binary Stays (λ s. (tt, tt)) (λ s. (tt, tt)) (λ s. (tt, tt)) (λ s. (tt, tt)) (λ s. (tt, tt)) (tt, tt) (type_class op.kind) (as_binary b op)
+  form_within number (form.Ternary t) op fine = of_ternary Stays (λ s. (tt, tt)) (λ s. (tt, tt)) (λ s. (tt, tt)) (λ s. (tt, tt)) (λ s. (tt, tt)) (tt, tt) (type_class op.kind) t (as_ternary t op)
   form_within number form.Load op fine = load_at_within (target_in op.operands.first) op.operands.second
       (four _ _ _ _ (fine cause.WrongType)).1 (four _ _ _ _ (fine cause.UnknownArgument)).1 (four _ _ _ _ (fine cause.BadAddress)).1
   form_within number form.Store op fine = store_at_within (read_in op.operands.first) op.operands.second
       (fits_read op.operands.first (four _ _ _ _ (second_false (nat_le 4096 number) (any_operand is_over op.operands) (fine cause.TooLarge))).0)
-  form_within number (form.Atomic f) op fine = atomic_at_within (as_atomic f op) op.operands.second
-  form_within number (form.AtomicNoReturn f) op fine = atomic_at_within (as_no_return f op) op.operands.first
-  form_within number form.Branch op fine = next_at_within op.operands.first
-  form_within number form.ConditionalBranch op fine = next_at_within op.operands.second
-  form_within number _ op fine = tt
+  form_within number (form.Atomic f) op fine = atomic_within (as_atomic f op) op.operands.second
+  form_within number (form.AtomicNoReturn f) op fine = atomic_within (as_no_return f op) op.operands.first
+  form_within number form.Branch op fine = (next_at_within op.operands.first, tt)
+  form_within number form.ConditionalBranch op fine = (next_at_within op.operands.second, tt)
+  form_within number form.Return op fine = (tt, tt)
+  form_within number form.Barrier op fine = (tt, tt)
+  form_within number (form.WorkItemQuery q) op fine = (tt, tt)
 
   -- the step of an instruction in which nothing fails
   pub step_within : (number : ℕ) (op : Operation) → least_cause (instruction_fails variables labels number op) ≡ None
-      → StaysWithin count bytes (step_of variables labels op)
+      → Stays (step_of variables labels op)
   step_within number op none = form_within number op.form op (none_fails (instruction_fails variables labels number op) none)
 
 -- the steps of items in which nothing fails
-pub steps_within : (labels : List ℕ → Option ℕ) (count bytes : ℕ) → ((x : List ℕ) (v : ℕ) → labels x ≡ Some v → v ≤ count)
-    → (b : Before) (items : List Item) → Within bytes (find b.variables) → first_fault (item_checks labels b items) ≡ None
-    → All (λ s. StaysWithin count bytes s.step) (steps_from labels b items)
-steps_within labels count bytes known b [] within none = All-nil (λ (s : LinedStep). StaysWithin count bytes s.step)
-steps_within labels count bytes known b ((item.Label l) ∷ items) within none =
-    steps_within labels count bytes known (behind b (item.Label l)) items within (no_fault l.line _ _ none).1
-steps_within labels count bytes known b ((item.Variable v) ∷ items) within none =
-    steps_within labels count bytes known (behind b (item.Variable v)) items (within_more bytes b.group_end b.variables v within)
+pub steps_within : (labels : List ℕ → Option ℕ) (count bytes : ℕ) (places : List ArgumentPlace) → ((x : List ℕ) (v : ℕ) → labels x ≡ Some v → v ≤ count)
+    → (b : Before) (items : List Item) → Within bytes places (find b.variables) → first_fault (item_checks labels b items) ≡ None
+    → All (λ s. StaysWithin count bytes s.step × LoadsOneOf places s.step) (steps_from labels b items)
+steps_within labels count bytes places known b [] within none = All-nil (λ (s : LinedStep). StaysWithin count bytes s.step × LoadsOneOf places s.step)
+steps_within labels count bytes places known b ((item.Label l) ∷ items) within none =
+    steps_within labels count bytes places known (behind b (item.Label l)) items within (no_fault l.line _ _ none).1
+steps_within labels count bytes places known b ((item.Variable v) ∷ items) within none =
+    steps_within labels count bytes places known (behind b (item.Variable v)) items (within_more bytes b.group_end places b.variables v within)
     (no_fault v.line _ _ none).1
-steps_within labels count bytes known b ((item.Instruction i) ∷ items) within none =
+steps_within labels count bytes places known b ((item.Instruction i) ∷ items) within none =
     let p = no_fault i.line (least_cause (instruction_fails (find b.variables) labels b.count i.operation)) _ none in
-    All-cons (λ (s : LinedStep). StaysWithin count bytes s.step) (lined i.line (find b.variables) labels i.operation)
+    All-cons (λ (s : LinedStep). StaysWithin count bytes s.step × LoadsOneOf places s.step) (lined i.line (find b.variables) labels i.operation)
     (steps_from labels (behind b (item.Instruction i)) items)
-    (step_within (find b.variables) labels count bytes known within b.count i.operation p.0)
-    (steps_within labels count bytes known (behind b (item.Instruction i)) items within p.1)
+    (step_within (find b.variables) labels count bytes places known within b.count i.operation p.0)
+    (steps_within labels count bytes places known (behind b (item.Instruction i)) items within p.1)
 
 -- a kernel in which nothing fails, within the limits
 pub sound : (k : Kernel) → first_fault (item_checks (labels_of k) (before_of k) k.items) ≡ None
     → end_from 0 k.arguments ≤ 4096 → (worked (labels_of k) (before_of k) k.items).group_bytes ≤ 65536
-    → length (worked (labels_of k) (before_of k) k.items).steps ≤ 4096 → IsSound (program_of k)
-sound k none bytes group count =
+    → length (worked (labels_of k) (before_of k) k.items).steps ≤ 4096
+    → All (λ s. HasItsClasses s.step) (worked (labels_of k) (before_of k) k.items).steps → IsSound (program_of k)
+sound k none bytes group count classes =
     let lined : List LinedStep = steps_from (labels_of k) (before_of k) k.items in
+    let places : List ArgumentPlace = places_from 0 k.arguments in
     let stepped : length (map (λ (s : LinedStep). s.step) lined) ≡ length lined = length-map lined (λ s. s.step) in
+    let stay : All (λ s. StaysWithin (length (map (λ (s : LinedStep). s.step) lined)) (end_from 0 k.arguments) s.step × LoadsOneOf places s.step) lined =
+    steps_within (labels_of k) (length (map (λ (s : LinedStep). s.step) lined)) (end_from 0 k.arguments) places
+    (λ x v e. omega (arith, stepped, label_within (labels_of k) (before_of k) 0 k.items x v e))
+    (before_of k) k.items (λ x p e is. (argument_within 0 k.arguments x p e, argument_stands 0 k.arguments x p e)) none in
     record {
-      steps_stay =
-          All-map (StaysWithin (length (map (λ (s : LinedStep). s.step) lined)) (end_from 0 k.arguments)) (λ (s : LinedStep). s.step) lined
-          (steps_within (labels_of k) (length (map (λ (s : LinedStep). s.step) lined)) (end_from 0 k.arguments)
-          (λ x v e. omega (arith, stepped, label_within (labels_of k) (before_of k) 0 k.items x v e))
-          (before_of k) k.items (λ x p e is. argument_within 0 k.arguments x p e) none);
+      classes = All-map HasItsClasses (λ (s : LinedStep). s.step) lined classes;
+      arguments = record {
+        places = places;
+        laid = places_laid 0 k.arguments;
+        wide = wide_are 0 k.arguments;
+        loaded = All-map (LoadsOneOf places) (λ (s : LinedStep). s.step) lined (λ i d within. (stay i d within).1);
+      };
+      wide_ascend = wide_ascends 0 k.arguments;
+      steps_stay = All-map (StaysWithin (length (map (λ (s : LinedStep). s.step) lined)) (end_from 0 k.arguments)) (λ (s : LinedStep). s.step) lined (λ i d within. (stay i d within).0);
       lined = length-map lined (λ s. s.line) ∙ sym stepped;
       wide_stay = wide_within 0 k.arguments;
       few_bytes = bytes;

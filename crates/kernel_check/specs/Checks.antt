@@ -7,7 +7,6 @@ use Rattle.kernel_check.specs.Layout.{placed_at, end_behind, group_placed, group
 use Rattle.kernel_check.specs.Names.{Known, find}
 use Rattle.kernel_check.specs.Programs.{Program, program}
 use Rattle.kernel_check.specs.Steps.{step_of}
-use Rattle.kernel_check.specs.declared.body.Body.{Body}
 use Rattle.kernel_check.specs.declared.fault.CheckFault.{CheckFault}
 use Rattle.kernel_check.specs.declared.layout.Placed.{Placed}
 use Rattle.kernel_check.specs.declared.step.LinedStep.{LinedStep}
@@ -97,9 +96,6 @@ pub record Worked : Type 0 where
 
 abbrev pub worked : (List ℕ → Option ℕ) → Before → List Item → Worked
 worked labels b items = record { steps = steps_from labels b items; group_bytes = (behind_all b items).group_end }
-
-abbrev pub body_worked : Body → Worked
-body_worked body = record { steps = body.steps.items; group_bytes = body.group_bytes }
 
 -- what stands before the items of a kernel: its arguments
 abbrev pub first_before : Known Placed → Before

@@ -17,6 +17,11 @@ cause_number UnknownArgument = 5
 cause_number TooLarge = 6
 cause_number BadAddress = 7
 
+-- the number of a refusal: 0 for want of memory, else its cause's (own)
+abbrev pub error_number : CheckError → ℕ
+error_number error.OutOfMemory = 0
+error_number (error.Fault f) = cause_number f.cause
+
 abbrev pub cause_name : CheckCause → List ℕ
 cause_name UnknownLabel = codes "UnknownLabel"
 cause_name DoubleName = codes "DoubleName"
@@ -86,12 +91,3 @@ FailsAs (error.Fault f) r = r ≡ Err f
 abbrev pub Gives : {X Y : Type 0} → (X → Y) → Result X CheckError → Result Y CheckFault → Type 0
 Gives view (Ok x) r = r ≡ Ok (view x)
 Gives view (Err e) r = FailsAs e r
-
--- these items were let pass just where none fails, unless memory ran out; else the first fault was told
-abbrev pub Stops : CheckError → List Checkpoint → Type 0
-Stops error.OutOfMemory checks = Unit {0}
-Stops (error.Fault f) checks = first_fault checks ≡ Some f
-
-abbrev pub Judges : {X : Type 0} → Result X CheckError → List Checkpoint → Type 0
-Judges (Ok x) checks = first_fault checks ≡ None
-Judges (Err e) checks = Stops e checks

@@ -1,8 +1,8 @@
 -- What the definitions of the check come to, in plain words.
-use Rattle.std.specs.Prelude.{◌≡◌, ℕ, ◌<◌, ◌≤◌, List, [], ◌∷◌, ◌++◌, Bool, true, false, Option, Some, None}
+use Rattle.std.specs.Prelude.{◌≡◌, ℕ, ◌≤◌, List, ◌∷◌, ◌++◌, Bool, true, false, Option, Some, None}
 use Rattle.std.specs.List.{All}
 use Rattle.kernel_check.specs.Faults.{Checkpoint, fault_at}
-use Rattle.kernel_check.specs.Steps.{forms_of, slot_of, next_of}
+use Rattle.kernel_check.specs.Steps.{forms_of, register_number, next_of}
 use Rattle.kernel_check.specs.declared.fault.CheckCause.{CheckCause}
 use Rattle.kernel_check.specs.declared.fault.CheckFault.{CheckFault}
 use Rattle.kernel_check.specs.declared.layout.Placed.{Placed}
@@ -37,14 +37,9 @@ pub record IsEarliest (checks : List Checkpoint) (f : CheckFault) : Type 0 where
   pub pass : All (λ c. c.cause ≡ None) before
   pub here : fault_at item ≡ Some f
 
--- numbers that ascend, each below all behind it
-abbrev pub Ascends : List ℕ → Type 0
-Ascends [] = Unit {0}
-Ascends (n ∷ later) = All (λ m. n < m) later × Ascends later
-
 -- a register's number is kept
 abbrev pub IsKept : Register → Type 0
-IsKept r = slot_of r ≡ r.number
+IsKept r = register_number r ≡ r.number
 
 abbrev pub IsKeptSource : Source → Type 0
 IsKeptSource (source.Register r) = IsKept r

@@ -7,6 +7,8 @@ pub mod Causes
 pub mod Steps
 pub mod Checks
 pub mod Programs
+pub mod StepWords
 pub mod Laws
 pub mod Reads
 pub mod Needs
+pub mod inner

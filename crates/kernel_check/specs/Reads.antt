@@ -2,7 +2,7 @@
 -- sources stand behind it (PRM, Operands). A register is told by its number; of which class it is, `Steps` says.
 use Rattle.std.specs.Prelude.{◌≡◌, ℕ, ◌%◌, ◌^◌, List, [], ◌∷◌, ◌++◌, ◌==◌, Option, Some, None}
 use Rattle.kernel_check.specs.Constants.{constant_bits}
-use Rattle.kernel_check.specs.Steps.{reads, sets, slot_of, sources_of, target_in}
+use Rattle.kernel_check.specs.Steps.{reads, sets, register_number, sources_of, target_in}
 use Rattle.kernel_check.specs.declared.step.AnySource.{AnySource}
 use Rattle.kernel_check.specs.declared.step.AnySource.TheVariants as any
 use Rattle.kernel_check.specs.declared.step.Source1.{Source1}
@@ -24,17 +24,17 @@ use Rattle.hsail_reader.specs.declared.types.Source.TheVariants as source
 
 -- a source of a step is one of the text: the register's number, or the constant's bits at its type
 abbrev pub Is1 : Source1 → DataType → Source → Type 0
-Is1 (source1.Register n) kind (source.Register r) = n ≡ slot_of r
+Is1 (source1.Register n) kind (source.Register r) = n ≡ register_number r
 Is1 (source1.Constant b) kind (source.Constant c) = b ≡ (constant_bits kind c == 1)
 Is1 _ kind _ = ⊥
 
 abbrev pub Is32 : Source32 → DataType → Source → Type 0
-Is32 (source32.Register n) kind (source.Register r) = n ≡ slot_of r
+Is32 (source32.Register n) kind (source.Register r) = n ≡ register_number r
 Is32 (source32.Constant n) kind (source.Constant c) = n ≡ constant_bits kind c % 2 ^ 32
 Is32 _ kind _ = ⊥
 
 abbrev pub Is64 : Source64 → DataType → Source → Type 0
-Is64 (source64.Register n) kind (source.Register r) = n ≡ slot_of r
+Is64 (source64.Register n) kind (source.Register r) = n ≡ register_number r
 Is64 (source64.Constant n) kind (source.Constant c) = n ≡ constant_bits kind c
 Is64 _ kind _ = ⊥
 
@@ -52,7 +52,7 @@ AreSources (a ∷ later) (t ∷ sources) = IsSource a t × AreSources later sour
 -- what is set has the number of a register of the text
 abbrev pub IsTarget : Option ℕ → Register → Type 0
 IsTarget None r = Unit {0}
-IsTarget (Some n) r = n ≡ slot_of r
+IsTarget (Some n) r = n ≡ register_number r
 
 -- a step sets the first operand of its instruction, and reads the others in their order
 abbrev pub KeepsOrder : Operation → Step → Type 0
@@ -60,7 +60,7 @@ KeepsOrder op s = IsTarget (sets s) (target_in op.operands.first) × AreSources 
 
 -- the number of the register that an operand sets
 abbrev pub set_by : Operand → Option ℕ
-set_by (operand.Target t) = Some (slot_of t.register)
+set_by (operand.Target t) = Some (register_number t.register)
 set_by _ = None
 
 -- the source that an operand is

@@ -1,8 +1,8 @@
 -- The step that an instruction comes to. Where nothing is wrong with the instruction, each register's
 -- number is below 64, each constant fits its place and each name stands for something (the law
--- `steps_are_faithful`), so the zeros below never come in. An operation, of whatever module, is of a row of the table
+-- `law_steps_are_faithful`), so the zeros below never come in. An operation, of whatever module, is of a row of the table
 -- (the law `operations_are_of_rows` of `hsail_reader`), and has what its step needs (the law
--- `steps_have_what_they_need`), so neither do the moves, the returns and what else stands for an operation that hasn't.
+-- `law_steps_have_what_they_need`), so neither do the moves, the returns and what else stands for an operation that hasn't.
 use Rattle.std.specs.Prelude.{ℕ, ◌+◌, ◌%◌, ◌^◌, List, [], ◌∷◌, Bool, true, false, ◌==◌, nat_lt, if◌then◌else◌, Option, Some, None, unwrap_or}
 use Rattle.kernel_check.specs.Constants.{constant_bits}
 use Rattle.kernel_check.specs.declared.layout.Placed.{Placed}
@@ -116,13 +116,13 @@ is_signed _ = false
 -- ---- operands
 
 -- a register by its number
-abbrev pub slot_of : Register → ℕ
-slot_of r = if nat_lt r.number 64 then r.number else 0
+abbrev pub register_number : Register → ℕ
+register_number r = if nat_lt r.number 64 then r.number else 0
 
 abbrev pub register_in : RegisterClass → Register → AnyRegister
-register_in class.Control r = register.Control (slot_of r)
-register_in class.Single r = register.Single (slot_of r)
-register_in class.Double r = register.Double (slot_of r)
+register_in class.Control r = register.Control (register_number r)
+register_in class.Single r = register.Single (register_number r)
+register_in class.Double r = register.Double (register_number r)
 
 -- the register of a value of a type
 abbrev pub register_of : DataType → Register → AnyRegister
@@ -130,21 +130,21 @@ register_of kind r = register_in (type_class kind) r
 
 -- sources: registers, and constants at their types
 abbrev pub source1_at : DataType → Source → Source1
-source1_at kind (source.Register r) = source1.Register (slot_of r)
+source1_at kind (source.Register r) = source1.Register (register_number r)
 source1_at kind (source.Constant c) = source1.Constant (constant_bits kind c == 1)
 
 abbrev pub source1_of : TypedSource → Source1
 source1_of t = source1_at t.kind t.source
 
 abbrev pub source32_at : DataType → Source → Source32
-source32_at kind (source.Register r) = source32.Register (slot_of r)
+source32_at kind (source.Register r) = source32.Register (register_number r)
 source32_at kind (source.Constant c) = source32.Constant (constant_bits kind c % 2 ^ 32)
 
 abbrev pub source32_of : TypedSource → Source32
 source32_of t = source32_at t.kind t.source
 
 abbrev pub source64_at : DataType → Source → Source64
-source64_at kind (source.Register r) = source64.Register (slot_of r)
+source64_at kind (source.Register r) = source64.Register (register_number r)
 source64_at kind (source.Constant c) = source64.Constant (constant_bits kind c)
 
 abbrev pub source64_of : TypedSource → Source64
@@ -169,7 +169,7 @@ forms_of segment.Group = record { variable = true; base = Some class.Single; ind
 abbrev pub pointer_of : SegmentPlace → Pointer
 pointer_of (place.Absolute n) = record { base = None; offset = n }
 pointer_of (place.Relative r) =
-    record { base = Some (slot_of r.register); offset = constant_bits U64 r.offset }
+    record { base = Some (register_number r.register); offset = constant_bits U64 r.offset }
 
 abbrev pub pointer_in : Address → Pointer
 pointer_in (address.Place p) = pointer_of p
@@ -188,7 +188,7 @@ offset_of variables _ = 0
 abbrev pub group_place : ℕ → SegmentPlace → GroupPointer
 group_place start (place.Absolute n) = record { base = None; offset = (start + n) % 2 ^ 32 }
 group_place start (place.Relative r) =
-    record { base = Some (slot_of r.register); offset = (start + constant_bits U64 r.offset) % 2 ^ 32 }
+    record { base = Some (register_number r.register); offset = (start + constant_bits U64 r.offset) % 2 ^ 32 }
 
 -- a variable stands for where it lies
 abbrev pub group_pointer : (List ℕ → Option Placed) → Address → GroupPointer
@@ -269,7 +269,7 @@ unary_by (Convert to) u = step.Convert (record {
   target = register_of to u.target;
   source = source_of u.source;
 })
-unary_by op u = unary_in (type_class u.kind) op (slot_of u.target) u.source
+unary_by op u = unary_in (type_class u.kind) op (register_number u.target) u.source
 
 abbrev pub unary_of : Unary → Step
 unary_of u = unary_by u.operation u
@@ -335,7 +335,7 @@ compare64 c false p = control.CompareUnsigned64 (record { comparison = c; left =
 compare64 c true p = control.CompareSigned64 (record { comparison = c; left = p.left; right = p.right })
 
 abbrev pub binary1 : Binary → Step
-binary1 b = sets1 (slot_of b.target)
+binary1 b = sets1 (register_number b.target)
     (control_operation b.operation (record { left = source1_of b.left; right = source1_of b.right }))
 
 abbrev pub binary32 : BinaryOperation → Bool → ℕ → Pair32 → Step
@@ -358,25 +358,25 @@ shift64_of b = record { value = source64_of b.left; count = source32_of b.right 
 
 abbrev pub binary_in : RegisterClass → Binary → Step
 binary_in class.Control b = binary1 b
-binary_in class.Single b = binary32 b.operation (is_signed b.kind) (slot_of b.target) (pair32_of b)
+binary_in class.Single b = binary32 b.operation (is_signed b.kind) (register_number b.target) (pair32_of b)
 binary_in class.Double b =
-    binary64 b.operation (is_signed b.kind) (slot_of b.target) (pair64_of b) (shift64_of b)
+    binary64 b.operation (is_signed b.kind) (register_number b.target) (pair64_of b) (shift64_of b)
 
 abbrev pub binary_of : Binary → Step
 binary_of b = binary_in (type_class b.kind) b
 
 -- mad and cmov, whose condition is one bit, by the class of their type
 abbrev pub ternary_in : RegisterClass → TernaryOperation → Ternary → Step
-ternary_in class.Control MultiplyAdd t = sets1 (slot_of t.target) (control.Move (source1_of t.first))
-ternary_in class.Control ConditionalMove t = sets1 (slot_of t.target)
+ternary_in class.Control MultiplyAdd t = sets1 (register_number t.target) (control.Move (source1_of t.first))
+ternary_in class.Control ConditionalMove t = sets1 (register_number t.target)
     (control.Choose (record { condition = source1_of t.first; one = source1_of t.second; zero = source1_of t.third }))
-ternary_in class.Single MultiplyAdd t = sets32 (slot_of t.target)
+ternary_in class.Single MultiplyAdd t = sets32 (register_number t.target)
     (single.MultiplyAdd (record { first = source32_of t.first; second = source32_of t.second; third = source32_of t.third }))
-ternary_in class.Single ConditionalMove t = sets32 (slot_of t.target)
+ternary_in class.Single ConditionalMove t = sets32 (register_number t.target)
     (single.Choose (record { condition = source1_of t.first; one = source32_of t.second; zero = source32_of t.third }))
-ternary_in class.Double MultiplyAdd t = sets64 (slot_of t.target)
+ternary_in class.Double MultiplyAdd t = sets64 (register_number t.target)
     (double.MultiplyAdd (record { first = source64_of t.first; second = source64_of t.second; third = source64_of t.third }))
-ternary_in class.Double ConditionalMove t = sets64 (slot_of t.target)
+ternary_in class.Double ConditionalMove t = sets64 (register_number t.target)
     (double.Choose (record { condition = source1_of t.first; one = source64_of t.second; zero = source64_of t.third }))
 
 abbrev pub ternary_of : Ternary → Step
@@ -461,7 +461,7 @@ abbrev pub as_atomic : AtomicOperation → Operation → Atomic
 as_atomic f op = record {
   operation = f;
   kind = op.kind;
-  target = Some (slot_of (target_in op.operands.first));
+  target = Some (register_number (target_in op.operands.first));
   first = read_in op.operands.third;
   second = read_in op.operands.fourth;
 }

@@ -1,11 +1,16 @@
 //! The items of a kernel, checked in order, and the steps that they come to.
 
 ghost use Rattle.std.specs.Prelude.{◌≡◌, ◌≤◌, ◌++◌, ◌∷◌, [], None, IfOk, OnOk, length};
-ghost use Rattle.kernel_check.specs.Checks.{before, behind, body_worked, first_before, item_check, item_checks, lined, step_at, worked};
+ghost use Rattle.std.specs.List.{All};
+ghost use Rattle.kernel_check.specs.Checks.{before, behind, first_before, item_check, item_checks, lined, step_at, worked};
+ghost use Rattle.kernel_check.specs.inner.Bodies.{body_worked};
 ghost use Rattle.kernel_check.specs.Causes.{instruction_fails, label_fails, variable_fails};
-ghost use Rattle.kernel_check.specs.Faults.{first_fault, checkpoint, unless, Gives, Judges};
+ghost use Rattle.kernel_check.specs.Faults.{first_fault, checkpoint, unless, Gives};
+ghost use Rattle.kernel_check.specs.inner.Judged.{Judges};
 ghost use Rattle.kernel_check.specs.Layout.{group_end_behind, group_placed};
 ghost use Rattle.kernel_check.specs.Names.{find};
+ghost use Rattle.kernel_check.specs.Programs.{HasItsClasses};
+ghost use Rattle.kernel_check.specs.Steps.{step_of};
 
 use crate::causes::{instruction_cause, label_cause, variable_end};
 use crate::fault::CheckError;
@@ -14,7 +19,7 @@ use crate::layout::{Placed, place_group};
 use crate::names::Names;
 use crate::step::LinedStep;
 use crate::translate::translated;
-use hsail_reader::{GroupVariable, Instruction, Item, Label};
+use hsail_reader::{GroupVariable, Instruction, Item, Label, operations_are_of_rows};
 use std::alloc::Global;
 
 /// What the items of a kernel come to: steps with their lines, and the bytes of its group variables.
@@ -71,8 +76,10 @@ fn judge_instruction(
         (instruction_fails (find variables.now) (find labels.now) (length steps.old.items) instruction.now.operation) ∷ []) }
     ensures steps { OnOk result (steps.new.items ≡ steps.old.items
         ++ lined instruction.now.line (find variables.now) (find labels.now) instruction.now.operation ∷ []) }
+    ensures classes { OnOk result (HasItsClasses (step_of (find variables.now) (find labels.now) instruction.now.operation)) }
     ensures room { OnOk result (length steps.new.items ≤ 4096) }
 {
+    operations_are_of_rows(&instruction.operation);
     let line = instruction.line;
     match instruction_cause(variables, labels, steps.len(), &instruction.operation) {
         Some(cause) => Err(refused(line, cause)),
@@ -100,6 +107,8 @@ fn judge_item<'a>(
         ≡ behind (before variables.old group_end known.old (length steps.old.items)) item.now) }
     ensures steps { OnOk result (steps.new.items ≡ steps.old.items
         ++ step_at (find labels.now) (before variables.old group_end known.old (length steps.old.items)) item.now) }
+    ensures classes { OnOk result (All (λ s. HasItsClasses s.step) (step_at (find labels.now)
+        (before variables.old group_end known.old (length steps.old.items)) item.now)) }
     ensures room { OnOk result (length steps.new.items ≤ 4096) }
     ensures bound { IfOk result (λ end. end ≤ 65536) }
 {
@@ -127,6 +136,7 @@ pub fn checked_items<'a>(
     ensures value { Gives body_worked result
         (unless (first_fault (item_checks (find labels.now) (first_before variables.old) items.now))
         (worked (find labels.now) (first_before variables.old) items.now)) }
+    ensures classes { IfOk result (λ body. All (λ s. HasItsClasses s.step) body.steps.items) }
     ensures room { IfOk result (λ body. length body.steps.items ≤ 4096) }
     ensures bound { IfOk result (λ body. body.group_bytes ≤ 65536) }
 {

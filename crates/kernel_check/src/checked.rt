@@ -15,13 +15,14 @@ pub struct Checked {
 
 impl Model for Checked {
     ghost use Rattle.std.specs.Prelude.{List, length, ◌≤◌};
+    ghost use Rattle.std.specs.List.{All};
     ghost use Rattle.kernel_check.specs.Programs as programs;
 
     ghost Value = { List programs.Program };
 
     ghost view = { λ checked. checked.kernels.items };
 
-    ghost invariant = { λ checked. length checked.kernels.items ≤ 64 };
+    ghost invariant = { λ checked. (length checked.kernels.items ≤ 64) × All programs.IsSound checked.kernels.items };
 }
 
 /// The place of the first kernel with a name.
@@ -38,11 +39,21 @@ fn place_named(kernels: &[Program], name: &[u8]) -> Option<usize>
 }
 
 impl Checked {
-    ghost use Rattle.kernel_check.specs.Programs as programs;
+    ghost use Rattle.std.specs.List.{All};
+    ghost use Rattle.kernel_check.specs.Programs.{IsSound};
+
+    /// Any checked kernels are at most 64, and each is sound. It does nothing.
+    pub fn law_are_sound(&self)
+        ensures few { length self.now ≤ 64 }
+        ensures sound { All IsSound self.now }
+    {
+        let _ = &self.kernels;
+    }
 
     /// The kernels, in order.
     pub(crate) fn new(kernels: Vec<Program>) -> Checked
-        requires { length kernels.items ≤ 64 }
+        requires few { length kernels.items ≤ 64 }
+        requires sound { All IsSound kernels.items }
         ensures { result ≡ kernels.items }
     {
         Checked { kernels }

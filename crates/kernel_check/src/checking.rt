@@ -2,8 +2,10 @@
 
 ghost use Rattle.std.specs.Prelude.{◌≡◌, ◌<◌, ◌++◌, ◌∷◌, [], None, OnOk, length};
 ghost use Rattle.kernel_check.specs.Checks.{body_checks, kernel_checks, module_checks, program_of, checking};
-ghost use Rattle.kernel_check.specs.Faults.{first_fault, unless, Gives, Judges};
+ghost use Rattle.kernel_check.specs.Faults.{first_fault, unless, Gives};
+ghost use Rattle.kernel_check.specs.inner.Judged.{Judges};
 ghost use Rattle.kernel_check.specs.Names.{find};
+ghost use Rattle.kernel_check.specs.Programs.{IsSound};
 
 use crate::body::checked_items;
 use crate::causes::kernel_cause;
@@ -47,8 +49,10 @@ fn put_kernel<'a>(
     ensures judged { Judges result (body_checks kernel.now) }
     ensures names { OnOk result (before.new ≡ before.old ++ (kernel.now.name, length before.old) ∷ []) }
     ensures kernels { OnOk result (kernels.new.items ≡ kernels.old.items ++ program_of kernel.now ∷ []) }
+    ensures sound { OnOk result (IsSound (program_of kernel.now)) }
 {
     let program = checked_body(alloc, kernel)?;
+    program.law_is_sound();
     before.add(kernel.name.as_slice(), before.len())?;
     Ok(kernels.push(program)?)
 }
@@ -63,6 +67,7 @@ fn judge_kernel<'a>(
     ensures judged { Judges result (kernel_checks before.old kernel.now) }
     ensures names { OnOk result (before.new ≡ before.old ++ (kernel.now.name, length before.old) ∷ []) }
     ensures kernels { OnOk result (kernels.new.items ≡ kernels.old.items ++ program_of kernel.now ∷ []) }
+    ensures sound { OnOk result (IsSound (program_of kernel.now)) }
     ensures room { OnOk result (length before.old < 64) }
 {
     match kernel_cause(before, kernel.name.as_slice()) {

@@ -2,7 +2,7 @@
 
 ghost use Rattle.std.specs.Prelude.{◌≡◌};
 ghost use Rattle.kernel_check.specs.declared.fault.CheckError.TheVariants as check_error;
-ghost use Rattle.kernel_check.specs.Faults.{cause_name, cause_number};
+ghost use Rattle.kernel_check.specs.Faults.{cause_name, cause_number, error_number};
 
 use std::alloc::{AllocError, AllocFailed};
 use std::error::Error;
@@ -88,6 +88,18 @@ pub enum CheckError {
     OutOfMemory,
     /// The module has a fault.
     Fault(CheckFault),
+}
+
+impl CheckError {
+    /// The number of the refusal: 0 for want of memory, else that of the fault's cause.
+    pub fn number(self) -> u8
+        ensures { result ≡ error_number self }
+    {
+        match self {
+            CheckError::OutOfMemory => 0,
+            CheckError::Fault(fault) => fault.cause.number(),
+        }
+    }
 }
 
 /// It prints as `out of memory`, or as its fault.

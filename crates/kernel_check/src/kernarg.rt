@@ -2,8 +2,10 @@
 
 ghost use Rattle.std.specs.Prelude.{◌≡◌, ◌≤◌, ◌++◌, ◌∷◌, [], None, IfOk, OnOk};
 ghost use Rattle.kernel_check.specs.Checks.{argument_check, argument_checks};
-ghost use Rattle.kernel_check.specs.Faults.{first_fault, unless, Gives, Judges};
-ghost use Rattle.kernel_check.specs.Layout.{placed_at, end_behind, wide_at, laid_out, kernarg_laid};
+ghost use Rattle.kernel_check.specs.Faults.{first_fault, unless, Gives};
+ghost use Rattle.kernel_check.specs.inner.Judged.{Judges};
+ghost use Rattle.kernel_check.specs.Layout.{placed_at, end_behind, wide_at};
+ghost use Rattle.kernel_check.specs.inner.Laid.{laid_out, kernarg_laid};
 ghost use Rattle.kernel_check.specs.Names.{find};
 ghost use Rattle.kernel_check.specs.declared.fault.CheckError.TheVariants as check_error;
 ghost use Rattle.kernel_check.specs.Faults.{fault};

@@ -1,7 +1,8 @@
 //! The labels of a kernel, as numbers of instructions.
 
 ghost use Rattle.std.specs.Prelude.{◌≡◌, ◌<◌, ◌+◌, ◌^◌, ℕ, List, [], ◌∷◌, IfOk, OnOk};
-ghost use Rattle.kernel_check.specs.Names.{find, or_else};
+ghost use Rattle.kernel_check.specs.Names.{find};
+ghost use Rattle.kernel_check.specs.inner.Bound.{or_else};
 ghost use Rattle.kernel_check.specs.Checks.{label_at, number_behind, labels_from};
 
 use crate::names::Names;

@@ -1,7 +1,8 @@
 //! Where the arguments of a kernel lie in its block, and its group variables in group memory.
 
 ghost use Rattle.std.specs.Prelude.{◌≡◌, ◌<◌, ◌≤◌, ◌+◌, max};
-ghost use Rattle.kernel_check.specs.Layout.{kind_bytes, boundary_of, placed_at, end_behind, is_wide, next_multiple, group_placed, group_end_behind, within};
+ghost use Rattle.kernel_check.specs.Layout.{kind_bytes, boundary_of, placed_at, end_behind, is_wide, next_multiple, group_placed, group_end_behind};
+ghost use Rattle.kernel_check.specs.inner.Laid.{within};
 ghost use Rattle.hsail_reader.specs.Types.{alignment_bytes};
 
 use hsail_reader::{Alignment, Argument, DataType, GroupVariable, Segment};

@@ -25,7 +25,8 @@ pub use checked::Checked;
 pub use checking::check;
 pub use fault::{CheckCause, CheckError, CheckFault};
 pub use laws::{
-    faults_are_earliest, steps_are_faithful, steps_have_what_they_need, wide_arguments_ascend,
+    law_faults_are_earliest, law_steps_are_faithful, law_steps_do_what_words_say,
+    law_steps_have_what_they_need, law_wide_arguments_ascend,
 };
 pub use program::Program;
 pub use step::{
@@ -33,6 +34,6 @@ pub use step::{
     AtomicStep32, AtomicStep64, BranchStep, Choice1, Choice32, Choice64, Compare1, Compare32,
     Compare64, ControlOperation, ControlStep, ConvertStep, Dimension, DoubleOperation, DoubleStep,
     GroupLoadStep, GroupPointer, GroupStoreStep, LinedStep, LoadStep, NumberType, Pair1, Pair32,
-    Pair64, Pointer, Shift64, SingleOperation, SingleStep, Slot, Source1, Source32, Source64, Step,
-    StoreStep, Swap32, Swap64, Triple32, Triple64, WorkItemQueryStep,
+    Pair64, Pointer, RegisterNumber, Shift64, SingleOperation, SingleStep, Source1, Source32,
+    Source64, Step, StoreStep, Swap32, Swap64, Triple32, Triple64, WorkItemQueryStep,
 };

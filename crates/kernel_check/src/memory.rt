@@ -10,10 +10,12 @@ use crate::layout::Placed;
 use crate::names::Names;
 use crate::step::{
     AddressForms, ArgumentStep, AtomicOperation32, AtomicOperation64, AtomicPointer, AtomicStep32,
-    AtomicStep64, GroupLoadStep, GroupPointer, GroupStoreStep, LoadStep, Pointer, Slot, Source32,
-    Source64, Step, StoreStep, Swap32, Swap64,
+    AtomicStep64, GroupLoadStep, GroupPointer, GroupStoreStep, LoadStep, Pointer, RegisterNumber,
+    Source32, Source64, Step, StoreStep, Swap32, Swap64,
 };
-use crate::values::{any_register, any_source, is_signed, number_type, slot, source32, source64};
+use crate::values::{
+    any_register, any_source, is_signed, number_type, register_number, source32, source64,
+};
 use hsail_reader::{
     Access, Address, AtomicOperation, DataType, Operand, Register, RegisterClass, Segment,
     SegmentPlace, TypedSource,
@@ -52,7 +54,7 @@ fn pointer(place: SegmentPlace) -> Pointer
             offset: number,
         },
         SegmentPlace::Relative(relative) => Pointer {
-            base: Some(slot(relative.register)),
+            base: Some(register_number(relative.register)),
             offset: bits(DataType::U64, relative.offset),
         },
     }
@@ -108,7 +110,7 @@ fn group_place(start: u32, place: SegmentPlace) -> GroupPointer
             offset: group_sum(start, number),
         },
         SegmentPlace::Relative(relative) => GroupPointer {
-            base: Some(slot(relative.register)),
+            base: Some(register_number(relative.register)),
             offset: group_sum(start, bits(DataType::U64, relative.offset)),
         },
     }
@@ -200,7 +202,7 @@ pub fn store_at(variables: &Names<'_, Placed>, source: TypedSource, address: &Op
 pub struct Atomic {
     pub operation: AtomicOperation,
     pub kind: DataType,
-    pub target: Option<Slot>,
+    pub target: Option<RegisterNumber>,
     pub first: TypedSource,
     pub second: TypedSource,
 }

@@ -15,7 +15,7 @@ pub struct Names<'a, V> {
 
 impl<'a, V> Model for Names<'a, V> {
     ghost use Rattle.std.specs.Prelude.{List, ℕ};
-    ghost use Rattle.kernel_check.specs.Names.{plain};
+    ghost use Rattle.kernel_check.specs.inner.Bound.{plain};
 
     ghost Value = { List (List ℕ × V) };
 

@@ -55,7 +55,16 @@ fn lines_of(alloc: Global, lined: &[LinedStep]) -> Result<Vec<u32>, AllocError>
 }
 
 impl Program {
-    ghost use Rattle.kernel_check.specs.Programs.{IsSound, StaysWithin, program};
+    ghost use Rattle.kernel_check.specs.Programs.{Ascends, HasItsClasses, IsSound, StaysWithin, program};
+
+    /// Any checked kernel is sound: each label that a step names exists, each argument that one loads stands there
+    /// with that width, each register is of the class that its step asks, each constant lies in its width, and
+    /// the arguments of 64 bits ascend. It does nothing.
+    pub fn law_is_sound(&self)
+        ensures { IsSound self.now }
+    {
+        let _ = &self.name;
+    }
 
     /// The kernel of these parts.
     pub(crate) fn new(
@@ -114,6 +123,7 @@ impl Program {
     /// The offsets of the arguments of 64 bits in the argument block, ascending.
     pub fn wide_arguments(&self) -> &[u32]
         ensures value { result.now ≡ self.now.wide }
+        ensures ascending { Ascends result.now }
         ensures within { All (λ offset. offset + 8 ≤ self.now.argument_bytes) result.now }
     {
         self.wide.as_slice()
@@ -124,6 +134,7 @@ impl Program {
         ensures value { result.now ≡ self.now.steps }
         ensures count { length result.now ≤ 4096 }
         ensures within { All (StaysWithin (length self.now.steps) self.now.argument_bytes) result.now }
+        ensures classes { All HasItsClasses result.now }
     {
         self.steps.as_slice()
     }

@@ -8,29 +8,29 @@ use std::marker::Model;
 
 /// The number of a register within its class: 0 to 63 (PRM, Registers). A contract sees the number.
 #[derive(Clone, Copy, Debug, PartialEq, Eq)]
-pub struct Slot {
+pub struct RegisterNumber {
     number: u8,
 }
 
-impl Model for Slot {
+impl Model for RegisterNumber {
     ghost use Rattle.std.specs.Prelude.{ℕ, ◌<◌};
 
     ghost Value = { ℕ };
 
-    ghost view = { λ slot. slot.number };
+    ghost view = { λ register. register.number };
 
-    ghost invariant = { λ slot. slot.number < 64 };
+    ghost invariant = { λ register. register.number < 64 };
 
     ghost inverse = { λ number. record { number = number } };
 }
 
-impl Slot {
-    /// The slot with a number.
-    pub fn new(number: u8) -> Slot
+impl RegisterNumber {
+    /// The register with a number.
+    pub fn new(number: u8) -> RegisterNumber
         requires { number < 64 }
         ensures { result ≡ number }
     {
-        Slot { number }
+        RegisterNumber { number }
     }
 
     /// The number, which is an index into 64 registers.
@@ -47,17 +47,17 @@ impl Slot {
 #[derive(Clone, Copy)]
 pub enum AnyRegister {
     /// `$c`, of 1 bit
-    Control(Slot),
+    Control(RegisterNumber),
     /// `$s`, of 32 bits
-    Single(Slot),
+    Single(RegisterNumber),
     /// `$d`, of 64 bits
-    Double(Slot),
+    Double(RegisterNumber),
 }
 
 /// What an operation reads: 1 bit, of a `$c` register or a constant.
 #[derive(Clone, Copy)]
 pub enum Source1 {
-    Register(Slot),
+    Register(RegisterNumber),
     Constant(bool),
 }
 
@@ -65,14 +65,14 @@ pub enum Source1 {
 /// low ones.
 #[derive(Clone, Copy)]
 pub enum Source32 {
-    Register(Slot),
+    Register(RegisterNumber),
     Constant(u32),
 }
 
 /// What an operation reads: 64 bits, of a `$d` register or a constant.
 #[derive(Clone, Copy)]
 pub enum Source64 {
-    Register(Slot),
+    Register(RegisterNumber),
     Constant(u64),
 }
 
@@ -334,7 +334,7 @@ pub struct ConvertStep {
 #[derive(Clone, Copy, Debug, PartialEq, Eq)]
 pub struct Pointer {
     /// The `$d` register of an address of global memory.
-    pub base: Option<Slot>,
+    pub base: Option<RegisterNumber>,
     pub offset: u64,
 }
 
@@ -343,7 +343,7 @@ pub struct Pointer {
 #[derive(Clone, Copy, Debug, PartialEq, Eq)]
 pub struct GroupPointer {
     /// The `$s` register of an address of group memory.
-    pub base: Option<Slot>,
+    pub base: Option<RegisterNumber>,
     pub offset: u32,
 }
 
@@ -478,7 +478,7 @@ pub enum AtomicOperation64 {
 /// register; or `atomicnoret`, which has no target.
 #[derive(Clone, Copy)]
 pub struct AtomicStep32 {
-    pub target: Option<Slot>,
+    pub target: Option<RegisterNumber>,
     pub pointer: AtomicPointer,
     pub operation: AtomicOperation32,
 }
@@ -487,7 +487,7 @@ pub struct AtomicStep32 {
 /// register; or `atomicnoret`, which has no target.
 #[derive(Clone, Copy)]
 pub struct AtomicStep64 {
-    pub target: Option<Slot>,
+    pub target: Option<RegisterNumber>,
     pub pointer: AtomicPointer,
     pub operation: AtomicOperation64,
 }
@@ -519,21 +519,21 @@ pub struct WorkItemQueryStep {
 /// An operation and the `$c` register that it sets.
 #[derive(Clone, Copy)]
 pub struct ControlStep {
-    pub target: Slot,
+    pub target: RegisterNumber,
     pub operation: ControlOperation,
 }
 
 /// An operation and the `$s` register that it sets.
 #[derive(Clone, Copy)]
 pub struct SingleStep {
-    pub target: Slot,
+    pub target: RegisterNumber,
     pub operation: SingleOperation,
 }
 
 /// An operation and the `$d` register that it sets.
 #[derive(Clone, Copy)]
 pub struct DoubleStep {
-    pub target: Slot,
+    pub target: RegisterNumber,
     pub operation: DoubleOperation,
 }
 

@@ -12,11 +12,12 @@ use crate::names::Names;
 use crate::step::{
     BranchStep, Choice1, Choice32, Choice64, Compare1, Compare32, Compare64, ControlOperation,
     ControlStep, ConvertStep, Dimension, DoubleOperation, DoubleStep, Pair1, Pair32, Pair64,
-    Shift64, SingleOperation, SingleStep, Slot, Step, Triple32, Triple64, WorkItemQueryStep,
+    RegisterNumber, Shift64, SingleOperation, SingleStep, Step, Triple32, Triple64,
+    WorkItemQueryStep,
 };
 use crate::values::{
-    any_register, any_source, is_signed, number_type, read_in, slot, source1, source32, source64,
-    target_in,
+    any_register, any_source, is_signed, number_type, read_in, register_number, source1, source32,
+    source64, target_in,
 };
 use hsail_reader::{
     AtomicOperation, BinaryOperation, Comparison, DataType, Form, Operand, Operation, Register,
@@ -100,7 +101,7 @@ fn as_atomic(operation: AtomicOperation, whole: &Operation) -> Atomic
     Atomic {
         operation,
         kind: whole.kind(),
-        target: Some(slot(target_in(&operands.first))),
+        target: Some(register_number(target_in(&operands.first))),
         first: read_in(&operands.third),
         second: read_in(&operands.fourth),
     }
@@ -141,26 +142,31 @@ fn next(labels: &Names<'_, usize>, name: &[u8]) -> usize
     }
 }
 
-fn sets1(target: Slot, operation: ControlOperation) -> Step
+fn sets1(target: RegisterNumber, operation: ControlOperation) -> Step
     ensures { result ≡ sets1 target operation }
 {
     Step::Control(ControlStep { target, operation })
 }
 
-fn sets32(target: Slot, operation: SingleOperation) -> Step
+fn sets32(target: RegisterNumber, operation: SingleOperation) -> Step
     ensures { result ≡ sets32 target operation }
 {
     Step::Single(SingleStep { target, operation })
 }
 
-fn sets64(target: Slot, operation: DoubleOperation) -> Step
+fn sets64(target: RegisterNumber, operation: DoubleOperation) -> Step
     ensures { result ≡ sets64 target operation }
 {
     Step::Double(DoubleStep { target, operation })
 }
 
 /// `mov_T` and `not_T`, by the class of T.
-fn moved(operation: UnaryOperation, kind: DataType, target: Slot, source: TypedSource) -> Step
+fn moved(
+    operation: UnaryOperation,
+    kind: DataType,
+    target: RegisterNumber,
+    source: TypedSource,
+) -> Step
     ensures { result ≡ unary_in (type_class kind) operation target source }
 {
     match (kind.class(), operation) {
@@ -189,7 +195,12 @@ fn unary_step(unary: &Unary) -> Step
             target: any_register(to, unary.target),
             source: any_source(unary.source),
         }),
-        operation => moved(operation, unary.kind, slot(unary.target), unary.source),
+        operation => moved(
+            operation,
+            unary.kind,
+            register_number(unary.target),
+            unary.source,
+        ),
     }
 }
 
@@ -307,12 +318,17 @@ fn binary1_step(binary: &Binary) -> Step
         right: source1(binary.right),
     };
     sets1(
-        slot(binary.target),
+        register_number(binary.target),
         control_operation(binary.operation, pair),
     )
 }
 
-fn binary32_step(operation: BinaryOperation, signed: bool, target: Slot, pair: Pair32) -> Step
+fn binary32_step(
+    operation: BinaryOperation,
+    signed: bool,
+    target: RegisterNumber,
+    pair: Pair32,
+) -> Step
     ensures { result ≡ binary32 operation signed target pair }
 {
     match operation {
@@ -324,7 +340,7 @@ fn binary32_step(operation: BinaryOperation, signed: bool, target: Slot, pair: P
 fn binary64_step(
     operation: BinaryOperation,
     signed: bool,
-    target: Slot,
+    target: RegisterNumber,
     pair: Pair64,
     shift: Shift64,
 ) -> Step
@@ -371,7 +387,7 @@ fn binary_step(binary: &Binary) -> Step
 {
     let operation = binary.operation;
     let signed = is_signed(binary.kind);
-    let target = slot(binary.target);
+    let target = register_number(binary.target);
     match binary.kind.class() {
         RegisterClass::Control => binary1_step(binary),
         RegisterClass::Single => binary32_step(operation, signed, target, pair32(binary)),
@@ -385,7 +401,7 @@ fn binary_step(binary: &Binary) -> Step
 fn multiply_add_step(ternary: &Ternary) -> Step
     ensures { result ≡ ternary_in (type_class ternary.now.kind) MultiplyAdd ternary.now }
 {
-    let target = slot(ternary.target);
+    let target = register_number(ternary.target);
     match ternary.kind.class() {
         RegisterClass::Control => sets1(target, ControlOperation::Move(source1(ternary.first))),
         RegisterClass::Single => sets32(
@@ -411,7 +427,7 @@ fn multiply_add_step(ternary: &Ternary) -> Step
 fn choose_step(ternary: &Ternary) -> Step
     ensures { result ≡ ternary_in (type_class ternary.now.kind) ConditionalMove ternary.now }
 {
-    let target = slot(ternary.target);
+    let target = register_number(ternary.target);
     let condition = source1(ternary.first);
     match ternary.kind.class() {
         RegisterClass::Control => sets1(

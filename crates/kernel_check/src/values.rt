@@ -1,10 +1,12 @@
 //! Registers, constants and types, as steps have them.
 
 ghost use Rattle.std.specs.Prelude.{◌≡◌};
-ghost use Rattle.kernel_check.specs.Steps.{target_in, read_in, number_type, is_signed, slot_of, register_of, source1_of, source32_of, source64_of, source_of};
+ghost use Rattle.kernel_check.specs.Steps.{target_in, read_in, number_type, is_signed, register_number, register_of, source1_of, source32_of, source64_of, source_of};
 
 use crate::constants::bits;
-use crate::step::{AnyRegister, AnySource, NumberType, Slot, Source1, Source32, Source64};
+use crate::step::{
+    AnyRegister, AnySource, NumberType, RegisterNumber, Source1, Source32, Source64,
+};
 use hsail_reader::{Constant, DataType, Operand, Register, RegisterClass, Source, TypedSource};
 
 /// The register that an operand is.
@@ -64,13 +66,13 @@ pub fn is_signed(kind: DataType) -> bool
 }
 
 /// A register by its number.
-pub fn slot(register: Register) -> Slot
-    ensures { result ≡ slot_of register }
+pub fn register_number(register: Register) -> RegisterNumber
+    ensures { result ≡ register_number register }
 {
     if register.number < 64 {
-        Slot::new(register.number as u8)
+        RegisterNumber::new(register.number as u8)
     } else {
-        Slot::new(0)
+        RegisterNumber::new(0)
     }
 }
 
@@ -79,9 +81,9 @@ pub fn any_register(kind: DataType, register: Register) -> AnyRegister
     ensures { result ≡ register_of kind register }
 {
     match kind.class() {
-        RegisterClass::Control => AnyRegister::Control(slot(register)),
-        RegisterClass::Single => AnyRegister::Single(slot(register)),
-        RegisterClass::Double => AnyRegister::Double(slot(register)),
+        RegisterClass::Control => AnyRegister::Control(register_number(register)),
+        RegisterClass::Single => AnyRegister::Single(register_number(register)),
+        RegisterClass::Double => AnyRegister::Double(register_number(register)),
     }
 }
 
@@ -90,7 +92,7 @@ pub fn source1(typed: TypedSource) -> Source1
     ensures { result ≡ source1_of typed }
 {
     match typed.source {
-        Source::Register(register) => Source1::Register(slot(register)),
+        Source::Register(register) => Source1::Register(register_number(register)),
         Source::Constant(constant) => Source1::Constant(bits(typed.kind, constant) == 1),
     }
 }
@@ -100,7 +102,7 @@ pub fn source32(typed: TypedSource) -> Source32
     ensures { result ≡ source32_of typed }
 {
     match typed.source {
-        Source::Register(register) => Source32::Register(slot(register)),
+        Source::Register(register) => Source32::Register(register_number(register)),
         Source::Constant(constant) => {
             Source32::Constant((bits(typed.kind, constant) % (1 << 32)) as u32)
         }
@@ -112,7 +114,7 @@ pub fn source64(typed: TypedSource) -> Source64
     ensures { result ≡ source64_of typed }
 {
     match typed.source {
-        Source::Register(register) => Source64::Register(slot(register)),
+        Source::Register(register) => Source64::Register(register_number(register)),
         Source::Constant(constant) => Source64::Constant(bits(typed.kind, constant)),
     }
 }

@@ -42,11 +42,19 @@ fn a_command_is_asked_for_with_its_arguments(rt: HostRuntime) -> Result<(), Fail
     let run = Some(Request::Run { policy, places });
     check_request(&rt, "brokerd run a.toml --audit 1048576", run)?;
     check_request(&rt, "brokerd run --audit=1048576 a.toml", run)?;
-    check_request(&rt, "brokerd run a.toml --audit 1048577", None)
+    check_request(&rt, "brokerd run a.toml --audit 1048577", None)?;
+    let strict = Some(Request::RunStrictly { policy, places });
+    check_request(&rt, "brokerd run a.toml --strict --audit 1048576", strict)?;
+    let assemble = Some(Request::Assemble { policy });
+    check_request(&rt, "brokerd assemble a.toml", assemble)?;
+    let kernel = Some(Request::Kernel { file: "k.hsail" });
+    check_request(&rt, "brokerd kernel k.hsail", kernel)?;
+    let explain = Some(Request::Explain { word: "L8" });
+    check_request(&rt, "brokerd explain L8", explain)
 }
 
 /// Command lines, and the exit status of each: 2 where it isn't understood, 3 where its policy can't be read.
-const STATUSES: [(&str, u8); 14] = [
+const STATUSES: [(&str, u8); 22] = [
     ("brokerd", 2),
     ("brokerd mend", 2),
     ("brokerd check", 2),
@@ -61,6 +69,14 @@ const STATUSES: [(&str, u8); 14] = [
     ("brokerd check nowhere.toml", 3),
     ("brokerd run nowhere.toml", 3),
     ("brokerd check .", 3),
+    ("brokerd kernel", 2),
+    ("brokerd kernel nowhere.hsail", 3),
+    ("brokerd assemble", 2),
+    ("brokerd assemble nowhere.toml", 3),
+    ("brokerd run nowhere.toml --strict", 3),
+    ("brokerd explain", 2),
+    ("brokerd explain L8", 0),
+    ("brokerd explain L11", 2),
 ];
 
 fn status_of(rt: &HostRuntime, line: &str) -> Result<u8, AllocError> {

@@ -2,8 +2,8 @@
 
 use crate::studio::{checked, fade};
 use kernel_check::{
-    CheckCause, CheckError, CheckFault, Checked, faults_are_earliest, steps_are_faithful,
-    wide_arguments_ascend,
+    CheckCause, CheckError, CheckFault, Checked, law_faults_are_earliest, law_steps_are_faithful,
+    law_wide_arguments_ascend,
 };
 use std::process::Abort;
 use std::test::Fail;
@@ -35,9 +35,9 @@ fn check_fade(rt: &(impl Abort + AllocGlobal), text: &str) -> Result<(), Fail> {
 
 #[test]
 fn a_kernel_is_found_by_its_name(rt: HostRuntime) -> Result<(), Fail> {
-    faults_are_earliest();
-    steps_are_faithful();
-    wide_arguments_ascend();
+    law_faults_are_earliest();
+    law_steps_are_faithful();
+    law_wide_arguments_ascend();
     check_fade(&rt, fade())
 }
 

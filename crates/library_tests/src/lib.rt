@@ -7,6 +7,8 @@
 #[cfg(test)]
 mod access;
 #[cfg(test)]
+mod callers;
+#[cfg(test)]
 mod command_lines;
 #[cfg(test)]
 mod errors;
@@ -26,6 +28,8 @@ mod packets;
 mod policies;
 #[cfg(test)]
 mod rings;
+#[cfg(test)]
+mod streams;
 #[cfg(test)]
 mod studio;
 #[cfg(test)]

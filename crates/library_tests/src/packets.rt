@@ -197,9 +197,23 @@ fn the_first_rule_that_fails_is_answered(rt: HostRuntime) {
     }
 }
 
+// FILL of 4 bytes from 2^32 on, with completion signal 1.
+fn fill() -> [u8; 64] {
+    bytes_of([
+        0x0414_0080_0000_0000,
+        0,
+        0x0000_0000_0100_0000,
+        0x0400_0000_0000_0000,
+        0x5a00_0000_0000_0000,
+        0,
+        0,
+        0x0100_0000_0000_0000,
+    ])
+}
+
 #[test]
 fn each_change_of_one_bit_is_judged(rt: HostRuntime) {
-    let agent = agent_with(AGENT_FIRST);
+    let agent = fill();
     let mut judged = [0u32; 4];
     for place in 0..64 {
         for bit in [1, 2, 4, 8, 16, 32, 64, 128] {
@@ -218,7 +232,7 @@ fn each_change_of_one_bit_is_judged(rt: HostRuntime) {
             judged[verdict] = judged[verdict].saturating_add(1);
         }
     }
-    assert!(rt; judged == [404, 7, 4, 97]);
+    assert!(rt; judged == [403, 7, 5, 97]);
 }
 
 #[test]

@@ -223,7 +223,8 @@ fn world_over(alloc: Global, text: &str, kernels: Vec<Kernel>) -> Result<World, 
     }
 }
 
-fn fresh(alloc: Global) -> Result<World, Fail> {
+/// A world over the policy of these tests, with places for 100 entries in the audit.
+pub fn fresh(alloc: Global) -> Result<World, Fail> {
     world_over(alloc, POLICY, kernels(alloc)?)
 }
 

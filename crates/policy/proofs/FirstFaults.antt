@@ -8,21 +8,22 @@ use Rattle.std.proofs.lemmas.List.Elements.{filter_map-append}
 use Rattle.std.proofs.lemmas.List.Sums.{sum-map}
 use Rattle.toml.specs.Data.{Data, Members, get_member, as_table}
 use Rattle.aql_packet.specs.declared.memory.TheConstants.{MOST_REGIONS}
-use Rattle.policy.specs.declared.limits.TheConstants.{MOST_AGENTS, MOST_ALLOW_ROWS, MOST_CLIENTS, MOST_KERNELS, MOST_MEMORY_BYTES, MOST_SIGNALS}
+use Rattle.policy.specs.declared.limits.TheConstants.{MOST_AGENTS, MOST_ALLOW_ROWS, MOST_CLIENTS, MOST_DENY_ROWS, MOST_KERNELS, MOST_MEMORY_BYTES, MOST_SIGNALS}
 use Rattle.policy.specs.declared.fault.PolicyCause.{PolicyCause}
 use Rattle.policy.specs.declared.fault.PolicyCause.TheVariants.{BadValue, DoubleName, UnknownName, TooMany}
 use Rattle.policy.specs.declared.fault.Section.{Section}
 use Rattle.policy.specs.declared.fault.Section.TheVariants as section
 use Rattle.policy.specs.declared.object.Kind.{Kind}
 use Rattle.policy.specs.declared.object.Kind.TheVariants as kind
-use Rattle.policy.specs.declared.row.AllowRow.{AllowRow}
+use Rattle.policy.specs.declared.row.RightsRow.{RightsRow}
 use Rattle.policy.specs.declared.row.Takes.{Takes}
+use Rattle.policy.specs.declared.version.Version.{Version}
 use Rattle.policy.specs.SectionNames.{name_of_section}
 use Rattle.policy.specs.Names.{Name, names, number_in}
 use Rattle.policy.specs.Policy.{Declared, Source, names_of}
 use Rattle.policy.specs.Reading.{◌>>=◌, unless, or_fault, fault_in, fault_of_file}
-use Rattle.policy.specs.Format.{a_name, a_length, a_choice, a_kind, some_rights, an_entry, a_text, in_row, of_table, is_table, tables_in, rows_in, items_in, keys_in, read_each, array_of, key, only, named_row, allow_row, no_more_keys, takes, region_length, initial_value, kernel_source, subject_of, target_of, client_keys, agent_keys, region_keys, signal_keys, kernel_keys, allow_keys, file_keys, is_version, file_head, regions_of, objects_of, declared_by}
-use Rattle.policy.specs.Checks.{first_of, said_by, says, row_name, row_length, rows_of, rows_at, names_at, section_of, named_checks, client_rest, agent_rest, region_rest, signal_rest, kernel_rest, allow_checks, rights_check, client_check, object_check, array_checks, named_array_checks, sum_check, head_checks, object_checks, file_checks}
+use Rattle.policy.specs.Format.{a_name, a_length, a_choice, a_kind, some_rights, an_entry, a_text, in_row, of_table, is_table, tables_in, rows_in, items_in, keys_in, read_each, array_of, key, only, named_row, rights_row, no_more_keys, takes, region_length, initial_value, kernel_source, subject_of, target_of, client_keys, agent_keys, region_keys, signal_keys, kernel_keys, rights_keys, file_keys, version_of, file_head, regions_of, objects_of, policy_rows, declared_by}
+use Rattle.policy.specs.Checks.{first_of, said_by, says, row_name, row_length, rows_of, rows_at, names_at, section_of, named_checks, client_rest, agent_rest, region_rest, signal_rest, kernel_rest, rights_checks, rights_check, client_check, object_check, array_checks, named_array_checks, sum_check, keys_check, head_checks, object_checks, policy_rows_checks, file_checks}
 use Rattle.policy.proofs.StepLemmas.{then_ok, in_row_ok}
 use Rattle.policy.proofs.CheckLemmas.{step_after, check_after, check_last, check_alone, key_says, named_agrees, array_agrees}
 
@@ -130,19 +131,19 @@ regions_agree file =
         → result_err (unless (nat_le (sum_by (λ region. region.1) rows) MOST_MEMORY_BYTES) (fault_in section.Region 0 TooMany) >>= (λ _. Ok rows)) ≡ first_of (sum_check file ∷ [])
     total rows h = rw (sizes rows h) (check_last (unless (nat_le (sum (said_by row_length (rows_at section.Region file))) MOST_MEMORY_BYTES) (fault_in section.Region 0 TooMany)) (λ _. rows))
 
--- ---- allow rows
+-- ---- rows on rights
 
-allow_agrees : (declared : Declared) (clients : List Name) (objects : Kind → List Name) → declared.clients ≡ clients → ((on : Kind) → names_of declared on ≡ objects on)
-    → (row : Members) → result_err (allow_row declared row) ≡ first_of (allow_checks clients objects row)
-allow_agrees declared clients objects same_clients same_objects row =
-    check_after (only allow_keys row) _ _ (λ u e.
+rights_agree : (declared : Declared) (clients : List Name) (objects : Kind → List Name) → declared.clients ≡ clients → ((on : Kind) → names_of declared on ≡ objects on)
+    → (row : Members) → result_err (rights_row declared row) ≡ first_of (rights_checks clients objects row)
+rights_agree declared clients objects same_clients same_objects row =
+    check_after (only rights_keys row) _ _ (λ u e.
     check_after (key (codes "client") a_choice row) _ _ (λ client c.
     check_after (key (codes "kind") a_kind row) _ _ (λ on k.
     check_after (key (codes "object") a_choice row) _ _ (λ object o.
     rest client on object (key_says (codes "client") a_choice row client c) (key_says (codes "kind") a_kind row on k) (key_says (codes "object") a_choice row object o)))))
   where
     rest : (client : Option Name) (on : Kind) (object : Option Name) → says (codes "client") a_choice row ≡ Some client → says (codes "kind") a_kind row ≡ Some on → says (codes "object") a_choice row ≡ Some object
-        → result_err {T = AllowRow} (key (codes "rights") (some_rights on) row >>= (λ rights. or_fault UnknownName (subject_of declared.clients client) >>= (λ subject. or_fault UnknownName (target_of on (names_of declared on) object) >>= (λ target. Ok (record { subject = subject; target = target; rights = rights })))))
+        → result_err {T = RightsRow} (key (codes "rights") (some_rights on) row >>= (λ rights. or_fault UnknownName (subject_of declared.clients client) >>= (λ subject. or_fault UnknownName (target_of on (names_of declared on) object) >>= (λ target. Ok (record { subject = subject; target = target; rights = rights })))))
         ≡ first_of (rights_check (says (codes "kind") a_kind row) row ∷ client_check clients (says (codes "client") a_choice row) ∷ object_check objects (says (codes "kind") a_kind row) (says (codes "object") a_choice row) ∷ [])
     rest client on object c k o =
         rw (c, k, o, ← same_clients, ← same_objects on)
@@ -150,33 +151,43 @@ allow_agrees declared clients objects same_clients same_objects row =
         check_after (or_fault UnknownName (subject_of declared.clients client)) _ _ (λ subject s.
         check_last (or_fault UnknownName (target_of on (names_of declared on) object)) _)))
 
-allows_agree : (declared : Declared) (file : Members) → declared.clients ≡ names_at section.Client file → ((on : Kind) → names_of declared on ≡ names_at (section_of on) file)
-    → result_err (array_of section.Allow MOST_ALLOW_ROWS (λ _ row. allow_row declared row) file)
-    ≡ first_of (array_checks section.Allow MOST_ALLOW_ROWS (λ above. allow_checks (names_at section.Client file) (λ on. names_at (section_of on) file)) file)
-allows_agree declared file clients objects =
-    array_agrees section.Allow (λ _ row. allow_row declared row) (λ above. allow_checks (names_at section.Client file) (λ on. names_at (section_of on) file))
-    (λ before above. length before ≡ length above)
-    (λ before above fits. fits)
-    (λ before above d r fits h. length-append before (r ∷ []) ∙ ap (λ n. n + 1) fits ∙ sym (length-append above (d ∷ [])))
-    (λ before above fits row. allow_agrees declared (names_at section.Client file) (λ on. names_at (section_of on) file) clients objects row)
-    refl MOST_ALLOW_ROWS file
-
--- ---- the file
-
-head_agrees : (file : Members) → result_err (file_head file) ≡ first_of (head_checks file)
-head_agrees file =
-    check_after (unless (list_all (λ k. list_any (bytes_eq k) file_keys) (keys_in file)) (fault_of_file BadValue)) _ _
-    (λ u e. check_alone (unless (is_version (get_member (codes "version") file)) (fault_of_file BadValue)))
-
 last_step : {A B E : Type 0} (r : Result A E) (f : A → B) (xs : List (Option E)) → result_err r ≡ first_of xs → result_err (r >>= (λ x. Ok (f x))) ≡ first_of xs
 last_step (Ok x) f xs h = h
 last_step (Err e) f xs h = h
 
+module _ (declared : Declared) (file : Members) (clients : declared.clients ≡ names_at section.Client file) (objects : (on : Kind) → names_of declared on ≡ names_at (section_of on) file) where
+  array_of_rights : (s : Section) (limit : ℕ) → result_err (array_of s limit (λ _ row. rights_row declared row) file) ≡ first_of (array_checks s limit (λ above. rights_checks (names_at section.Client file) (λ on. names_at (section_of on) file)) file)
+  array_of_rights s limit =
+      array_agrees s (λ _ row. rights_row declared row) (λ above. rights_checks (names_at section.Client file) (λ on. names_at (section_of on) file))
+      (λ before above. length before ≡ length above)
+      (λ before above fits. fits)
+      (λ before above d r fits h. length-append before (r ∷ []) ∙ ap (λ n. n + 1) fits ∙ sym (length-append above (d ∷ [])))
+      (λ before above fits row. rights_agree declared (names_at section.Client file) (λ on. names_at (section_of on) file) clients objects row)
+      refl limit file
+
+  rows_agree : result_err (policy_rows declared file) ≡ first_of (policy_rows_checks file)
+  rows_agree =
+      step_after (array_of section.Allow MOST_ALLOW_ROWS (λ _ row. rights_row declared row) file) _ (array_checks section.Allow MOST_ALLOW_ROWS (λ above. rights_checks (names_at section.Client file) (λ on. names_at (section_of on) file)) file) _
+      (array_of_rights section.Allow MOST_ALLOW_ROWS) (λ allows a.
+      last_step (array_of section.Deny MOST_DENY_ROWS (λ _ row. rights_row declared row) file) _ (array_checks section.Deny MOST_DENY_ROWS (λ above. rights_checks (names_at section.Client file) (λ on. names_at (section_of on) file)) file)
+      (array_of_rights section.Deny MOST_DENY_ROWS))
+
+-- ---- the file
+
+head_agrees : (file : Members) → result_err (file_head file) ≡ first_of (head_checks file)
+head_agrees file = at (version_of (get_member (codes "version") file))
+  where
+    at : (o : Option Version)
+        → result_err (or_fault (fault_of_file BadValue) o >>= (λ version. unless (list_all (λ k. list_any (bytes_eq k) (file_keys version)) (keys_in file)) (fault_of_file BadValue) >>= (λ _. Ok version)))
+        ≡ first_of (result_err (or_fault (fault_of_file BadValue) o) ∷ keys_check o file ∷ [])
+    at None = refl
+    at (Some version) = check_last (unless (list_all (λ k. list_any (bytes_eq k) (file_keys version)) (keys_in file)) (fault_of_file BadValue)) (λ _. version)
+
 no_rest : (row : Members) → result_err (no_more_keys row) ≡ first_of (client_rest row)
 no_rest row = refl
 
-objects_agree : (file : Members) → result_err (objects_of file) ≡ first_of (object_checks file)
-objects_agree file =
+objects_agree : (version : Version) (file : Members) → result_err (objects_of version file) ≡ first_of (object_checks file)
+objects_agree version file =
     step_after (array_of section.Client MOST_CLIENTS (named_row client_keys no_more_keys) file) _ (named_array_checks section.Client MOST_CLIENTS client_keys client_rest file) _
     (named_array client_keys no_more_keys section.Client MOST_CLIENTS file client_rest no_rest) (λ clients c.
     step_after (array_of section.Agent MOST_AGENTS (named_row agent_keys takes) file) _ (named_array_checks section.Agent MOST_AGENTS agent_keys agent_rest file) _
@@ -187,8 +198,8 @@ objects_agree file =
     last_step (array_of section.Kernel MOST_KERNELS (named_row kernel_keys kernel_source) file) _ (named_array_checks section.Kernel MOST_KERNELS kernel_keys kernel_rest file)
     (named_array kernel_keys kernel_source section.Kernel MOST_KERNELS file kernel_rest kernel_agrees)))))
 
--- what is declared before the allow rows has the names that the rows say
-module _ (file : Members) (declared : Declared) (h : objects_of file ≡ Ok declared) where
+-- what is declared before the rows on rights has the names that the rows say
+module _ (version : Version) (file : Members) (declared : Declared) (h : objects_of version file ≡ Ok declared) where
   abbrev SaysNames : Declared → Type 0
   SaysNames d = (d.clients ≡ names_at section.Client file) × ((on : Kind) → names_of d on ≡ names_at (section_of on) file)
 
@@ -202,7 +213,7 @@ module _ (file : Members) (declared : Declared) (h : objects_of file ≡ Ok decl
       let r = then_ok (array_of section.Region MOST_REGIONS (named_row region_keys region_length) file) _ c.0 c.1 in
       let u = then_ok (unless (nat_le (sum_by (λ region. region.1) r.0) MOST_MEMORY_BYTES) (fault_in section.Region 0 TooMany)) _ c.0 r.2 in
       let same : r.0 ≡ c.0 = cc in
-      let whole : record { clients = names a.0; agents = b.0; regions = c.0; signals = d.0; kernels = e.0; allows = [] } ≡ declared = cc in
+      let whole : record { version = version; clients = names a.0; agents = b.0; regions = c.0; signals = d.0; kernels = e.0; rows = record { allows = []; denies = [] } } ≡ declared = cc in
       subst SaysNames whole (
         named_says client_keys no_more_keys section.Client MOST_CLIENTS file a.0 a.1,
         by_kind b.0 c.0 d.0 e.0 (named_says agent_keys takes section.Agent MOST_AGENTS file b.0 b.1)
@@ -213,7 +224,7 @@ module _ (file : Members) (declared : Declared) (h : objects_of file ≡ Ok decl
       by_kind : (agents : List (Name × Takes)) (regions : List (Name × ℕ)) (signals : List (Name × ℤ)) (kernels : List (Name × Source))
           → names agents ≡ names_at section.Agent file → names regions ≡ names_at section.Region file → names signals ≡ names_at section.Signal file → names kernels ≡ names_at section.Kernel file
           → (clients : List Name) (on : Kind)
-          → names_of (record { clients = clients; agents = agents; regions = regions; signals = signals; kernels = kernels; allows = [] }) on ≡ names_at (section_of on) file
+          → names_of (record { version = version; clients = clients; agents = agents; regions = regions; signals = signals; kernels = kernels; rows = record { allows = []; denies = [] } }) on ≡ names_at (section_of on) file
       by_kind agents regions signals kernels a r s k clients kind.Agent = a
       by_kind agents regions signals kernels a r s k clients kind.Region = r
       by_kind agents regions signals kernels a r s k clients kind.Signal = s
@@ -222,8 +233,7 @@ module _ (file : Members) (declared : Declared) (h : objects_of file ≡ Ok decl
 -- the fault of a file is that of the first of its checks that fails
 pub faults_agree : (file : Members) → result_err (declared_by file) ≡ first_of (file_checks file)
 faults_agree file =
-    step_after (file_head file) _ (head_checks file) _ (head_agrees file) (λ u e.
-    step_after (objects_of file) _ (object_checks file) _ (objects_agree file) (λ declared d.
-    last_step (array_of section.Allow MOST_ALLOW_ROWS (λ _ row. allow_row declared row) file) _
-    (array_checks section.Allow MOST_ALLOW_ROWS (λ above. allow_checks (names_at section.Client file) (λ on. names_at (section_of on) file)) file)
-    (let said = objects_say file declared d in allows_agree declared file said.0 said.1)))
+    step_after (file_head file) _ (head_checks file) _ (head_agrees file) (λ version e.
+    step_after (objects_of version file) _ (object_checks file) _ (objects_agree version file) (λ declared d.
+    last_step (policy_rows declared file) _ (policy_rows_checks file)
+    (let said = objects_say version file declared d in rows_agree declared file said.0 said.1)))

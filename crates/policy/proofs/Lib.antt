@@ -1,5 +1,8 @@
 pub mod NameLemmas
+pub mod CopyLemmas
+pub mod DeclaringLemmas
 pub mod RightsLemmas
+pub mod SetLemmas
 pub mod PairLemmas
 pub mod ArrayLemmas
 pub mod CoverLemmas

@@ -7,18 +7,20 @@ use Rattle.std.proofs.lemmas.List.{length-map}
 use Rattle.std.proofs.lemmas.List.Folds.{list_all-append, list_all-map}
 use Rattle.toml.specs.Data.{Data, integer, Members, get_member, as_table}
 use Rattle.aql_packet.specs.declared.memory.TheConstants.{MOST_REGIONS}
-use Rattle.policy.specs.declared.limits.TheConstants.{MOST_AGENTS, MOST_ALLOW_ROWS, MOST_CLIENTS, MOST_KERNELS, MOST_MEMORY_BYTES, MOST_SIGNALS}
+use Rattle.policy.specs.declared.limits.TheConstants.{MOST_AGENTS, MOST_ALLOW_ROWS, MOST_CLIENTS, MOST_DENY_ROWS, MOST_KERNELS, MOST_MEMORY_BYTES, MOST_SIGNALS}
 use Rattle.policy.specs.declared.fault.PolicyCause.{PolicyCause}
 use Rattle.policy.specs.declared.fault.PolicyCause.TheVariants.{BadValue, DoubleName, TooMany}
 use Rattle.policy.specs.declared.fault.Section.{Section}
 use Rattle.policy.specs.declared.fault.Section.TheVariants as section
-use Rattle.policy.specs.declared.row.AllowRow.{AllowRow}
+use Rattle.policy.specs.declared.row.RightsRow.{RightsRow}
 use Rattle.policy.specs.declared.row.Takes.{Takes}
+use Rattle.policy.specs.declared.rows.PolicyRows.{PolicyRows}
+use Rattle.policy.specs.declared.version.Version.{Version}
 use Rattle.policy.specs.Policy.{Name, Source, Declared, names, number_in}
 use Rattle.policy.specs.Reading.{◌>>=◌, unless, or_fault, fault_in}
 use Rattle.aql_packet.specs.Memory.{are_region_lengths, is_region_length}
 use Rattle.policy.specs.Limits.{IsWithinLimits}
-use Rattle.policy.specs.Format.{in_row, of_table, is_table, tables_in, rows_in, items_in, read_each, array_of, right_value, key, a_name, a_length, length_of_number, only, named_row, region_keys, region_length, regions_of, allow_row, no_more_keys, takes, initial_value, kernel_source, client_keys, agent_keys, signal_keys, kernel_keys}
+use Rattle.policy.specs.Format.{in_row, of_table, is_table, tables_in, rows_in, items_in, read_each, array_of, right_value, key, a_name, a_length, length_of_number, only, named_row, region_keys, region_length, regions_of, rights_row, policy_rows, no_more_keys, takes, initial_value, kernel_source, client_keys, agent_keys, signal_keys, kernel_keys}
 use Rattle.policy.specs.SectionNames.{name_of_section}
 use Rattle.policy.proofs.StepLemmas.{then_ok, in_row_ok}
 
@@ -136,13 +138,13 @@ regions_fit file regions h =
         (ap (λ n. nat_le n MOST_REGIONS) (length-map rows (λ row. row.1)) ∙ test)
         (list_all-map is_region_length (λ row. row.1) rows ∙ each_row section.Region (named_row region_keys region_length) MOST_REGIONS file rows h (λ row. is_region_length row.1) region_fits)
 
--- what is declared before the allow rows keeps to the limits
-pub objects_within : (file : Members) (clients : List (Name × Unit {0})) (agents : List (Name × Takes)) (regions : List (Name × ℕ)) (signals : List (Name × ℤ)) (kernels : List (Name × Source))
+-- what is declared before the rows on rights keeps to the limits
+pub objects_within : (version : Version) (file : Members) (clients : List (Name × Unit {0})) (agents : List (Name × Takes)) (regions : List (Name × ℕ)) (signals : List (Name × ℤ)) (kernels : List (Name × Source))
     → array_of section.Client MOST_CLIENTS (named_row client_keys no_more_keys) file ≡ Ok clients → array_of section.Agent MOST_AGENTS (named_row agent_keys takes) file ≡ Ok agents
     → regions_of file ≡ Ok regions → array_of section.Signal MOST_SIGNALS (named_row signal_keys initial_value) file ≡ Ok signals
     → array_of section.Kernel MOST_KERNELS (named_row kernel_keys kernel_source) file ≡ Ok kernels
-    → IsWithinLimits (record { clients = names clients; agents = agents; regions = regions; signals = signals; kernels = kernels; allows = [] })
-objects_within file clients agents regions signals kernels c a r s k =
+    → IsWithinLimits (record { version = version; clients = names clients; agents = agents; regions = regions; signals = signals; kernels = kernels; rows = record { allows = []; denies = [] } })
+objects_within version file clients agents regions signals kernels c a r s k =
     let fit = regions_fit file regions r in
     record {
       clients = subst (λ n. n ≤ MOST_CLIENTS) (sym (length-map clients (λ row. row.0))) (few_rows section.Client (named_row client_keys no_more_keys) MOST_CLIENTS file clients c);
@@ -152,8 +154,14 @@ objects_within file clients agents regions signals kernels c a r s k =
       signals = few_rows section.Signal (named_row signal_keys initial_value) MOST_SIGNALS file signals s;
       kernels = few_rows section.Kernel (named_row kernel_keys kernel_source) MOST_KERNELS file kernels k;
       allows = omega arith;
+      denies = omega arith;
     }
 
--- the allow rows are few
-pub few_allow_rows : (declared : Declared) (file : Members) (rows : List AllowRow) → array_of section.Allow MOST_ALLOW_ROWS (λ _ row. allow_row declared row) file ≡ Ok rows → length rows ≤ MOST_ALLOW_ROWS
-few_allow_rows declared file rows h = few_rows section.Allow (λ _ row. allow_row declared row) MOST_ALLOW_ROWS file rows h
+-- the rows on rights are few
+pub few_rights_rows : (declared : Declared) (file : Members) (rows : PolicyRows) → policy_rows declared file ≡ Ok rows → (length rows.allows ≤ MOST_ALLOW_ROWS) × (length rows.denies ≤ MOST_DENY_ROWS)
+few_rights_rows declared file rows h =
+    let a = then_ok (array_of section.Allow MOST_ALLOW_ROWS (λ _ row. rights_row declared row) file) _ rows h in
+    let b = then_ok (array_of section.Deny MOST_DENY_ROWS (λ _ row. rights_row declared row) file) _ rows a.2 in
+    let e : record { allows = a.0; denies = b.0 } ≡ rows = cc in
+    subst (λ (r : PolicyRows). (length r.allows ≤ MOST_ALLOW_ROWS) × (length r.denies ≤ MOST_DENY_ROWS)) e
+    (few_rows section.Allow (λ _ row. rights_row declared row) MOST_ALLOW_ROWS file a.0 a.1, few_rows section.Deny (λ _ row. rights_row declared row) MOST_DENY_ROWS file b.0 b.1)

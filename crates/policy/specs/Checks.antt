@@ -1,12 +1,12 @@
--- The checks of a policy file, each by itself, in the order in which their faults are told: the file's keys and its
--- version, then array by array and row by row; in a row its keys, their values in order, and its names (own).
+-- The checks of a policy file, each by itself, in the order in which their faults are told: the file's version and its
+-- keys, then array by array and row by row; in a row its keys, their values in order, and its names (own).
 use Rattle.std.specs.Prelude.{ℕ, ◌+◌, ◌==◌, nat_le, codes, List, [], ◌∷◌, ◌++◌, length, map, sum, Option, Some, None, option_map, option_and_then}
 use Rattle.std.specs.List.{list_any, list_all, filter_map}
 use Rattle.std.specs.Result.{result_err}
 use Rattle.std.specs.Str.{bytes_eq}
 use Rattle.toml.specs.Data.{Data, Members, get_member, as_table}
 use Rattle.aql_packet.specs.declared.memory.TheConstants.{MOST_REGIONS}
-use Rattle.policy.specs.declared.limits.TheConstants.{MOST_AGENTS, MOST_ALLOW_ROWS, MOST_CLIENTS, MOST_KERNELS, MOST_MEMORY_BYTES, MOST_SIGNALS}
+use Rattle.policy.specs.declared.limits.TheConstants.{MOST_AGENTS, MOST_ALLOW_ROWS, MOST_CLIENTS, MOST_DENY_ROWS, MOST_KERNELS, MOST_MEMORY_BYTES, MOST_SIGNALS}
 use Rattle.policy.specs.declared.fault.PolicyCause.{PolicyCause}
 use Rattle.policy.specs.declared.fault.PolicyCause.TheVariants.{BadValue, DoubleName, UnknownName, TooMany}
 use Rattle.policy.specs.declared.fault.PolicyFault.{PolicyFault}
@@ -14,10 +14,11 @@ use Rattle.policy.specs.declared.fault.Section.{Section}
 use Rattle.policy.specs.declared.fault.Section.TheVariants as section
 use Rattle.policy.specs.declared.object.Kind.{Kind}
 use Rattle.policy.specs.declared.object.Kind.TheVariants as kind
+use Rattle.policy.specs.declared.version.Version.{Version}
 use Rattle.policy.specs.Names.{Name, number_in}
 use Rattle.policy.specs.SectionNames.{name_of_section}
 use Rattle.policy.specs.Reading.{or_fault, unless, fault_of_file, fault_in}
-use Rattle.policy.specs.Format.{a_name, a_length, a_choice, a_kind, some_rights, an_entry, a_text, items_in, keys_in, only, key, takes, region_length, initial_value, subject_of, target_of, is_table, is_version, client_keys, agent_keys, region_keys, signal_keys, kernel_keys, allow_keys, file_keys}
+use Rattle.policy.specs.Format.{a_name, a_length, a_choice, a_kind, some_rights, an_entry, a_text, items_in, keys_in, only, key, takes, region_length, initial_value, subject_of, target_of, is_table, version_of, client_keys, agent_keys, region_keys, signal_keys, kernel_keys, rights_keys, file_keys}
 
 -- the first fault of some
 abbrev pub first_of : {E : Type 0} → List (Option E) → Option E
@@ -87,7 +88,7 @@ signal_rest row = result_err (initial_value row) ∷ []
 abbrev pub kernel_rest : Members → List (Option PolicyCause)
 kernel_rest row = result_err (key (codes "entry") an_entry row) ∷ result_err (key (codes "text") a_text row) ∷ []
 
--- the rights of an allow row are those of its kind
+-- the rights of a row are those of its kind
 abbrev pub rights_check : Option Kind → Members → Option PolicyCause
 rights_check None row = None
 rights_check (Some on) row = result_err (key (codes "rights") (some_rights on) row)
@@ -103,10 +104,10 @@ object_check objects None object = None
 object_check objects (Some on) None = None
 object_check objects (Some on) (Some object) = result_err (or_fault UnknownName (target_of on (objects on) object))
 
--- an allow row: its keys, each in turn, and then the names
-abbrev pub allow_checks : List Name → (Kind → List Name) → Members → List (Option PolicyCause)
-allow_checks clients objects row =
-    result_err (only allow_keys row)
+-- an allow row or a deny row: its keys, each in turn, and then the names
+abbrev pub rights_checks : List Name → (Kind → List Name) → Members → List (Option PolicyCause)
+rights_checks clients objects row =
+    result_err (only rights_keys row)
     ∷ result_err (key (codes "client") a_choice row)
     ∷ result_err (key (codes "kind") a_kind row)
     ∷ result_err (key (codes "object") a_choice row)
@@ -153,10 +154,15 @@ sum_check file =
 
 -- ---- the file
 
+-- the keys are those of the version
+abbrev pub keys_check : Option Version → Members → Option PolicyFault
+keys_check None file = None
+keys_check (Some version) file = result_err (unless (list_all (λ k. list_any (bytes_eq k) (file_keys version)) (keys_in file)) (fault_of_file BadValue))
+
 abbrev pub head_checks : Members → List (Option PolicyFault)
 head_checks file =
-    result_err (unless (list_all (λ k. list_any (bytes_eq k) file_keys) (keys_in file)) (fault_of_file BadValue))
-    ∷ result_err (unless (is_version (get_member (codes "version") file)) (fault_of_file BadValue))
+    result_err (or_fault (fault_of_file BadValue) (version_of (get_member (codes "version") file)))
+    ∷ keys_check (version_of (get_member (codes "version") file)) file
     ∷ []
 
 abbrev pub object_checks : Members → List (Option PolicyFault)
@@ -167,8 +173,13 @@ object_checks file =
     ++ (named_array_checks section.Signal MOST_SIGNALS signal_keys signal_rest file
     ++ named_array_checks section.Kernel MOST_KERNELS kernel_keys kernel_rest file)))
 
+abbrev pub policy_rows_checks : Members → List (Option PolicyFault)
+policy_rows_checks file =
+    array_checks section.Allow MOST_ALLOW_ROWS (λ above. rights_checks (names_at section.Client file) (λ on. names_at (section_of on) file)) file
+    ++ array_checks section.Deny MOST_DENY_ROWS (λ above. rights_checks (names_at section.Client file) (λ on. names_at (section_of on) file)) file
+
 -- all checks of a file
 abbrev pub file_checks : Members → List (Option PolicyFault)
 file_checks file =
     head_checks file ++ (object_checks file
-    ++ array_checks section.Allow MOST_ALLOW_ROWS (λ above. allow_checks (names_at section.Client file) (λ on. names_at (section_of on) file)) file)
+    ++ policy_rows_checks file)

@@ -6,7 +6,7 @@ use Rattle.aql_packet.specs.Memory.{is_region_length}
 use Rattle.toml.specs.Data.{Data, string, integer, table, Items, no_items, item, Members, no_members, member, get_member, as_str, as_integer, as_array, as_table}
 use Rattle.toml.specs.Parse.{parse_document}
 use Rattle.aql_packet.specs.declared.memory.TheConstants.{MOST_REGIONS}
-use Rattle.policy.specs.declared.limits.TheConstants.{MOST_AGENTS, MOST_ALLOW_ROWS, MOST_CLIENTS, MOST_KERNELS, MOST_MEMORY_BYTES, MOST_NAME_BYTES, MOST_POLICY_BYTES, MOST_SIGNALS}
+use Rattle.policy.specs.declared.limits.TheConstants.{MOST_AGENTS, MOST_ALLOW_ROWS, MOST_CLIENTS, MOST_DENY_ROWS, MOST_KERNELS, MOST_MEMORY_BYTES, MOST_NAME_BYTES, MOST_POLICY_BYTES, MOST_SIGNALS}
 use Rattle.policy.specs.declared.fault.PolicyCause.{PolicyCause}
 use Rattle.policy.specs.declared.fault.PolicyCause.TheVariants.{NotToml, MissingKey, BadValue, UnknownName, DoubleName, TooMany}
 use Rattle.policy.specs.declared.fault.PolicyFault.{PolicyFault}
@@ -23,8 +23,11 @@ use Rattle.policy.specs.declared.row.Grantee.{Grantee}
 use Rattle.policy.specs.declared.row.Grantee.TheVariants as subject
 use Rattle.policy.specs.declared.row.Target.{Target}
 use Rattle.policy.specs.declared.row.Target.TheVariants as target
-use Rattle.policy.specs.declared.row.AllowRow.{AllowRow}
+use Rattle.policy.specs.declared.row.RightsRow.{RightsRow}
 use Rattle.policy.specs.declared.row.Takes.{Takes}
+use Rattle.policy.specs.declared.rows.PolicyRows.{PolicyRows}
+use Rattle.policy.specs.declared.version.Version.{Version}
+use Rattle.policy.specs.declared.version.Version.TheVariants.{First, Second}
 use Rattle.policy.specs.RightNames.{name_of_right}
 use Rattle.policy.specs.SectionNames.{name_of_section}
 use Rattle.policy.specs.Object.{same_kind, object_of}
@@ -156,7 +159,7 @@ right_value read (Some d) = or_fault BadValue (read d)
 abbrev pub key : {A : Type 0} → Name → (Data → Option A) → Members → Result A PolicyCause
 key name read row = right_value read (get_member name row)
 
--- the keys of a row of each array, and of the file
+-- the keys of a row of each array
 abbrev pub client_keys : List Name
 client_keys = codes "name" ∷ []
 
@@ -172,11 +175,8 @@ signal_keys = codes "name" ∷ codes "initial" ∷ []
 abbrev pub kernel_keys : List Name
 kernel_keys = codes "name" ∷ codes "entry" ∷ codes "text" ∷ []
 
-abbrev pub allow_keys : List Name
-allow_keys = codes "client" ∷ codes "kind" ∷ codes "object" ∷ codes "rights" ∷ []
-
-abbrev pub file_keys : List Name
-file_keys = codes "version" ∷ codes "client" ∷ codes "agent" ∷ codes "region" ∷ codes "signal" ∷ codes "kernel" ∷ codes "allow" ∷ []
+abbrev pub rights_keys : List Name
+rights_keys = codes "client" ∷ codes "kind" ∷ codes "object" ∷ codes "rights" ∷ []
 
 -- what a row holds beside its name
 abbrev pub no_more_keys : Members → Result (Unit {0}) PolicyCause
@@ -206,7 +206,7 @@ named_row known rest before row = do
   _ ← unless (number_in (names before) name == 0) DoubleName
   Ok (name, value)
 
--- whom, and what, an allow row covers: a name has to be declared
+-- whom, and what, a row on rights covers: a name has to be declared
 abbrev pub subject_of : List Name → Option Name → Option Grantee
 subject_of clients None = Some subject.Any
 subject_of clients (Some name) = if nat_lt 0 (number_in clients name) then Some (subject.One (record { 0 = number_in clients name })) else None
@@ -215,10 +215,10 @@ abbrev pub target_of : Kind → List Name → Option Name → Option Target
 target_of on objects None = Some (target.Any on)
 target_of on objects (Some name) = if nat_lt 0 (number_in objects name) then Some (target.One (object_of on (number_in objects name))) else None
 
--- an allow row: its keys, each in turn, and then the names
-abbrev pub allow_row : Declared → Members → Result AllowRow PolicyCause
-allow_row declared row = do
-  _ ← only allow_keys row
+-- an allow row or a deny row: its keys, each in turn, and then the names
+abbrev pub rights_row : Declared → Members → Result RightsRow PolicyCause
+rights_row declared row = do
+  _ ← only rights_keys row
   client ← key (codes "client") a_choice row
   on ← key (codes "kind") a_kind row
   object ← key (codes "object") a_choice row
@@ -269,17 +269,30 @@ array_of section limit read file = do
 
 -- ---- the file
 
--- the version is 1, where it stands
-abbrev pub is_version : Option Data → Bool
-is_version None = true
-is_version (Some (integer (pos n))) = n == 1
-is_version (Some _) = false
+-- the version of a number: 1 or 2
+abbrev pub version_numbered : Data → Option Version
+version_numbered (integer (pos n)) = if n == 1 then Some First else if n == 2 then Some Second else None
+version_numbered _ = None
 
--- the file's keys, and its version
-abbrev pub file_head : Members → Result (Unit {0}) PolicyFault
+-- the version that a file names, and the first where it names none
+abbrev pub version_of : Option Data → Option Version
+version_of None = Some First
+version_of (Some d) = version_numbered d
+
+-- the keys of a file: deny rows are the second version's alone
+abbrev pub first_keys : List Name
+first_keys = codes "version" ∷ codes "client" ∷ codes "agent" ∷ codes "region" ∷ codes "signal" ∷ codes "kernel" ∷ codes "allow" ∷ []
+
+abbrev pub file_keys : Version → List Name
+file_keys First = first_keys
+file_keys Second = codes "deny" ∷ first_keys
+
+-- the file's version, and its keys
+abbrev pub file_head : Members → Result Version PolicyFault
 file_head file = do
-  _ ← unless (list_all (λ k. list_any (bytes_eq k) file_keys) (keys_in file)) (fault_of_file BadValue)
-  unless (is_version (get_member (codes "version") file)) (fault_of_file BadValue)
+  version ← or_fault (fault_of_file BadValue) (version_of (get_member (codes "version") file))
+  _ ← unless (list_all (λ k. list_any (bytes_eq k) (file_keys version)) (keys_in file)) (fault_of_file BadValue)
+  Ok version
 
 -- the regions, which have not too many bytes together
 abbrev pub regions_of : Members → Result (List (Name × ℕ)) PolicyFault
@@ -288,23 +301,30 @@ regions_of file = do
   _ ← unless (nat_le (sum_by (λ region. region.1) regions) MOST_MEMORY_BYTES) (fault_in section.Region 0 TooMany)
   Ok regions
 
--- the clients and the objects, with no allow rows yet
-abbrev pub objects_of : Members → Result Declared PolicyFault
-objects_of file = do
+-- the clients and the objects, with no rows on rights yet
+abbrev pub objects_of : Version → Members → Result Declared PolicyFault
+objects_of version file = do
   clients ← array_of section.Client MOST_CLIENTS (named_row client_keys no_more_keys) file
   agents ← array_of section.Agent MOST_AGENTS (named_row agent_keys takes) file
   regions ← regions_of file
   signals ← array_of section.Signal MOST_SIGNALS (named_row signal_keys initial_value) file
   kernels ← array_of section.Kernel MOST_KERNELS (named_row kernel_keys kernel_source) file
-  Ok (record { clients = names clients; agents = agents; regions = regions; signals = signals; kernels = kernels; allows = [] })
+  Ok (record { version = version; clients = names clients; agents = agents; regions = regions; signals = signals; kernels = kernels; rows = record { allows = []; denies = [] } })
 
--- what a file declares, or its first fault: the file's keys, and then the arrays in order
+-- the allow rows, and then the deny rows
+abbrev pub policy_rows : Declared → Members → Result PolicyRows PolicyFault
+policy_rows declared file = do
+  allows ← array_of section.Allow MOST_ALLOW_ROWS (λ _ row. rights_row declared row) file
+  denies ← array_of section.Deny MOST_DENY_ROWS (λ _ row. rights_row declared row) file
+  Ok (record { allows = allows; denies = denies })
+
+-- what a file declares, or its first fault: the file's version and keys, and then the arrays in order
 abbrev pub declared_by : Members → Result Declared PolicyFault
 declared_by file = do
-  _ ← file_head file
-  declared ← objects_of file
-  allows ← array_of section.Allow MOST_ALLOW_ROWS (λ _ row. allow_row declared row) file
-  Ok (record declared { allows = allows })
+  version ← file_head file
+  declared ← objects_of version file
+  rows ← policy_rows declared file
+  Ok (record declared { rows = rows })
 
 -- the text is the TOML document of a file
 abbrev pub IsFile : List ℕ → Members → Type 0

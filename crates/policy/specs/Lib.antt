@@ -9,6 +9,7 @@ pub mod Table
 pub mod Kernel
 pub mod Rules
 pub mod Policy
+pub mod Declaring
 pub mod Results
 pub mod Reading
 pub mod Limits

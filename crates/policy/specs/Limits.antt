@@ -1,7 +1,7 @@
 -- What every policy keeps to: how many rows each array has at most, and how long regions are.
 use Rattle.std.specs.Prelude.{◌≡◌, ◌≤◌, true, length, sum_by}
 use Rattle.aql_packet.specs.Memory.{are_region_lengths}
-use Rattle.policy.specs.declared.limits.TheConstants.{MOST_AGENTS, MOST_ALLOW_ROWS, MOST_CLIENTS, MOST_KERNELS, MOST_MEMORY_BYTES, MOST_SIGNALS}
+use Rattle.policy.specs.declared.limits.TheConstants.{MOST_AGENTS, MOST_ALLOW_ROWS, MOST_CLIENTS, MOST_DENY_ROWS, MOST_KERNELS, MOST_MEMORY_BYTES, MOST_SIGNALS}
 use Rattle.policy.specs.Policy.{Declared, region_lengths}
 
 -- A policy within the limits (own).
@@ -13,4 +13,5 @@ pub record IsWithinLimits (policy : Declared) : Type 0 where
   pub memory : sum_by (λ region. region.1) policy.regions ≤ MOST_MEMORY_BYTES
   pub signals : length policy.signals ≤ MOST_SIGNALS
   pub kernels : length policy.kernels ≤ MOST_KERNELS
-  pub allows : length policy.allows ≤ MOST_ALLOW_ROWS
+  pub allows : length policy.rows.allows ≤ MOST_ALLOW_ROWS
+  pub denies : length policy.rows.denies ≤ MOST_DENY_ROWS

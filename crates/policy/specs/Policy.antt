@@ -3,8 +3,9 @@ use Rattle.std.specs.Prelude.{ℕ, ℤ, List, length, map, Option, option_map}
 use Rattle.policy.specs.declared.object.Kind.{Kind}
 use Rattle.policy.specs.declared.object.Kind.TheVariants as kind
 use Rattle.policy.specs.declared.object.Object.{Object}
-use Rattle.policy.specs.declared.row.AllowRow.{AllowRow}
 use Rattle.policy.specs.declared.row.Takes.{Takes}
+use Rattle.policy.specs.declared.rows.PolicyRows.{PolicyRows}
+use Rattle.policy.specs.declared.version.Version.{Version}
 use Rattle.policy.specs.Object.{kind_of, number_of}
 use Rattle.policy.specs.Rules.{Rules}
 pub use Rattle.policy.specs.Names.{Name, names, numbered, number_in}
@@ -12,6 +13,8 @@ pub use Rattle.policy.specs.Kernel.{Source}
 
 -- What a policy declares: the rows of each array in order, with names resolved to numbers.
 pub record Declared : Type 0 where
+  -- the version of its file
+  pub version : Version
   -- the clients' names
   pub clients : List Name
   -- the agents' names, and which dispatches each takes
@@ -22,8 +25,8 @@ pub record Declared : Type 0 where
   pub signals : List (Name × ℤ)
   -- the kernels' names and sources
   pub kernels : List (Name × Source)
-  -- the allow rows
-  pub allows : List AllowRow
+  -- the allow rows and the deny rows
+  pub rows : PolicyRows
 
 -- the lengths of the regions, in order
 abbrev pub region_lengths : Declared → List ℕ
@@ -50,7 +53,7 @@ row_of rows n = option_map (λ row. row.1) (numbered rows n)
 
 -- ---- its rules
 
--- how many clients and objects it declares, and its allow rows
+-- how many clients and objects it declares, and its rows on rights
 abbrev pub rules_of : Declared → Rules
 rules_of policy = record {
   clients = length policy.clients;
@@ -58,5 +61,5 @@ rules_of policy = record {
   regions = length policy.regions;
   signals = length policy.signals;
   kernels = length policy.kernels;
-  allows = policy.allows;
+  rows = policy.rows;
 }

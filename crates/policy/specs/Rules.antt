@@ -1,5 +1,5 @@
--- The rules of a policy, by which rights are granted: how many clients and objects there are, and the allow rows.
-use Rattle.std.specs.Prelude.{ℕ, Bool, true, ◌&&◌, ◌==◌, nat_lt, nat_le, List}
+-- The rules of a policy, by which rights are granted: how many clients and objects there are, and the allow and deny rows.
+use Rattle.std.specs.Prelude.{ℕ, Bool, true, not, ◌&&◌, ◌==◌, nat_lt, nat_le}
 use Rattle.std.specs.List.{list_any}
 use Rattle.aql_packet.specs.declared.ids.ClientId.{ClientId}
 use Rattle.policy.specs.declared.object.Kind.{Kind}
@@ -11,19 +11,20 @@ use Rattle.policy.specs.declared.row.Grantee.{Grantee}
 use Rattle.policy.specs.declared.row.Grantee.TheVariants as subject
 use Rattle.policy.specs.declared.row.Target.{Target}
 use Rattle.policy.specs.declared.row.Target.TheVariants as target
-use Rattle.policy.specs.declared.row.AllowRow.{AllowRow}
+use Rattle.policy.specs.declared.row.RightsRow.{RightsRow}
+use Rattle.policy.specs.declared.rows.PolicyRows.{PolicyRows}
 use Rattle.policy.specs.Object.{kind_of, number_of, same_kind, same_object}
 use Rattle.policy.specs.Rights.{has, each_right}
 
 -- What tells of a policy who and what is declared, and what is allowed: its numbers of clients and of objects of each kind, and its
--- allow rows. Grants keep no more of it.
+-- rows on rights. Grants keep no more of it.
 pub record Rules : Type 0 where
   pub clients : ℕ
   pub agents : ℕ
   pub regions : ℕ
   pub signals : ℕ
   pub kernels : ℕ
-  pub allows : List AllowRow
+  pub rows : PolicyRows
 
 -- how many objects of a kind there are
 abbrev pub count : Rules → Kind → ℕ
@@ -40,23 +41,28 @@ knows_client rules client = nat_lt 0 client.0 && nat_le client.0 rules.clients
 abbrev pub knows_object : Rules → Object → Bool
 knows_object rules object = nat_lt 0 (number_of object) && nat_le (number_of object) (count rules (kind_of object))
 
--- an allow row is for the client
+-- a row is for the client
 abbrev pub is_for : Grantee → ClientId → Bool
 is_for subject.Any client = true
 is_for (subject.One named) client = named.0 == client.0
 
--- an allow row is on the object
+-- a row is on the object
 abbrev pub is_on : Target → Object → Bool
 is_on (target.Any kind) object = same_kind kind (kind_of object)
 is_on (target.One named) object = same_object named object
 
 -- the row covers the client, the object and the right
-abbrev pub covers_right : ClientId → Object → Right → AllowRow → Bool
+abbrev pub covers_right : ClientId → Object → Right → RightsRow → Bool
 covers_right client object right row = (is_for row.subject client && is_on row.target object) && has row.rights right
 
--- some row covers the client, the object and the right
+-- what rows allow: some allow row covers it, and no deny row does (own)
+abbrev pub rows_allow : PolicyRows → ClientId → Object → Right → Bool
+rows_allow rows client object right =
+    list_any (covers_right client object right) rows.allows && not (list_any (covers_right client object right) rows.denies)
+
+-- the right is allowed to the client on the object
 abbrev pub is_allowed : Rules → ClientId → Object → Right → Bool
-is_allowed rules client object right = list_any (covers_right client object right) rules.allows
+is_allowed rules client object right = rows_allow rules.rows client object right
 
 -- each right of the set is allowed
 abbrev pub are_allowed : Rules → ClientId → Object → Rights → Bool

@@ -23,6 +23,8 @@ pub enum Section {
     Kernel,
     /// The allow rows.
     Allow,
+    /// The deny rows.
+    Deny,
 }
 
 impl Section {
@@ -40,6 +42,7 @@ impl Section {
             Section::Signal => "signal",
             Section::Kernel => "kernel",
             Section::Allow => "allow",
+            Section::Deny => "deny",
         }
     }
 
@@ -64,7 +67,7 @@ pub enum PolicyCause {
     MissingKey,
     /// A key that isn't known, or a value that isn't right for its key.
     BadValue,
-    /// An allow row names a client or an object that isn't declared.
+    /// An allow row or a deny row names a client or an object that isn't declared.
     UnknownName,
     /// A row has the name of an earlier row of its array.
     DoubleName,

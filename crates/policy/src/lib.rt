@@ -13,18 +13,21 @@ mod policy;
 mod read;
 mod rights;
 mod row;
+mod rows;
 mod table;
+mod version;
 
-pub use coverage::rows_allow;
 pub use fault::{PolicyCause, PolicyFault, ReadPolicyError, Section};
 pub use kernel_source::KernelSource;
 pub use laws::faults_are_first;
 pub use limits::{
-    MOST_AGENTS, MOST_ALLOW_ROWS, MOST_CLIENTS, MOST_KERNELS, MOST_MEMORY_BYTES, MOST_NAME_BYTES,
-    MOST_POLICY_BYTES, MOST_SIGNALS,
+    MOST_AGENTS, MOST_ALLOW_ROWS, MOST_CLIENTS, MOST_DENY_ROWS, MOST_KERNELS, MOST_MEMORY_BYTES,
+    MOST_NAME_BYTES, MOST_POLICY_BYTES, MOST_SIGNALS,
 };
 pub use object::{Kind, Object};
 pub use policy::Policy;
 pub use read::read_policy;
 pub use rights::{Right, Rights};
-pub use row::{AllowRow, Grantee, TAKES_NOTHING, Takes, Target};
+pub use row::{Grantee, RightsRow, TAKES_NOTHING, Takes, Target};
+pub use rows::PolicyRows;
+pub use version::Version;

@@ -21,5 +21,8 @@ pub const MOST_KERNELS: usize = 64;
 /// How many allow rows it has at the most.
 pub const MOST_ALLOW_ROWS: usize = 4_096;
 
+/// How many deny rows it has at the most.
+pub const MOST_DENY_ROWS: usize = 4_096;
+
 /// How many bytes its regions have together at the most.
 pub const MOST_MEMORY_BYTES: u64 = 1 << 26;

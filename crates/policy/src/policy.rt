@@ -1,46 +1,49 @@
 //! A policy: what exists, and which rights may be granted to whom.
 
-ghost use Rattle.std.specs.Prelude.{◌≡◌, ◌<◌, ◌≤◌, [], length, Some, IfSome};
+ghost use Rattle.std.specs.Prelude.{◌≡◌, ◌<◌, ◌≤◌, ◌↔◌, true, [], length, Some, IfOk, IfSome};
 ghost use Rattle.std.specs.Option.{option_copied};
-ghost use Rattle.policy.specs.declared.limits.TheConstants.{MOST_ALLOW_ROWS, MOST_SIGNALS};
+ghost use Rattle.policy.specs.declared.limits.TheConstants.{MOST_ALLOW_ROWS, MOST_DENY_ROWS, MOST_SIGNALS};
 ghost use Rattle.policy.specs.Object.{kind_of, number_of};
+ghost use Rattle.policy.specs.Declaring.{DeclaresAs};
 ghost use Rattle.policy.specs.Limits.{IsWithinLimits};
 ghost use Rattle.policy.specs.Names.{AreDistinct};
 ghost use Rattle.policy.specs.Policy.{names, numbered, number_in, names_of, name_in, row_of, rules_of};
 ghost use Rattle.policy.specs.Rules.{are_allowed, count, knows_object, knows_client};
 
-use crate::coverage::rows_allow;
 use crate::kernel_source::KernelSource;
 use crate::object::{Kind, Object};
 use crate::rights::Rights;
-use crate::row::{AllowRow, Takes};
+use crate::row::{RightsRow, Takes};
+use crate::rows::PolicyRows;
 use crate::table::Table;
+use crate::version::Version;
 use aql_packet::{AgentHandle, ClientId, KernelObject, RegionHandle, SignalHandle};
-use sequences::Sequence;
-use std::alloc::Global;
+use std::alloc::{AllocError, Global};
 use std::marker::Model;
 
 /// What a policy declares, in the order of its rows. Clients and the objects of each kind are
 /// numbered from 1.
 pub struct Policy {
+    version: Version,
     clients: Table<()>,
     agents: Table<Takes>,
     regions: Table<u32>,
     signals: Table<i64>,
     kernels: Table<KernelSource>,
-    allows: Sequence<AllowRow>,
+    rows: PolicyRows,
 }
 
 // Written out for the same reason as that of `Table`.
 impl Drop for Policy {
     fn drop(self) {
         let Policy {
+            version: _,
             clients: _,
             agents: _,
             regions: _,
             signals: _,
             kernels: _,
-            allows: _,
+            rows: _,
         } = self;
     }
 }
@@ -59,9 +62,10 @@ impl Model for Policy {
 }
 
 impl Policy {
-    // A policy with no allow rows. It takes no memory.
+    // A policy with no rows on rights. It takes no memory.
     pub(crate) fn new(
         alloc: Global,
+        version: Version,
         clients: Table<()>,
         agents: Table<Takes>,
         regions: Table<u32>,
@@ -69,38 +73,92 @@ impl Policy {
         kernels: Table<KernelSource>,
     ) -> Policy
         requires { IsWithinLimits (record {
+          version = version;
           clients = names clients;
           agents = agents;
           regions = regions;
           signals = signals;
           kernels = kernels;
-          allows = [];
+          rows = record { allows = []; denies = [] };
         }) }
         ensures { result ≡ record {
+          version = version;
           clients = names clients;
           agents = agents;
           regions = regions;
           signals = signals;
           kernels = kernels;
-          allows = [];
+          rows = record { allows = []; denies = [] };
         } }
     {
         Policy {
+            version,
             clients,
             agents,
             regions,
             signals,
             kernels,
-            allows: Sequence::new(alloc),
+            rows: PolicyRows::none(alloc),
         }
     }
 
-    // Puts allow rows in the place of those before.
-    pub(crate) fn set_allow_rows(&mut self, allows: Sequence<AllowRow>)
-        requires { length allows ≤ MOST_ALLOW_ROWS }
-        ensures { self.new ≡ record self.old { allows = allows } }
+    /// Puts rows on rights in the place of those before.
+    pub fn set_rows(&mut self, rows: PolicyRows)
+        requires allows { length rows.allows ≤ MOST_ALLOW_ROWS }
+        requires denies { length rows.denies ≤ MOST_DENY_ROWS }
+        ensures { self.new ≡ record self.old { rows = rows } }
     {
-        self.allows = allows;
+        self.rows = rows;
+    }
+
+    /// The rows on rights alone. It takes no memory.
+    pub fn into_rows(self) -> PolicyRows
+        ensures rows { result ≡ self.rows }
+        ensures limits { IsWithinLimits self }
+    {
+        let Policy {
+            version: _,
+            clients: _,
+            agents: _,
+            regions: _,
+            signals: _,
+            kernels: _,
+            rows,
+        } = self;
+        rows
+    }
+
+    /// The same policy in memory of its own.
+    pub fn copy(&self, alloc: Global) -> Result<Policy, AllocError>
+        ensures { IfOk result (λ copy. copy ≡ self.now) }
+    {
+        Ok(Policy {
+            version: self.version,
+            clients: self.clients.copy()?,
+            agents: self.agents.copy()?,
+            regions: self.regions.copy()?,
+            signals: self.signals.copy()?,
+            kernels: self.kernels.copy()?,
+            rows: self.rows.copy(alloc)?,
+        })
+    }
+
+    /// Whether another policy declares the same clients and objects, in the same order and in all their keys.
+    pub fn declares_as(&self, other: &Policy) -> bool
+        ensures { result ≡ true ↔ DeclaresAs self.now other.now }
+    {
+        self.clients.is_same(&other.clients)
+            & self.agents.is_same(&other.agents)
+            & self.regions.is_same(&other.regions)
+            & self.signals.is_same(&other.signals)
+            & self.kernels.is_same(&other.kernels)
+    }
+
+    /// The version of the file that the policy was read from.
+    pub fn version(&self) -> Version
+        ensures { result ≡ self.now.version }
+    {
+        self.version
     }
 
     /// How many clients there are.
@@ -226,18 +284,19 @@ impl Policy {
         self.kernels.names_are_distinct();
     }
 
-    /// The allow rows, in order.
-    pub fn allow_rows(&self) -> &[AllowRow]
-        ensures { result.now ≡ self.now.allows }
+    /// The rows on rights.
+    pub fn rows(&self) -> &PolicyRows
+        ensures rows { result.now ≡ self.now.rows }
+        ensures limits { IsWithinLimits self.now }
     {
-        self.allows.as_slice()
+        &self.rows
     }
 
     /// Whether the policy allows each of some rights to a client on an object: for each of them
-    /// some allow row covers the client, the object and the right.
+    /// some allow row covers the client, the object and the right, and no deny row does.
     pub fn allows(&self, client: ClientId, object: Object, rights: Rights) -> bool
         ensures { result ≡ are_allowed (rules_of self.now) client object rights }
     {
-        rows_allow(self.allow_rows(), client, object, rights)
+        self.rows.allow(client, object, rights)
     }
 }

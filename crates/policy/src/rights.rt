@@ -97,7 +97,7 @@ impl Flags for Rights {
 }
 
 impl Rights {
-    ghost use Rattle.std.specs.Prelude.{◌||◌};
+    ghost use Rattle.std.specs.Prelude.{◌&&◌, not};
     ghost use Rattle.policy.specs.Rights.{has, set_of, each_right, rights_that, by_right};
 
     /// No right.
@@ -131,6 +131,13 @@ impl Rights {
         Right::ALL
             .iter()
             .all(|right| !other.has(*right) || self.has(*right))
+    }
+
+    /// The rights of this set that aren't in another.
+    pub fn without(self, taken: Rights) -> Rights
+        ensures { (right : Right) → has result right ≡ (has self right && not (has taken right)) }
+    {
+        self.difference(taken)
     }
 
     /// The set of the rights of which it is said so, in the order of `ALL`.

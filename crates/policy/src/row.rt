@@ -6,7 +6,7 @@ use crate::object::{Kind, Object};
 use crate::rights::Rights;
 use aql_packet::ClientId;
 
-/// Whom an allow row covers.
+/// Whom a row on rights covers.
 #[derive(Clone, Copy, Debug, PartialEq, Eq)]
 pub enum Grantee {
     /// Every client.
@@ -15,7 +15,7 @@ pub enum Grantee {
     One(ClientId),
 }
 
-/// What an allow row covers.
+/// What a row on rights covers.
 #[derive(Clone, Copy, Debug, PartialEq, Eq)]
 pub enum Target {
     /// Every object of a kind.
@@ -24,18 +24,19 @@ pub enum Target {
     One(Object),
 }
 
-/// An allow row: the rights that may be granted to some clients on some objects.
+/// A row on rights: whom and what it covers, and which rights. As an allow row it says what may be granted, as a
+/// deny row what may not.
 #[derive(Clone, Copy, Debug, PartialEq, Eq)]
-pub struct AllowRow {
+pub struct RightsRow {
     /// Whom it covers.
     pub subject: Grantee,
     /// What it covers.
     pub target: Target,
-    /// The rights that it allows.
+    /// The rights that it covers.
     pub rights: Rights,
 }
 
-impl AllowRow {
+impl RightsRow {
     ghost use Rattle.policy.specs.Rules.{is_for, is_on};
 
     /// Whether the row covers a client and an object.

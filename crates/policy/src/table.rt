@@ -1,6 +1,7 @@
 //! A table of names: rows in order, each found by its name or by its number.
 
-ghost use Rattle.std.specs.Prelude.{◌≡◌, ◌<◌, ◌≤◌, ◌++◌, [], ◌∷◌, length, position, option_map, string_bytes, sum_by, IfSome, OnOk, OnErr};
+ghost use Rattle.std.specs.Prelude.{◌≡◌, ◌<◌, ◌≤◌, ◌++◌, [], ◌∷◌, length, position, option_map, string_bytes, sum_by, IfOk, IfSome, OnOk, OnErr};
+ghost use Rattle.std.specs.Bool.{Decides};
 ghost use Rattle.std.specs.Option.{option_copied};
 ghost use Rattle.std.specs.Str.{bytes_eq};
 ghost use Rattle.policy.specs.declared.limits.TheConstants.{MOST_SIGNALS};
@@ -130,6 +131,27 @@ impl<V> Table<V> {
             Some((_, row)) => Some(row),
             None => None,
         }
+    }
+}
+
+impl<V: Clone + Drop> Table<V> {
+    /// The same rows in memory of their own, where a clone of what a row holds is the same.
+    pub fn copy(&self) -> Result<Table<V>, AllocError>
+        ensures { ((held copy : V) → V.is_clone held copy → copy ≡ held) → IfOk result (λ copy. copy ≡ self.now) }
+    {
+        Ok(Table {
+            rows: self.rows.clone()?,
+        })
+    }
+}
+
+impl<V: PartialEq> Table<V> {
+    /// Whether another table has the same rows in the same order, where `==` tells whether what two rows hold is
+    /// the same.
+    pub fn is_same(&self, other: &Table<V>) -> bool
+        ensures { ((held other : V) → Decides (V.eq held other) (held ≡ other)) → Decides result (self.now ≡ other.now) }
+    {
+        self.rows.as_slice() == other.rows.as_slice()
     }
 }
 

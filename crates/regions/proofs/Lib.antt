@@ -4,3 +4,4 @@ pub mod Written
 pub mod Parts
 pub mod Laws
 pub mod Placing
+pub mod Copies

@@ -1,5 +1,6 @@
 //! One region: a run of bytes of a fixed length.
 ghost use Rattle.std.specs.Prelude.{◌≡◌, ◌+◌, ◌≤◌, IfOk, length, take, drop, replicate};
+ghost use Rattle.std.specs.Str.{bytes_eq};
 ghost use Rattle.regions.specs.Memory.{overlaid};
 
 use std::alloc::{AllocError, Global};
@@ -30,6 +31,22 @@ impl Region {
         Ok(Region {
             bytes: vec![in alloc; 0; length]?.into_boxed_slice(),
         })
+    }
+
+    /// A region of the same bytes.
+    pub fn copy(&self, alloc: Global) -> Result<Region, AllocError>
+        ensures { IfOk result (λ copy. copy ≡ self.now) }
+    {
+        Ok(Region {
+            bytes: BoxedSlice::from_slice(alloc, self.bytes.as_slice())?,
+        })
+    }
+
+    /// Whether another region has the same bytes.
+    pub fn is_same(&self, other: &Region) -> bool
+        ensures { result ≡ bytes_eq self.now other.now }
+    {
+        self.bytes.as_slice() == other.bytes.as_slice()
     }
 
     /// How many bytes the region has.
@@ -72,5 +89,19 @@ impl Region {
         self.bytes
             .as_mut_slice()
             .copy_within(source..source + size, target);
+    }
+}
+
+impl PartialEq for Region {
+    ghost use Rattle.std.specs.Str.{bytes_eq};
+    ghost use Rattle.std.specs.Cmp.{partial_equiv_from_equiv};
+    ghost use Rattle.std.specs.Cmp.Lexicographic.{nat_list_eq_equiv};
+
+    ghost eq = { bytes_eq };
+
+    ghost laws = { partial_equiv_from_equiv nat_list_eq_equiv };
+
+    fn eq(&self, other: &Region) -> bool {
+        self.is_same(other)
     }
 }

@@ -1,5 +1,6 @@
 //! All regions, found by address.
-ghost use Rattle.std.specs.Prelude.{◌≡◌, ◌+◌, ◌<◌, IfOk, OnOk, OnErr, IsTrue, true, length, replicate};
+ghost use Rattle.std.specs.Prelude.{◌≡◌, ◌↔◌, ◌+◌, ◌<◌, IfOk, OnOk, OnErr, IsTrue, true, length, replicate};
+ghost use Rattle.std.specs.Str.{bytes_eq};
 ghost use Rattle.std.specs.List.{list_all};
 ghost use Rattle.std.specs.Result.{result_err};
 ghost use Rattle.aql_packet.specs.Memory.{are_region_lengths, is_region_length};
@@ -16,8 +17,8 @@ use std::marker::Model;
 
 /// The byte memory. Region number `h`, from 1, is the item `h - 1` of the list that a contract sees,
 /// and covers addresses from `h * 2^32`, as many as its length. There are at most 64 regions, each
-/// of 1 to 2^24 bytes. No call but `new` takes memory: regions and bytes lie in slices of their own, which no
-/// call can make longer. A refused call leaves all as before (own).
+/// of 1 to 2^24 bytes. No call but `new` and `copy` takes memory: regions and bytes lie in slices of their own,
+/// which no call can make longer. A refused call leaves all as before (own).
 #[derive(Drop, Debug)]
 pub struct Regions {
     regions: BoxedSlice<Region>,
@@ -69,6 +70,26 @@ impl Regions {
         Ok(Regions {
             regions: regions.into_boxed_slice(),
         })
+    }
+
+    /// The same memory once more. Without memory for it there is none.
+    pub fn copy(&self, alloc: Global) -> Result<Regions, AllocError>
+        ensures { IfOk result (λ copy. copy ≡ self.now) }
+    {
+        let mut regions = Vec::with_capacity(alloc, self.regions.len())?;
+        for region in self.regions.as_slice() {
+            regions.push(region.copy(alloc)?)?;
+        }
+        Ok(Regions {
+            regions: regions.into_boxed_slice(),
+        })
+    }
+
+    /// Whether another memory has as many regions, each of the same bytes. It takes no memory.
+    pub fn is_same(&self, other: &Regions) -> bool
+        ensures { result ≡ true ↔ self.now ≡ other.now }
+    {
+        self.regions.as_slice() == other.regions.as_slice()
     }
 
     /// The region in which an address lies, if it lies in one.

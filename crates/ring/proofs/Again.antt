@@ -1,11 +1,10 @@
 -- What a second look tells of a packet that was shown and is not retired.
-use Rattle.std.proofs.Common.{◌≡◌, ◌≢◌, ℕ, zero, suc, ◌+◌, ◌*◌, ◌/◌, ◌<◌, ◌≤◌, Bool, true, false, List, [], ◌∷◌, ◌++◌, length, get_or, set, map, refl, ap, ◌∙◌, sym, subst, arith, inl, inr, get_or-set_other}
+use Rattle.std.proofs.Common.{◌≡◌, ◌≢◌, ℕ, zero, suc, ◌<◌, Bool, true, false, List, [], ◌∷◌, ◌++◌, length, get_or, set, map, refl, ap, ◌∙◌, sym, subst, arith, inl, inr, get_or-set_other}
 use Rattle.std.specs.Prelude.{Option, Some, None, is_some, slice_index, if◌then◌else◌}
 use Rattle.std.specs.List.{list_all}
 use Rattle.std.proofs.lemmas.Bool.Decides.{eqb_tells}
 use Rattle.std.proofs.lemmas.List.{get_or-map}
 use Rattle.std.proofs.lemmas.Grind.{same_number_lists}
-use Rattle.aql_packet.specs.Numbers.{number_at}
 use Rattle.ring_core.specs.declared.access.Access.TheVariants.{LoadHeader, LoadBody}
 use Rattle.ring_core.specs.declared.access.Seen.TheVariants.{Read}
 use Rattle.ring_core.specs.declared.access.Made.{Made}
@@ -16,48 +15,12 @@ use Rattle.ring_core.specs.Words.{word, is_invalid, packet_of}
 use Rattle.ring_core.specs.Parts.{after_processing, collected_packet}
 use Rattle.ring_core.specs.Machine.{read_index, slot_word}
 use Rattle.ring_core.specs.Rule.{IsRule, IsTied, ticket_of}
-use Rattle.ring_core.proofs.Kept.{replays_keep}
 use Rattle.ring.specs.Bytes.{words_of}
 use Rattle.ring_core.specs.Runs.{after_own}
-use Rattle.ring.specs.Made.{WasMade, WereMade, knowing_all, body_read, read, showing}
-use Rattle.ring.specs.Showing.{AreBytes}
+use Rattle.ring.specs.Made.{WasMade, WereMade, knowing_all, read, showing}
+use Rattle.ring.specs.inner.Halfway.{body_read}
 use Rattle.ring.proofs.Facts.{processor_at}
 use Rattle.ring.proofs.Loading.{Gathered, gathering, gathered}
-
--- ---- the words of 64 bytes tell the bytes
-
-same_low : (x y m n : ℕ) → x < 256 → y < 256 → x + 256 * m ≡ y + 256 * n → (x ≡ y) × (m ≡ n)
-same_low x y m n hx hy e = (omega (arith, hx, hy, e), omega (arith, hx, hy, e))
-
-same_bytes : (a b : List ℕ) (place n j : ℕ) → ((i : ℕ) → slice_index a i < 256) → ((i : ℕ) → slice_index b i < 256) → number_at a place n ≡ number_at b place n → place ≤ j → j < place + n → slice_index a j ≡ slice_index b j
-unfolding number_at
-same_bytes a b place zero j ha hb e low high = absurd (omega (arith, low, high))
-same_bytes a b place (suc n) j ha hb e low high =
-    let s = same_low (slice_index a place) (slice_index b place) (number_at a (suc place) n) (number_at b (suc place) n) (ha place) (hb place) e in
-    elim (eqb_tells place j) [
-      | inl g ↦ subst (λ (i : ℕ). slice_index a i ≡ slice_index b i) g.1 s.0
-      | inr g ↦ same_bytes a b (suc place) n j ha hb s.1 (omega (arith, low, g.1)) (omega (arith, high))
-    ]
-
-word_is : (bytes : List ℕ) (k : ℕ) → k < 8 → get_or (words_of bytes) k 0 ≡ number_at bytes (8 * k) 8
-word_is bytes zero lt = refl
-word_is bytes (suc zero) lt = refl
-word_is bytes (suc (suc zero)) lt = refl
-word_is bytes (suc (suc (suc zero))) lt = refl
-word_is bytes (suc (suc (suc (suc zero)))) lt = refl
-word_is bytes (suc (suc (suc (suc (suc zero))))) lt = refl
-word_is bytes (suc (suc (suc (suc (suc (suc zero)))))) lt = refl
-word_is bytes (suc (suc (suc (suc (suc (suc (suc zero))))))) lt = refl
-word_is bytes (suc (suc (suc (suc (suc (suc (suc (suc k)))))))) lt = absurd (omega (arith, lt))
-
-pub bytes_told : (a b : List ℕ) → AreBytes a → AreBytes b → words_of a ≡ words_of b → a ≡ b
-bytes_told a b ha hb e =
-    same_number_lists a b (ha.0 ∙ sym hb.0)
-    (λ j lt.
-    let k : ℕ = j / 8 in
-    let few : k < 8 = omega (arith, lt, ha.0) in
-    let same : number_at a (8 * k) 8 ≡ number_at b (8 * k) 8 = sym (word_is a k few) ∙ ap (λ ws. get_or ws k 0) e ∙ word_is b k few in
-    same_bytes a b (8 * k) 8 j ha.1 hb.1 same (omega arith) (omega arith))
 
 -- ---- a packet that is whole
 
@@ -80,7 +43,7 @@ known_word q packet k e lt = ap (λ c. word c k) (sym (packet_words q.collected 
 module _ (size producers number : ℕ) (q : ProcessorPart) (made : Made) (pos : 0 < size) (h : WasMade size producers number (Processor q) made) where
   tie : IsTied h.machine.size (read_index h.machine) (slot_word h.machine) (ticket_of h.machine.parts) q.retired q.collected q.raising
   tie =
-      let rule : IsRule producers h.machine = replays_keep size producers h.steps h.machine pos h.replays in
+      let rule : IsRule producers h.machine = h.are.rule in
       subst (λ (u : ProcessorPart). IsTied h.machine.size (read_index h.machine) (slot_word h.machine) (ticket_of h.machine.parts) u.retired u.collected u.raising)
       (processor_at producers h.machine.parts number q rule.shared.seats h.had) rule.tied
 

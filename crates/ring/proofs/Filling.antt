@@ -15,7 +15,8 @@ use Rattle.ring_core.specs.Parts.{may_make, after_producing, passes}
 use Rattle.ring_core.specs.Machine.{word_place}
 use Rattle.ring_core.proofs.Seats.{held_changed_same, held_changed_other}
 use Rattle.ring_core.specs.Runs.{after_own}
-use Rattle.ring.specs.Made.{WereMade, knowing_all, body_stored, stored}
+use Rattle.ring.specs.Made.{WereMade, knowing_all, stored}
+use Rattle.ring.specs.inner.Halfway.{body_stored}
 
 -- ---- steps in turn
 

@@ -14,7 +14,8 @@ use Rattle.ring_core.specs.Machine.{word_place, place_of}
 use Rattle.ring.specs.declared.share.Numbered.{Numbered}
 use Rattle.ring.specs.Shares.{alone}
 use Rattle.ring.specs.Passes.{RingSeen, only_part}
-use Rattle.ring.specs.Made.{WereMade, knowing_all, body_stored, stored}
+use Rattle.ring.specs.Made.{WereMade, knowing_all, stored}
+use Rattle.ring.specs.inner.Halfway.{body_stored}
 use Rattle.ring.specs.Steps.{only_number, KnowsIndex, IsReady, HasGained}
 use Rattle.ring.specs.Publishing.{IsFillable}
 use Rattle.ring.proofs.Filling.{knowing_append, were_append, Filled, filling, filled, filled_saw, body_whole, may_store_body, may_store_header, place_from}

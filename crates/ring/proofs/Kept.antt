@@ -1,5 +1,5 @@
 -- The table's fact holds as a ring opens, and each step, cut and join keeps it.
-use Rattle.std.proofs.Common.{◌≡◌, ℕ, ◌+◌, ◌%◌, ◌^◌, ◌<◌, true, List, [], ◌∷◌, ◌++◌, get_or, set, take, drop, refl, ap, ◌∙◌, sym, subst}
+use Rattle.std.proofs.Common.{◌≡◌, ℕ, ◌+◌, ◌%◌, ◌^◌, ◌<◌, true, List, [], ◌++◌, set, take, drop, refl, ap, ◌∙◌, sym, subst}
 use Rattle.std.specs.Prelude.{slice_index}
 use Rattle.atomic_table.specs.Table.{Me, Allows, Splits, Joins, opening, keeps}
 use Rattle.ring_core.specs.declared.access.Access.{Access}
@@ -9,26 +9,22 @@ use Rattle.ring_core.specs.declared.access.Seen.TheVariants.{Stored}
 use Rattle.ring_core.specs.declared.part.Part.TheVariants.{Producer, Processor}
 use Rattle.ring_core.specs.declared.access.Step.{Step}
 use Rattle.ring_core.specs.declared.part.Part.{Part}
-use Rattle.ring_core.specs.Parts.{may_make, part_after, seen_by, nobody}
+use Rattle.ring_core.specs.Parts.{may_make, part_after, seen_by}
 use Rattle.aql_packet.specs.Ring.{is_ring_size}
-use Rattle.ring_core.specs.Machine.{Machine, Makes, machine_of, part_at, touched, found, made, opened, word_after, place_of, read_index, is_allowed}
+use Rattle.ring_core.specs.Machine.{Machine, Makes, machine_of, part_at, touched, found, made, opened, Replays, knows_after, word_after, place_of, read_index, is_allowed}
 use Rattle.ring_core.specs.Rule.{IsRule, IsRing}
 use Rattle.ring_core.proofs.Sizes.{ring_size_bounds}
 use Rattle.ring_core.specs.Machine.{is_producer_count}
 use Rattle.ring.specs.Passes.{RingSeen, only_part}
 use Rattle.ring.proofs.Facts.{ring_of, index_of, adds}
-use Rattle.ring_core.proofs.Kept.{replays_keep, seated}
-use Rattle.ring_core.proofs.States.{replays_push}
 use Rattle.ring.specs.declared.share.Numbered.{Numbered}
 use Rattle.ring.specs.declared.share.Shape.{Shape}
-use Rattle.ring.specs.Shares.{alone, first_share, shape_of, IsKept}
+use Rattle.ring.specs.Shares.{alone, first_share, shape_of, AreMachine, IsKept, IsOneStep, Unite}
 use Rattle.ring_core.specs.Runs.{after_own}
-use Rattle.ring.specs.Made.{WasMade}
+use Rattle.ring.specs.Made.{WasMade, step_by}
 use Rattle.ring.specs.Steps.{made_of, only_number, IsReady, IsTold, IsLoad, IsStore, IsAdd}
-use Rattle.ring.proofs.Shares.{unite_step, unite_cut, unite_join, unite_first}
-
-abbrev pub step_of : ℕ → Access → Step
-step_of number access = record { seat = number; access = access }
+use Rattle.ring.proofs.Machines.{machine_kept, one_step}
+use Rattle.ring.proofs.Shares.{unite_cut, unite_join, unite_first}
 
 pub kept_first : {S : Type 0} (shape : Shape) (words : List ℕ) (homes : List S) → words ≡ (opened shape.size 0).words → IsKept shape (opening words homes (first_share shape))
 kept_first {S} shape words homes e =
@@ -45,36 +41,32 @@ joins {S} shape id share other theirs s h at ne at' = (h.0, h.1, h.2, unite_join
 pub steps : {S : Type 0} (size producers id number slots place : ℕ) (part : Part) (access : Access) (f : ℕ → ℕ) (then : ℕ → Me S (List Numbered) → Type 0)
     → 0 < size
     → may_make size part access ≡ true
-    → ((machine : Machine) → IsRule producers machine → machine.size ≡ size → part_at machine number ≡ part → (place ≡ touched machine (step_of number access)) × (f (found machine (step_of number access)) ≡ word_after access (found machine (step_of number access))))
+    → ((machine : Machine) → IsRule producers machine → machine.size ≡ size → part_at machine number ≡ part → (place ≡ touched machine (step_by number access)) × (f (found machine (step_by number access)) ≡ word_after access (found machine (step_by number access))))
     → ((n : ℕ) → WasMade size producers number part (made_of access n) → then n (alone number (part_after part access n), []))
     → Allows (IsKept (shape_of size producers)) slots id (alone number part, []) place f then
 steps {S} size producers id number slots place part access f then pos may where_ tells s h wide at small =
-    let parts : List Part = h.1 in
-    let machine : Machine = machine_of size s.words parts in
-    let step : Step = step_of number access in
-    let rule : IsRule producers machine = replays_keep size producers h.0 machine pos h.2 in
-    let has : get_or parts number nobody ≡ part = (h.3.own id (alone number part) at).0 in
-    let may' : may_make size (get_or parts number nobody) access ≡ true = ap (λ u. may_make size u access) has ∙ may in
-    let w = where_ machine rule refl has in
+    let machine : Machine = machine_of size s.words h.1 in
+    let are : AreMachine size producers s.words s.views machine = machine_kept size producers s.words s.views h.0 h.1 pos h.2 h.3 in
+    let step : Step = step_by number access in
+    let go : IsOneStep size producers s.words s.views machine id step = one_step size producers s.words s.views machine id number part access are at may in
+    let has : part_at machine number ≡ part = (are.unite.own id (alone number part) at).0 in
+    let w = where_ machine are.rule refl has in
     let here : place ≡ touched machine step = w.0 in
     let n : ℕ = slice_index s.words place in
     let is : n ≡ found machine step = ap (λ (k : ℕ). slice_index s.words k) here in
     let becomes : f n ≡ word_after access (found machine step) = ap f is ∙ w.1 in
-    let part' : Part = part_after part access n in
-    let knows : part' ≡ part_after (get_or parts number nobody) access (found machine step) = (λ i. part_after (sym has i) access (is i)) in
-    let next : Machine = machine_of size (set s.words place (f n)) (set parts number part') in
-    let leads : next ≡ made machine step = (λ i. machine_of size (set s.words (here i) (becomes i)) (set parts number (knows i))) in
-    let makes : Makes machine step (seen_by access n) next = record { allowed = may'; told = ap (seen_by access) is; leads = leads } in (
-      alone number part',
+    let knows : part_after part access n ≡ knows_after machine step = (λ i. part_after (sym has i) access (is i)) in
+    let makes : Makes machine step (seen_by access n) (made machine step) = record { allowed = go.makes.allowed; told = ap (seen_by access) is; leads = refl } in (
+      alone number (part_after part access n),
       keeps,
       tt,
       (
-        h.0 ++ step ∷ [],
-        set parts number part',
-        replays_push size producers h.0 machine next step (seen_by access n) h.2 makes,
-        unite_step parts s.views id number part part' at (seated size parts number access may') h.3,
+        go.become.reached.0,
+        (made machine step).parts,
+        subst (λ (ws : List ℕ). Replays size producers go.become.reached.0 (machine_of size ws (made machine step).parts)) (λ i. set s.words (sym here i) (sym becomes i)) go.become.reached.1,
+        subst (λ (u : Part). Unite (made machine step).parts (set s.views id (alone number u))) (sym knows) go.become.unite,
       ),
-      tells n (record { steps = h.0; machine = machine; next = next; replays = h.2; had = has; makes = makes }),
+      tells n (record { words = s.words; shares = s.views; machine = machine; are = are; seat = id; knew = at; had = has; next = made machine step; makes = makes; become = go.become }),
     )
 
 -- a store leaves its seat the same whatever it found
@@ -110,7 +102,7 @@ module _ {S : Type 0} (ring : RingSeen) (me : Me S (List Numbered)) (access : Ac
   tells_of n was = record { were = (was, tt); knows = λ i. (alone (only_number me.0) (sym (as_known (only_part me.0) access n) i), []) }
 
   goes : (f : ℕ → ℕ) (then : ℕ → Me S (List Numbered) → Type 0)
-      → ((machine : Machine) → IsRing machine → is_allowed machine (step_of (only_number me.0) access) ≡ true → f (found machine (step_of (only_number me.0) access)) ≡ word_after access (found machine (step_of (only_number me.0) access)))
+      → ((machine : Machine) → IsRing machine → is_allowed machine (step_by (only_number me.0) access) ≡ true → f (found machine (step_by (only_number me.0) access)) ≡ word_after access (found machine (step_by (only_number me.0) access)))
       → ((n : ℕ) → IsTold ring.size ring.producers access me n (alone (only_number me.0) (part_after (only_part me.0) access n), []) → then n (alone (only_number me.0) (part_after (only_part me.0) access n), []))
       → Allows (IsKept shape) slots id me place f then
   goes f then leaves tells =
@@ -119,15 +111,15 @@ module _ {S : Type 0} (ring : RingSeen) (me : Me S (List Numbered)) (access : Ac
       (steps ring.size ring.producers id (only_number me.0) slots place (only_part me.0) access f then (ring_size_bounds ring.size fits).0 ready.may
       (λ machine rule sized had.
       let r : IsRing machine = ring_of ring.producers ring.size machine rule sized fits count in
-      let may : is_allowed machine (step_of (only_number me.0) access) ≡ true = (λ i. may_make (sized i) (had i) access) ∙ ready.may in
+      let may : is_allowed machine (step_by (only_number me.0) access) ≡ true = (λ i. may_make (sized i) (had i) access) ∙ ready.may in
       (ready.lies (read_index machine) (index_of ring.producers machine (only_number me.0) (only_part me.0) rule had) ∙ (λ i. place_of (sym sized i) (read_index machine) access), leaves machine r may))
       (λ n was. tells n (tells_of n was))))
 
   pub loads : IsLoad access → Allows (IsKept shape) slots id me place (λ n. n) (λ n after. IsTold ring.size ring.producers access me n after)
-  loads kind = goes (λ n. n) (λ n after. IsTold ring.size ring.producers access me n after) (λ machine r may. sym (kind (found machine (step_of (only_number me.0) access)))) (λ n t. t)
+  loads kind = goes (λ n. n) (λ n after. IsTold ring.size ring.producers access me n after) (λ machine r may. sym (kind (found machine (step_by (only_number me.0) access)))) (λ n t. t)
 
   pub stores : (word : ℕ) → IsStore access word → Allows (IsKept shape) slots id me place (λ _. word) (λ _ after. IsTold ring.size ring.producers access me word after)
-  stores word kind = goes (λ _. word) (λ _ after. IsTold ring.size ring.producers access me word after) (λ machine r may. sym (kind (found machine (step_of (only_number me.0) access))).0)
+  stores word kind = goes (λ _. word) (λ _ after. IsTold ring.size ring.producers access me word after) (λ machine r may. sym (kind (found machine (step_by (only_number me.0) access))).0)
       (λ n t. subst (λ (m : Me S (List Numbered)). IsTold ring.size ring.producers access me word m) (λ i. (alone (only_number me.0) (same_after (only_part me.0) access word n (kind word).1 (kind n).1 i), []))
       (tells_of word (subst (λ (d : Made). WasMade ring.size ring.producers (only_number me.0) (only_part me.0) d) (λ i. record { access = access; seen = ((kind n).1 ∙ sym (kind word).1) i }) t.were.0)))
 

@@ -1,7 +1,7 @@
 pub mod Shares
+pub mod Machines
 pub mod Kept
 pub mod Facts
-pub mod Bytes
 pub mod Filling
 pub mod Gains
 pub mod Passes

@@ -12,12 +12,12 @@ use Rattle.ring_core.specs.Words.{word, is_body, is_invalid}
 use Rattle.ring_core.specs.Parts.{after_processing}
 use Rattle.ring_core.specs.Machine.{word_place}
 use Rattle.ring_core.specs.Rule.{IsRule}
-use Rattle.ring_core.proofs.Kept.{replays_keep}
 use Rattle.ring.specs.declared.share.Numbered.{Numbered}
 use Rattle.ring.specs.Shares.{alone}
 use Rattle.ring.specs.Passes.{RingSeen, only_part}
 use Rattle.ring_core.specs.Runs.{after_own}
-use Rattle.ring.specs.Made.{WasMade, knowing_all, body_read, read}
+use Rattle.ring.specs.Made.{WasMade, knowing_all, read}
+use Rattle.ring.specs.inner.Halfway.{body_read}
 use Rattle.ring.specs.Steps.{only_number, IsReady, HasGained}
 use Rattle.ring.specs.Showing.{IsLoadable}
 use Rattle.ring.proofs.Facts.{processor_at}
@@ -27,7 +27,7 @@ use Rattle.ring.proofs.Gains.{ready_of}
 -- the processor has places for eight words
 pub eight_places : (size producers number : ℕ) (q : ProcessorPart) (made : Made) → 0 < size → WasMade size producers number (Processor q) made → length q.collected ≡ 8
 eight_places size producers number q made pos h =
-    let rule : IsRule producers h.machine = replays_keep size producers h.steps h.machine pos h.replays in
+    let rule : IsRule producers h.machine = h.are.rule in
     ap (λ u. length u.collected) (sym (processor_at producers h.machine.parts number q rule.shared.seats h.had)) ∙ rule.tied.eight_collected
 
 -- words collected by loading body words 1 to k

@@ -16,12 +16,12 @@ use Rattle.ring_core.specs.Machine.{write_index, part_at, place_of}
 use Rattle.ring_core.specs.Rule.{IsRule, tickets_of, all_tickets, ticket_of, times}
 use Rattle.ring_core.proofs.Entries.{held_none}
 use Rattle.ring_core.proofs.Seats.{held_append, all_below, seat_held}
-use Rattle.ring_core.proofs.Kept.{replays_keep}
 use Rattle.ring.specs.declared.share.Numbered.{Numbered}
 use Rattle.ring.specs.Shares.{alone}
 use Rattle.ring.specs.Passes.{RingSeen, only_part, as_producer, IsProducerPass}
 use Rattle.ring_core.specs.Runs.{after_own}
-use Rattle.ring.specs.Made.{WasMade, WereMade, Gained, knowing_all, read, stored, body_stored, packet_stored, publication}
+use Rattle.ring.specs.Made.{WasMade, WereMade, Gained, knowing_all, read, stored, packet_stored, publication}
+use Rattle.ring.specs.inner.Halfway.{body_stored}
 use Rattle.ring.specs.Steps.{only_number, IsReady, HasGained}
 use Rattle.ring.specs.Publishing.{IsFillable}
 use Rattle.ring.proofs.Filling.{open_held, some_ticket, change_open, change_other, knowing_append, Filled, filling}
@@ -64,7 +64,7 @@ some_left n ne = grind (arith, nat_tests)
 module _ (size producers number id : ℕ) (p : ProducerPart) (pos : 0 < size) (h : WasMade size producers number (Producer p) (read Reserve id)) where
   above : IsAbove id p.tickets
   above =
-      let rule : IsRule producers h.machine = replays_keep size producers h.steps h.machine pos h.replays in
+      let rule : IsRule producers h.machine = h.are.rule in
       let same_Read : (a b : ℕ) → Read a ≡ Read b → a ≡ b = λ a b e. cc in
       let is : id ≡ write_index h.machine = same_Read id (write_index h.machine) h.makes.told in
       let a : IsAbove (write_index h.machine) (tickets_of (part_at h.machine number)) = all_below (write_index h.machine) h.machine.parts number rule.shared.named in
@@ -94,7 +94,7 @@ module _ (size producers number id : ℕ) (p : ProducerPart) (pos : 0 < size) (h
 
 pub ticket_eight : (size producers number id : ℕ) (p : ProducerPart) (t : Ticket) (made : Made) → 0 < size → WasMade size producers number (Producer p) made → open_ticket id p.tickets ≡ Some t → length t.words ≡ 8
 ticket_eight size producers number id p t made pos h is_open =
-    let rule : IsRule producers h.machine = replays_keep size producers h.steps h.machine pos h.replays in
+    let rule : IsRule producers h.machine = h.are.rule in
     let u = open_held (held id p.tickets) t is_open in
     let has : held id (tickets_of (part_at h.machine number)) ≡ Some t = ap (λ v. held id (tickets_of v)) h.had ∙ u.0 in
     let once : times id (all_tickets h.machine.parts) ≤ 1 = at_most_one (nat_lt id (write_index h.machine)) (times id (all_tickets h.machine.parts)) (rule.shared.named id) in

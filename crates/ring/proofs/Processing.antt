@@ -1,21 +1,18 @@
 -- What steps do to the processor's pass.
-use Rattle.std.proofs.Common.{◌≡◌, ℕ, ◌+◌, ◌^◌, ◌<◌, true, false, List, [], ◌∷◌, length, get_or, set, map, refl, ap, ◌∙◌, sym, subst, arith}
+use Rattle.std.proofs.Common.{◌≡◌, ℕ, ◌+◌, ◌^◌, ◌<◌, true, false, List, [], ◌∷◌, ◌++◌, length, get_or, set, map, refl, ap, ◌∙◌, sym, subst, arith}
 use Rattle.std.specs.Prelude.{Option, Some, None, is_some, ⊤, if◌then◌else◌}
 use Rattle.std.specs.List.{list_all}
 use Rattle.std.proofs.lemmas.List.{length_push}
 use Rattle.ring_core.specs.declared.access.Access.TheVariants.{LoadHeader, ClearHeader, RaiseReadIndex}
 use Rattle.ring_core.specs.declared.access.Seen.TheVariants.{Read}
-use Rattle.ring_core.specs.declared.access.Step.{Step}
 use Rattle.ring_core.specs.declared.access.Made.{Made}
 use Rattle.ring_core.specs.declared.part.Part.TheVariants.{Processor}
 use Rattle.ring_core.specs.declared.part.ProcessorPart.{ProcessorPart}
 use Rattle.ring_core.specs.Words.{is_invalid, packet_of}
 use Rattle.ring_core.specs.Parts.{after_processing, collected_packet}
 use Rattle.aql_packet.specs.Ring.{is_ring_size}
-use Rattle.ring_core.specs.Machine.{Machine, Leads, made, opened, read_index, producers_of}
+use Rattle.ring_core.specs.Machine.{made, read_index, producers_of}
 use Rattle.ring_core.specs.Rule.{IsRule, IsRing}
-use Rattle.ring_core.proofs.Kept.{replays_keep}
-use Rattle.ring_core.proofs.Sizes.{ring_size_bounds}
 use Rattle.ring_core.proofs.States.{raises, fits_by}
 use Rattle.ring.specs.declared.share.Numbered.{Numbered}
 use Rattle.ring_core.specs.Machine.{is_producer_count}
@@ -102,6 +99,9 @@ module _ (size producers next : ℕ) (packet : Option (List ℕ)) (me me' : ME) 
   pub shown_index : next ≡ length (as_processor (only_part me'.0)).retired
   shown_index = inv.index ∙ ap length (sym body.retired) ∙ ap (λ u. length u.retired) (sym shown_steps.part)
 
+  pub shown_retired : (as_processor (only_part me'.0)).retired ≡ before.retired
+  shown_retired = ap (λ u. u.retired) shown_steps.part ∙ body.retired
+
   pub shown_packet : collected_packet (as_processor (only_part me'.0)) ≡ Some words
   shown_packet = ap collected_packet shown_steps.part ∙ packet_is body.part words whole
 
@@ -110,16 +110,16 @@ module _ (size producers next : ℕ) (packet : Option (List ℕ)) (me me' : ME) 
 
 -- ---- a packet that is retired
 
--- steps leave the size
-leads_size : (machine : Machine) (steps : List Step) (last : Machine) → Leads machine steps last → last.size ≡ machine.size
-leads_size machine [] last h = ap (λ m. m.size) h
-leads_size machine (step ∷ steps) last h = leads_size (made machine step) steps last h.1
+-- the packet that a pass shows is the one that it then retires
+packet_shown : (p : ProcessorPart) (words : List ℕ) → collected_packet p ≡ Some words → packet_of p.collected ≡ words
+packet_shown p words h =
+    (elim (list_all is_some p.collected) as (λ b. (if b then Some (packet_of p.collected) else None) ≡ Some words → packet_of p.collected ≡ words) [ true ↦ λ e. cc | false ↦ λ e. absurd (cc) ]) h
 
 -- the read index that was found is the number of packets retired, and can be raised
 pub raised : (size producers number index : ℕ) (q : ProcessorPart) → is_ring_size size ≡ true → is_producer_count producers ≡ true → WasMade size producers number (Processor q) (read RaiseReadIndex index) → (index ≡ length q.retired) × (index + 1 < 2 ^ 64)
 raised size producers number index q fits few h =
-    let rule : IsRule producers h.machine = replays_keep size producers h.steps h.machine (ring_size_bounds size fits).0 h.replays in
-    let ring : IsRing h.machine = ring_of producers size h.machine rule (leads_size (opened size producers) h.steps h.machine h.replays) fits few in
+    let rule : IsRule producers h.machine = h.are.rule in
+    let ring : IsRing h.machine = ring_of producers size h.machine rule h.are.sized fits few in
     let same_Read : (a b : ℕ) → Read a ≡ Read b → a ≡ b = λ a b e. cc in
     let is : index ≡ read_index h.machine = same_Read index (read_index h.machine) h.makes.told in
     let its = processor_at producers h.machine.parts number q rule.shared.seats h.had in
@@ -142,6 +142,9 @@ module _ (size producers next index : ℕ) (packet : Option (List ℕ)) (me me1 
 
   pub found_index : (index ≡ length held.retired) × (index + 1 < 2 ^ 64)
   found_index = raised size producers 0 index cleared fits few retired_steps.gained.0.1.0
+
+  pub retired_adds : (words : List ℕ) → collected_packet held ≡ Some words → (as_processor (only_part me2.0)).retired ≡ held.retired ++ words ∷ []
+  retired_adds words h = ap (λ u. u.retired) retired_steps.part ∙ ap (λ ws. held.retired ++ ws ∷ []) (packet_shown held words h)
 
   pub retired_pass : IsProcessorPass (index + 1) None me2
   retired_pass = pass_of (index + 1) None me2 retired retired_steps.me_is (ap (λ n. n + 1) found_index.0 ∙ sym (length_push held.retired (packet_of cleared.collected))) refl refl

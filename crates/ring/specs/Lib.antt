@@ -8,3 +8,4 @@ pub mod Publishing
 pub mod Showing
 pub mod Dealt
 pub mod Settling
+pub mod inner

@@ -1,5 +1,5 @@
 -- What a producer's calls say of its pass (own).
-use Rattle.std.specs.Prelude.{◌≡◌, ℕ, ◌+◌, ◌<◌, ◌≤◌, true, false, List, [], ◌∷◌, length, get_or, Some, is_some, ⊤}
+use Rattle.std.specs.Prelude.{◌≡◌, ℕ, true, false, List, [], ◌∷◌, length, get_or, Some, is_some, ⊤}
 use Rattle.atomic_table.specs.Table.{Me}
 use Rattle.ring_core.specs.declared.ticket.Ticket.{Ticket}
 use Rattle.ring_core.specs.declared.access.Access.TheVariants.{LoadReadIndex}
@@ -7,7 +7,7 @@ use Rattle.ring_core.specs.declared.access.Made.{Made}
 use Rattle.ring_core.specs.declared.part.Part.TheVariants.{Producer}
 use Rattle.ring_core.specs.declared.part.ProducerPart.{ProducerPart}
 use Rattle.ring_core.specs.Words.{is_invalid}
-use Rattle.ring_core.specs.Tickets.{open_ticket, shows_room}
+use Rattle.ring_core.specs.Tickets.{open_ticket, has_room, shows_room}
 use Rattle.ring.specs.declared.share.Numbered.{Numbered}
 use Rattle.ring.specs.declared.producer.Publication.{Publication}
 use Rattle.ring.specs.declared.producer.Publication.TheVariants.{Published, SlotBusy, NotPublishable}
@@ -42,11 +42,11 @@ abbrev pub HasPublished : RingSeen → ProducerSeen → ℕ → List ℕ → Pub
 HasPublished ring old id words (NotPublishable ticket) new =
     (ticket.id.0 ≡ id) × (is_invalid (get_or words 0 0) ≡ true) × (new ≡ old)
 HasPublished ring old id words (SlotBusy ticket seen) new =
-    (ticket.id.0 ≡ id) × (is_invalid (get_or words 0 0) ≡ false) × (seen + ring.size ≤ id)
+    (ticket.id.0 ≡ id) × (is_invalid (get_or words 0 0) ≡ false) × (has_room ring.size id seen ≡ false)
     × ProducerGains ring old (read (LoadReadIndex (record { 0 = id })) seen ∷ []) new
 HasPublished ring old id words (Published packet) new =
     (packet.0 ≡ id) × (is_invalid (get_or words 0 0) ≡ false)
-    × ((seen : ℕ) × (id < seen + ring.size) × ProducerGains ring old (publication id seen words) new)
+    × ((seen : ℕ) × (has_room ring.size id seen ≡ true) × ProducerGains ring old (publication id seen words) new)
 
 -- a ticket that comes back is open
 abbrev pub IsGivenBack : Publication → ProducerSeen → Type 0

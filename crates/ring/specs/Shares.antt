@@ -1,12 +1,13 @@
 -- What the seats of a shared ring know together, and the fact that its table keeps (own).
-use Rattle.std.specs.Prelude.{◌≡◌, ℕ, ◌+◌, suc, List, [], ◌∷◌, length, get_or, sum_by, nat_lt, ◌==◌, ⊤, if◌then◌else◌}
+use Rattle.std.specs.Prelude.{◌≡◌, ℕ, ◌+◌, suc, List, [], ◌∷◌, length, get_or, sum_by, nat_lt, ◌==◌, slice_set, ⊤, if◌then◌else◌}
 use mathlib.Core.Option.{some}
 use lib.ListN.{get_elem?}
 use Rattle.atomic_table.specs.Table.{State}
 use Rattle.ring_core.specs.declared.access.Step.{Step}
 use Rattle.ring_core.specs.declared.part.Part.{Part}
-use Rattle.ring_core.specs.Parts.{nobody}
-use Rattle.ring_core.specs.Machine.{machine_of, opened, Replays}
+use Rattle.ring_core.specs.Parts.{nobody, seen_by}
+use Rattle.ring_core.specs.Machine.{Machine, Makes, machine_of, opened, Replays, made, touched, found, word_after, knows_after}
+use Rattle.ring_core.specs.Rule.{IsRule}
 use Rattle.ring.specs.declared.share.Numbered.{Numbered}
 use Rattle.ring.specs.declared.share.Shape.{Shape}
 
@@ -41,6 +42,30 @@ times_in number (entry ∷ share) = (if entry.number == number then 1 else 0) + 
 pub record Unite (parts : List Part) (shares : List (List Numbered)) : Type 0 where
   pub own : (seat : ℕ) (share : List Numbered) → get_elem? shares seat ≡ some share → AreOf parts share
   pub once : (number : ℕ) → sum_by (times_in number) shares ≡ (if nat_lt number (length parts) then 1 else 0)
+
+-- the words of a ring and the shares of all its seats are together this machine: they are its words and
+-- unite to its parts, some list of steps leads to it from the opening, and it meets the ring rule
+pub record AreMachine (size producers : ℕ) (words : List ℕ) (shares : List (List Numbered)) (machine : Machine) : Type 0 where
+  pub sized : machine.size ≡ size
+  pub are : machine.words ≡ words
+  pub unite : Unite machine.parts shares
+  pub reached : (steps : List Step) × Replays size producers steps machine
+  pub rule : IsRule producers machine
+
+-- the words once a machine made a step: the word that it touches has changed
+abbrev pub words_after : Machine → Step → List ℕ → List ℕ
+words_after machine step words =
+    slice_set words (touched machine step) (word_after step.access (found machine step))
+
+-- and the shares: that of the seat which made it, all of whose knowledge is one part
+abbrev pub shares_after : Machine → Step → ℕ → List (List Numbered) → List (List Numbered)
+shares_after machine step seat shares =
+    slice_set shares seat (alone step.seat (knows_after machine step))
+
+-- an access by a seat is this one step of a machine: words and shares are then the next machine
+pub record IsOneStep (size producers : ℕ) (words : List ℕ) (shares : List (List Numbered)) (machine : Machine) (seat : ℕ) (step : Step) : Type 0 where
+  pub makes : Makes machine step (seen_by step.access (found machine step)) (made machine step)
+  pub become : AreMachine size producers (words_after machine step words) (shares_after machine step seat shares) (made machine step)
 
 -- the fact that the table keeps between any two steps: some list of steps leads from the opening to a
 -- machine with these words and with the parts to which the shares of all seats unite

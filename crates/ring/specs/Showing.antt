@@ -1,10 +1,11 @@
 -- What the processor's calls say of its pass (own).
-use Rattle.std.specs.Prelude.{◌≡◌, ℕ, ◌<◌, true, false, List, [], ◌∷◌, length, get_or, slice_index, Option, Some, None}
+use Rattle.std.specs.Prelude.{◌≡◌, ℕ, true, false, List, [], ◌∷◌, length, get_or, Option, Some, None}
 use Rattle.atomic_table.specs.Table.{Me}
 use Rattle.ring_core.specs.declared.access.Access.TheVariants.{LoadHeader}
 use Rattle.ring_core.specs.declared.access.Made.{Made}
 use Rattle.ring_core.specs.declared.part.Part.TheVariants.{Processor}
 use Rattle.ring_core.specs.declared.part.ProcessorPart.{ProcessorPart}
+use Rattle.aql_packet.specs.Layout.{Are64Bytes}
 use Rattle.ring_core.specs.Words.{is_invalid}
 use Rattle.ring_core.specs.Parts.{collected_packet}
 use Rattle.ring.specs.declared.share.Numbered.{Numbered}
@@ -38,13 +39,9 @@ HasPeeked ring old (peeked.Shown shown) new =
     × ProcessorGains ring old (showing (words_of shown.bytes)) new
     × IsShownBy shown new
 
--- 64 bytes
-abbrev pub AreBytes : List ℕ → Type 0
-AreBytes bytes = (length bytes ≡ 64) × ((place : ℕ) → slice_index bytes place < 256)
-
 -- a packet that the pass was shown, and has not retired, is shown again
 abbrev pub ShowsAgain : ProcessorSeen → Peeked → Type 0
-ShowsAgain old found = (shown : Shown) → AreBytes shown.bytes → IsShownBy shown old → found ≡ peeked.Shown shown
+ShowsAgain old found = (shown : Shown) → Are64Bytes shown.bytes → IsShownBy shown old → found ≡ peeked.Shown shown
 
 -- a seat of the processor's part, which does not stand between clearing and raising
 pub record IsLoadable {S : Type 0} (me : Me S (List Numbered)) (next : ℕ) : Type 0 where

@@ -11,6 +11,7 @@ use Rattle.ring_core.specs.Parts.{may_make, seen_by}
 use Rattle.ring_core.specs.Machine.{place_of, word_after}
 use Rattle.ring.specs.declared.share.Numbered.{Numbered}
 use Rattle.ring.specs.Shares.{alone}
+pub use Rattle.ring_core.specs.Calls.{made_of}
 use Rattle.ring.specs.Made.{WereMade, knowing_all}
 use Rattle.ring.specs.Passes.{RingSeen, only_part}
 
@@ -39,10 +40,6 @@ IsStore access word = (found : ℕ) → (word_after access found ≡ word) × (s
 
 abbrev pub IsAdd : Access → Type 0
 IsAdd access = (access ≡ Reserve) ⊎ (access ≡ RaiseReadIndex)
-
--- an access with what it read, if it found this word
-abbrev pub made_of : Access → ℕ → Made
-made_of access found = record { access = access; seen = seen_by access found }
 
 -- the seat of one part made just these steps, in turn, and knows what is known after them
 pub record HasGained {S : Type 0} (size producers : ℕ) (me : Me S (List Numbered)) (made : List Made) (after : Me S (List Numbered)) : Type 0 where

@@ -10,7 +10,8 @@ use crate::ring::Ring;
 use crate::share::{RingSeat, Together};
 use ring_core::{FIRST_SLOT, READ_PLACE, WRITE_PLACE};
 use sequences::Sequence;
-use std::alloc::Global;
+use std::alloc::{AllocError, Global};
+use std::marker::Model;
 
 /// What a ring came to.
 #[derive(Drop, Debug)]
@@ -41,7 +42,38 @@ pub struct Unsettled {
     pub processor: ProcessorPass,
 }
 
-/// Whether the pass of the producer with this number is among these.
+/// Room for the words of a ring's slots, got before a ring is settled. A contract sees for how many
+/// slots.
+#[derive(Drop)]
+pub struct SettleRoom {
+    words: Vec<u64>,
+    slots: u64,
+}
+
+impl Model for SettleRoom {
+    ghost use Rattle.std.specs.Prelude.{ℕ, ◌≡◌, ◌*◌, length};
+
+    ghost Value = { ℕ };
+
+    ghost view = { λ r. r.slots };
+
+    ghost invariant = { λ r. length r.words.items ≡ 8 * r.slots };
+}
+
+impl SettleRoom {
+    /// Gets room to settle a ring of as many slots as this one has.
+    pub fn new(alloc: Global, ring: &Ring) -> Result<SettleRoom, AllocError>
+        ensures { IfOk result (λ room. room ≡ ring.now.size) }
+    {
+        let words = Vec::from_elem(alloc, 0, 8 * ring.size as usize)?;
+        Ok(SettleRoom {
+            words,
+            slots: ring.size,
+        })
+    }
+}
+
+// Whether the pass of the producer with this number is among these.
 fn has_pass(passes: &[ProducerPass], number: u64) -> bool
     ensures { result ≡ has_pass number passes.now }
 {
@@ -49,7 +81,7 @@ fn has_pass(passes: &[ProducerPass], number: u64) -> bool
 }
 
 /// Whether the passes of all producers from 1 to this number are among these.
-fn has_passes(passes: &[ProducerPass], producers: u64) -> bool
+pub fn has_passes(passes: &[ProducerPass], producers: u64) -> bool
     ensures { result ≡ has_passes producers passes.now }
 {
     for before in 0..producers {
@@ -61,7 +93,7 @@ fn has_passes(passes: &[ProducerPass], producers: u64) -> bool
 }
 
 impl Ring {
-    /// Joins the seats of the producers' passes, in order, into one seat.
+    // Joins the seats of the producers' passes, in order, into one seat.
     fn join(&self, seat: &mut RingSeat, passes: Vec<ProducerPass>)
         requires table { seat.old.table_id ≡ self.now.table }
         requires no_slot { seat.old.me.1 ≡ [] }
@@ -74,7 +106,7 @@ impl Ring {
         }
     }
 
-    /// Takes the ring apart, and reads its words: those of the slots into a list that has room for them.
+    // Takes the ring apart, and reads its words: those of the slots into a list that has room for them.
     fn close(self, seat: RingSeat, slots: Vec<u64>) -> Settled
         requires table { seat.table_id ≡ self.table }
         requires room { length slots.items ≡ 8 * self.size }
@@ -120,7 +152,7 @@ pub fn settle(
             processor,
         });
     }
-    let Ok(slots) = Vec::from_elem(alloc, 0, 8 * ring.size as usize) else {
+    let Ok(room) = SettleRoom::new(alloc, &ring) else {
         return Err(Unsettled {
             fault: SettleFault::OutOfMemory,
             ring,
@@ -128,8 +160,26 @@ pub fn settle(
             processor,
         });
     };
+    Ok(settle_in(ring, producers, processor, room))
+}
+
+/// Settles a ring of which all passes have come back, in room that was got before. It takes no memory,
+/// and can't fail.
+pub fn settle_in(
+    ring: Ring,
+    producers: Vec<ProducerPass>,
+    processor: ProcessorPass,
+    room: SettleRoom,
+) -> Settled
+    requires producers { All (λ pass. pass.table ≡ ring.table) producers.items }
+    requires processor { processor.table ≡ ring.table }
+    requires room { room ≡ ring.size }
+    ensures { IsSettled ring producers.items processor result.write_index result.read_index result.slots }
+{
+    let _ = &ring.size;
+    let SettleRoom { words, .. } = room;
     let ProcessorPass { seat, .. } = processor;
     let mut seat = seat;
     ring.join(&mut seat, producers);
-    Ok(ring.close(seat, slots))
+    ring.close(seat, words)
 }

@@ -3,14 +3,18 @@
 #![tactic(auto)]
 
 mod closing;
+mod laws;
 mod processor;
 mod producer;
 mod ring;
 mod share;
 mod step;
-mod words;
 
-pub use closing::{SettleFault, Settled, Unsettled, settle};
+pub use closing::{SettleFault, SettleRoom, Settled, Unsettled, has_passes, settle, settle_in};
+pub use laws::{
+    a_ring_is_a_machine_between_steps, cuts_and_joins_keep_the_machine, each_access_is_one_step,
+    words_and_views_are_one_machine,
+};
 pub use processor::{Peeked, ProcessorPass, Shown};
 pub use producer::{ProducerPass, Publication, Spent, Ticket};
 pub use ring::{Ring, RingFault};

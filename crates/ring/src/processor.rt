@@ -1,6 +1,6 @@
 //! The processor's pass: it is shown packets, in the order of their ids, and retires them.
 
-ghost use Rattle.std.specs.Prelude.{◌≡◌, ◌↔◌, ◌+◌, IsTrue, length, true};
+ghost use Rattle.std.specs.Prelude.{◌≡◌, ◌↔◌, ◌+◌, ◌++◌, ◌∷◌, [], IsTrue, length, true};
 ghost use Rattle.aql_packet.specs.Ring.{is_ring_size};
 ghost use Rattle.ring.specs.Bytes.{words_of};
 ghost use Rattle.ring.specs.Made.{retiring};
@@ -8,9 +8,8 @@ ghost use Rattle.ring.specs.Showing.{IsShownBy, ProcessorGains, HasPeeked, Shows
 
 use crate::ring::Ring;
 use crate::share::RingSeat;
-use crate::words::{bytes_of, words_of};
-use aql_packet::PacketId;
-use ring_core::{Access, READ_PLACE, is_invalid, word_place};
+use aql_packet::{PacketId, bytes_of, is_invalid, words_of};
+use ring_core::{Access, READ_PLACE, word_place};
 use std::marker::Model;
 
 /// The packet at the read index.
@@ -53,7 +52,7 @@ impl Model for ProcessorPass {
 }
 
 impl Ring {
-    /// Loads the header at the read index and, where its type is not INVALID, the body under it.
+    // Loads the header at the read index and, where its type is not INVALID, the body under it.
     fn load_packet(&self, seat: &mut RingSeat, next: u64) -> Option<[u64; 8]>
         requires table { seat.old.table_id ≡ self.now.table }
         requires loadable { IsLoadable seat.old.me next }
@@ -85,6 +84,7 @@ impl ProcessorPass {
         requires ring { self.old.table ≡ ring.now.table }
         ensures peeked { HasPeeked ring.now self.old result self.new }
         ensures again { ShowsAgain self.old result }
+        ensures leaves { self.new.part.retired ≡ self.old.part.retired }
     {
         match ring.load_packet(&mut self.seat, self.next) {
             None => Peeked::Empty,
@@ -112,6 +112,7 @@ impl ProcessorPass {
         requires ring { self.old.table ≡ ring.now.table }
         requires shown { IsShownBy shown self.old }
         ensures retired { ProcessorGains ring.now self.old (retiring (length self.old.part.retired)) self.new }
+        ensures adds { self.new.part.retired ≡ self.old.part.retired ++ words_of shown.bytes ∷ [] }
     {
         let _ = shown;
         let slot = word_place(ring.size, self.next, 0);

@@ -1,6 +1,6 @@
 //! A producer's pass: it reserves ids and publishes packets under them.
 
-ghost use Rattle.std.specs.Prelude.{◌≡◌, ◌≢◌, ℕ, ◌+◌, [], ◌∷◌, IfOk, IfErr, false, nat_lt, get_or};
+ghost use Rattle.std.specs.Prelude.{◌≡◌, ◌≢◌, ℕ, [], ◌∷◌, IfOk, IfErr, false, get_or};
 ghost use Rattle.ring_core.specs.declared.access.Access.{Access};
 ghost use Rattle.ring_core.specs.Words.{is_invalid};
 ghost use Rattle.ring_core.specs.Machine.{word_place};
@@ -11,9 +11,8 @@ ghost use Rattle.ring.specs.Publishing.{IsOpen, ProducerGains, HasPublished, IsF
 
 use crate::ring::Ring;
 use crate::share::RingSeat;
-use crate::words::words_of;
-use aql_packet::PacketId;
-use ring_core::{Access, READ_PLACE, WRITE_PLACE, is_invalid, word_place};
+use aql_packet::{PacketId, is_invalid, words_of};
+use ring_core::{Access, READ_PLACE, WRITE_PLACE, has_room, word_place};
 use std::marker::Model;
 
 /// An id that a producer reserved and has not published yet.
@@ -67,15 +66,8 @@ pub enum Publication {
     NotPublishable(Ticket),
 }
 
-/// Whether a read index shows room for the packet with an id, in a ring of this size.
-fn shows_room(size: u64, id: u64, read_index: u64) -> bool
-    ensures { result ≡ nat_lt id (read_index + size) }
-{
-    id < read_index || id - read_index < size
-}
-
 impl Ring {
-    /// Stores the seven body words of a ticket's packet, and then its header, which publishes it.
+    // Stores the seven body words of a ticket's packet, and then its header, which publishes it.
     fn store_packet(&self, seat: &mut RingSeat, id: PacketId, words: &[u64; 8])
         requires table { seat.old.table_id ≡ self.now.table }
         requires fillable { IsFillable self.now.size seat.old.me id.0 }
@@ -141,7 +133,7 @@ impl ProducerPass {
         let id = ticket.id;
         let look = Access::LoadReadIndex { ticket: id };
         let read_index = ring.load(&mut self.seat, look, READ_PLACE);
-        if !shows_room(ring.size, id.0, read_index) {
+        if !has_room(ring.size, id, read_index) {
             return Publication::SlotBusy(ticket, read_index);
         }
         ring.store_packet(&mut self.seat, id, &words);

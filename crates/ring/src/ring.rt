@@ -58,7 +58,7 @@ impl From<AllocError> for RingFault {
     }
 }
 
-/// A ring with all its parts in one seat.
+// A ring with all its parts in one seat.
 fn with_one_seat(alloc: Global, size: u64, producers: u64) -> Result<(Ring, RingSeat), AllocError>
     requires size { is_ring_size size ≡ true }
     requires producers { is_producer_count producers ≡ true }
@@ -103,7 +103,14 @@ impl Ring {
         Ok((ring, passes, processor))
     }
 
-    /// The pass of the processor, from the seat that has all parts.
+    /// How many producers the ring has.
+    pub fn producers(&self) -> u64
+        ensures { result ≡ self.now.producers }
+    {
+        self.producers
+    }
+
+    // The pass of the processor, from the seat that has all parts.
     fn processor_pass(&self, seat: &mut RingSeat) -> ProcessorPass
         requires table { seat.old.table_id ≡ self.now.table }
         requires all { seat.old.me ≡ (first_share (shape_of self.now.size self.now.producers), []) }
@@ -118,7 +125,7 @@ impl Ring {
         }
     }
 
-    /// The passes of the producers, from the seat that has their parts.
+    // The passes of the producers, from the seat that has their parts.
     fn producer_passes(
         &self,
         alloc: Global,
@@ -141,7 +148,7 @@ impl Ring {
         Ok(passes)
     }
 
-    /// Cuts the first of a seat's parts off.
+    // Cuts the first of a seat's parts off.
     fn cut(&self, seat: &mut RingSeat) -> RingSeat
         requires { seat.old.table_id ≡ self.now.table }
         ensures rest { (seat.new.table_id ≡ seat.old.table_id) × (seat.new.me ≡ (drop 1 seat.old.me.0, seat.old.me.1)) }

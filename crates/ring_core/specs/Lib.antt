@@ -5,3 +5,4 @@ pub mod Machine
 pub mod Rule
 pub mod Faults
 pub mod Runs
+pub mod Calls

@@ -23,10 +23,15 @@ writing k w ticket = record { saw = ticket.saw; words = slice_set ticket.words k
 abbrev pub is_published : Ticket → Bool
 is_published ticket = is_some (word ticket.words 0)
 
--- whether a read index that was seen shows room for the packet: its slot holds no packet that is not retired
+-- whether a read index shows room for the packet with an id: its slot holds no packet that is not retired
+-- (PSA, User Mode Queuing)
+abbrev pub has_room : ℕ → ℕ → ℕ → Bool
+has_room size id read_index = nat_lt id (read_index + size)
+
+-- whether the read index that a ticket last saw does, if it saw one
 abbrev pub shows_room : ℕ → ℕ → Option ℕ → Bool
 shows_room size id None = false
-shows_room size id (Some read_index) = nat_lt id (read_index + size)
+shows_room size id (Some read_index) = has_room size id read_index
 
 -- an entry, to stand for none
 abbrev pub unnamed : Reserved

@@ -1,8 +1,7 @@
 -- The eight words of a packet, as far as they are known.
-use Rattle.std.specs.Prelude.{ℕ, Bool, List, [], ◌∷◌, ◌==◌, ◌&&◌, nat_le, Option, None, is_some, get_or, drop, map, unwrap_or}
+use Rattle.std.specs.Prelude.{ℕ, Bool, List, [], ◌∷◌, ◌&&◌, nat_le, Option, None, is_some, get_or, drop, map, unwrap_or}
 use Rattle.std.specs.List.{list_all}
-use Rattle.aql_packet.specs.declared.ring.TheConstants.{INVALID}
-use Rattle.aql_packet.specs.Numbers.{bits}
+pub use Rattle.aql_packet.specs.Words.{is_invalid}
 
 -- no word is known
 abbrev pub no_words : List (Option ℕ)
@@ -23,7 +22,3 @@ has_body words = list_all is_some (drop 1 words)
 -- the words themselves, once all are known
 abbrev pub packet_of : List (Option ℕ) → List ℕ
 packet_of words = map (λ w. unwrap_or w 0) words
-
--- whether a header word has the type INVALID (PSA, Architected Queuing Language)
-abbrev pub is_invalid : ℕ → Bool
-is_invalid header = bits header 7 0 == INVALID

@@ -26,7 +26,7 @@ pub fn word_place(size: u64, id: u64, place: u64) -> usize
     FIRST_SLOT + (8 * slot_of(size, id) + place) as usize
 }
 
-/// The slot of the packet with this id: the id modulo the size, which is a power of two.
+// The slot of the packet with this id: the id modulo the size, which is a power of two.
 #[tactic(auto, using(crate::proofs::Sizes::mask_is_remainder, crate::proofs::Sizes::ring_size_bounds))]
 fn slot_of(size: u64, id: u64) -> u64
     requires { is_ring_size size ≡ true }

@@ -3,6 +3,7 @@
 #![tactic(auto)]
 
 mod access;
+mod calls;
 mod laws;
 mod log;
 mod part;
@@ -12,6 +13,8 @@ mod ticket;
 mod tickets;
 
 pub use access::{Access, FIRST_SLOT, Made, READ_PLACE, Seen, Step, WRITE_PLACE, word_place};
+pub use aql_packet::is_invalid;
+pub use calls::{has_room, retire_steps, show_steps, store_steps};
 pub use laws::{
     each_part_follows_from_its_own_steps, each_retired_packet_is_its_tickets,
     each_step_keeps_the_rule, every_run_meets_the_rule, ring_sizes_are_bounded,
@@ -21,5 +24,5 @@ pub use part::{ALLOWANCE, Part, ProcessorPart, ProducerPart};
 pub use state::{
     MOST_PRODUCERS, ReplayFault, RingState, StepFault, is_producer_count, opening_words, replay,
 };
-pub use ticket::{Reserved, Ticket, TicketChange, is_invalid};
+pub use ticket::{Reserved, Ticket, TicketChange};
 pub use tickets::Tickets;

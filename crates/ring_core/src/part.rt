@@ -8,9 +8,9 @@ ghost use Rattle.ring_core.specs.Tickets.{shows_room};
 
 use crate::access::{Access, Made};
 use crate::log::Log;
-use crate::ticket::{Ticket, has_body, is_body, is_invalid, packet_of, whole, with_word};
+use crate::ticket::{Ticket, has_body, is_body, packet_of, whole, with_word};
 use crate::tickets::Tickets;
-use aql_packet::PacketId;
+use aql_packet::{PacketId, is_invalid};
 use std::alloc::{AllocError, Global};
 
 /// What a producer knows.
@@ -56,7 +56,7 @@ impl ProducerPart {
             Access::Reserve => self.allowance > 0,
             Access::LoadReadIndex { ticket } => self.tickets.get_open(ticket).is_some(),
             Access::StoreBody { ticket, place, .. } => {
-                is_body(place) && has_room(self.tickets.get_open(ticket), size, ticket)
+                is_body(place) && saw_room(self.tickets.get_open(ticket), size, ticket)
             }
             Access::StoreHeader { ticket, word } => {
                 !is_invalid(word) && has_all(self.tickets.get_open(ticket))
@@ -92,8 +92,8 @@ impl ProducerPart {
     }
 }
 
-/// Whether there is a ticket, and it saw room for its packet.
-fn has_room(ticket: Option<Ticket>, size: u64, id: PacketId) -> bool
+// Whether there is a ticket, and it saw room for its packet.
+fn saw_room(ticket: Option<Ticket>, size: u64, id: PacketId) -> bool
     ensures { result ≡ passes (λ t. shows_room size id.0 t.saw) ticket }
 {
     match ticket {
@@ -102,7 +102,7 @@ fn has_room(ticket: Option<Ticket>, size: u64, id: PacketId) -> bool
     }
 }
 
-/// Whether there is a ticket, and all its body words are written.
+// Whether there is a ticket, and all its body words are written.
 fn has_all(ticket: Option<Ticket>) -> bool
     ensures { result ≡ passes (λ t. has_body t.words) ticket }
 {

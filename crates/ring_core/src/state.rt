@@ -225,7 +225,7 @@ pub fn opening_words(alloc: Global, size: u64) -> Result<Vec<u64>, AllocError>
     Ok(words)
 }
 
-/// The parts of a ring as it opens.
+// The parts of a ring as it opens.
 #[tactic(auto, using(std::proofs::lemmas::List::replicate_more))]
 fn opening_parts(alloc: Global, producers: u64) -> Result<Vec<Part>, AllocError>
     ensures { IfOk result (λ parts. parts.items ≡ (opened 0 producers).parts) }

@@ -2,10 +2,11 @@
 
 ghost use Rattle.std.specs.Prelude.{◌≡◌, None, length, slice_set, Some, is_some, if◌then◌else◌};
 ghost use Rattle.std.specs.List.{list_all};
-ghost use Rattle.ring_core.specs.Words.{is_body, has_body, packet_of, is_invalid};
+ghost use Rattle.ring_core.specs.Words.{is_body, has_body, packet_of};
 ghost use Rattle.ring_core.specs.Tickets.{blank, is_published, shows_room};
 
-use aql_packet::{INVALID, PacketId, header_of};
+use crate::calls::has_room;
+use aql_packet::PacketId;
 
 /// A reserved id, as its producer knows it: open until its header word is written, published from
 /// then on.
@@ -67,7 +68,7 @@ impl Ticket {
     {
         match self.saw {
             None => false,
-            Some(read_index) => id.0 < read_index || id.0 - read_index < size,
+            Some(read_index) => has_room(size, id, read_index),
         }
     }
 }
@@ -98,14 +99,14 @@ pub(crate) fn whole(words: &[Option<u64>; 8]) -> Option<[u64; 8]>
     }
 }
 
-/// Does nothing: that a packet has eight words is said to callers by it.
-pub(crate) fn eight_words(words: &[Option<u64>; 8])
+// Does nothing: that a packet has eight words is said to callers by it.
+pub(crate) fn law_eight_words(words: &[Option<u64>; 8])
     ensures { length words.now ≡ 8 }
 {
     let _ = words;
 }
 
-/// Whether all eight words are known.
+// Whether all eight words are known.
 fn is_whole(words: &[Option<u64>; 8]) -> bool
     ensures { result ≡ list_all is_some words.now }
 {
@@ -132,11 +133,4 @@ pub(crate) fn packet_of(words: &[Option<u64>; 8]) -> [u64; 8]
         packet[place] = words[place].unwrap_or(0);
     }
     packet
-}
-
-/// Whether a header word has the type INVALID (PSA, Architected Queuing Language).
-pub fn is_invalid(header: u64) -> bool
-    ensures { result ≡ is_invalid header }
-{
-    header_of(header).kind == INVALID
 }

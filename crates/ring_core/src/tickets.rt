@@ -5,7 +5,7 @@ ghost use Rattle.ring_core.specs.Words.{is_body};
 ghost use Rattle.ring_core.specs.Tickets.{blank, changed, seeing, writing, held, open_ticket, open_ones, without, HasEightWords, IsPlaceOf, IsAscending, IsAbove};
 
 use crate::log::Log;
-use crate::ticket::{Reserved, Ticket, TicketChange, eight_words, with_word};
+use crate::ticket::{Reserved, Ticket, TicketChange, law_eight_words, with_word};
 use aql_packet::PacketId;
 use std::alloc::{AllocError, Global};
 use std::marker::Model;
@@ -111,7 +111,7 @@ impl Tickets {
     }
 }
 
-/// The ticket under an id, if it is one of these.
+// The ticket under an id, if it is one of these.
 fn ticket_under(reserved: &[Reserved], id: PacketId) -> Option<Ticket>
     requires { IsAscending reserved.now }
     ensures { result ≡ held id.0 reserved.now }
@@ -120,7 +120,7 @@ fn ticket_under(reserved: &[Reserved], id: PacketId) -> Option<Ticket>
     Some(reserved[index].ticket)
 }
 
-/// The ticket under an id saw the read index.
+// The ticket under an id saw the read index.
 fn see(reserved: &mut Vec<Reserved>, id: PacketId, read_index: u64)
     requires { IsAscending reserved.old.items }
     ensures { reserved.new.items ≡ changed id.0 (seeing read_index) reserved.old.items }
@@ -130,7 +130,7 @@ fn see(reserved: &mut Vec<Reserved>, id: PacketId, read_index: u64)
     }
 }
 
-/// A word of the ticket under an id was written.
+// A word of the ticket under an id was written.
 fn write(reserved: &mut Vec<Reserved>, id: PacketId, place: u64, word: u64)
     requires { IsAscending reserved.old.items }
     ensures { reserved.new.items ≡ changed id.0 (writing place word) reserved.old.items }
@@ -141,7 +141,7 @@ fn write(reserved: &mut Vec<Reserved>, id: PacketId, place: u64, word: u64)
     }
 }
 
-/// Takes the ticket under an id off.
+// Takes the ticket under an id off.
 fn close(reserved: &mut Vec<Reserved>, id: PacketId)
     requires { IsAscending reserved.old.items }
     ensures rest { reserved.new.items ≡ without id.0 reserved.old.items }
@@ -149,11 +149,11 @@ fn close(reserved: &mut Vec<Reserved>, id: PacketId)
 {
     if let Some(index) = place_of(reserved.as_slice(), id) {
         let entry = reserved.remove(index);
-        eight_words(&entry.ticket.words);
+        law_eight_words(&entry.ticket.words);
     }
 }
 
-/// The index of the ticket under an id, by binary search.
+// The index of the ticket under an id, by binary search.
 fn place_of(reserved: &[Reserved], id: PacketId) -> Option<usize>
     requires { IsAscending reserved.now }
     ensures { IsPlaceOf id.0 reserved.now result }

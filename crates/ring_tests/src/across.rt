@@ -8,7 +8,7 @@ use ring::{Peeked, ProcessorPass, ProducerPass, Publication, Ring};
 use std::thread;
 use std::thread::Threads;
 
-/// Publishes one packet in a ring that has room.
+// Publishes one packet in a ring that has room.
 fn send(ring: &Ring, pass: ProducerPass, bytes: &[u8; 64]) -> Option<PacketId>
     requires { pass.table ≡ ring.now.table }
 {
@@ -20,7 +20,7 @@ fn send(ring: &Ring, pass: ProducerPass, bytes: &[u8; 64]) -> Option<PacketId>
     }
 }
 
-/// Takes the next packet, looking for it a million times at most.
+// Takes the next packet, looking for it a million times at most.
 fn receive(ring: &Ring, pass: ProcessorPass) -> Option<[u8; 64]>
     requires { pass.table ≡ ring.now.table }
 {

@@ -2,10 +2,13 @@
 
 ghost use Rattle.std.specs.Prelude.{◌≡◌};
 
-use crate::load::{packet, publish_one, settle_two, slot_bytes, take_shown};
+use crate::load::{
+    Turns, packet, publish_all, publish_one, settle_two, slot_bytes, take_all, take_shown,
+};
 use aql_packet::PacketId;
 use ring::{
-    Peeked, ProcessorPass, ProducerPass, Publication, Ring, RingFault, SettleFault, settle,
+    Peeked, ProcessorPass, ProducerPass, Publication, Ring, RingFault, SettleFault, SettleRoom,
+    settle, settle_in,
 };
 use std::alloc::Global;
 use std::process::Abort;
@@ -67,7 +70,7 @@ fn rings_are_apart(rt: HostRuntime) -> Result<(), Fail> {
     Ok(())
 }
 
-/// The third id of a ring of two slots waits until slot 0 is free.
+// The third id of a ring of two slots waits until slot 0 is free.
 fn check_two_producers(
     rt: &impl Abort,
     ring: &Ring,
@@ -82,20 +85,11 @@ fn check_two_producers(
     ensures second { second.new.table ≡ ring.now.table }
     ensures processor { processor.new.table ≡ ring.now.table }
 {
-    let Ok(zero) = first.reserve(ring) else {
-        panic!(rt; "an id is left")
-    };
-    let Ok(one) = second.reserve(ring) else {
-        panic!(rt; "an id is left")
-    };
+    assert!(rt; publish_one(ring, first, &packet(1, 0)));
+    assert!(rt; publish_one(ring, second, &packet(2, 0)));
     let Ok(two) = first.reserve(ring) else {
         panic!(rt; "an id is left")
     };
-    assert!(rt; (zero.id().0, one.id().0, two.id().0) == (0, 1, 2));
-    let published = first.publish(ring, zero, &packet(1, 0));
-    assert!(rt; published == Publication::Published(PacketId(0)));
-    let published = second.publish(ring, one, &packet(2, 0));
-    assert!(rt; published == Publication::Published(PacketId(1)));
     let Publication::SlotBusy(two, read_index) = first.publish(ring, two, &packet(1, 1)) else {
         panic!(rt; "slot 0 is taken")
     };
@@ -116,16 +110,15 @@ fn two_producers_share_two_slots(rt: HostRuntime) -> Result<(), Fail> {
     check_two_producers(&rt, &ring, &mut first, &mut second, &mut processor);
     producers.push(first)?;
     producers.push(second)?;
-    let Ok(settled) = settle(rt.alloc(), ring, producers, processor) else {
-        panic!(rt; "all passes are there")
-    };
+    let room = SettleRoom::new(rt.alloc(), &ring)?;
+    let settled = settle_in(ring, producers, processor, room);
     let slots = settled.slots.as_slice();
     assert!(rt; slots.len() == 16);
     assert!(rt; slot_bytes(slots, 0) == packet(1, 1));
     Ok(())
 }
 
-/// A packet that is published behind an open ticket is not seen before the ticket's own.
+// A packet that is published behind an open ticket is not seen before the ticket's own.
 fn check_gap(
     rt: &impl Abort,
     ring: &Ring,
@@ -160,7 +153,7 @@ fn an_open_ticket_is_a_gap(rt: HostRuntime) {
     check_gap(&rt, &ring, &mut first, &mut second, &mut processor);
 }
 
-/// A packet of type INVALID is not published, and its ticket stays open.
+// A packet of type INVALID is not published, and its ticket stays open.
 fn check_invalid_type(rt: &impl Abort, ring: &Ring, pass: &mut ProducerPass)
     requires { pass.old.table ≡ ring.now.table }
 {
@@ -185,4 +178,56 @@ fn an_invalid_type_is_not_publishable(rt: HostRuntime) {
         panic!(rt; "there is one")
     };
     check_invalid_type(&rt, &ring, &mut pass);
+}
+
+// A full ring has no room until a packet is taken, and past a hundred packets taken ids still rise by one.
+fn check_full_ring(
+    rt: &impl Abort,
+    ring: &Ring,
+    pass: &mut ProducerPass,
+    processor: &mut ProcessorPass,
+)
+    requires pass { pass.old.table ≡ ring.now.table }
+    requires processor { processor.old.table ≡ ring.now.table }
+    ensures pass { pass.new.table ≡ ring.now.table }
+    ensures processor { processor.new.table ≡ ring.now.table }
+{
+    publish_all(ring, pass, 4_096);
+    let Ok(ticket) = pass.reserve(ring) else {
+        panic!(rt; "an id is left")
+    };
+    let Publication::SlotBusy(ticket, read_index) = pass.publish(ring, ticket, &packet(1, 4_096))
+    else {
+        panic!(rt; "the ring is full")
+    };
+    assert!(rt; ticket.id() == PacketId(4_096) && read_index == 0);
+    assert!(rt; take_all(ring, processor, &mut Turns::new(), 150) == 150);
+    let published = pass.publish(ring, ticket, &packet(1, 4_096));
+    assert!(rt; published == Publication::Published(PacketId(4_096)));
+    let Ok(open) = pass.reserve(ring) else {
+        panic!(rt; "an id is left")
+    };
+    assert!(rt; open.id() == PacketId(4_097));
+}
+
+#[test]
+fn the_largest_ring_fills_and_settles(rt: HostRuntime) -> Result<(), Fail> {
+    let Ok((ring, mut producers, mut processor)) = Ring::new(rt.alloc(), 4_096, 1) else {
+        panic!(rt; "a ring opens")
+    };
+    let Some(mut pass) = producers.pop() else {
+        panic!(rt; "there is one")
+    };
+    check_full_ring(&rt, &ring, &mut pass, &mut processor);
+    producers.push(pass)?;
+    let Ok(settled) = settle(rt.alloc(), ring, producers, processor) else {
+        panic!(rt; "all passes are there")
+    };
+    assert!(rt; (settled.write_index, settled.read_index) == (4_098, 150));
+    let slots = settled.slots.as_slice();
+    assert!(rt; slots.len() == 8 * 4_096);
+    assert!(rt; slot_bytes(slots, 0) == packet(1, 4_096));
+    assert!(rt; slot_bytes(slots, 149)[0] == 1 && slot_bytes(slots, 150) == packet(1, 150));
+    assert!(rt; slot_bytes(slots, 4_095) == packet(1, 4_095));
+    Ok(())
 }

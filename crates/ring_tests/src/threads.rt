@@ -12,7 +12,7 @@ use std::test::Fail;
 use std::thread;
 use std::thread::Threads;
 
-/// Publishes so many packets from each pass, each pass on a thread of its own.
+// Publishes so many packets from each pass, each pass on a thread of its own.
 fn publish_from_threads<R: Threads + Sync>(
     rt: &R,
     ring: &Ring,
@@ -25,8 +25,8 @@ fn publish_from_threads<R: Threads + Sync>(
     thread::for_each_mut(rt, passes, 16, &|_, pass| publish_all(ring, pass, packets));
 }
 
-/// All producers send so many packets each, while the processor takes them. Answers how many came whole and
-/// in order.
+// All producers send so many packets each, while the processor takes them. Answers how many came whole and
+// in order.
 fn send_and_take<R: Threads + Sync>(
     rt: &R,
     ring: &Ring,
@@ -52,8 +52,8 @@ fn send_and_take<R: Threads + Sync>(
     taken
 }
 
-/// The producers send so many packets each, while the processor takes the one that is there, and sees none
-/// behind it, however often it looks.
+// The producers send so many packets each, while the processor takes the one that is there, and sees none
+// behind it, however often it looks.
 fn send_behind_a_gap<R: Threads + Sync>(
     rt: &R,
     ring: &Ring,
@@ -78,7 +78,7 @@ fn send_behind_a_gap<R: Threads + Sync>(
     seen
 }
 
-/// Takes one packet, and looks for a further one in vain.
+// Takes one packet, and looks for a further one in vain.
 fn take_one_alone(ring: &Ring, pass: &mut ProcessorPass, turns: &mut Turns) -> bool
     requires { pass.old.table ≡ ring.now.table }
     ensures { pass.new.table ≡ pass.old.table }
@@ -86,8 +86,8 @@ fn take_one_alone(ring: &Ring, pass: &mut ProcessorPass, turns: &mut Turns) -> b
     take_all(ring, pass, turns, 1) == 1 && shows_nothing(ring, pass, 1000)
 }
 
-/// The first producer publishes one packet, and its thread ends with the ticket for another; the others
-/// publish so many.
+// The first producer publishes one packet, and its thread ends with the ticket for another; the others
+// publish so many.
 fn publish_or_end(ring: &Ring, pass: &mut ProducerPass, packets: u64)
     requires { pass.old.table ≡ ring.now.table }
     ensures { pass.new.table ≡ pass.old.table }
@@ -100,7 +100,7 @@ fn publish_or_end(ring: &Ring, pass: &mut ProducerPass, packets: u64)
     }
 }
 
-/// The same from threads of their own.
+// The same from threads of their own.
 fn publish_round_a_gap<R: Threads + Sync>(
     rt: &R,
     ring: &Ring,

@@ -1,5 +1,6 @@
 -- What is owed to the lines of a script.
 use Rattle.std.specs.Prelude.{ℕ, ◌≡◌, ◌==◌, ◌⊎◌, Bool, true, false, List, [], ◌∷◌, ◌++◌, Option, Some, None, Result, if◌then◌else◌}
+use Rattle.core_model.specs.History.{beginning}
 use Rattle.policy.specs.Policy.{Declared}
 use Rattle.world.specs.declared.reply.Refusal.{Refusal}
 use Rattle.world.specs.declared.request.Request.{Request}
@@ -55,7 +56,7 @@ ServedAtMostOne law old new = (new ≡ old) ⊎ ((command : Command) × (told : 
 
 -- a world: each line does what its row says, and names are those of the policy that it was opened over
 unfoldable pub worlds : Law Joined
-worlds = record { serves = λ old command told new. does command old told new; names = λ world. world.core.start.policy }
+worlds = record { serves = λ old command told new. does command old told new; names = λ world. (beginning world.core).policy }
 
 -- what a line's service left: its reply behind what was written, or all as it was where the line has no form
 abbrev pub Served : {S : Type 0} → Law S → S → S → List ℕ → List ℕ → List ℕ → Bool → Type 0

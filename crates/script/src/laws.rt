@@ -3,7 +3,7 @@
 ghost use Rattle.std.specs.Prelude.{◌≡◌, ℕ, List, Some, true};
 ghost use Rattle.std.specs.List.{list_all};
 ghost use Rattle.kernel_check.specs.Programs.{Program};
-ghost use Rattle.world.specs.Headline.{Headline, begun};
+ghost use Rattle.world.specs.Headline.{Headline, IsBegun};
 ghost use Rattle.world.specs.States.{Joined};
 ghost use Rattle.script.specs.declared.command.Command.{Command};
 ghost use Rattle.script.specs.Expansions.{does};
@@ -31,8 +31,8 @@ pub fn numbers_are_sums_of_their_digits()
 /// opened over a policy, with any kernels, the headline holds.
 pub fn scripts_are_requests(policy: &Policy)
     ensures line { (asked : Command) (old : Joined) (told : Told) (new : Joined) → does asked old told new → Reaches old new }
-    ensures headline { (kernels : List Program) (capacity : ℕ) (lines : List (List ℕ)) (text : List ℕ) (world : Joined) →
-        Runs worlds (begun policy.now kernels capacity) lines text world → Headline world }
+    ensures headline { (kernels : List Program) (capacity : ℕ) (lines : List (List ℕ)) (text : List ℕ) (opened world : Joined) →
+        IsBegun opened policy.now kernels capacity → Runs worlds opened lines text world → Headline world }
 {
     the_headline(policy);
 }

@@ -1,7 +1,12 @@
--- The value of a signal by its index, which is its number less one.
-use Rattle.std.proofs.Common.{◌≡◌, ℕ, ◌-◌, ◌<◌, ◌≤◌, List, length, get_or, false, true, Some, None, is_some, refl, inl, inr}
+-- The value of a signal by its index, which is its number less one, and lists of values that are the same.
+use Rattle.std.proofs.Common.{◌≡◌, ℕ, ◌-◌, ◌<◌, ◌≤◌, List, Bool, length, get_or, false, true, Some, None, is_some, refl, subst, inl, inr}
 use Rattle.std.specs.Prelude.{ℤ, slice_set, nat_lt}
+use Rattle.std.specs.Bool.{Decides}
+use Rattle.std.specs.Cmp.Lexicographic.{pointwise}
+use Rattle.std.specs.Ordering.{int_eq}
 use Rattle.std.proofs.lemmas.Bool.{cases_lt, lt-ltb, le-ltb}
+use Rattle.std.proofs.lemmas.Bool.Decides.{Decides-int_eq}
+use Rattle.std.proofs.lemmas.Slice.Eq.{slice_eq-Decides}
 use Rattle.std.proofs.lemmas.Option.{slice_get-get_or, slice_get_past}
 use Rattle.signals.specs.declared.operation.SignalOp.{SignalOp}
 use Rattle.signals.specs.Values.{after, applied, value_of}
@@ -30,3 +35,8 @@ module _ (values : List ℤ) (number : ℕ) (there : is_some (value_of values nu
 pub unchanged : (values : List ℤ) (number : ℕ) (operation : SignalOp) → value_of values number ≡ None → values ≡ after values number operation
 unfolding after
 unchanged values number operation none = rw none refl
+
+-- values that are compared one by one are the same where each is
+pub same_values : (shown others values other : List ℤ) (r : Bool) → r ≡ pointwise int_eq shown others → shown ≡ values → others ≡ other → Decides r (values ≡ other)
+same_values shown others values other r is one two =
+    subst (λ x. Decides r (x ≡ other)) one (subst (λ x. Decides r (shown ≡ x)) two (slice_eq-Decides Decides-int_eq shown others r is))

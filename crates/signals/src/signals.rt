@@ -2,7 +2,7 @@
 
 ghost use Rattle.signals.specs.Values.{after, meets, unknown_signal, value_of};
 ghost use Rattle.std.specs.Option.{ok_or, option_map};
-ghost use Rattle.std.specs.Prelude.{IfOk, is_some, length, true, ◌==◌, ◌≡◌};
+ghost use Rattle.std.specs.Prelude.{IfOk, is_some, length, true, ◌==◌, ◌≡◌, ◌↔◌};
 
 use crate::operation::{Condition, SignalOp};
 use aql_packet::SignalHandle;
@@ -12,7 +12,7 @@ use std::fmt;
 use std::marker::Model;
 
 /// The signals, numbered from 1 in their order. A contract sees the list of their values. They lie in a slice
-/// of its own, which no call can make longer: none but `new` takes memory.
+/// of its own, which no call can make longer: none but `new` and `copy` takes memory.
 #[derive(Drop, Debug)]
 pub struct Signals {
     values: BoxedSlice<i64>,
@@ -39,6 +39,20 @@ impl Signals {
         Ok(Signals {
             values: BoxedSlice::from_slice(alloc, values)?,
         })
+    }
+
+    /// The same signals in memory of their own. Without memory for them there are none.
+    pub fn copy(&self, alloc: Global) -> Result<Signals, AllocError>
+        ensures { IfOk result (λ copy. copy ≡ self.now) }
+    {
+        Signals::new(alloc, self.values.as_slice())
+    }
+
+    /// Whether others are as many and have the same values in the same order. It takes no memory.
+    pub fn is_same(&self, other: &Signals) -> bool
+        ensures { result ≡ true ↔ self.now ≡ other.now }
+    {
+        self.values.as_slice() == other.values.as_slice()
     }
 
     /// How many signals there are.

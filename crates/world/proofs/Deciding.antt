@@ -22,7 +22,7 @@ use Rattle.core_model.specs.declared.outcome.Taken.{Taken}
 use Rattle.core_model.specs.declared.outcome.Taken.TheVariants as taken
 use Rattle.core_model.specs.declared.refusal.Refusal as cores
 use Rattle.core_model.specs.declared.refusal.Refusal.TheVariants as refusal
-use Rattle.core_model.specs.History.{Start, History}
+use Rattle.core_model.specs.History.{beginning, Start, History}
 use Rattle.core_model.specs.Flight.{flight_of}
 use Rattle.core_model.specs.LaunchRules.{first_failing_rule, cause_to_wait}
 use Rattle.core_model.specs.Queues.{Opening, is_down, next_id, owner}
@@ -48,7 +48,7 @@ use Rattle.world.specs.declared.reply.Refusal.{Refusal}
 use Rattle.world.specs.Bytes.{bytes_of}
 use Rattle.world.specs.Calls.{event_of}
 use Rattle.world.specs.Dues.{Reply, asked_size, hindrance, is_decided, taking}
-use Rattle.world.specs.InStep.{IsInStep, IsJoined, IsUntouched, Stands}
+use Rattle.world.specs.InStep.{IsInStep, IsJoined, IsUntouched, Stands, whole_of}
 use Rattle.world.specs.Making.{AreDecided, MakesAt, MakesWhere, decided_after, ring_made, rings_of, with_queue_ring}
 use Rattle.world.specs.Obeying.{Asks, HandsOver, Obeys, Opens, TakesAt, new_ring, ring_taken, rings_opened}
 use Rattle.core_model.proofs.Turns.{numbered-new, numbered-end}
@@ -64,12 +64,12 @@ same_some x y e = cc
 -- ---- lists of rings
 
 -- where no queue's next id changes, nothing else does
-decided_along : (core core' : History) (rings : List QueueRing) → ((queue : QueueId) → next_id core'.start core'.entries queue ≡ next_id core.start core.entries queue) → AreDecided core rings → AreDecided core' rings
+decided_along : (core core' : History) (rings : List QueueRing) → ((queue : QueueId) → next_id (beginning core') core'.entries queue ≡ next_id (beginning core) core.entries queue) → AreDecided core rings → AreDecided core' rings
 decided_along core core' rings next h queue r found = h queue r found ∙ ap (nat_lt (read_index r.ring)) (sym (next queue))
 
 -- another state of one queue's ring, where other queues' next ids stay
 decided_put : (core core' : History) (rings : List QueueRing) (queue : QueueId) (r after : QueueRing) → numbered rings queue.0 ≡ Some r → after.decided ≡ is_decided core' queue after.ring
-    → ((other : QueueId) → other.0 ≢ queue.0 → next_id core'.start core'.entries other ≡ next_id core.start core.entries other) → AreDecided core rings → AreDecided core' (with_queue_ring rings queue after)
+    → ((other : QueueId) → other.0 ≢ queue.0 → next_id (beginning core') core'.entries other ≡ next_id (beginning core) core.entries other) → AreDecided core rings → AreDecided core' (with_queue_ring rings queue after)
 decided_put core core' rings queue r after found here next h other x at =
     elim (eqb_tells other.0 queue.0) [
       | inl e ↦
@@ -93,18 +93,18 @@ kept_after decided (LoadBody place) other = refl
 kept_after decided ClearHeader other = refl
 kept_after decided RaiseReadIndex other = absurd (other refl)
 
-made_decided : (core : History) (queue : QueueId) (r : QueueRing) (step : Step) → IsInStep core queue r.ring → r.decided ≡ is_decided core queue r.ring → Moved r.ring step
+made_decided : (core : History) (all : List Entry) (queue : QueueId) (r : QueueRing) (step : Step) → IsInStep core all queue r.ring → r.decided ≡ is_decided core queue r.ring → Moved r.ring step
     → (ring_made r step).decided ≡ is_decided core queue (made r.ring step)
-made_decided core queue r step h d (inl raised) =
-    let past : nat_lt (read_index (made r.ring step)) (next_id core.start core.entries queue) ≡ false =
-    let le : next_id core.start core.entries queue ≤ read_index (made r.ring step) = omega (arith, raised.index_is, h.ceiling) in grind (arith, nat_tests) in
+made_decided core all queue r step h d (inl raised) =
+    let past : nat_lt (read_index (made r.ring step)) (next_id (beginning core) core.entries queue) ≡ false =
+    let le : next_id (beginning core) core.entries queue ≤ read_index (made r.ring step) = omega (arith, raised.index_is, h.ceiling) in grind (arith, nat_tests) in
     ap (decided_after r.decided) raised.access_is ∙ sym past
-made_decided core queue r step h d (inr stayed) =
-    kept_after r.decided step.access stayed.other ∙ d ∙ ap (λ n. nat_lt n (next_id core.start core.entries queue)) (sym stayed.index_is)
+made_decided core all queue r step h d (inr stayed) =
+    kept_after r.decided step.access stayed.other ∙ d ∙ ap (λ n. nat_lt n (next_id (beginning core) core.entries queue)) (sym stayed.index_is)
 
 module _ (core : History) (rings : List QueueRing) (h : IsJoined (World core rings)) (d : AreDecided core rings) where
-  stands : (queue : QueueId) (r : QueueRing) → numbered rings queue.0 ≡ Some r → Stands core queue (Some r.ring)
-  stands queue r found = subst (Stands core queue) (ring_is core rings queue (Some r) found) (h.each queue)
+  stands : (queue : QueueId) (r : QueueRing) → numbered rings queue.0 ≡ Some r → Stands core (whole_of core h.legal) queue (Some r.ring)
+  stands queue r found = subst (Stands core (whole_of core h.legal) queue) (ring_is core rings queue (Some r) found) (h.each queue)
 
   after_step : (queue : QueueId) (step : Step) (r after : QueueRing) (reply : Reply) → numbered rings queue.0 ≡ Some r → (o : Option Refusal) → hindrance r.decided r.ring step ≡ o → MakesWhere o r step reply after
       → after.decided ≡ is_decided core queue after.ring
@@ -112,7 +112,7 @@ module _ (core : History) (rings : List QueueRing) (h : IsJoined (World core rin
   after_step queue step r after reply found None is (inl (told, same)) =
       let free = unhindered r.decided r.ring step is in
       let s = stands queue r found in
-      subst (λ (x : QueueRing). x.decided ≡ is_decided core queue x.ring) (sym same) (made_decided core queue r step s.1 (d queue r found) (index_moves (producers_of r.ring) r.ring step s.0.rule free.0))
+      subst (λ (x : QueueRing). x.decided ≡ is_decided core queue x.ring) (sym same) (made_decided core (whole_of core h.legal) queue r step s.1 (d queue r found) (index_moves (producers_of r.ring) r.ring step s.0.rule free.0))
   after_step queue step r after reply found None is (inr (may, told, same)) = subst (λ (x : QueueRing). x.decided ≡ is_decided core queue x.ring) (sym same) (d queue r found)
 
   step_decided : (queue : QueueId) (step : Step) (reply : Reply) (new : List QueueRing) (o : Option QueueRing) → numbered rings queue.0 ≡ o → MakesAt o queue step rings reply new → AreDecided core new
@@ -183,23 +183,23 @@ module _ (core : History) (rings : List QueueRing) (h : IsJoined (World core rin
   by_owing : (became : Result Taken cores.Refusal) (owing : Owed) → due core Taking ≡ owing → map_ok outcome.Taken became ≡ reply_of owing → AreDecided (history_after core Taking owing) (with_queue_ring rings queue (ring_taken r became))
   by_owing became (refuses why) is made = unmoved became (refused_stays r became why made)
   by_owing became (answers told) is made =
-      let waits = take_waits core.start core.entries queue (record { 0 = read_index r.ring }) (bytes_of words) told (due_answers core Taking told is) in
+      let waits = take_waits (beginning core) core.entries queue (record { 0 = read_index r.ring }) (bytes_of words) told (due_answers core Taking told is) in
       unmoved became (waits_stay r became waits.0 (made ∙ ap Ok waits.1))
   by_owing became (enters told effects) is made =
       let entry : Entry = entry_of Taking told effects in
       let new : History = history_after core Taking (enters told effects) in
-      let was = take-decided core.start core.entries told effects queue (record { 0 = read_index r.ring }) (bytes_of words) (due_enters core Taking told effects is) in
+      let was = take-decided (beginning core) core.entries told effects queue (record { 0 = read_index r.ring }) (bytes_of words) (due_enters core Taking told effects is) in
       let put : ring_taken r became ≡ record { ring = r.ring; decided = true } = decides queue (read_index r.ring) was.verdict became told was.outcome_is made r in
-      let more : next_id core.start (core.entries ++ entry ∷ []) queue ≡ next_id core.start core.entries queue + 1 =
-      next_id-more core.start core.entries entry queue ∙ ap (λ b. if b then next_id core.start core.entries queue + 1 else next_id core.start core.entries queue) (eq-eqb queue.0 queue.0 refl) in
-      let next : read_index r.ring ≡ next_id core.start core.entries queue = was.id_is_next in
-      let below : nat_lt (read_index r.ring) (next_id core.start (core.entries ++ entry ∷ []) queue) ≡ true =
-      let lt : read_index r.ring < next_id core.start (core.entries ++ entry ∷ []) queue = omega (arith, more, next) in grind (arith, nat_tests) in
+      let more : next_id (beginning core) (core.entries ++ entry ∷ []) queue ≡ next_id (beginning core) core.entries queue + 1 =
+      next_id-more (beginning core) core.entries entry queue ∙ ap (λ b. if b then next_id (beginning core) core.entries queue + 1 else next_id (beginning core) core.entries queue) (eq-eqb queue.0 queue.0 refl) in
+      let next : read_index r.ring ≡ next_id (beginning core) core.entries queue = was.id_is_next in
+      let below : nat_lt (read_index r.ring) (next_id (beginning core) (core.entries ++ entry ∷ []) queue) ≡ true =
+      let lt : read_index r.ring < next_id (beginning core) (core.entries ++ entry ∷ []) queue = omega (arith, more, next) in grind (arith, nat_tests) in
       decided_put core (history_after core Taking (enters told effects)) rings queue r (ring_taken r became) found
       (subst (λ (x : QueueRing). x.decided ≡ is_decided (history_after core Taking (enters told effects)) queue x.ring) (sym put) (sym below))
       (λ other apart.
       let differs : (queue.0 == other.0) ≡ false = elim (eqb_tells queue.0 other.0) [ inl e ↦ absurd (apart (sym e.1)) | inr e ↦ e.0 ] in
-      next_id-more core.start core.entries entry other ∙ ap (λ b. if b then next_id core.start core.entries other + 1 else next_id core.start core.entries other) differs)
+      next_id-more (beginning core) core.entries entry other ∙ ap (λ b. if b then next_id (beginning core) core.entries other + 1 else next_id (beginning core) core.entries other) differs)
       d
 
   handed_decided : (core' : History) (became : Result Taken cores.Refusal) → MeetsOrLacks Taking core core' (map_ok outcome.Taken became) → AreDecided core' (with_queue_ring rings queue (ring_taken r became))
@@ -211,17 +211,17 @@ module _ (core : History) (rings : List QueueRing) (h : IsJoined (World core rin
 -- ---- calls
 
 aside_next : (core : History) (event : Event) → IsAside event → (owing : Owed) → (queue : QueueId)
-    → next_id (history_after core event owing).start (history_after core event owing).entries queue ≡ next_id core.start core.entries queue
+    → next_id (beginning (history_after core event owing)) (history_after core event owing).entries queue ≡ next_id (beginning core) core.entries queue
 aside_next core event aside (refuses why) queue = refl
 aside_next core event aside (answers told) queue = refl
 aside_next core event aside (enters told effects) queue =
-    next_id-more core.start core.entries (entry_of event told effects) queue ∙ ap (λ b. if b then next_id core.start core.entries queue + 1 else next_id core.start core.entries queue) (aside.hands queue)
+    next_id-more (beginning core) core.entries (entry_of event told effects) queue ∙ ap (λ b. if b then next_id (beginning core) core.entries queue + 1 else next_id (beginning core) core.entries queue) (aside.hands queue)
 
 opening_next : (core : History) (client : ClientId) (agent : AgentHandle) (size : ℕ) (owing : Owed) → (queue : QueueId)
-    → next_id (history_after core (OpenQueue client agent size) owing).start (history_after core (OpenQueue client agent size) owing).entries queue ≡ next_id core.start core.entries queue
+    → next_id (beginning (history_after core (OpenQueue client agent size) owing)) (history_after core (OpenQueue client agent size) owing).entries queue ≡ next_id (beginning core) core.entries queue
 opening_next core client agent size (refuses why) queue = refl
 opening_next core client agent size (answers told) queue = refl
-opening_next core client agent size (enters told effects) queue = next_id-more core.start core.entries (entry_of (OpenQueue client agent size) told effects) queue
+opening_next core client agent size (enters told effects) queue = next_id-more (beginning core) core.entries (entry_of (OpenQueue client agent size) told effects) queue
 
 -- ---- any request
 
@@ -239,7 +239,7 @@ module _ (core core' : History) (rings new : List QueueRing) (h : IsJoined (Worl
       by_packet (Some words) (became, meets, told, put) = subst (AreDecided core') (sym put) (handed_decided core rings h d queue r found words core' became meets)
 
   -- a queue that is opened has no packet yet
-  opened_decided : (size producers : ℕ) (made : Result QueueId cores.Refusal) → ((queue : QueueId) → next_id core'.start core'.entries queue ≡ next_id core.start core.entries queue) → AreDecided core' (rings_opened rings size producers made)
+  opened_decided : (size producers : ℕ) (made : Result QueueId cores.Refusal) → ((queue : QueueId) → next_id (beginning core') core'.entries queue ≡ next_id (beginning core) core.entries queue) → AreDecided core' (rings_opened rings size producers made)
   opened_decided size producers (Err why) next queue r at = decided_along core core' rings next d queue r at
   opened_decided size producers (Ok opened) next queue r at =
       elim (eqb_tells queue.0 (length rings + 1)) [
@@ -247,8 +247,8 @@ module _ (core core' : History) (rings new : List QueueRing) (h : IsJoined (Worl
             let place : numbered (rings ++ new_ring size producers ∷ []) queue.0 ≡ Some (new_ring size producers) = ap (numbered (rings ++ new_ring size producers ∷ [])) e.1 ∙ numbered-new rings (new_ring size producers) in
             let is : new_ring size producers ≡ r = same_some (new_ring size producers) r (sym place ∙ at) in
             let none : numbered rings queue.0 ≡ None = ap (numbered rings) e.1 ∙ numbered-end rings in
-            let fresh : IsUntouched core queue = subst (Stands core queue) (ring_is core rings queue None none) (h.each queue) in
-            let zero_next : next_id core'.start core'.entries queue ≡ 0 = next queue ∙ fresh.next in
+            let fresh : IsUntouched core (whole_of core h.legal) queue = subst (Stands core (whole_of core h.legal) queue) (ring_is core rings queue None none) (h.each queue) in
+            let zero_next : next_id (beginning core') core'.entries queue ≡ 0 = next queue ∙ fresh.next in
             subst (λ (y : QueueRing). y.decided ≡ is_decided core' queue y.ring) is (ap (nat_lt 0) (sym zero_next))
         | inr e ↦
             let place : numbered rings queue.0 ≡ Some r = sym (numbered_old rings (new_ring size producers) queue.0 e.1) ∙ at in
@@ -258,22 +258,22 @@ module _ (core core' : History) (rings new : List QueueRing) (h : IsJoined (Worl
   opening_decided : (client : ClientId) (agent : AgentHandle) (size producers : ℕ) → Opens client agent size producers core rings reply core' new → AreDecided core' new
   opening_decided client agent size producers (made, meets, told, put) = subst (AreDecided core') (sym put) (opened_decided size producers made (by_due meets))
     where
-      by_due : MeetsOrLacks (OpenQueue client agent (asked_size size producers)) core core' (map_ok outcome.Opened made) → (queue : QueueId) → next_id core'.start core'.entries queue ≡ next_id core.start core.entries queue
-      by_due (inl m) queue = ap (λ (x : History). next_id x.start x.entries queue) m.history_is ∙ opening_next core client agent (asked_size size producers) (due core (OpenQueue client agent (asked_size size producers))) queue
-      by_due (inr l) queue = ap (λ (x : History). next_id x.start x.entries queue) l.history_is
+      by_due : MeetsOrLacks (OpenQueue client agent (asked_size size producers)) core core' (map_ok outcome.Opened made) → (queue : QueueId) → next_id (beginning core') core'.entries queue ≡ next_id (beginning core) core.entries queue
+      by_due (inl m) queue = ap (λ (x : History). next_id (beginning x) x.entries queue) m.history_is ∙ opening_next core client agent (asked_size size producers) (due core (OpenQueue client agent (asked_size size producers))) queue
+      by_due (inr l) queue = ap (λ (x : History). next_id (beginning x) x.entries queue) l.history_is
 
   call_decided : (call : Call) → Asks (asked.Event (event_of call)) core reply core' × (new ≡ rings) → AreDecided core' new
   call_decided call ((replied, served, told), same) = subst (AreDecided core') (sym same) (decided_along core core' rings (by_served served) d)
     where
-      by_served : cores_law.IsServed core (asked.Event (event_of call)) replied core' → (queue : QueueId) → next_id core'.start core'.entries queue ≡ next_id core.start core.entries queue
-      by_served (made, is, inl m) queue = ap (λ (x : History). next_id x.start x.entries queue) m.history_is ∙ aside_next core (event_of call) (call_aside (World core rings) h call) (due core (event_of call)) queue
-      by_served (made, is, inr l) queue = ap (λ (x : History). next_id x.start x.entries queue) l.history_is
+      by_served : cores_law.IsServed core (asked.Event (event_of call)) replied core' → (queue : QueueId) → next_id (beginning core') core'.entries queue ≡ next_id (beginning core) core.entries queue
+      by_served (made, is, inl m) queue = ap (λ (x : History). next_id (beginning x) x.entries queue) m.history_is ∙ aside_next core (event_of call) (call_aside (World core rings) h call) (due core (event_of call)) queue
+      by_served (made, is, inr l) queue = ap (λ (x : History). next_id (beginning x) x.entries queue) l.history_is
 
   query_decided : (query : Query) → Asks (asked.Query query) core reply core' × (new ≡ rings) → AreDecided core' new
   query_decided query ((replied, served, told), same) = subst (AreDecided core') (sym same) (decided_along core core' rings (by_served served) d)
     where
-      by_served : cores_law.IsServed core (asked.Query query) replied core' → (queue : QueueId) → next_id core'.start core'.entries queue ≡ next_id core.start core.entries queue
-      by_served (is, leads) queue = ap (λ (x : History). next_id x.start x.entries queue) leads
+      by_served : cores_law.IsServed core (asked.Query query) replied core' → (queue : QueueId) → next_id (beginning core') core'.entries queue ≡ next_id (beginning core) core.entries queue
+      by_served (is, leads) queue = ap (λ (x : History). next_id (beginning x) x.entries queue) leads
 
   pub obeyed_decided : (wanted : Request) → Obeys wanted core rings reply core' new → AreDecided core' new
   obeyed_decided (request.Step queue step) (makes, same) = subst (λ (x : History). AreDecided x new) (sym same) (step_decided core rings h d queue step reply new (numbered rings queue.0) refl makes)

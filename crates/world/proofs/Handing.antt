@@ -9,9 +9,9 @@ use Rattle.policy.specs.Policy.{Declared, numbered}
 use Rattle.core_model.specs.declared.event.Event.TheVariants.{OpenQueue, Take}
 use Rattle.core_model.specs.declared.outcome.Outcome.{Outcome}
 use Rattle.core_model.specs.declared.refusal.Refusal as cores
-use Rattle.core_model.specs.History.{History}
+use Rattle.core_model.specs.History.{beginning, History, Start}
 use Rattle.core_model.specs.Owed.{Owed, refuses, answers, enters}
-use Rattle.core_model.specs.Legal.{MeetsOrLacks, due, empty_history, reply_of}
+use Rattle.core_model.specs.Legal.{IsOpening, MeetsOrLacks, due, reply_of}
 use Rattle.ring_core.specs.Parts.{collected_packet}
 use Rattle.aql_packet.specs.Ring.{is_ring_size}
 use Rattle.ring_core.specs.Machine.{is_producer_count, read_index}
@@ -61,13 +61,14 @@ never_opened core core' client agent size producers asked told unfit is (inl mee
 
     by_owing : (owing : Owed) → due core (OpenQueue client agent asked) ≡ owing → Ok told ≡ reply_of owing → ⊥
     by_owing (refuses why) e reply = cc
-    by_owing (answers other) e reply = fits_not (opening_owed core.start core.entries client agent asked (answers other) (λ w x. cc) (due_answers core (OpenQueue client agent asked) other e)).0
-    by_owing (enters other effects) e reply = fits_not (opening_owed core.start core.entries client agent asked (enters other effects) (λ w x. cc) (due_enters core (OpenQueue client agent asked) other effects e)).0
+    by_owing (answers other) e reply = fits_not (opening_owed (beginning core) core.entries client agent asked (answers other) (λ w x. cc) (due_answers core (OpenQueue client agent asked) other e)).0
+    by_owing (enters other effects) e reply = fits_not (opening_owed (beginning core) core.entries client agent asked (enters other effects) (λ w x. cc) (due_enters core (OpenQueue client agent asked) other effects e)).0
 
 -- a world begins joined
-pub starts : (policy : Declared) (kernels : List Program) (capacity : ℕ) (core : History) (rings : List QueueRing) → core ≡ empty_history policy kernels capacity → rings ≡ []
-    → IsJoined (World core rings) × AreDecided core rings
-starts policy kernels capacity core rings is none = (
-  subst (λ (h : History). IsJoined (World h rings)) (sym is) (subst (λ (rs : List QueueRing). IsJoined (World (empty_history policy kernels capacity) rs)) (sym none) (begins policy kernels capacity)),
-  λ queue r found. absurd (let nothing = numbered_none rings queue.0 (ap length none) in cc),
+pub starts : (policy : Declared) (kernels : List Program) (capacity : ℕ) (core : History) (rings : List QueueRing) → IsOpening core policy kernels capacity → rings ≡ []
+    → IsJoined (World core rings) × AreDecided core rings × ((beginning core).before ≡ 0)
+starts policy kernels capacity core rings opening none = (
+  subst (λ (rs : List QueueRing). IsJoined (World core rs)) (sym none) (begins policy kernels capacity core opening),
+  (λ queue r found. absurd (let nothing = numbered_none rings queue.0 (ap length none) in cc)),
+  ap (λ (now : Start). now.before) opening.start_is,
 )

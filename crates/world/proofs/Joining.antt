@@ -1,15 +1,15 @@
 -- The rings and the history stay in step, whatever is asked.
-use Rattle.std.proofs.Common.{◌≡◌, ℕ, ◌+◌, ◌-◌, ◌<◌, length, refl, sym, ap, ◌∙◌, subst, true, false, Option, Some, None, inl, inr, arith, length-set}
+use Rattle.std.proofs.Common.{◌≡◌, ℕ, ◌+◌, ◌-◌, ◌<◌, List, [], ◌∷◌, ◌++◌, length, refl, sym, ap, ◌∙◌, subst, true, false, Option, Some, None, inl, inr, arith, length-set}
 use Rattle.std.specs.Prelude.{◌⊎◌, slice_get, if◌then◌else◌}
 use Rattle.std.proofs.lemmas.Bool.{ltb-true}
 use Rattle.std.proofs.lemmas.Bool.Decides.{eqb_tells}
 use Rattle.aql_packet.specs.declared.ids.QueueId.{QueueId}
 use Rattle.core_model.specs.declared.event.Event.{Event}
 use Rattle.core_model.specs.declared.entry.Entry.{Entry}
-use Rattle.core_model.specs.History.{History}
+use Rattle.core_model.specs.History.{beginning, History}
 use Rattle.core_model.specs.Queues.{hands_over_packet_of, next_id, opening_of, openings}
 use Rattle.core_model.specs.Owed.{Owed, refuses, answers, enters}
-use Rattle.core_model.specs.Legal.{IsLegal, due, entry_of, history_after}
+use Rattle.core_model.specs.Legal.{due, entry_of, history_after}
 use Rattle.core_model.proofs.More.{with_some, next_id-more, openings-more}
 use Rattle.ring_core.specs.declared.access.Access.TheVariants.{ClearHeader}
 use Rattle.ring_core.specs.declared.access.Step.{Step}
@@ -21,15 +21,15 @@ use Rattle.ring_core.proofs.Publication.{Raised, Stayed, index_moves, published_
 use Rattle.world.specs.Bytes.{bytes_of}
 use Rattle.world.specs.States.{Joined, ring_of, with_core, with_ring}
 use Rattle.world.specs.Dues.{is_decided, may_follow}
-use Rattle.world.specs.InStep.{IsInStep, IsJoined, IsPublished, Stands, published, size_of, sizes, taken_from, takes}
+use Rattle.world.specs.InStep.{IsInStep, IsJoined, IsPublished, Stands, published, size_of, sizes, taken_from, takes, whole_of}
 use Rattle.world.proofs.Numbering.{map_same, numbered_other, numbered_place, numbered_same}
-use Rattle.world.proofs.Entering.{due_legal, sizes_more, takes_more}
+use Rattle.world.proofs.Entering.{legal_entered, sizes_behind, takes_behind}
 
 -- ---- a ring's step
 
-module _ (core : History) (queue : QueueId) (ring : Machine) (step : Step) (is_ring : IsRing ring) (may : is_allowed ring step ≡ true) (follows : may_follow (is_decided core queue ring) step.access ≡ true) (h : IsInStep core queue ring) where
+module _ (core : History) (all : List Entry) (queue : QueueId) (ring : Machine) (step : Step) (is_ring : IsRing ring) (may : is_allowed ring step ≡ true) (follows : may_follow (is_decided core queue ring) step.access ≡ true) (h : IsInStep core all queue ring) where
   next : ℕ
-  next = next_id core.start core.entries queue
+  next = next_id (beginning core) core.entries queue
 
   -- what is published stays published, as it was
   still_published : (id : ℕ) → IsPublished ring id → IsPublished (made ring step) id × (published (made ring step) id ≡ published ring id)
@@ -37,18 +37,18 @@ module _ (core : History) (queue : QueueId) (ring : Machine) (step : Step) (is_r
       let same = published_stays (producers_of ring) ring step is_ring.rule may id is in
       (ap is_published same ∙ is, ap (λ t. bytes_of (packet_of t.words)) same)
 
-  still_whole : (id : ℕ) → id < next_id core.start core.entries queue → IsPublished (made ring step) id × (slice_get (takes core.entries queue) id ≡ Some (published (made ring step) id))
+  still_whole : (id : ℕ) → id < next_id (beginning core) core.entries queue → IsPublished (made ring step) id × (slice_get (takes all queue) id ≡ Some (published (made ring step) id))
   still_whole id lt =
       let was = h.whole id lt in
       let now = still_published id was.0 in
       (now.0, was.1 ∙ ap Some (sym now.1))
 
-  may_clear : step.access ≡ ClearHeader → read_index ring < next_id core.start core.entries queue
-  may_clear is = ltb-true (read_index ring) (next_id core.start core.entries queue) (ap (may_follow (is_decided core queue ring)) (sym is) ∙ follows)
+  may_clear : step.access ≡ ClearHeader → read_index ring < next_id (beginning core) core.entries queue
+  may_clear is = ltb-true (read_index ring) (next_id (beginning core) core.entries queue) (ap (may_follow (is_decided core queue ring)) (sym is) ∙ follows)
 
-  by_index : Raised ring (made ring step) step.access ⊎ Stayed ring (made ring step) step.access → IsInStep core queue (made ring step)
+  by_index : Raised ring (made ring step) step.access ⊎ Stayed ring (made ring step) step.access → IsInStep core all queue (made ring step)
   by_index (inl raised) =
-      let below : read_index ring < next_id core.start core.entries queue = h.cleared raised.was_cleared in
+      let below : read_index ring < next_id (beginning core) core.entries queue = h.cleared raised.was_cleared in
       record {
         floor = omega (arith, raised.index_is, below);
         ceiling = omega (arith, raised.index_is, h.ceiling);
@@ -64,11 +64,11 @@ module _ (core : History) (queue : QueueId) (ring : Machine) (step : Step) (is_r
     whole = still_whole;
   }
     where
-      by_cause : ((processor_of ring.parts).raising ≡ true) ⊎ (step.access ≡ ClearHeader) → read_index (made ring step) < next_id core.start core.entries queue
+      by_cause : ((processor_of ring.parts).raising ≡ true) ⊎ (step.access ≡ ClearHeader) → read_index (made ring step) < next_id (beginning core) core.entries queue
       by_cause (inl was) = omega (arith, stayed.index_is, h.cleared was)
       by_cause (inr is) = omega (arith, stayed.index_is, may_clear is)
 
-  pub step_in_step : IsInStep core queue (made ring step)
+  pub step_in_step : IsInStep core all queue (made ring step)
   step_in_step = by_index (index_moves (producers_of ring) ring step is_ring.rule may)
 
 -- a queue is its number
@@ -76,7 +76,7 @@ pub same_queue : (one other : QueueId) → one.0 ≡ other.0 → one ≡ other
 same_queue one other e = λ i. record { 0 = e i }
 
 -- another state of a queue's ring, in step
-pub ring_replaced : (world : Joined) (queue : QueueId) (ring new : Machine) → IsJoined world → ring_of world queue ≡ Some ring → new.size ≡ ring.size → Stands world.core queue (Some new) → IsJoined (with_ring world queue new)
+pub ring_replaced : (world : Joined) (queue : QueueId) (ring new : Machine) (h : IsJoined world) → ring_of world queue ≡ Some ring → new.size ≡ ring.size → Stands world.core (whole_of world.core h.legal) queue (Some new) → IsJoined (with_ring world queue new)
 ring_replaced world queue ring new h found size stands = record {
   legal = h.legal;
   count = length-set world.rings (queue.0 - 1) new ∙ h.count;
@@ -85,18 +85,18 @@ ring_replaced world queue ring new h found size stands = record {
       elim (eqb_tells other.0 queue.0) [
         | inl e ↦
             let same = same_queue other queue e.1 in
-            subst (λ (q : QueueId). Stands world.core q (ring_of (with_ring world queue new) q)) (sym same)
-            (subst (Stands world.core queue) (sym (numbered_same world.rings queue.0 ring new found)) stands)
-        | inr e ↦ subst (Stands world.core other) (sym (numbered_other world.rings queue.0 other.0 ring new found e.1)) (h.each other)
+            subst (λ (q : QueueId). Stands world.core (whole_of world.core h.legal) q (ring_of (with_ring world queue new) q)) (sym same)
+            (subst (Stands world.core (whole_of world.core h.legal) queue) (sym (numbered_same world.rings queue.0 ring new found)) stands)
+        | inr e ↦ subst (Stands world.core (whole_of world.core h.legal) other) (sym (numbered_other world.rings queue.0 other.0 ring new found e.1)) (h.each other)
       ];
 }
 
 -- ---- an entry
 
 -- a queue stands as before where its questions have the same answers
-pub stands_along : (old new : History) (queue : QueueId) (o : Option Machine) → next_id new.start new.entries queue ≡ next_id old.start old.entries queue → takes new.entries queue ≡ takes old.entries queue → Stands old queue o → Stands new queue o
-stands_along old new queue None next same h = record { next = next ∙ h.next; takes = same ∙ h.takes }
-stands_along old new queue (Some ring) next same h = (
+pub stands_along : (old new : History) (was now : List Entry) (queue : QueueId) (o : Option Machine) → next_id (beginning new) new.entries queue ≡ next_id (beginning old) old.entries queue → takes now queue ≡ takes was queue → Stands old was queue o → Stands new now queue o
+stands_along old new was now queue None next same h = record { next = next ∙ h.next; takes = same ∙ h.takes }
+stands_along old new was now queue (Some ring) next same h = (
   h.0,
   record {
     floor = omega (arith, next, h.1.floor);
@@ -104,8 +104,8 @@ stands_along old new queue (Some ring) next same h = (
     cleared = λ raising. let below = h.1.cleared raising in omega arith;
     count = ap length same ∙ h.1.count ∙ sym next;
     whole = λ id lt.
-        let was = h.1.whole id (omega (arith, next, lt)) in
-        (was.0, ap (λ xs. slice_get xs id) same ∙ was.1);
+        let there = h.1.whole id (omega (arith, next, lt)) in
+        (there.0, ap (λ xs. slice_get xs id) same ∙ there.1);
   },
 )
 
@@ -126,12 +126,12 @@ module _ (world : Joined) (h : IsJoined world) (event : Event) where
   aside_by aside (enters outcome effects) is =
       let e : Entry = entry_of event outcome effects in
       record {
-        legal = subst (λ o. IsLegal (history_after world.core event o).start (history_after world.core event o).entries) is (due_legal world.core event h.legal);
-        count = h.count ∙ ap length (sym (openings-more world.core.start world.core.entries e ∙ ap (with_some (openings world.core.start world.core.entries)) aside.opens));
-        sizes = h.sizes ∙ sym (sizes_more world.core.entries e ∙ ap (with_some (sizes world.core.entries)) aside.sizes);
-        each = λ queue. stands_along world.core (history_after world.core event (enters outcome effects)) queue (ring_of world queue)
-            (next_id-more world.core.start world.core.entries e queue ∙ ap (λ b. if b then next_id world.core.start world.core.entries queue + 1 else next_id world.core.start world.core.entries queue) (aside.hands queue))
-            (takes_more world.core.entries e queue ∙ ap (with_some (takes world.core.entries queue)) (aside.takes queue))
+        legal = legal_entered world.core event outcome effects h.legal is;
+        count = h.count ∙ ap length (sym (openings-more (beginning world.core) world.core.entries e ∙ ap (with_some (openings (beginning world.core) world.core.entries)) aside.opens));
+        sizes = h.sizes ∙ sym (sizes_behind h.legal.prior world.core.entries e ∙ ap (with_some (sizes (whole_of world.core h.legal))) aside.sizes);
+        each = λ queue. stands_along world.core (history_after world.core event (enters outcome effects)) (whole_of world.core h.legal) (h.legal.prior ++ (world.core.entries ++ e ∷ [])) queue (ring_of world queue)
+            (next_id-more (beginning world.core) world.core.entries e queue ∙ ap (λ b. if b then next_id (beginning world.core) world.core.entries queue + 1 else next_id (beginning world.core) world.core.entries queue) (aside.hands queue))
+            (takes_behind h.legal.prior world.core.entries e queue ∙ ap (with_some (takes (whole_of world.core h.legal) queue)) (aside.takes queue))
             (h.each queue);
       }
 

@@ -5,7 +5,10 @@ use Rattle.std.specs.Prelude.{◌&&◌, length, slice_get, if◌then◌else◌}
 use Rattle.aql_packet.specs.declared.ids.QueueId.{QueueId}
 use Rattle.kernel_check.specs.Programs.{Program}
 use Rattle.policy.specs.Policy.{Declared}
-use Rattle.core_model.specs.Legal.{empty_history}
+use Rattle.core_model.specs.Legal.{IsOpening, IsWhole}
+use Rattle.core_model.specs.Queues.{next_id, openings}
+use Rattle.core_model.specs.declared.entry.Entry.{Entry}
+use Rattle.core_model.proofs.States.{state-now}
 use Rattle.ring_core.specs.declared.access.Step.{Step}
 use Rattle.ring_core.specs.Parts.{collected_packet}
 use Rattle.ring_core.specs.Machine.{Machine, is_allowed, made, read_index}
@@ -21,12 +24,14 @@ use Rattle.world.specs.declared.reply.Refusal.TheVariants as refusal
 use Rattle.world.specs.States.{Joined, joined, ring_of}
 use Rattle.world.specs.Calls.{event_of}
 use Rattle.world.specs.Dues.{AreReplies, IsServed, Reply, due_collected, due_step, due_take, due_where, has_spent, hindrance, is_decided, may_follow, owed_to, reserves}
-use Rattle.world.specs.InStep.{IsJoined, Stands}
+use Rattle.world.specs.Headline.{IsBegun}
+use Rattle.world.specs.InStep.{IsJoined, Stands, sizes, takes, whole_of}
 use Rattle.world.proofs.Numbering.{numbered_none}
 use Rattle.world.proofs.Entering.{no_openings, no_sizes, no_takes, none_next}
 use Rattle.world.proofs.Joining.{IsAside, aside_kept, ring_replaced, step_in_step}
 use Rattle.world.proofs.Taking.{take_kept}
 use Rattle.world.proofs.OpeningKept.{opening_kept}
+use Rattle.core_model.specs.History.{History, Start, beginning, opening_state}
 
 -- ---- steps
 
@@ -52,8 +57,8 @@ module _ (world : Joined) (h : IsJoined world) where
       by_hindrance (Some why) is = h
       by_hindrance None is =
           let free = unhindered (is_decided world.core queue ring) ring step is in
-          let stands : Stands world.core queue (Some ring) = subst (Stands world.core queue) found (h.each queue) in
-          ring_replaced world queue ring (made ring step) h found refl (ring_steps ring step stands.0 free.0, step_in_step world.core queue ring step stands.0 free.0 free.1 stands.1)
+          let stands : Stands world.core (whole_of world.core h.legal) queue (Some ring) = subst (Stands world.core (whole_of world.core h.legal) queue) found (h.each queue) in
+          ring_replaced world queue ring (made ring step) h found refl (ring_steps ring step stands.0 free.0, step_in_step world.core (whole_of world.core h.legal) queue ring step stands.0 free.0 free.1 stands.1)
 
   taking_kept : (queue : QueueId) (o : Option Machine) → ring_of world queue ≡ o → IsJoined (due_take world queue o).after
   taking_kept queue None found = h
@@ -96,48 +101,64 @@ replies_kept world new (asked ∷ requests) [] h are = absurd are
 -- ---- what the history begins from
 
 -- a request leaves it
-owed_start : (world : Joined) (asked : Request) → (owed_to world asked).after.core.start ≡ world.core.start
+owed_start : (world : Joined) (asked : Request) → (beginning (owed_to world asked).after.core) ≡ (beginning world.core)
 owed_start world (request.Step queue step) = by_ring (ring_of world queue)
   where
-    by_hindrance : (ring : Machine) (why : Option Refusal) → (due_where world queue ring step why).after.core.start ≡ world.core.start
+    by_hindrance : (ring : Machine) (why : Option Refusal) → (beginning (due_where world queue ring step why).after.core) ≡ (beginning world.core)
     by_hindrance ring None = refl
     by_hindrance ring (Some why) = refl
 
-    by_ring : (o : Option Machine) → (due_step world queue step o).after.core.start ≡ world.core.start
+    by_ring : (o : Option Machine) → (beginning (due_step world queue step o).after.core) ≡ (beginning world.core)
     by_ring None = refl
     by_ring (Some ring) = by_hindrance ring (hindrance (is_decided world.core queue ring) ring step)
 owed_start world (request.Take queue) = by_ring (ring_of world queue)
   where
-    by_packet : (id : ℕ) (packet : Option (List ℕ)) → (due_collected world queue id packet).after.core.start ≡ world.core.start
+    by_packet : (id : ℕ) (packet : Option (List ℕ)) → (beginning (due_collected world queue id packet).after.core) ≡ (beginning world.core)
     by_packet id None = refl
     by_packet id (Some words) = refl
 
-    by_ring : (o : Option Machine) → (due_take world queue o).after.core.start ≡ world.core.start
+    by_ring : (o : Option Machine) → (beginning (due_take world queue o).after.core) ≡ (beginning world.core)
     by_ring None = refl
     by_ring (Some ring) = by_packet (read_index ring) (collected_packet (processor_of ring.parts))
 owed_start world (request.OpenQueue client agent size producers) = refl
 owed_start world (request.Call asked) = refl
 owed_start world (request.Query asked) = refl
 
-served_start : (world new : Joined) (asked : Request) (reply : Reply) → IsServed world asked reply new → new.core.start ≡ world.core.start
-served_start world new asked reply (inl served) = ap (λ w. w.core.start) served.1 ∙ owed_start world asked
-served_start world new asked reply (inr lacked) = ap (λ w. w.core.start) lacked.2
+pub served_start : (world new : Joined) (asked : Request) (reply : Reply) → IsServed world asked reply new → (beginning new.core) ≡ (beginning world.core)
+served_start world new asked reply (inl served) = ap (λ w. (beginning w.core)) served.1 ∙ owed_start world asked
+served_start world new asked reply (inr lacked) = ap (λ w. (beginning w.core)) lacked.2
 
 -- any list of requests leaves it
-pub replies_start : (world new : Joined) (requests : List Request) (replies : List Reply) → AreReplies world requests replies new → new.core.start ≡ world.core.start
-replies_start world new [] [] are = ap (λ w. w.core.start) are
+pub replies_start : (world new : Joined) (requests : List Request) (replies : List Reply) → AreReplies world requests replies new → (beginning new.core) ≡ (beginning world.core)
+replies_start world new [] [] are = ap (λ w. (beginning w.core)) are
 replies_start world new (asked ∷ requests) (reply ∷ replies) are = replies_start are.0 new requests replies are.2 ∙ served_start world are.0 asked reply are.1
 replies_start world new [] (reply ∷ replies) are = absurd are
 replies_start world new (asked ∷ requests) [] are = absurd are
 
 -- ---- the opening
 
-pub begins : (policy : Declared) (kernels : List Program) (capacity : ℕ) → IsJoined (joined (empty_history policy kernels capacity) [])
-begins policy kernels capacity = record {
-  legal = tt;
-  count = sym (ap length (no_openings (empty_history policy kernels capacity).start));
-  sizes = sym no_sizes;
-  each = λ queue.
-      subst (Stands (empty_history policy kernels capacity) queue) (sym (numbered_none (joined (empty_history policy kernels capacity) []).rings queue.0 refl))
-      (record { next = none_next (empty_history policy kernels capacity).start queue; takes = no_takes queue });
-}
+module _ (policy : Declared) (kernels : List Program) (capacity : ℕ) (core : History) (opening : IsOpening core policy kernels capacity) where
+  -- what holds where an opening begins, and of no entry, holds of its history
+  of_none : (P : Start → List Entry → Type 0) → P (opening_state policy kernels) [] → P (beginning core) core.entries
+  of_none P none = subst (P (beginning core)) (sym opening.entries_are) (subst (λ (now : Start). P now []) (sym opening.start_is) none)
+
+  pub begins : IsJoined (joined core [])
+  begins = record {
+    legal = record {
+      first = policy;
+      prior = [];
+      start_is = opening.start_is ∙ ap (opening_state policy) (sym opening.kernels_are) ∙ sym (state-now (opening_state policy core.kernels));
+      whole = subst (IsWhole (opening_state policy core.kernels)) (sym opening.entries_are) (record { opens = refl; legal = tt });
+    };
+    count = sym (of_none (λ now es. length (openings now es) ≡ 0) (ap length (no_openings (opening_state policy kernels))));
+    sizes = sym (of_none (λ now es. sizes es ≡ []) no_sizes);
+    each = λ queue.
+        subst (Stands core core.entries queue) (sym (numbered_none (joined core []).rings queue.0 refl)) (record {
+          next = of_none (λ now es. next_id now es queue ≡ 0) (none_next (opening_state policy kernels) queue);
+          takes = of_none (λ now es. takes es queue ≡ []) (no_takes queue);
+        });
+  }
+
+-- a world that was just opened is joined
+pub begun_joined : (world : Joined) (policy : Declared) (kernels : List Program) (capacity : ℕ) → IsBegun world policy kernels capacity → IsJoined world
+begun_joined world policy kernels capacity is = subst (λ (rings : List Machine). IsJoined (joined world.core rings)) (sym is.rings) (begins policy kernels capacity world.core is.core)

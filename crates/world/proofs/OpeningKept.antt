@@ -17,12 +17,12 @@ use Rattle.core_model.specs.declared.limits.TheConstants.{QUEUES}
 use Rattle.core_model.specs.declared.outcome.Outcome.{Outcome}
 use Rattle.core_model.specs.declared.outcome.Outcome.TheVariants as outcome
 use Rattle.core_model.specs.declared.refusal.Refusal.{Refusal}
-use Rattle.core_model.specs.History.{Start, History}
+use Rattle.core_model.specs.History.{beginning, Start, History}
 use Rattle.core_model.specs.Grants.{in_force}
 use Rattle.core_model.specs.Queues.{openings}
 use Rattle.core_model.specs.Owed.{Owed, owed, refuses, answers, enters}
 use Rattle.core_model.specs.Refusals.{refuse_unless}
-use Rattle.core_model.specs.Legal.{IsLegal, due, entry_of, history_after, reply_of}
+use Rattle.core_model.specs.Legal.{due, entry_of, history_after, reply_of}
 use Rattle.core_model.proofs.More.{next_id-more, openings-more}
 use Rattle.ring_core.specs.Machine as machine
 use Rattle.aql_packet.specs.Ring.{is_ring_size}
@@ -32,10 +32,10 @@ use Rattle.ring_core.proofs.States.{ring_opens}
 use Rattle.world.specs.States.{Joined, joined, ring_of}
 use Rattle.world.specs.Dues.{asked_size, rings_after}
 use Rattle.world.specs.InStep as InStep
-use Rattle.world.specs.InStep.{IsInStep, IsJoined, IsUntouched, Stands}
+use Rattle.world.specs.InStep.{IsInStep, IsJoined, IsUntouched, Stands, whole_of}
 use Rattle.core_model.proofs.Turns.{numbered-new, numbered-end}
 use Rattle.world.proofs.Numbering.{map_more, numbered_old}
-use Rattle.world.proofs.Entering.{due_answers, due_enters, due_legal, sizes_more, takes_more}
+use Rattle.world.proofs.Entering.{due_answers, due_enters, legal_entered, sizes_behind, takes_behind}
 use Rattle.world.proofs.Joining.{stands_along}
 
 -- ---- what an opening is owed
@@ -68,8 +68,8 @@ size_asked size producers fits = by_test (is_producer_count producers) refl fits
 
 -- ---- the ring of an opened queue
 
-opens_in_step : (core : History) (queue : QueueId) (size producers : ℕ) → IsUntouched core queue → IsInStep core queue (machine.opened size producers)
-opens_in_step core queue size producers h = record {
+opens_in_step : (core : History) (all : List Entry) (queue : QueueId) (size producers : ℕ) → IsUntouched core all queue → IsInStep core all queue (machine.opened size producers)
+opens_in_step core all queue size producers h = record {
   floor = omega (arith, h.next);
   ceiling = omega (arith, h.next);
   cleared = λ raising. absurd (cc);
@@ -91,11 +91,17 @@ module _ (world : Joined) (h : IsJoined world) (client : ClientId) (agent : Agen
     abbrev TheEntry : Entry
     TheEntry = entry_of Opening told effects
 
+    abbrev All : List Entry
+    All = whole_of world.core h.legal
+
+    abbrev NewAll : List Entry
+    NewAll = h.legal.prior ++ (world.core.entries ++ TheEntry ∷ [])
+
     abbrev NewRing : Machine
     NewRing = machine.opened size producers
 
-    good : (is_ring_size (asked_size size producers) ≡ true) × (enters (outcome.Opened (record { 0 = length (openings world.core.start world.core.entries) + 1 })) [] ≡ enters told effects)
-    good = opening_owed world.core.start world.core.entries client agent (asked_size size producers) (enters told effects) (λ w e. cc) (due_enters world.core Opening told effects owing)
+    good : (is_ring_size (asked_size size producers) ≡ true) × (enters (outcome.Opened (record { 0 = length (openings (beginning world.core) world.core.entries) + 1 })) [] ≡ enters told effects)
+    good = opening_owed (beginning world.core) world.core.entries client agent (asked_size size producers) (enters told effects) (λ w e. cc) (due_enters world.core Opening told effects owing)
 
     asked : (asked_size size producers ≡ size) × (is_producer_count producers ≡ true)
     asked = size_asked size producers good.0
@@ -106,40 +112,40 @@ module _ (world : Joined) (h : IsJoined world) (client : ClientId) (agent : Agen
     few : producers ≤ 16
     few = (producer_bounds producers asked.1).1
 
-    after : (queue : QueueId) (o : Option Machine) → Stands world.core queue o → Stands New queue o
-    after queue o = stands_along world.core New queue o (next_id-more world.core.start world.core.entries TheEntry queue) (takes_more world.core.entries TheEntry queue)
+    after : (queue : QueueId) (o : Option Machine) → Stands world.core All queue o → Stands New NewAll queue o
+    after queue o = stands_along world.core New All NewAll queue o (next_id-more (beginning world.core) world.core.entries TheEntry queue) (takes_behind h.legal.prior world.core.entries TheEntry queue)
 
-    new_here : (queue : QueueId) → queue.0 ≡ length world.rings + 1 → Stands New queue (Some NewRing)
+    new_here : (queue : QueueId) → queue.0 ≡ length world.rings + 1 → Stands New NewAll queue (Some NewRing)
     new_here queue is =
         let none : ring_of world queue ≡ None = ap (numbered world.rings) is ∙ numbered-end world.rings in
-        let fresh : Stands New queue None = after queue None (subst (Stands world.core queue) none (h.each queue)) in
-        (ring_opens size producers fits few, opens_in_step New queue size producers fresh)
+        let fresh : Stands New NewAll queue None = after queue None (subst (Stands world.core All queue) none (h.each queue)) in
+        (ring_opens size producers fits few, opens_in_step New NewAll queue size producers fresh)
 
     made : IsJoined (joined New (world.rings ++ NewRing ∷ []))
     made = record {
-      legal = subst (λ o. IsLegal (history_after world.core Opening o).start (history_after world.core Opening o).entries) owing (due_legal world.core Opening h.legal);
+      legal = legal_entered world.core Opening told effects h.legal owing;
       count =
           let rings = length-append world.rings (NewRing ∷ []) in
-          let more = ap length (openings-more world.core.start world.core.entries TheEntry) in
-          let longer = length-append (openings world.core.start world.core.entries) (record { client = client; agent = agent } ∷ []) in
+          let more = ap length (openings-more (beginning world.core) world.core.entries TheEntry) in
+          let longer = length-append (openings (beginning world.core) world.core.entries) (record { client = client; agent = agent } ∷ []) in
           omega (arith, rings, more, longer, h.count);
       sizes =
           map_more (λ (r : Machine). r.size) world.rings NewRing
           ∙ ap (λ xs. xs ++ size ∷ []) h.sizes
-          ∙ ap (λ n. InStep.sizes world.core.entries ++ n ∷ []) (sym asked.0)
-          ∙ sym (sizes_more world.core.entries TheEntry);
+          ∙ ap (λ n. InStep.sizes All ++ n ∷ []) (sym asked.0)
+          ∙ sym (sizes_behind h.legal.prior world.core.entries TheEntry);
       each = λ queue.
           elim (eqb_tells queue.0 (length world.rings + 1)) [
-            | inl e ↦ subst (Stands New queue) (sym (ap (numbered (world.rings ++ NewRing ∷ [])) e.1 ∙ numbered-new world.rings NewRing)) (new_here queue e.1)
-            | inr e ↦ subst (Stands New queue) (sym (numbered_old world.rings NewRing queue.0 e.1)) (after queue (ring_of world queue) (h.each queue))
+            | inl e ↦ subst (Stands New NewAll queue) (sym (ap (numbered (world.rings ++ NewRing ∷ [])) e.1 ∙ numbered-new world.rings NewRing)) (new_here queue e.1)
+            | inr e ↦ subst (Stands New NewAll queue) (sym (numbered_old world.rings NewRing queue.0 e.1)) (after queue (ring_of world queue) (h.each queue))
           ];
     }
 
   opened_by : (owing : Owed) → due world.core Opening ≡ owing → IsJoined (After owing)
   opened_by (refuses why) is = h
   opened_by (answers told) is =
-      let owed_is = opening_owed world.core.start world.core.entries client agent (asked_size size producers) (answers told) (λ w e. cc) (due_answers world.core Opening told is) in
-      absurd (let never : enters (outcome.Opened (record { 0 = length (openings world.core.start world.core.entries) + 1 })) [] ≡ answers told = owed_is.1 in cc)
+      let owed_is = opening_owed (beginning world.core) world.core.entries client agent (asked_size size producers) (answers told) (λ w e. cc) (due_answers world.core Opening told is) in
+      absurd (let never : enters (outcome.Opened (record { 0 = length (openings (beginning world.core) world.core.entries) + 1 })) [] ≡ answers told = owed_is.1 in cc)
   opened_by (enters told effects) is = made told effects is
 
   pub opening_kept : IsJoined (After (due world.core Opening))

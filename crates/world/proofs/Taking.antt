@@ -9,10 +9,10 @@ use Rattle.core_model.specs.declared.event.Event.{Event}
 use Rattle.core_model.specs.declared.entry.Entry.{Entry}
 use Rattle.core_model.specs.declared.entry.Effect.{Effect}
 use Rattle.core_model.specs.declared.outcome.Outcome.{Outcome}
-use Rattle.core_model.specs.History.{History}
+use Rattle.core_model.specs.History.{beginning, History}
 use Rattle.core_model.specs.Queues.{next_id}
 use Rattle.core_model.specs.Owed.{Owed, refuses, answers, enters}
-use Rattle.core_model.specs.Legal.{IsLegal, due, entry_of, history_after}
+use Rattle.core_model.specs.Legal.{due, entry_of, history_after}
 use Rattle.core_model.proofs.More.{next_id-more, openings-more}
 use Rattle.core_model.proofs.Entered.{take-decided}
 use Rattle.ring_core.specs.declared.part.ProcessorPart.{ProcessorPart}
@@ -24,10 +24,10 @@ use Rattle.ring_core.proofs.Publication.{collected_is}
 use Rattle.world.specs.Bytes.{bytes_of}
 use Rattle.world.specs.States.{Joined, ring_of, with_core}
 use Rattle.world.specs.Dues.{taking}
-use Rattle.world.specs.InStep.{IsInStep, IsJoined, IsPublished, Stands, published, takes}
+use Rattle.world.specs.InStep.{IsInStep, IsJoined, IsPublished, Stands, published, takes, whole_of}
 use Rattle.executor.proofs.Maps.{get_append_left}
 use Rattle.core_model.proofs.Turns.{slice_get-last}
-use Rattle.world.proofs.Entering.{due_enters, due_legal, sizes_more, takes_more}
+use Rattle.world.proofs.Entering.{due_enters, legal_entered, sizes_behind, takes_behind}
 use Rattle.world.proofs.Joining.{same_queue, stands_along}
 
 -- the words of a packet that is collected
@@ -45,8 +45,11 @@ module _ (world : Joined) (h : IsJoined world) (queue : QueueId) (ring : Machine
   abbrev After : Owed → Joined
   After owing = with_core world (history_after world.core Taking owing)
 
-  here : IsRing ring × IsInStep world.core queue ring
-  here = subst (Stands world.core queue) found (h.each queue)
+  abbrev All : List Entry
+  All = whole_of world.core h.legal
+
+  here : IsRing ring × IsInStep world.core All queue ring
+  here = subst (Stands world.core All queue) found (h.each queue)
 
   -- what is handed over is what is published under the read index
   is_published : IsPublished ring (read_index ring) × (bytes_of words ≡ published ring (read_index ring))
@@ -62,70 +65,73 @@ module _ (world : Joined) (h : IsJoined world) (queue : QueueId) (ring : Machine
     abbrev TheEntry : Entry
     TheEntry = entry_of Taking outcome effects
 
-    is_next : read_index ring ≡ next_id world.core.start world.core.entries queue
-    is_next = (take-decided world.core.start world.core.entries outcome effects queue (record { 0 = read_index ring }) (bytes_of words) (due_enters world.core Taking outcome effects owing)).id_is_next
+    abbrev NewAll : List Entry
+    NewAll = h.legal.prior ++ (world.core.entries ++ TheEntry ∷ [])
+
+    is_next : read_index ring ≡ next_id (beginning world.core) world.core.entries queue
+    is_next = (take-decided (beginning world.core) world.core.entries outcome effects queue (record { 0 = read_index ring }) (bytes_of words) (due_enters world.core Taking outcome effects owing)).id_is_next
 
     -- its own queue has one more
-    next_more : next_id New.start New.entries queue ≡ next_id world.core.start world.core.entries queue + 1
+    next_more : next_id (beginning New) New.entries queue ≡ next_id (beginning world.core) world.core.entries queue + 1
     next_more =
-        next_id-more world.core.start world.core.entries TheEntry queue
-        ∙ ap (λ b. if b then next_id world.core.start world.core.entries queue + 1 else next_id world.core.start world.core.entries queue) (eq-eqb queue.0 queue.0 refl)
+        next_id-more (beginning world.core) world.core.entries TheEntry queue
+        ∙ ap (λ b. if b then next_id (beginning world.core) world.core.entries queue + 1 else next_id (beginning world.core) world.core.entries queue) (eq-eqb queue.0 queue.0 refl)
 
-    takes_longer : takes New.entries queue ≡ takes world.core.entries queue ++ bytes_of words ∷ []
+    takes_longer : takes NewAll queue ≡ takes All queue ++ bytes_of words ∷ []
     takes_longer =
-        takes_more world.core.entries TheEntry queue
-        ∙ ap (λ b. elim (if b then Some (bytes_of words) else None) [ None ↦ takes world.core.entries queue | Some x ↦ takes world.core.entries queue ++ x ∷ [] ]) (eq-eqb queue.0 queue.0 refl)
+        takes_behind h.legal.prior world.core.entries TheEntry queue
+        ∙ ap (λ b. elim (if b then Some (bytes_of words) else None) [ None ↦ takes All queue | Some x ↦ takes All queue ++ x ∷ [] ]) (eq-eqb queue.0 queue.0 refl)
 
-    whole_more : (id : ℕ) → id < next_id New.start New.entries queue → IsPublished ring id × (slice_get (takes New.entries queue) id ≡ Some (published ring id))
+    whole_more : (id : ℕ) → id < next_id (beginning New) New.entries queue → IsPublished ring id × (slice_get (takes NewAll queue) id ≡ Some (published ring id))
     whole_more id lt =
-        elim (leb_tells (next_id world.core.start world.core.entries queue) id) [
+        elim (leb_tells (next_id (beginning world.core) world.core.entries queue) id) [
           | inr below ↦
               let was = here.1.whole id below.1 in
-              let inside : id < length (takes world.core.entries queue) = omega (arith, here.1.count, below.1) in
-              (was.0, ap (λ xs. slice_get xs id) takes_longer ∙ get_append_left (takes world.core.entries queue) (bytes_of words ∷ []) id inside ∙ was.1)
+              let inside : id < length (takes All queue) = omega (arith, here.1.count, below.1) in
+              (was.0, ap (λ xs. slice_get xs id) takes_longer ∙ get_append_left (takes All queue) (bytes_of words ∷ []) id inside ∙ was.1)
           | inl last ↦
               let at : id ≡ read_index ring = omega (arith, last.1, lt, next_more, is_next) in
-              let end : id ≡ length (takes world.core.entries queue) = omega (arith, at, is_next, here.1.count) in (
+              let end : id ≡ length (takes All queue) = omega (arith, at, is_next, here.1.count) in (
                 subst (IsPublished ring) (sym at) is_published.0,
                 ap (λ xs. slice_get xs id) takes_longer
-                    ∙ ap (slice_get (takes world.core.entries queue ++ bytes_of words ∷ [])) end
-                    ∙ slice_get-last (takes world.core.entries queue) (bytes_of words)
+                    ∙ ap (slice_get (takes All queue ++ bytes_of words ∷ [])) end
+                    ∙ slice_get-last (takes All queue) (bytes_of words)
                     ∙ ap Some is_published.1
                     ∙ ap (λ i. Some (published ring i)) (sym at),
               )
         ]
 
-    stands_here : Stands New queue (Some ring)
+    stands_here : Stands New NewAll queue (Some ring)
     stands_here = (
       here.0,
       record {
         floor = omega (arith, here.1.floor, next_more);
         ceiling = omega (arith, is_next, next_more);
         cleared = λ raising. omega (arith, is_next, next_more);
-        count = let longer = length-append (takes world.core.entries queue) (bytes_of words ∷ []) in let is = ap length takes_longer in omega (arith, longer, is, here.1.count, next_more);
+        count = let longer = length-append (takes All queue) (bytes_of words ∷ []) in let is = ap length takes_longer in omega (arith, longer, is, here.1.count, next_more);
         whole = whole_more;
       },
     )
 
     -- other queues have what they had
-    stands_there : (other : QueueId) → other.0 ≢ queue.0 → Stands New other (ring_of world other)
+    stands_there : (other : QueueId) → other.0 ≢ queue.0 → Stands New NewAll other (ring_of world other)
     stands_there other apart =
         let differs : (queue.0 == other.0) ≡ false = elim (eqb_tells queue.0 other.0) [ inl e ↦ absurd (apart (sym e.1)) | inr e ↦ e.0 ] in
-        stands_along world.core New other (ring_of world other)
-        (next_id-more world.core.start world.core.entries TheEntry other ∙ ap (λ b. if b then next_id world.core.start world.core.entries other + 1 else next_id world.core.start world.core.entries other) differs)
-        (takes_more world.core.entries TheEntry other ∙ ap (λ b. elim (if b then Some (bytes_of words) else None) [ None ↦ takes world.core.entries other | Some x ↦ takes world.core.entries other ++ x ∷ [] ]) differs)
+        stands_along world.core New All NewAll other (ring_of world other)
+        (next_id-more (beginning world.core) world.core.entries TheEntry other ∙ ap (λ b. if b then next_id (beginning world.core) world.core.entries other + 1 else next_id (beginning world.core) world.core.entries other) differs)
+        (takes_behind h.legal.prior world.core.entries TheEntry other ∙ ap (λ b. elim (if b then Some (bytes_of words) else None) [ None ↦ takes All other | Some x ↦ takes All other ++ x ∷ [] ]) differs)
         (h.each other)
 
     taken : IsJoined (After (enters outcome effects))
     taken = record {
-      legal = subst (λ o. IsLegal (history_after world.core Taking o).start (history_after world.core Taking o).entries) owing (due_legal world.core Taking h.legal);
-      count = h.count ∙ ap length (sym (openings-more world.core.start world.core.entries TheEntry));
-      sizes = h.sizes ∙ sym (sizes_more world.core.entries TheEntry);
+      legal = legal_entered world.core Taking outcome effects h.legal owing;
+      count = h.count ∙ ap length (sym (openings-more (beginning world.core) world.core.entries TheEntry));
+      sizes = h.sizes ∙ sym (sizes_behind h.legal.prior world.core.entries TheEntry);
       each = λ other.
           elim (eqb_tells other.0 queue.0) [
             | inl e ↦
                 let same = same_queue other queue e.1 in
-                subst (λ (q : QueueId). Stands New q (ring_of world q)) (sym same) (subst (Stands New queue) (sym found) stands_here)
+                subst (λ (q : QueueId). Stands New NewAll q (ring_of world q)) (sym same) (subst (Stands New NewAll queue) (sym found) stands_here)
             | inr e ↦ stands_there other e.1
           ];
     }

@@ -9,7 +9,7 @@ use Rattle.core_model.specs.declared.outcome.Outcome.TheVariants as outcome
 use Rattle.core_model.specs.declared.refusal.Refusal as cores
 use Rattle.core_model.specs.declared.refusal.Refusal.TheVariants as why
 use Rattle.core_model.specs.declared.answer.Answer.TheVariants as told
-use Rattle.core_model.specs.History.{History}
+use Rattle.core_model.specs.History.{beginning, History}
 use Rattle.core_model.specs.Queues.{next_id}
 use Rattle.core_model.specs.Owed.{Owed}
 use Rattle.core_model.specs.Legal.{as_reply, due, history_after, may_lack_memory, query_may_lack_memory, reply_of}
@@ -78,7 +78,7 @@ answer_to access index old = answer.Step (seen_by access old)
 
 -- whether the packet at a ring's read index was launched or denied: its id is below the queue's next
 abbrev pub is_decided : History → QueueId → Machine → Bool
-is_decided core queue ring = nat_lt (read_index ring) (next_id core.start core.entries queue)
+is_decided core queue ring = nat_lt (read_index ring) (next_id (beginning core) core.entries queue)
 
 abbrev pub due_where : Joined → QueueId → Machine → Step → Option Refusal → Due
 due_where world queue ring step (Some why) = refused world why
@@ -111,9 +111,9 @@ due_event world event owing = record {
 -- a query
 abbrev pub due_query : Joined → Query → Due
 due_query world query = record {
-  reply = of_core (query_answer world.core.start world.core.entries query);
+  reply = of_core (query_answer (beginning world.core) world.core.entries query);
   after = world;
-  may_lack_memory = query_may_lack_memory (query_answer world.core.start world.core.entries query);
+  may_lack_memory = query_may_lack_memory (query_answer (beginning world.core) world.core.entries query);
 }
 
 -- ---- takes

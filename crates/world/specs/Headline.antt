@@ -1,6 +1,7 @@
 -- The headline: what holds after any list of requests, in any interleaving.
-use Rattle.std.specs.Prelude.{◌≡◌, ◌⊎◌, ℕ, true, List, [], ◌∷◌, Some, Ok, All}
+use Rattle.std.specs.Prelude.{◌≡◌, ◌⊎◌, ℕ, ℤ, true, false, List, [], ◌∷◌, length, map, Some, Ok, Err, All}
 use Rattle.aql_packet.specs.declared.ids.Address.{Address}
+use Rattle.aql_packet.specs.declared.ids.AgentHandle.{AgentHandle}
 use Rattle.aql_packet.specs.declared.ids.ClientId.{ClientId}
 use Rattle.aql_packet.specs.declared.ids.PacketId.{PacketId}
 use Rattle.aql_packet.specs.declared.ids.QueueId.{QueueId}
@@ -10,7 +11,11 @@ use Rattle.policy.specs.declared.object.Object.{Object}
 use Rattle.policy.specs.declared.object.Object.TheVariants as object
 use Rattle.policy.specs.declared.rights.Right.TheVariants as right
 use Rattle.policy.specs.declared.rights.Rights.{Rights}
-use Rattle.policy.specs.Policy.{Declared}
+use Rattle.policy.specs.Policy.{Declared, rules_of}
+use Rattle.policy.specs.Rules.{knows_client}
+use Rattle.signals.specs.Values.{meets, value_of}
+use Rattle.signals.specs.declared.operation.Condition.{Condition}
+use Rattle.signals.specs.declared.operation.SignalOp.{SignalOp}
 use Rattle.kernel_check.specs.Programs.{Program}
 use Rattle.queue_error.specs.declared.error.QueueError.{QueueError}
 use Rattle.core_model.specs.declared.answer.Answer.{Answer}
@@ -20,31 +25,33 @@ use Rattle.core_model.specs.declared.entry.Effect.TheVariants as effect
 use Rattle.core_model.specs.declared.entry.Entry.{Entry}
 use Rattle.core_model.specs.declared.flight.InFlight.{InFlight}
 use Rattle.core_model.specs.declared.flight.Progress.{Progress}
-use Rattle.core_model.specs.declared.event.Event.TheVariants.{RunNext, Take}
+use Rattle.core_model.specs.declared.event.Event.TheVariants.{ChangeSignal, HostWrite, OpenQueue, RunNext, Take}
 use Rattle.core_model.specs.declared.event.Query.TheVariants as query
 use Rattle.core_model.specs.declared.outcome.Outcome.{Outcome}
 use Rattle.core_model.specs.declared.outcome.Outcome.TheVariants as outcome
 use Rattle.core_model.specs.declared.outcome.Polled.TheVariants as polled
 use Rattle.core_model.specs.declared.outcome.Taken.TheVariants as taken
 use Rattle.core_model.specs.declared.outcome.Worked.TheVariants as worked
-use Rattle.core_model.specs.History.{Start}
+use Rattle.core_model.specs.declared.refusal.Refusal.TheVariants as refusal
+use Rattle.core_model.specs.History.{beginning, Start}
 use Rattle.core_model.specs.Grants.{in_force}
-use Rattle.core_model.specs.Memory.{memory_from}
-use Rattle.core_model.specs.Queues.{Opening}
+use Rattle.core_model.specs.Memory.{memory_from, signals}
+use Rattle.core_model.specs.Queues.{Opening, openings}
 use Rattle.core_model.specs.Flight.{in_flight, progress}
-use Rattle.core_model.specs.Holds.{packet_rights}
+use Rattle.core_model.specs.Holds.{own_rights}
 use Rattle.core_model.specs.View.{GivenAtLaunch, given_at_launch}
-use Rattle.core_model.specs.Owed.{enters, owed_group}
-use Rattle.core_model.specs.Legal.{IsLegal, entry_of, empty_history}
+use Rattle.core_model.specs.Owed.{enters, is_host_size, owed, owed_group, refuses}
+use Rattle.core_model.specs.Legal.{IsOpening, IsWhole, entry_of}
 use Rattle.core_model.specs.Queries.{query_answer}
 use Rattle.core_model.specs.Headline.{ChangeIsGranted, InFlightSince, IsDenied, IsEntryBehind, IsListed, MayBeLaunched, MayReach, MayReachRange, WriteIsGranted, packet_named, ranges_seen}
 use Rattle.ring_core.specs.Machine.{Machine}
-use Rattle.world.specs.States.{Joined, joined, ring_of}
-use Rattle.world.specs.InStep.{IsInStep}
+use Rattle.world.specs.States.{Joined, ring_of}
+use Rattle.world.specs.InStep.{IsInStep, sizes}
 
 -- a world that was just opened over a policy with these kernels: no entry, and no queue
-abbrev pub begun : Declared → List Program → ℕ → Joined
-begun policy kernels capacity = joined (empty_history policy kernels capacity) []
+pub record IsBegun (world : Joined) (policy : Declared) (kernels : List Program) (capacity : ℕ) : Type 0 where
+  pub core : IsOpening world.core policy kernels capacity
+  pub rings : world.rings ≡ []
 
 -- each packet that was launched may be by the grants in force at that moment, and its launch changed nothing
 abbrev pub EachLaunchWasGranted : Start → List Entry → Type 0
@@ -67,7 +74,7 @@ EachFaultReleasesAlone entries =
     (entry.outcome ≡ outcome.Worked (worked.Faulted error)) ⊎ (entry.outcome ≡ outcome.Polled (polled.Failed error)) →
     (packet_named entry.event ≡ Some (error.queue, error.packet)) × (entry.effects ≡ effect.Release error.queue error.packet ∷ [])
 
--- each byte written, and each signal changed, is one that a call or a packet of a client may by a grant: in force at the call,
+-- each byte written, and each signal changed, is one that a call or a packet of a client may make by a grant: in force at the call,
 -- or at the packet's launch
 abbrev pub EachWriteWasGranted : Start → List Entry → Type 0
 EachWriteWasGranted start entries =
@@ -84,7 +91,7 @@ EachGroupReadWasGranted start entries =
     (before : List Entry) (queue : QueueId) (id : PacketId) (told : Outcome) (effects : List Effect) →
     IsEntryBehind entries before (entry_of (RunNext queue id) told effects) →
     (s : InFlightSince start before queue id)
-    × All (MayReachRange start s.launch.before s.launch.opening.client right.Read) (ranges_seen start (packet_rights start before queue id) s.flying.packet)
+    × All (MayReachRange start s.launch.before s.launch.opening.client right.Read) (ranges_seen start (own_rights start before queue id) s.flying.packet)
 
 -- what comes of each group that ran is what it was owed: of an agent dispatch its function's writes, of a kernel the meaning of the
 -- kernel that its packet names, over the regions and the arguments that were given to the packet at its launch
@@ -107,11 +114,18 @@ EachReadIsGranted start entries =
     (client : ClientId) (address : Address) (size : ℕ) (told : Answer) → query_answer start entries (query.HostRead client address size) ≡ Ok told →
     MayReach start entries client right.Read address.0 size × (told ≡ answer.Bytes (memory_from start entries address.0 size))
 
--- each signal whose value a client is told is one on which it has WAIT in force
+-- each signal whose value a client is told is one on which it has WAIT in force, and so is each that it is told how it compares
 abbrev pub EachLookIsGranted : Start → List Entry → Type 0
 EachLookIsGranted start entries =
     (client : ClientId) (signal : SignalHandle) (told : Answer) → query_answer start entries (query.LoadSignal client signal) ≡ Ok told →
-    in_force start entries client (object.Signal signal) right.Wait ≡ true
+    (in_force start entries client (object.Signal signal) right.Wait ≡ true)
+    × (v : ℤ) × (value_of (signals start entries) signal.0 ≡ Some v) × (told ≡ answer.Value v)
+
+abbrev pub EachTestIsGranted : Start → List Entry → Type 0
+EachTestIsGranted start entries =
+    (client : ClientId) (signal : SignalHandle) (condition : Condition) (value : ℤ) (told : Answer) → query_answer start entries (query.TestSignal client signal condition value) ≡ Ok told →
+    (in_force start entries client (object.Signal signal) right.Wait ≡ true)
+    × (v : ℤ) × (value_of (signals start entries) signal.0 ≡ Some v) × (told ≡ answer.Test (meets condition v value))
 
 -- each handle that a client is listed is one on which it has a right in force, with just those rights
 abbrev pub EachHandleListedIsGranted : Start → List Entry → Type 0
@@ -119,20 +133,42 @@ EachHandleListedIsGranted start entries =
     (client : ClientId) (told : Answer) → query_answer start entries (query.List client) ≡ Ok told →
     (rows : List (Object × Rights)) × (told ≡ answer.Listing rows) × All (IsListed start entries client) rows
 
+-- a known client's own call is denied where the right that it needs is not in force: its write, its change of a signal, its opening of a
+-- queue, its read, and its look at a signal
+pub record CallsWithoutTheirRightAreDenied (start : Start) (entries : List Entry) : Type 0 where
+  pub write : (client : ClientId) (address : Address) (bytes : List ℕ) → knows_client (rules_of start.policy) client ≡ true → is_host_size (length bytes) ≡ true
+      → (MayReach start entries client right.Write address.0 (length bytes) → ⊥) → owed start entries (HostWrite client address bytes) ≡ refuses (refusal.Denied right.Write)
+  pub change : (client : ClientId) (signal : SignalHandle) (operation : SignalOp) → knows_client (rules_of start.policy) client ≡ true
+      → in_force start entries client (object.Signal signal) right.Change ≡ false → owed start entries (ChangeSignal client signal operation) ≡ refuses (refusal.Denied right.Change)
+  pub opening : (client : ClientId) (agent : AgentHandle) (size : ℕ) → knows_client (rules_of start.policy) client ≡ true
+      → in_force start entries client (object.Agent agent) right.Use ≡ false → owed start entries (OpenQueue client agent size) ≡ refuses (refusal.Denied right.Use)
+  pub read : (client : ClientId) (address : Address) (size : ℕ) → knows_client (rules_of start.policy) client ≡ true → is_host_size size ≡ true
+      → (MayReach start entries client right.Read address.0 size → ⊥) → query_answer start entries (query.HostRead client address size) ≡ Err (refusal.Denied right.Read)
+  pub load : (client : ClientId) (signal : SignalHandle) → knows_client (rules_of start.policy) client ≡ true
+      → in_force start entries client (object.Signal signal) right.Wait ≡ false → query_answer start entries (query.LoadSignal client signal) ≡ Err (refusal.Denied right.Wait)
+  pub test : (client : ClientId) (signal : SignalHandle) (condition : Condition) (value : ℤ) → knows_client (rules_of start.policy) client ≡ true
+      → in_force start entries client (object.Signal signal) right.Wait ≡ false → query_answer start entries (query.TestSignal client signal condition value) ≡ Err (refusal.Denied right.Wait)
+
 -- the headline, of a world (own)
 pub record Headline (world : Joined) : Type 0 where
-  -- the history is legal
-  pub legal : IsLegal world.core.start world.core.entries
-  pub launches : EachLaunchWasGranted world.core.start world.core.entries
-  pub denials : EachDenialNamesItsRule world.core.start world.core.entries
+  -- the history is legal, from an opening on
+  pub legal : IsWhole (beginning world.core) world.core.entries
+  pub launches : EachLaunchWasGranted (beginning world.core) world.core.entries
+  pub denials : EachDenialNamesItsRule (beginning world.core) world.core.entries
   pub faults : EachFaultReleasesAlone world.core.entries
-  pub writes : EachWriteWasGranted world.core.start world.core.entries
-  pub changes : EachChangeWasGranted world.core.start world.core.entries
-  pub group_reads : EachGroupReadWasGranted world.core.start world.core.entries
-  pub group_means : EachGroupCameToItsMeaning world.core.start world.core.entries
-  pub group_depends : GroupsDependOnWhatTheyRead world.core.start
-  pub reads : EachReadIsGranted world.core.start world.core.entries
-  pub looks : EachLookIsGranted world.core.start world.core.entries
-  pub listed : EachHandleListedIsGranted world.core.start world.core.entries
-  -- what was launched and denied of each queue is what was published in its ring, whole, each once, in the order of ids
-  pub in_step : (queue : QueueId) (ring : Machine) → ring_of world queue ≡ Some ring → IsInStep world.core queue ring
+  pub writes : EachWriteWasGranted (beginning world.core) world.core.entries
+  pub changes : EachChangeWasGranted (beginning world.core) world.core.entries
+  pub group_reads : EachGroupReadWasGranted (beginning world.core) world.core.entries
+  pub group_means : EachGroupCameToItsMeaning (beginning world.core) world.core.entries
+  pub group_depends : GroupsDependOnWhatTheyRead (beginning world.core)
+  pub reads : EachReadIsGranted (beginning world.core) world.core.entries
+  pub looks : EachLookIsGranted (beginning world.core) world.core.entries
+  pub tests : EachTestIsGranted (beginning world.core) world.core.entries
+  pub listed : EachHandleListedIsGranted (beginning world.core) world.core.entries
+  -- all else is denied: of packets this is said above, of the calls of clients here
+  pub denied : CallsWithoutTheirRightAreDenied (beginning world.core) world.core.entries
+  -- each queue that was opened has a ring, of the size that was asked for
+  pub ring_count : length world.rings ≡ length (openings (beginning world.core) world.core.entries)
+  pub ring_sizes : map (λ ring. ring.size) world.rings ≡ sizes world.core.entries
+  -- what was launched and denied of each queue is a beginning of what was published in its ring, whole, each once, in the order of ids
+  pub in_step : (queue : QueueId) (ring : Machine) → ring_of world queue ≡ Some ring → IsInStep world.core world.core.entries queue ring

@@ -1,11 +1,11 @@
 -- What holds between any two steps of the world: its rings and its history are in step.
-use Rattle.std.specs.Prelude.{◌≡◌, ℕ, ◌+◌, ◌==◌, ◌<◌, ◌≤◌, true, List, [], length, map, slice_get, Option, Some, None, if◌then◌else◌}
+use Rattle.std.specs.Prelude.{◌≡◌, ℕ, ◌+◌, ◌==◌, ◌<◌, ◌≤◌, true, List, [], ◌++◌, length, map, slice_get, Option, Some, None, if◌then◌else◌}
 use Rattle.std.specs.List.{filter_map}
 use Rattle.aql_packet.specs.declared.ids.QueueId.{QueueId}
 use Rattle.core_model.specs.declared.event.Event.{Event}
 use Rattle.core_model.specs.declared.event.Event.TheVariants.{OpenQueue, Take}
 use Rattle.core_model.specs.declared.entry.Entry.{Entry}
-use Rattle.core_model.specs.History.{History}
+use Rattle.core_model.specs.History.{beginning, History}
 use Rattle.core_model.specs.Queues.{next_id, openings}
 use Rattle.core_model.specs.Legal.{IsLegal}
 use Rattle.ring_core.specs.Words.{packet_of}
@@ -40,31 +40,35 @@ IsPublished ring id = is_published (ticket_of ring.parts id) ≡ true
 abbrev pub published : Machine → ℕ → List ℕ
 published ring id = bytes_of (packet_of (ticket_of ring.parts id).words)
 
--- a queue's ring and its history are in step (own)
-pub record IsInStep (core : History) (queue : QueueId) (ring : Machine) : Type 0 where
+-- a queue's ring is in step with a history; these are all entries that lead there from an opening (own)
+pub record IsInStep (core : History) (all : List Entry) (queue : QueueId) (ring : Machine) : Type 0 where
   -- every packet that was retired was launched or denied, and at most one more was
-  pub floor : read_index ring ≤ next_id core.start core.entries queue
-  pub ceiling : next_id core.start core.entries queue ≤ read_index ring + 1
+  pub floor : read_index ring ≤ next_id (beginning core) core.entries queue
+  pub ceiling : next_id (beginning core) core.entries queue ≤ read_index ring + 1
   -- the header at the read index is cleared only once its packet was launched or denied
-  pub cleared : (processor_of ring.parts).raising ≡ true → read_index ring < next_id core.start core.entries queue
+  pub cleared : (processor_of ring.parts).raising ≡ true → read_index ring < next_id (beginning core) core.entries queue
   -- what was launched or denied is what is published under the first ids, whole, each once, in order
-  pub count : length (takes core.entries queue) ≡ next_id core.start core.entries queue
-  pub whole : (id : ℕ) → id < next_id core.start core.entries queue → IsPublished ring id × (slice_get (takes core.entries queue) id ≡ Some (published ring id))
+  pub count : length (takes all queue) ≡ next_id (beginning core) core.entries queue
+  pub whole : (id : ℕ) → id < next_id (beginning core) core.entries queue → IsPublished ring id × (slice_get (takes all queue) id ≡ Some (published ring id))
 
 -- of a queue that wasn't opened nothing was launched or denied
-pub record IsUntouched (core : History) (queue : QueueId) : Type 0 where
-  pub next : next_id core.start core.entries queue ≡ 0
-  pub takes : takes core.entries queue ≡ []
+pub record IsUntouched (core : History) (all : List Entry) (queue : QueueId) : Type 0 where
+  pub next : next_id (beginning core) core.entries queue ≡ 0
+  pub takes : takes all queue ≡ []
 
 -- a queue's ring keeps the ring rule and is in step; a queue that wasn't opened has none
-abbrev pub Stands : History → QueueId → Option Machine → Type 0
-Stands core queue None = IsUntouched core queue
-Stands core queue (Some ring) = IsRing ring × IsInStep core queue ring
+abbrev pub Stands : History → List Entry → QueueId → Option Machine → Type 0
+Stands core all queue None = IsUntouched core all queue
+Stands core all queue (Some ring) = IsRing ring × IsInStep core all queue ring
 
--- the world between any two steps (own)
+-- the entries of a whole history that leads to the start of a legal one, and its own since (own)
+abbrev pub whole_of : (core : History) → IsLegal (beginning core) core.entries → List Entry
+whole_of core legal = legal.prior ++ core.entries
+
+-- the world between any two steps; what rings and history share is said of the whole history (own)
 pub record IsJoined (world : Joined) : Type 0 where
-  pub legal : IsLegal world.core.start world.core.entries
+  pub legal : IsLegal (beginning world.core) world.core.entries
   -- a ring for each opening, of its size
-  pub count : length world.rings ≡ length (openings world.core.start world.core.entries)
-  pub sizes : map (λ ring. ring.size) world.rings ≡ sizes world.core.entries
-  pub each : (queue : QueueId) → Stands world.core queue (ring_of world queue)
+  pub count : length world.rings ≡ length (openings (beginning world.core) world.core.entries)
+  pub sizes : map (λ ring. ring.size) world.rings ≡ sizes (whole_of world.core legal)
+  pub each : (queue : QueueId) → Stands world.core (whole_of world.core legal) queue (ring_of world queue)

@@ -5,14 +5,17 @@ ghost use Rattle.kernel_check.specs.Programs.{Program};
 ghost use Rattle.world.specs.declared.reply.Refusal.{Refusal};
 ghost use Rattle.world.specs.declared.request.Request.{Request};
 ghost use Rattle.world.specs.Dues.{AreReplies, IsServed, Reply};
-ghost use Rattle.world.specs.Headline.{Headline, begun};
+ghost use Rattle.core_model.specs.History.{beginning};
+ghost use Rattle.world.specs.Headline.{Headline, IsBegun};
+ghost use Rattle.world.specs.InStep.{IsJoined};
 ghost use Rattle.world.specs.States.{Joined};
 
 use core_model::{
-    denials_name_the_first_rule, each_launch_was_granted, each_listed_right_is_in_force,
-    each_look_at_a_signal_is_granted, each_read_of_a_client_is_granted,
-    each_read_of_a_group_was_granted, each_signal_change_was_granted, each_write_was_granted,
-    faults_release_alone, groups_depend_on_what_they_read,
+    calls_without_their_right_are_denied, denials_name_the_first_rule, each_launch_was_granted,
+    each_listed_right_is_in_force, each_look_at_a_signal_is_granted,
+    each_read_of_a_client_is_granted, each_read_of_a_group_was_granted,
+    each_signal_change_was_granted, each_write_was_granted, faults_release_alone,
+    groups_depend_on_what_they_read,
 };
 use policy::{Kind, Policy};
 
@@ -20,11 +23,18 @@ use policy::{Kind, Policy};
 /// calls of clients, the history is legal: every launch, byte accessed, signal changed and handle listed
 /// is one that a packet or a call of that client asked for and a grant in force allowed, at launch for a
 /// packet; each denial changes nothing and names the packet and the first rule that failed; a group that
-/// faults leaves nothing; and what was launched or denied of each queue is what was published in its ring,
-/// whole, each once, in order.
+/// faults leaves nothing; and what was launched or denied of each queue is a beginning of what was published in
+/// its ring, whole, each once, in order.
 pub fn the_headline(policy: &Policy)
-    ensures { (kernels : List Program) (capacity : ℕ) (requests : List Request) (replies : List Reply) (world : Joined) →
-        AreReplies (begun policy.now kernels capacity) requests replies world → Headline world }
+    ensures { (kernels : List Program) (capacity : ℕ) (requests : List Request) (replies : List Reply) (opened world : Joined) →
+        IsBegun opened policy.now kernels capacity → AreReplies opened requests replies world → Headline world }
+{
+    headline_of(policy);
+}
+
+// The headline holds of each world in step whose history begins at an opening over a policy.
+pub(crate) fn headline_of(policy: &Policy)
+    ensures { (world : Joined) → (beginning world.core).policy ≡ policy.now → (beginning world.core).before ≡ 0 → IsJoined world → Headline world }
 {
     policy.object_count(Kind::Region);
     each_launch_was_granted();
@@ -37,6 +47,7 @@ pub fn the_headline(policy: &Policy)
     each_read_of_a_client_is_granted();
     each_look_at_a_signal_is_granted();
     each_listed_right_is_in_force();
+    calls_without_their_right_are_denied();
 }
 
 /// What is refused, for whatever cause, leaves the world as it was.

@@ -2,10 +2,13 @@
 
 ghost use Rattle.std.specs.Prelude.{◌≡◌, ◌≤◌, [], IfOk, OnErr, length};
 ghost use Rattle.world.specs.Dues.{AreReplies, IsServed};
+ghost use Rattle.world.specs.Headline.{Headline};
 ghost use Rattle.world.specs.InStep.{IsJoined};
 ghost use Rattle.world.specs.Starting.{Begins};
 ghost use Rattle.world.specs.States.{slots_of};
+ghost use Rattle.core_model.specs.History.{beginning};
 
+use crate::laws::headline_of;
 use crate::queue_ring::QueueRing;
 use crate::reply::Reply;
 use crate::request::Request;
@@ -37,12 +40,16 @@ impl Model for World {
 
     ghost Value = { Joined };
 
+    ghost use Rattle.std.specs.Prelude.{◌≡◌};
+    ghost use Rattle.core_model.specs.History.{beginning};
     ghost use Rattle.world.specs.InStep.{IsJoined};
     ghost use Rattle.world.specs.Making.{AreDecided, rings_of};
 
     ghost view = { λ world. joined world.core.history (rings_of world.rings.items) };
 
-    ghost invariant = { λ world. IsJoined (joined world.core.history (rings_of world.rings.items)) × AreDecided world.core.history world.rings.items };
+    // The rings and the history are in step, and the history begins at an opening.
+    ghost invariant = { λ world. IsJoined (joined world.core.history (rings_of world.rings.items)) × AreDecided world.core.history world.rings.items
+        × ((beginning world.core.history).before ≡ 0) };
 }
 
 impl World {
@@ -65,7 +72,7 @@ impl World {
 
     /// The policy that it was opened over.
     pub fn policy(&self) -> &Policy
-        ensures { result.now ≡ self.now.core.start.policy }
+        ensures { result.now ≡ (beginning self.now.core).policy }
     {
         self.core.policy()
     }
@@ -80,7 +87,15 @@ impl World {
         }
     }
 
-    /// Serves a request: one step, or a query.
+    /// Does nothing but say to callers what holds of each world, at any moment: the headline, as `the_headline` tells it.
+    pub fn headline(&self)
+        ensures { Headline self.now }
+    {
+        let _ = &self.rings;
+        headline_of(self.core.policy());
+    }
+
+    /// Serves a request: one step, or a query. The headline holds after it (`headline`).
     pub fn serve(&mut self, alloc: Global, request: Request) -> Reply
         ensures served { IsServed self.old request result self.new }
         ensures joined { IsJoined self.new }
@@ -89,7 +104,7 @@ impl World {
     }
 
     /// Serves requests in turn, and tells the reply to each. Want of memory for the list of replies is
-    /// told before any is served.
+    /// told before any is served. The headline holds after it (`headline`), however often it is called.
     pub fn run(
         &mut self,
         alloc: Global,

@@ -11,12 +11,12 @@ use Rattle.regions.specs.Memory.{byte_at, lengths_of, lies_in_region}
 use Rattle.sequences.specs.Room.{Roomy}
 use Rattle.core_model.specs.declared.entry.Entry.{Entry}
 use Rattle.core_model.specs.declared.limits.TheConstants.{MOST_ENTRIES, QUEUES}
-use Rattle.core_model.specs.History.{Start, History}
+use Rattle.core_model.specs.History.{History, Origin, Start, begin, beginning, opening_origin}
 use Rattle.core_model.specs.Grants.{in_force}
 use Rattle.core_model.specs.Memory.{memory_at, signals}
 use Rattle.core_model.specs.Queues.{openings, owner}
 use Rattle.core_model.specs.Flight.{flight}
-use Rattle.core_model.specs.Holds.{arguments, packet_rights}
+use Rattle.core_model.specs.Holds.{arguments, held}
 use Rattle.core_model.specs.Kernels.{segments_of}
 use Rattle.core_model.specs.Legal.{IsLegal}
 use Rattle.access_core.specs.declared.access.AccessCore.TheInside.{Inside}
@@ -29,17 +29,19 @@ use Rattle.access_core.specs.declared.kernel.Kernel.{Kernel}
 use Rattle.access_core.specs.declared.queue.Queue.{Queue}
 use Rattle.core_model.specs.declared.kernel.KernelSegments.{KernelSegments}
 use Rattle.access_core.specs.Opening.{has_entry, program_of}
-use Rattle.access_core.specs.inner.Held.{packet_holds}
 pub use Rattle.access_core.specs.inner.CachedQueue.{IsSound, cached_view, cached_opening, queue_at}
 use Rattle.access_core.specs.inner.LiesInRegions.{lies_in_regions}
 
--- what the history begins from
+-- what the history begins from, as data, and the answers that it gives
+abbrev pub origin_of : Inside → Origin
+origin_of a = opening_origin a.policy
+
 abbrev pub start_of : Inside → Start
-start_of a = record { policy = a.policy; kernels = map program_of a.kernels.items }
+start_of a = begin (map program_of a.kernels.items) (origin_of a)
 
 -- the history that the fields tell
 abbrev pub history_of : Inside → History
-history_of a = record { start = start_of a; capacity = a.capacity; entries = a.audit.items }
+history_of a = record { origin = origin_of a; kernels = map program_of a.kernels.items; capacity = a.capacity; entries = a.audit.items }
 
 -- how many places for errors a queue has
 abbrev pub error_places : Queue → ℕ
@@ -63,7 +65,7 @@ core_of a = record { history = history_of a; places = table_places a.kernels a.s
 
 -- whether an audit has no room for an entry after which as many packets are in flight
 abbrev pub is_full : History → Bool
-is_full h = nat_lt h.capacity (length h.entries + 1 + length (flight h.start h.entries))
+is_full h = nat_lt h.capacity (length h.entries + 1 + length (flight (beginning h) h.entries))
 
 -- an audit with one entry more behind the others, and a place less that is free
 pub record IsEntered (old new : Roomy Entry) (entry : Entry) : Type 0 where
@@ -78,10 +80,10 @@ pub record IsCached (a : Inside) : Type 0 where
   pub rules : ledger.rules_in a.grants ≡ rules_of a.policy
   -- the rights that packets in flight hold
   pub held : (queue : QueueId) (id : PacketId) (client : ClientId) (on : Object) (right : Right)
-      → ledger.holds a.grants queue id client on right ≡ packet_holds (owner (start_of a) a.audit.items) (packet_rights (start_of a) a.audit.items) (flight (start_of a) a.audit.items) queue id client on right
+      → ledger.holds a.grants queue id client on right ≡ held (start_of a) a.audit.items queue id client on right
   -- the argument blocks: one of each packet in flight, as it was at its launch
   pub blocks_are : AreBlocksOf (flight (start_of a) a.audit.items) a.blocks.items
-  pub arguments : All (λ f. block_of a.blocks.items f.queue f.id ≡ arguments (start_of a) a.audit.items f.queue f.id) (flight (start_of a) a.audit.items)
+  pub arguments : (queue : QueueId) (id : PacketId) → block_of a.blocks.items queue id ≡ arguments (start_of a) a.audit.items queue id
   -- each kernel is one of its checked kernels, and has these segments
   pub entries : All (λ kernel. has_entry kernel ≡ true) a.kernels.items
   pub segments : a.segments.items ≡ map segments_of (map program_of a.kernels.items)

@@ -6,7 +6,7 @@ use Rattle.queue_error.specs.declared.error.QueueError.{QueueError}
 use Rattle.core_model.specs.declared.entry.Entry.{Entry}
 use Rattle.core_model.specs.declared.flight.InFlight.{InFlight}
 use Rattle.core_model.specs.declared.limits.TheConstants.{SLOTS}
-use Rattle.core_model.specs.History.{Start, History}
+use Rattle.core_model.specs.History.{beginning, Start, History}
 use Rattle.core_model.specs.Queues.{Opening, next_id, errors, is_stopped, owner}
 use Rattle.core_model.specs.Flight.{flight_of, progress}
 use Rattle.packet_processor.specs.declared.places.Place.{Place}
@@ -50,5 +50,5 @@ pub record IsSound (q : Queue) : Type 0 where
 
 -- this is what is cached of a queue of the history: who opened it, and what became of it since
 pub record IsQueue (history : History) (queue : QueueId) (one : Option Queue) : Type 0 where
-  pub opening : option_map cached_opening one ≡ owner history.start history.entries queue
-  pub cached_is : cached_view one ≡ queue_at history.start history.entries queue
+  pub opening : option_map cached_opening one ≡ owner (beginning history) history.entries queue
+  pub cached_is : cached_view one ≡ queue_at (beginning history) history.entries queue

@@ -6,7 +6,7 @@ use Rattle.aql_packet.specs.Reading.{decoded}
 use Rattle.core_model.specs.declared.event.Event.TheVariants.{Take}
 use Rattle.core_model.specs.declared.outcome.Outcome.TheVariants as outcome
 use Rattle.core_model.specs.declared.outcome.Taken.TheVariants.{Launched, Denied, Waiting}
-use Rattle.core_model.specs.History.{History}
+use Rattle.core_model.specs.History.{beginning, History}
 use Rattle.policy.specs.Policy.{region_lengths}
 use Rattle.core_model.specs.Queues.{Opening, owner, is_down}
 use Rattle.core_model.specs.Flight.{flight_of}
@@ -33,8 +33,8 @@ use Rattle.core_model.specs.declared.refusal.Refusal.TheVariants as refusal
 -- a queue takes its next packet: it was opened, launches packets yet, and has a slot free
 abbrev pub TakesNext : History → QueueId → Type 0
 TakesNext history queue =
-    (opening : Opening) × (owner history.start history.entries queue ≡ Some opening) × (is_down history.start history.entries queue ≡ false)
-    × (length (flight_of history.start history.entries queue) < SLOTS)
+    (opening : Opening) × (owner (beginning history) history.entries queue ≡ Some opening) × (is_down (beginning history) history.entries queue ≡ false)
+    × (length (flight_of (beginning history) history.entries queue) < SLOTS)
 
 -- the opening of the queue whose packet is launched
 abbrev pub opening_of : Launching → Opening
@@ -42,12 +42,12 @@ opening_of launching = record { client = launching.client; agent = launching.age
 
 -- the argument block of a packet has its place in memory: it is empty, or lies whole in one region; only kernel dispatches have one
 abbrev pub IsBlockPlaced : History → Packet → Type 0
-IsBlockPlaced history (packet.Kernel d) = IsPlaced history d.kernarg_address.0 (kernel_of history.start d).argument_bytes
+IsBlockPlaced history (packet.Kernel d) = IsPlaced history d.kernarg_address.0 (kernel_of (beginning history) d).argument_bytes
 IsBlockPlaced history _ = Unit {0}
 
 -- all that a packet will hold is in force for the client
 abbrev pub MayHold : History → Opening → Packet → Type 0
-MayHold history opening p = list_all (λ h. in_force history.start history.entries opening.client h.0 h.1) (rights_at_launch history.start history.entries opening p) ≡ true
+MayHold history opening p = list_all (λ h. in_force (beginning history) history.entries opening.client h.0 h.1) (rights_at_launch (beginning history) history.entries opening p) ≡ true
 
 -- what is due to the packet is what was decided; a packet that is launched is the one that the bytes lay out, has all its ranges
 -- within regions, and may hold what it needs
@@ -58,8 +58,8 @@ Decides history queue id bytes (Deny rule) =
     × TakesNext history queue
 Decides history queue id bytes (Launch launching) =
     (due history (Take queue id bytes) ≡ enters (outcome.Taken Launched) [])
-    × (decoded bytes ≡ Some launching.packet) × (lies_in_regions (region_lengths history.start.policy) launching.packet ≡ true) × TakesNext history queue
-    × (owner history.start history.entries queue ≡ Some (opening_of launching)) × MayHold history (opening_of launching) launching.packet
+    × (decoded bytes ≡ Some launching.packet) × (lies_in_regions (region_lengths (beginning history).policy) launching.packet ≡ true) × TakesNext history queue
+    × (owner (beginning history) history.entries queue ≡ Some (opening_of launching)) × MayHold history (opening_of launching) launching.packet
 
 -- the core's refusal where a change of grants is refused
 abbrev pub refusal_of : Why → Refusal

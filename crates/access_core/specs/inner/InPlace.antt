@@ -9,7 +9,7 @@ use Rattle.core_model.specs.declared.flight.InFlight.{InFlight}
 use Rattle.core_model.specs.declared.flight.Progress.{Progress}
 use Rattle.core_model.specs.declared.outcome.Outcome.TheVariants as outcome
 use Rattle.core_model.specs.declared.refusal.Refusal.{Refusal}
-use Rattle.core_model.specs.History.{History}
+use Rattle.core_model.specs.History.{beginning, History}
 use Rattle.aql_packet.specs.declared.packet.Packet.TheVariants as packet
 use Rattle.core_model.specs.LaunchRules.{has_sizes}
 use Rattle.core_model.specs.Queues.{Opening, owner}
@@ -22,11 +22,11 @@ use Rattle.packet_processor.specs.declared.places.Place.{Place}
 -- a packet of an open queue is in flight, and this is its place
 pub record IsInPlace (history : History) (queue : QueueId) (id : PacketId) (place : Place) : Type 0 where
   pub opening : Opening
-  pub owner_is : owner history.start history.entries queue ≡ Some opening
+  pub owner_is : owner (beginning history) history.entries queue ≡ Some opening
   pub flying : InFlight
-  pub found : in_flight history.start history.entries queue id ≡ Some flying
+  pub found : in_flight (beginning history) history.entries queue id ≡ Some flying
   pub packet_is : flying.packet ≡ place.packet
-  pub progress_is : progress history.start history.entries queue id ≡ place.progress
+  pub progress_is : progress (beginning history) history.entries queue id ≡ place.progress
 
 -- a kernel dispatch has sizes that may be
 abbrev pub IsSized : Packet → Type 0
@@ -35,11 +35,11 @@ IsSized _ = Unit {0}
 
 -- a call about this packet is refused, whatever it asks
 abbrev pub RefusedAt : History → QueueId → PacketId → Refusal → Type 0
-RefusedAt history queue id why = (rest : Packet → Progress → Owed) → for_packet history.start history.entries queue id rest ≡ refuses why
+RefusedAt history queue id why = (rest : Packet → Progress → Owed) → for_packet (beginning history) history.entries queue id rest ≡ refuses why
 
 -- what the completion of a packet whose work is done is owed
 abbrev pub finish_owed : History → QueueId → PacketId → Packet → Owed
-finish_owed history queue id p = enters outcome.Accepted (completion_of (signals history.start history.entries) queue id p)
+finish_owed history queue id p = enters outcome.Accepted (completion_of (signals (beginning history) history.entries) queue id p)
 
 -- whether bytes have their place in memory: there are none, or they lie whole in one region
 abbrev pub is_placed : List ℕ → ℕ → ℕ → Bool
@@ -47,7 +47,7 @@ is_placed lengths address size = size == 0 || is_within lengths address size
 
 -- bytes have their place in the memory of a history
 abbrev pub IsPlaced : History → ℕ → ℕ → Type 0
-IsPlaced history address size = is_placed (region_lengths history.start.policy) address size ≡ true
+IsPlaced history address size = is_placed (region_lengths (beginning history).policy) address size ≡ true
 
 -- the new memory is the old one with these changes laid over in order
 abbrev pub IsChanged : List (List ℕ) → List Effect → List (List ℕ) → Type 0

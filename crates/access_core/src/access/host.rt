@@ -1,5 +1,6 @@
 //! What clients do from outside their queues: they write memory and change signals.
 
+ghost use Rattle.core_model.specs.History.{beginning};
 ghost use Rattle.std.specs.Prelude.{◌≡◌, ◌-◌, ◌∷◌, [], OnOk, IfOk, IfErr, Some, true, length, slice_set};
 ghost use Rattle.regions.specs.Memory.{is_within};
 ghost use Rattle.signals.specs.Values.{applied, value_of};
@@ -79,7 +80,7 @@ impl AccessCore {
         address: Address,
         bytes: &Sequence<u8>,
     ) -> Result<(), Refusal>
-        ensures within { OnOk result (is_within (region_lengths self.now.history.start.policy) address.0 (length bytes.now) ≡ true) }
+        ensures within { OnOk result (is_within (region_lengths (beginning self.now.history).policy) address.0 (length bytes.now) ≡ true) }
         ensures may { OnOk result (due self.now.history (Event.HostWrite client address bytes.now)
             ≡ enters Outcome.Accepted (Effect.Write address bytes.now ∷ [])) }
         ensures why { IfErr result (λ why. due self.now.history (Event.HostWrite client address bytes.now) ≡ refuses why) }
@@ -104,7 +105,7 @@ impl AccessCore {
 
     // Whether a range of addresses lies whole in one region.
     pub(crate) fn lies_within(&self, address: Address, size: u64) -> bool
-        ensures { result ≡ is_within (region_lengths self.now.history.start.policy) address.0 size }
+        ensures { result ≡ is_within (region_lengths (beginning self.now.history).policy) address.0 size }
     {
         self.memory.contains(address, size)
     }
@@ -117,7 +118,7 @@ impl AccessCore {
         signal: SignalHandle,
         operation: SignalOp,
     ) -> Result<i64, Refusal>
-        ensures value { IfOk result (λ old. value_of (signals self.now.history.start self.now.history.entries) signal.0 ≡ Some old) }
+        ensures value { IfOk result (λ old. value_of (signals (beginning self.now.history) self.now.history.entries) signal.0 ≡ Some old) }
         ensures may { IfOk result (λ old. due self.now.history (Event.ChangeSignal client signal operation)
             ≡ enters (Outcome.Changed (old_if_asked operation old))
             (Effect.Signal signal old (applied operation old) ∷ [])) }

@@ -1,5 +1,6 @@
 //! The groups of kernel dispatches in flight are run.
 
+ghost use Rattle.core_model.specs.History.{beginning};
 ghost use Rattle.std.specs.Prelude.{◌≡◌, ◌*◌, ◌<◌, ◌≤◌, ◌^◌, All, IfErr, IfOk, Ok, length, true};
 ghost use Rattle.aql_packet.specs.declared.packet.Packet.TheVariants as kind;
 ghost use Rattle.executor.specs.Locations as locations;
@@ -20,7 +21,9 @@ use crate::access::{AccessCore, enter};
 use crate::kernel::kernel_at;
 use aql_packet::{KernelDispatch, PacketId, QueueId};
 use core_model::{Effect, Effects, Event, Outcome, Refusal, Worked};
-use executor::{Dispatch, Extent, ItemFault, Run, RunFault, groups_read_where_they_may, run_group};
+use executor::{
+    Dispatch, Extent, ItemFault, RunFault, WrittenRange, law_groups_read_where_they_may, run_group,
+};
 use packet_processor::Place;
 use queue_error::QueueError;
 use sequences::Sequence;
@@ -62,15 +65,15 @@ impl AccessCore {
         packet: PacketId,
         place: Place,
         dispatch: KernelDispatch,
-    ) -> Result<Sequence<Run>, RunFault>
+    ) -> Result<Sequence<WrittenRange>, RunFault>
         requires found { IsInPlace self.now.history queue packet place }
         requires packet_is { place.packet ≡ kind.Kernel dispatch }
         requires left { place.progress.groups_run < group_count (kind.Kernel dispatch) }
         ensures ok { IfOk result (λ runs. next_result self.now.history queue packet place dispatch ≡ wrote runs) }
         ensures fault { IfErr result (FaultsAs (next_result self.now.history queue packet place dispatch)) }
-        ensures written { IfOk result (λ runs. All (λ run. is_within (region_lengths self.now.history.start.policy) run.address (length run.bytes) ≡ true) runs) }
+        ensures written { IfOk result (λ runs. All (λ run. is_within (region_lengths (beginning self.now.history).policy) run.address (length run.bytes) ≡ true) runs) }
     {
-        groups_read_where_they_may();
+        law_groups_read_where_they_may();
         self.regions_fit();
         let client = self.holder_of(queue, packet, place);
         let view = self.view(alloc, queue, packet, client)?;
@@ -97,7 +100,7 @@ impl AccessCore {
         fault: ItemFault,
     ) -> Worked
         requires found { IsInPlace self.old.history queue packet place }
-        requires owed { owed self.old.history.start self.old.history.entries (Event.RunNext queue packet)
+        requires owed { owed (beginning self.old.history) self.old.history.entries (Event.RunNext queue packet)
             ≡ fault_owed (group_error queue packet group fault.item fault.line fault.rule) }
         ensures met { Meets (Event.RunNext queue packet) self.old.history self.new.history (Ok (Outcome.Worked result)) }
         ensures places { self.new.places ≡ self.old.places }

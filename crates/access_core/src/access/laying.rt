@@ -1,5 +1,6 @@
 //! What a group of a kernel dispatch wrote is laid over memory.
 
+ghost use Rattle.core_model.specs.History.{beginning};
 ghost use Rattle.std.specs.Prelude.{◌≡◌, ◌∷◌, ◌-◌, ◌<◌, ◌^◌, All, IfOk, [], length, map, true};
 ghost use Rattle.regions.specs.Memory.{is_within, lengths_of};
 ghost use Rattle.policy.specs.Results.{map_ok};
@@ -14,7 +15,7 @@ use crate::access::running::{advance, one_more};
 use crate::access::{AccessCore, enter};
 use aql_packet::{Address, PacketId, QueueId};
 use core_model::{Effect, Effects, Event, Outcome, Refusal, Worked};
-use executor::Run;
+use executor::WrittenRange;
 use packet_processor::Place;
 use regions::Regions;
 use sequences::Sequence;
@@ -30,12 +31,12 @@ impl AccessCore {
         packet: PacketId,
         place: Place,
         left: u32,
-        runs: Sequence<Run>,
+        runs: Sequence<WrittenRange>,
     ) -> Result<Worked, Refusal>
         requires found { IsInPlace self.old.history queue packet place }
-        requires owed { owed self.old.history.start self.old.history.entries (Event.RunNext queue packet)
+        requires owed { owed (beginning self.old.history) self.old.history.entries (Event.RunNext queue packet)
             ≡ enters (Outcome.Worked (Worked.Ran place.progress.groups_run left)) (map write_of_run runs) }
-        requires written { All (λ run. is_within (region_lengths self.old.history.start.policy) run.address (length run.bytes) ≡ true) runs }
+        requires written { All (λ run. is_within (region_lengths (beginning self.old.history).policy) run.address (length run.bytes) ≡ true) runs }
         requires room { place.progress.groups_run < 2 ^ 32 - 1 }
         ensures met { MeetsOrLacks (Event.RunNext queue packet) self.old.history self.new.history (map_ok Outcome.Worked result) }
         ensures places { self.new.places ≡ self.old.places }
@@ -56,7 +57,7 @@ impl AccessCore {
 }
 
 // The changes of memory that runs of written bytes are, with the runs' own bytes.
-fn changes_of(alloc: Global, runs: Sequence<Run>) -> Result<Vec<Effect>, AllocError>
+fn changes_of(alloc: Global, runs: Sequence<WrittenRange>) -> Result<Vec<Effect>, AllocError>
     ensures { IfOk result (λ changes. changes.items ≡ map write_of_run runs) }
 {
     let mut changes = Vec::with_capacity(alloc, runs.len())?;
@@ -67,10 +68,10 @@ fn changes_of(alloc: Global, runs: Sequence<Run>) -> Result<Vec<Effect>, AllocEr
 }
 
 // The change of memory that a run of written bytes is.
-fn change_of(run: Run) -> Effect
+fn change_of(run: WrittenRange) -> Effect
     ensures { result ≡ write_of_run run }
 {
-    let Run { address, bytes } = run;
+    let WrittenRange { address, bytes } = run;
     Effect::Write {
         address: Address(address),
         bytes,

@@ -1,5 +1,6 @@
 //! What the core looks up before it decides a call.
 
+ghost use Rattle.core_model.specs.History.{beginning};
 ghost use Rattle.std.specs.Prelude.{◌≡◌};
 ghost use Rattle.std.specs.Option.{option_copied};
 ghost use Rattle.policy.specs.Policy.{numbered};
@@ -18,21 +19,21 @@ use policy::{Object, Right};
 impl AccessCore {
     // Whether a client's right on an object is in force.
     pub(crate) fn is_in_force(&self, client: ClientId, object: Object, right: Right) -> bool
-        ensures { result ≡ in_force self.now.history.start self.now.history.entries client object right }
+        ensures { result ≡ in_force (beginning self.now.history) self.now.history.entries client object right }
     {
         self.grants.is_in_force(client, object, right)
     }
 
     // The value of a signal, if there is one of this number.
     pub(crate) fn signal_value(&self, signal: SignalHandle) -> Option<i64>
-        ensures { result ≡ value_of (signals self.now.history.start self.now.history.entries) signal.0 }
+        ensures { result ≡ value_of (signals (beginning self.now.history) self.now.history.entries) signal.0 }
     {
         self.signals.value(signal)
     }
 
     // The kernel that a dispatch names, if there is one of its number.
     pub(crate) fn kernel(&self, dispatch: &KernelDispatch) -> Option<&Program>
-        ensures { option_copied result ≡ numbered self.now.history.start.kernels dispatch.now.kernel_object.0 }
+        ensures { option_copied result ≡ numbered (beginning self.now.history).kernels dispatch.now.kernel_object.0 }
     {
         Some(kernel_named(self.kernels.as_slice(), dispatch.kernel_object)?.program())
     }

@@ -5,7 +5,7 @@ ghost use Rattle.policy.specs.Policy.{initial_values, region_lengths, row_of};
 ghost use Rattle.aql_packet.specs.Memory.{are_region_lengths};
 ghost use Rattle.regions.specs.Memory.{zeros};
 ghost use Rattle.core_model.specs.Kernels.{segments_of};
-ghost use Rattle.core_model.specs.Legal.{empty_history};
+ghost use Rattle.core_model.specs.Legal.{IsOpening};
 ghost use Rattle.access_core.specs.inner.Untouched.{IsUntouched};
 ghost use Rattle.access_core.specs.Opening.{first_missing, has_entry, is_capacity, open_fault, Opens, program_of};
 
@@ -210,7 +210,7 @@ fn blank(
     requires untouched { IsUntouched policy kernels.items capacity parts }
     requires entries { All (λ kernel. has_entry kernel ≡ true) kernels.items }
     requires few { is_capacity capacity ≡ true }
-    ensures { result.history ≡ empty_history policy (map program_of kernels.items) capacity }
+    ensures { IsOpening result.history policy (map program_of kernels.items) capacity }
 {
     let Parts {
         segments,

@@ -1,13 +1,14 @@
 //! Barrier packets in flight look at the signals that they depend on.
 
-ghost use Rattle.std.specs.Prelude.{◌≡◌, IfErr, IfOk, Ok, Some, is_some, map, vec_capacity};
+ghost use Rattle.core_model.specs.History.{beginning};
+ghost use Rattle.std.specs.Prelude.{◌≡◌, Err, IfErr, IfOk, List, Ok, Some, is_some, map, vec_capacity};
 ghost use Rattle.std.specs.List.{list_any, zip};
 ghost use Rattle.std.specs.Option.{IfSome};
 ghost use Rattle.core_model.specs.Flight.{satisfied_by_either};
 ghost use Rattle.core_model.specs.LaunchRules.{is_barrier};
 ghost use Rattle.core_model.specs.Needs.{dependencies};
 ghost use Rattle.core_model.specs.Work.{is_negative, is_zero, signal_value};
-ghost use Rattle.core_model.specs.Owed.{owed_poll, refuses};
+ghost use Rattle.core_model.specs.Owed.{enters, owed, owed_poll, refuses};
 ghost use Rattle.policy.specs.Results.{map_ok};
 ghost use Rattle.core_model.specs.Legal.{Meets, due};
 ghost use Rattle.access_core.specs.inner.QueueChanges.{CanFail, freed_by, with_failure, with_queue};
@@ -45,7 +46,11 @@ impl AccessCore {
     pub fn poll(&mut self, queue: QueueId, packet: PacketId) -> Result<Polled, Refusal>
         ensures met { Meets (Event.Poll queue packet) self.old.history self.new.history (map_ok Outcome.Polled result) }
         ensures places { self.new.places ≡ self.old.places }
+        ensures room { (error : QueueError) (effects : List Effect) →
+            owed (beginning self.old.history) self.old.history.entries (Event.Poll queue packet) ≡ enters (Outcome.Polled (Polled.Failed error)) effects →
+            result ≡ Err Refusal.AuditFull → ⊥ }
     {
+        self.keeps_room();
         let (place, look) = self.may_poll(queue, packet)?;
         match look {
             Look::Still(told) => Ok(told),

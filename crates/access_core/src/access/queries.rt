@@ -1,10 +1,12 @@
 //! Queries: they change nothing, and no entry tells of them.
 
+ghost use Rattle.core_model.specs.History.{beginning};
 ghost use Rattle.std.specs.Prelude.{◌≡◌};
 ghost use Rattle.core_model.specs.declared.answer.Answer.TheVariants as answer;
 ghost use Rattle.policy.specs.Results.{map_ok};
 ghost use Rattle.core_model.specs.Legal.{IsLegal, Replies, RepliesOrLacks};
 ghost use Rattle.access_core.specs.Tables.{table_sizes};
+ghost use Rattle.core_model.specs.Room.{HasRoom};
 
 use crate::access::AccessCore;
 use crate::tables::TableSizes;
@@ -20,15 +22,23 @@ use std::alloc::Global;
 impl AccessCore {
     /// The policy that the core was opened with.
     pub fn policy(&self) -> &Policy
-        ensures { result.now ≡ self.now.history.start.policy }
+        ensures { result.now ≡ (beginning self.now.history).policy }
     {
         &self.policy
     }
 
-    /// The audit's entries, in order: a legal history, so that all laws of legal histories hold of it.
+    /// Does nothing but say to callers what holds of each core: its audit keeps a place for each packet in
+    /// flight.
+    pub fn keeps_room(&self)
+        ensures { HasRoom self.now.history }
+    {
+        let _ = &self.audit;
+    }
+
+    /// The audit's entries, in order: a legal history, of which the laws of `core_model` speak.
     pub fn audit(&self) -> &[Entry]
         ensures entries { result.now ≡ self.now.history.entries }
-        ensures legal { IsLegal self.now.history.start self.now.history.entries }
+        ensures legal { IsLegal (beginning self.now.history) self.now.history.entries }
     {
         self.audit.as_slice()
     }

@@ -1,5 +1,6 @@
 //! Queues are opened.
 
+ghost use Rattle.core_model.specs.History.{beginning};
 ghost use Rattle.std.specs.Prelude.{◌≡◌, ◌<◌, [], OnOk, IfErr, IfOk, length};
 ghost use Rattle.core_model.specs.declared.limits.TheConstants.{QUEUES};
 ghost use Rattle.core_model.specs.Queues.{openings};
@@ -64,7 +65,7 @@ impl AccessCore {
         size: u64,
     ) -> Result<QueueId, Refusal>
         ensures may { IfOk result (λ queue. due self.now.history (Event.OpenQueue client agent size) ≡ enters (Outcome.Opened queue) []) }
-        ensures few { OnOk result (length (openings self.now.history.start self.now.history.entries) < QUEUES) }
+        ensures few { OnOk result (length (openings (beginning self.now.history) self.now.history.entries) < QUEUES) }
         ensures why { IfErr result (λ why. due self.now.history (Event.OpenQueue client agent size) ≡ refuses why) }
     {
         if !self.policy.declares_client(client) {

@@ -1,6 +1,7 @@
 //! The groups of dispatches in flight are run: those of agent dispatches here.
 
-ghost use Rattle.std.specs.Prelude.{◌≡◌, ◌++◌, ◌+◌, ◌-◌, ◌<◌, ◌^◌, IfOk, length, option_to_list, replicate, true, vec_capacity};
+ghost use Rattle.core_model.specs.History.{beginning};
+ghost use Rattle.std.specs.Prelude.{◌≡◌, ◌++◌, ◌+◌, ◌-◌, ◌<◌, ◌^◌, Err, IfOk, List, length, option_to_list, replicate, true, vec_capacity};
 ghost use Rattle.std.specs.Int.{w64, to_le_bytes};
 ghost use Rattle.aql_packet.specs.declared.packet.Packet.TheVariants as kind;
 ghost use Rattle.regions.specs.Memory.{is_within, lengths_of};
@@ -8,6 +9,8 @@ ghost use Rattle.policy.specs.Policy.{region_lengths};
 ghost use Rattle.core_model.specs.Memory.{memory_from};
 ghost use Rattle.core_model.specs.Needs.{function_of};
 ghost use Rattle.core_model.specs.Work.{function_result, function_writes, number_in_memory, result_writes, write_of};
+ghost use Rattle.queue_error.specs.declared.error.QueueError.{QueueError};
+ghost use Rattle.core_model.specs.Owed.{enters, owed};
 ghost use Rattle.policy.specs.Results.{map_ok};
 ghost use Rattle.core_model.specs.Legal.{MeetsOrLacks};
 ghost use Rattle.access_core.specs.inner.QueueChanges.{IsThere, with_advance, with_queue};
@@ -45,7 +48,11 @@ impl AccessCore {
     ) -> Result<Worked, Refusal>
         ensures met { MeetsOrLacks (Event.RunNext queue packet) self.old.history self.new.history (map_ok Outcome.Worked result) }
         ensures places { self.new.places ≡ self.old.places }
+        ensures room { (error : QueueError) (effects : List Effect) →
+            owed (beginning self.old.history) self.old.history.entries (Event.RunNext queue packet) ≡ enters (Outcome.Worked (Worked.Faulted error)) effects →
+            result ≡ Err Refusal.AuditFull → ⊥ }
     {
+        self.keeps_room();
         let place = self.place_of(queue, packet)?;
         match place.packet {
             Packet::Agent(dispatch) => self.run_agent(alloc, queue, packet, place, dispatch),
@@ -65,7 +72,7 @@ impl AccessCore {
         dispatch: AgentDispatch,
     ) -> Result<Worked, Refusal>
         requires found { IsInPlace self.old.history queue packet place }
-        requires within { lies_in_regions (region_lengths self.old.history.start.policy) place.packet ≡ true }
+        requires within { lies_in_regions (region_lengths (beginning self.old.history).policy) place.packet ≡ true }
         requires packet_is { place.packet ≡ kind.Agent dispatch }
         ensures met { MeetsOrLacks (Event.RunNext queue packet) self.old.history self.new.history (map_ok Outcome.Worked result) }
         ensures places { self.new.places ≡ self.old.places }
@@ -88,9 +95,9 @@ impl AccessCore {
 
     // What an agent's function writes, and where.
     fn function_piece(&self, alloc: Global, dispatch: &AgentDispatch) -> Result<Piece, AllocError>
-        requires { lies_in_regions (region_lengths self.now.history.start.policy) (kind.Agent dispatch.now) ≡ true }
+        requires { lies_in_regions (region_lengths (beginning self.now.history).policy) (kind.Agent dispatch.now) ≡ true }
         ensures written { IfOk result (λ piece. write_of piece.address.0 piece.bytes
-            ≡ function_writes self.now.history.start self.now.history.entries (function_of dispatch.now)) }
+            ≡ function_writes (beginning self.now.history) self.now.history.entries (function_of dispatch.now)) }
         ensures placed { IfOk result (λ piece. IsPlaced self.now.history piece.address.0 (length piece.bytes)) }
     {
         match function_of(dispatch) {
@@ -115,9 +122,9 @@ impl AccessCore {
 
     // What an agent's function leaves at its return address.
     fn result_piece(&self, alloc: Global, dispatch: &AgentDispatch) -> Result<Piece, AllocError>
-        requires { lies_in_regions (region_lengths self.now.history.start.policy) (kind.Agent dispatch.now) ≡ true }
+        requires { lies_in_regions (region_lengths (beginning self.now.history).policy) (kind.Agent dispatch.now) ≡ true }
         ensures written { IfOk result (λ piece.
-            write_of piece.address.0 piece.bytes ≡ result_writes self.now.history.start self.now.history.entries dispatch.now) }
+            write_of piece.address.0 piece.bytes ≡ result_writes (beginning self.now.history) self.now.history.entries dispatch.now) }
         ensures placed { IfOk result (λ piece. IsPlaced self.now.history piece.address.0 (length piece.bytes)) }
     {
         let address = dispatch.return_address;
@@ -135,8 +142,8 @@ impl AccessCore {
 
     // The result of an agent's function: the old number of an addition, else 0.
     fn result_number(&self, dispatch: &AgentDispatch) -> u64
-        requires { lies_in_regions (region_lengths self.now.history.start.policy) (kind.Agent dispatch.now) ≡ true }
-        ensures { result ≡ function_result self.now.history.start self.now.history.entries (function_of dispatch.now) }
+        requires { lies_in_regions (region_lengths (beginning self.now.history).policy) (kind.Agent dispatch.now) ≡ true }
+        ensures { result ≡ function_result (beginning self.now.history) self.now.history.entries (function_of dispatch.now) }
     {
         match function_of(dispatch) {
             Some(AgentFunction::Add64 { number, .. }) => self.number(number.address),
@@ -148,7 +155,7 @@ impl AccessCore {
     pub(crate) fn copied(&self, alloc: Global, range: Range) -> Result<Sequence<u8>, AllocError>
         requires { IsPlaced self.now.history range.address.0 range.size }
         ensures { IfOk result (λ bytes.
-            bytes ≡ memory_from self.now.history.start self.now.history.entries range.address.0 range.size) }
+            bytes ≡ memory_from (beginning self.now.history) self.now.history.entries range.address.0 range.size) }
     {
         if range.size == 0 {
             return Ok(Sequence::new(alloc));
@@ -159,8 +166,8 @@ impl AccessCore {
 
     // The 64-bit number at an address.
     fn number(&self, address: Address) -> u64
-        requires { is_within (region_lengths self.now.history.start.policy) address.0 8 ≡ true }
-        ensures { result ≡ number_in_memory self.now.history.start self.now.history.entries address.0 }
+        requires { is_within (region_lengths (beginning self.now.history).policy) address.0 8 ≡ true }
+        ensures { result ≡ number_in_memory (beginning self.now.history) self.now.history.entries address.0 }
     {
         let mut number = [0; 8];
         number.copy_from_slice(self.memory.bytes(address, 8));

@@ -1,5 +1,6 @@
 //! Requests are served, one or many: each call by its name.
 
+ghost use Rattle.core_model.specs.History.{beginning};
 ghost use Rattle.std.specs.Prelude.{◌≡◌, ◌≤◌, [], IfOk, OnErr, length};
 ghost use Rattle.core_model.specs.Legal.{AreReplies, IsLegal, IsServed, MeetsOrLacks, RepliesOrLacks, as_reply};
 ghost use Rattle.access_core.specs.Keeping.{MadeInPlace, ServedInPlace};
@@ -14,7 +15,7 @@ impl AccessCore {
     /// queue and the launch of a packet.
     pub fn serve(&mut self, alloc: Global, request: Request) -> Reply
         ensures served { IsServed self.old.history request result self.new.history }
-        ensures legal { IsLegal self.new.history.start self.new.history.entries }
+        ensures legal { IsLegal (beginning self.new.history) self.new.history.entries }
         ensures places { ServedInPlace request self.old self.new }
     {
         let reply = self.obey(alloc, request);
@@ -30,7 +31,7 @@ impl AccessCore {
         requests: Vec<Request>,
     ) -> Result<Reserved<Reply>, AllocError>
         ensures replies { IfOk result (λ replies. AreReplies self.old.history requests.items replies.items self.new.history) }
-        ensures legal { IsLegal self.new.history.start self.new.history.entries }
+        ensures legal { IsLegal (beginning self.new.history) self.new.history.entries }
         ensures err { OnErr result (self.new ≡ self.old) }
     {
         match Reserved::with_room(alloc, requests.len()) {
@@ -53,7 +54,7 @@ impl AccessCore {
         requires room { length requests.items ≤ replies.room }
         requires empty { replies.items ≡ [] }
         ensures replies { AreReplies self.old.history requests.items result.items self.new.history }
-        ensures legal { IsLegal self.new.history.start self.new.history.entries }
+        ensures legal { IsLegal (beginning self.new.history) self.new.history.entries }
     {
         for request in requests {
             let reply = self.obey(alloc, request);
@@ -65,7 +66,7 @@ impl AccessCore {
 
     // Does nothing but say to callers what holds of each core: its audit is a legal history.
     fn ensure_legal(&self)
-        ensures { IsLegal self.now.history.start self.now.history.entries }
+        ensures { IsLegal (beginning self.now.history) self.now.history.entries }
     {
         self.audit.as_slice();
     }

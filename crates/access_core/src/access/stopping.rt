@@ -1,10 +1,12 @@
 //! Queues are stopped.
 
-ghost use Rattle.std.specs.Prelude.{◌≡◌, IfErr, IfNone, IfOk, IfSome, filter, not, vec_capacity};
+ghost use Rattle.core_model.specs.History.{beginning};
+ghost use Rattle.std.specs.Prelude.{◌≡◌, Err, IfErr, IfNone, IfOk, IfSome, Some, filter, not, vec_capacity};
 ghost use Rattle.access_core.specs.inner.ArgumentBlocks.{is_block};
 ghost use Rattle.access_core.specs.Cores.{places_of};
 ghost use Rattle.grants.specs.Ledger.{Releases, places};
-ghost use Rattle.core_model.specs.Owed.{enters, refuses, release_of};
+ghost use Rattle.core_model.specs.Flight.{flight_of};
+ghost use Rattle.core_model.specs.Owed.{barrier_in, enters, refuses, release_of};
 ghost use Rattle.core_model.specs.Legal.{Meets, as_accepted, due};
 ghost use Rattle.access_core.specs.inner.QueueChanges.{IsThere, freed_by, with_queue, with_stop};
 
@@ -23,6 +25,7 @@ impl AccessCore {
     pub fn stop(&mut self, queue: QueueId) -> Result<(), Refusal>
         ensures met { Meets (Event.Stop queue) self.old.history self.new.history (as_accepted result) }
         ensures places { self.new.places ≡ self.old.places }
+        ensures room { (id : PacketId) → barrier_in (flight_of (beginning self.old.history) self.old.history.entries queue) ≡ Some id → result ≡ Err Refusal.AuditFull → ⊥ }
     {
         let barrier = self.may_stop(queue)?;
         self.flying -= halt(&mut self.queues, queue, barrier);
@@ -37,6 +40,7 @@ impl AccessCore {
     fn may_stop(&self, queue: QueueId) -> Result<Option<PacketId>, Refusal>
         ensures may { IfOk result (λ barrier. due self.now.history (Event.Stop queue) ≡ enters Outcome.Accepted (release_of queue barrier)) }
         ensures why { IfErr result (λ why. due self.now.history (Event.Stop queue) ≡ refuses why) }
+        ensures room { IfErr result (λ why. (id : PacketId) → barrier_in (flight_of (beginning self.now.history) self.now.history.entries queue) ≡ Some id → why ≡ Refusal.AuditFull → ⊥) }
     {
         let kept = match queue_of(self.queues.as_slice(), queue) {
             None => return Err(Refusal::UnknownQueue),

@@ -1,5 +1,6 @@
 //! Packets are handed over: they wait, are launched, or denied.
 
+ghost use Rattle.core_model.specs.History.{beginning};
 ghost use Rattle.std.specs.Prelude.{◌≡◌, ◌++◌, IfErr, IfOk, Ok, OnOk, map, vec_capacity};
 ghost use Rattle.aql_packet.specs.Reading.{barrier_bit};
 ghost use Rattle.core_model.specs.Holds.{arguments_of, rights_at_launch};
@@ -85,7 +86,7 @@ fn append(
 impl AccessCore {
     // What packets of a client's queue on an agent are judged by.
     fn facts(&self, client: ClientId, agent: AgentHandle) -> Facts<'_>
-        ensures { facts_seen result ≡ facts_of self.now.history.start self.now.history.entries (record { client = client; agent = agent }) }
+        ensures { facts_seen result ≡ facts_of (beginning self.now.history) self.now.history.entries (record { client = client; agent = agent }) }
     {
         Facts {
             client,
@@ -99,7 +100,7 @@ impl AccessCore {
 
     // Judges a packet of a client's queue on an agent.
     fn judged(&self, client: ClientId, agent: AgentHandle, bytes: &[u8; 64]) -> Verdict
-        ensures { Judges (facts_of self.now.history.start self.now.history.entries (record { client = client; agent = agent })) bytes.now result }
+        ensures { Judges (facts_of (beginning self.now.history) self.now.history.entries (record { client = client; agent = agent })) bytes.now result }
     {
         let facts = self.facts(client, agent);
         verdict(bytes, &facts)
@@ -205,7 +206,7 @@ impl AccessCore {
     // The bytes of a packet's argument block, as a list of its own: none but of a kernel dispatch.
     fn argument_block(&self, alloc: Global, packet: &Packet) -> Result<Sequence<u8>, AllocError>
         requires { IsBlockPlaced self.now.history packet.now }
-        ensures { IfOk result (λ block. block ≡ arguments_of self.now.history.start self.now.history.entries packet.now) }
+        ensures { IfOk result (λ block. block ≡ arguments_of (beginning self.now.history) self.now.history.entries packet.now) }
     {
         let Packet::Kernel(dispatch) = packet else {
             return Ok(Sequence::new(alloc));
@@ -229,9 +230,9 @@ impl AccessCore {
         launching: &Launching,
         block: &[u8],
     ) -> Result<Sequence<(Object, Rights)>, AllocError>
-        requires { block.now ≡ arguments_of self.now.history.start self.now.history.entries launching.now.packet }
+        requires { block.now ≡ arguments_of (beginning self.now.history) self.now.history.entries launching.now.packet }
         ensures { IfOk result (λ rights. rights
-            ≡ map as_rights (rights_at_launch self.now.history.start self.now.history.entries (opening_of launching.now) launching.now.packet)) }
+            ≡ map as_rights (rights_at_launch (beginning self.now.history) self.now.history.entries (opening_of launching.now) launching.now.packet)) }
     {
         let mut rights = held_by_needs(alloc, launching.agent, &launching.packet)?;
         let Packet::Kernel(dispatch) = &launching.packet else {

@@ -1,11 +1,12 @@
 //! What the groups of a kernel dispatch in flight are lent: the regions that their packet holds.
 
+ghost use Rattle.core_model.specs.History.{beginning};
 ghost use Rattle.std.specs.Prelude.{◌≡◌, ◌<◌, IfOk, map, option_map, true};
 ghost use Rattle.aql_packet.specs.Memory.{are_region_lengths};
 ghost use Rattle.regions.specs.Memory.{region_length};
 ghost use Rattle.executor.specs.Items.{lent_region};
 ghost use Rattle.policy.specs.declared.object.Object.TheVariants as object;
-ghost use Rattle.core_model.specs.Holds.{packet_rights};
+ghost use Rattle.core_model.specs.Holds.{own_rights};
 ghost use Rattle.policy.specs.Policy.{region_lengths};
 ghost use Rattle.core_model.specs.View.{rights_held};
 ghost use Rattle.access_core.specs.inner.InPlace.{IsInPlace};
@@ -29,7 +30,7 @@ impl AccessCore {
 
     // Memory takes the lengths of the regions: each policy is within its limits.
     pub(crate) fn regions_fit(&self)
-        ensures { are_region_lengths (region_lengths self.now.history.start.policy) ≡ true }
+        ensures { are_region_lengths (region_lengths (beginning self.now.history).policy) ≡ true }
     {
         self.policy().object_count(Kind::Region);
     }
@@ -45,7 +46,7 @@ impl AccessCore {
     ) -> Result<View<'_>, AllocError>
         requires { IsHolder self.now.history queue packet client }
         ensures { IfOk result (λ view. map lent_region view
-            ≡ view_whole self.now.history.start self.now.history.entries (packet_rights self.now.history.start self.now.history.entries queue packet)) }
+            ≡ view_whole (beginning self.now.history) self.now.history.entries (own_rights (beginning self.now.history) self.now.history.entries queue packet)) }
     {
         let mut view = View::new(alloc);
         for before in 0..self.policy().object_count(Kind::Region) {
@@ -66,9 +67,9 @@ impl AccessCore {
         region: RegionHandle,
     ) -> Option<HeldRegion<'_>>
         requires holder { IsHolder self.now.history queue packet client }
-        requires there { 0 < region_length (region_lengths self.now.history.start.policy) region.0 }
-        ensures { option_map lent_region result ≡ lent_if_held self.now.history.start self.now.history.entries
-            (region_numbered self.now.history.start (packet_rights self.now.history.start self.now.history.entries queue packet) region.0) }
+        requires there { 0 < region_length (region_lengths (beginning self.now.history).policy) region.0 }
+        ensures { option_map lent_region result ≡ lent_if_held (beginning self.now.history) self.now.history.entries
+            (region_numbered (beginning self.now.history) (own_rights (beginning self.now.history) self.now.history.entries queue packet) region.0) }
     {
         let rights = self.rights_on(queue, packet, client, region);
         if rights == Rights::NONE {
@@ -92,7 +93,7 @@ impl AccessCore {
         region: RegionHandle,
     ) -> Rights
         requires { IsHolder self.now.history queue packet client }
-        ensures { result ≡ rights_held (packet_rights self.now.history.start self.now.history.entries queue packet) (object.Region region) }
+        ensures { result ≡ rights_held (own_rights (beginning self.now.history) self.now.history.entries queue packet) (object.Region region) }
     {
         self.grants
             .rights_held(queue, packet, client, Object::Region(region))

@@ -1,6 +1,7 @@
 //! Packets in flight are found, completed and released.
 
-ghost use Rattle.std.specs.Prelude.{◌≡◌, ◌-◌, Some, IfErr, IfOk, fold, true, vec_capacity};
+ghost use Rattle.core_model.specs.History.{beginning};
+ghost use Rattle.std.specs.Prelude.{◌≡◌, ◌-◌, Err, Some, IfErr, IfOk, fold, true, vec_capacity};
 ghost use Rattle.core_model.specs.declared.entry.Effect.TheVariants as effect;
 ghost use Rattle.policy.specs.Policy.{region_lengths};
 ghost use Rattle.core_model.specs.Memory.{signals_after};
@@ -28,6 +29,7 @@ impl AccessCore {
     pub fn finish(&mut self, queue: QueueId, packet: PacketId) -> Result<(), Refusal>
         ensures met { Meets (Event.Finish queue packet) self.old.history self.new.history (as_accepted result) }
         ensures places { self.new.places ≡ self.old.places }
+        ensures room { result ≡ Err Refusal.AuditFull → ⊥ }
     {
         let place = self.may_finish(queue, packet)?;
         let effects = complete(&mut self.signals, queue, packet, &place.packet);
@@ -44,6 +46,7 @@ impl AccessCore {
         ensures may { IfOk result (λ place. due self.now.history (Event.Finish queue packet) ≡ finish_owed self.now.history queue packet place.packet) }
         ensures found { IfOk result (λ place. IsInPlace self.now.history queue packet place) }
         ensures why { IfErr result (λ why. due self.now.history (Event.Finish queue packet) ≡ refuses why) }
+        ensures room { IfErr result (λ why. why ≡ Refusal.AuditFull → ⊥) }
     {
         let place = self.place_of(queue, packet)?;
         if !is_finished(&place) {
@@ -58,7 +61,8 @@ impl AccessCore {
     pub(crate) fn place_of(&self, queue: QueueId, packet: PacketId) -> Result<Place, Refusal>
         ensures found { IfOk result (λ place. IsInPlace self.now.history queue packet place) }
         ensures why { IfErr result (λ why. RefusedAt self.now.history queue packet why) }
-        ensures within { IfOk result (λ place. lies_in_regions (region_lengths self.now.history.start.policy) place.packet ≡ true) }
+        ensures room { IfErr result (λ why. why ≡ Refusal.AuditFull → ⊥) }
+        ensures within { IfOk result (λ place. lies_in_regions (region_lengths (beginning self.now.history).policy) place.packet ≡ true) }
         ensures sized { IfOk result (λ place. IsSized place.packet) }
     {
         let Some(kept) = queue_of(self.queues.as_slice(), queue) else {

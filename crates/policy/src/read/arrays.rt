@@ -5,20 +5,21 @@ ghost use Rattle.std.specs.List.{list_all};
 ghost use Rattle.toml.specs.Data.{get_member, as_table};
 ghost use Rattle.toml.specs.View.{view, table_view};
 ghost use Rattle.policy.specs.declared.fault.PolicyCause.TheVariants.{BadValue};
-ghost use Rattle.policy.specs.declared.fault.Section.TheVariants.{Allow};
+ghost use Rattle.policy.specs.declared.fault.Section.TheVariants.{Allow, Deny};
 ghost use Rattle.policy.specs.declared.limits.TheConstants.{MOST_ALLOW_ROWS, MOST_SIGNALS};
 ghost use Rattle.policy.specs.Table.{named};
 ghost use Rattle.policy.specs.SectionNames.{name_of_section};
 ghost use Rattle.policy.specs.Results.{map_ok};
 ghost use Rattle.policy.specs.Reading.{or_fault, placed, RowGives, FileGives};
-ghost use Rattle.policy.specs.Format.{is_table, rows_in, tables_in, of_table, named_row, allow_row, array_of};
+ghost use Rattle.policy.specs.Format.{is_table, rows_in, tables_in, of_table, named_row, rights_row, policy_rows, array_of};
 
 use crate::fault::{PolicyCause, PolicyFault, ReadPolicyError, RowError, Section};
-use crate::limits::MOST_ALLOW_ROWS;
+use crate::limits::{MOST_ALLOW_ROWS, MOST_DENY_ROWS};
 use crate::policy::Policy;
-use crate::read::rows::{self, NamedRow};
+use crate::read::rows::{self, Keys, NamedRow};
 use crate::read::values;
-use crate::row::AllowRow;
+use crate::row::RightsRow;
+use crate::rows::PolicyRows;
 use crate::table::Table as Rows;
 use sequences::Sequence;
 use std::alloc::Global;
@@ -85,56 +86,72 @@ fn as_row(row: &Value) -> Result<&Table, RowError>
 }
 
 // A row of an array of named rows, after those before it.
-fn named_row<V: NamedRow>(
+fn named_row<K: Keys, V: NamedRow>(
     alloc: Global,
     before: &Rows<V>,
     row: &Value,
 ) -> Result<(String, V), RowError>
-    ensures { RowGives named result (of_table (named_row V.known V.reading before.now) (as_table (view row.now))) }
+    ensures { RowGives named result (of_table (named_row K.known V.reading before.now) (as_table (view row.now))) }
 {
-    rows::named_row(alloc, before, as_row(row)?)
+    rows::named_row::<K, V>(alloc, before, as_row(row)?)
 }
 
 /// An array of rows that each have a name of their own.
-pub fn named_array<V: NamedRow>(
+pub fn named_array<K: Keys, V: NamedRow>(
     alloc: Global,
     section: Section,
     limit: usize,
     file: &Table,
 ) -> Result<Rows<V>, ReadPolicyError>
     requires { limit ≤ MOST_SIGNALS }
-    ensures { FileGives result (array_of section limit (named_row V.known V.reading) (table_view file.now)) }
+    ensures { FileGives result (array_of section limit (named_row K.known V.reading) (table_view file.now)) }
 {
     let rows = rows_in(section, limit, file)?;
     let mut table = Rows::new(alloc);
     for row in rows {
         let number = table.len() as u32 + 1;
-        let (name, rest) = placed(section, number, named_row(alloc, &table, row))?;
+        let (name, rest) = placed(section, number, named_row::<K, V>(alloc, &table, row))?;
         table.insert(name, rest)?;
     }
     Ok(table)
 }
 
-// An allow row in its array.
-fn allow_row(policy: &Policy, row: &Value) -> Result<AllowRow, RowError>
-    ensures { RowGives (λ x. x) result (of_table (allow_row policy.now) (as_table (view row.now))) }
+// A row on rights in its array.
+fn rights_row(policy: &Policy, row: &Value) -> Result<RightsRow, RowError>
+    ensures { RowGives (λ x. x) result (of_table (rights_row policy.now) (as_table (view row.now))) }
 {
-    rows::allow_row(policy, as_row(row)?)
+    rows::rights_row(policy, as_row(row)?)
 }
 
-/// The allow rows.
-pub fn allow_array(
+// An array of rows on rights.
+fn rights_array(
+    alloc: Global,
+    section: Section,
+    limit: usize,
+    policy: &Policy,
+    file: &Table,
+) -> Result<Sequence<RightsRow>, ReadPolicyError>
+    requires { limit ≤ MOST_ALLOW_ROWS }
+    ensures { FileGives result (array_of section limit (λ _ row. rights_row policy.now row) (table_view file.now)) }
+{
+    let rows = rows_in(section, limit, file)?;
+    let mut read = Sequence::new(alloc);
+    for row in rows {
+        let number = read.len() as u32 + 1;
+        read.push(placed(section, number, rights_row(policy, row))?)?;
+    }
+    Ok(read)
+}
+
+/// The allow rows, and then the deny rows.
+pub fn policy_rows(
     alloc: Global,
     policy: &Policy,
     file: &Table,
-) -> Result<Sequence<AllowRow>, ReadPolicyError>
-    ensures { FileGives result (array_of Allow MOST_ALLOW_ROWS (λ _ row. allow_row policy.now row) (table_view file.now)) }
+) -> Result<PolicyRows, ReadPolicyError>
+    ensures { FileGives result (policy_rows policy.now (table_view file.now)) }
 {
-    let rows = rows_in(Section::Allow, MOST_ALLOW_ROWS, file)?;
-    let mut allows = Sequence::new(alloc);
-    for row in rows {
-        let number = allows.len() as u32 + 1;
-        allows.push(placed(Section::Allow, number, allow_row(policy, row))?)?;
-    }
-    Ok(allows)
+    let allows = rights_array(alloc, Section::Allow, MOST_ALLOW_ROWS, policy, file)?;
+    let denies = rights_array(alloc, Section::Deny, MOST_DENY_ROWS, policy, file)?;
+    Ok(PolicyRows { allows, denies })
 }

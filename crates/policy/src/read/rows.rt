@@ -14,7 +14,7 @@ ghost use Rattle.policy.specs.Policy.{names_of};
 ghost use Rattle.policy.specs.Table.{named};
 ghost use Rattle.policy.specs.Results.{map_ok};
 ghost use Rattle.policy.specs.Reading.{or_fault, RowGives};
-ghost use Rattle.policy.specs.Format.{keys_in, only, key, named_row, a_name, an_entry, a_text, a_length, a_number, some_dispatches, client_keys, agent_keys, region_keys, signal_keys, kernel_keys, no_more_keys, takes, region_length, initial_value, kernel_source, a_choice, a_kind, some_rights, subject_of, target_of, allow_row, allow_keys};
+ghost use Rattle.policy.specs.Format.{keys_in, only, key, named_row, a_name, an_entry, a_text, a_length, a_number, some_dispatches, client_keys, agent_keys, region_keys, signal_keys, kernel_keys, no_more_keys, takes, region_length, initial_value, kernel_source, a_choice, a_kind, some_rights, subject_of, target_of, rights_row, rights_keys};
 
 use crate::fault::{PolicyCause, RowError};
 use crate::kernel_source::KernelSource;
@@ -23,7 +23,7 @@ use crate::policy::Policy;
 use crate::read::values;
 use crate::read::values::{Choice, same_text};
 use crate::rights::Rights;
-use crate::row::{AllowRow, Grantee, Takes, Target};
+use crate::row::{Grantee, RightsRow, Takes, Target};
 use crate::table::Table as Rows;
 use std::alloc::Global;
 use toml::{Table, Value};
@@ -39,7 +39,7 @@ pub trait Keys {
 }
 
 /// What a row holds beside its name.
-pub trait NamedRow: Keys + Sized + Drop {
+pub trait NamedRow: Sized + Drop {
     /// How it is read.
     ghost reading: { Members → Result Self PolicyCause };
 
@@ -87,14 +87,14 @@ pub fn name_at(row: &Table) -> Result<&str, PolicyCause>
 }
 
 /// A row with a name of its own: its keys, its name, the rest of it, and no earlier row of that name.
-pub fn named_row<V: NamedRow>(
+pub fn named_row<K: Keys, V: NamedRow>(
     alloc: Global,
     before: &Rows<V>,
     row: &Table,
 ) -> Result<(String, V), RowError>
-    ensures { RowGives named result (named_row V.known V.reading before.now (table_view row.now)) }
+    ensures { RowGives named result (named_row K.known V.reading before.now (table_view row.now)) }
 {
-    only::<V>(row)?;
+    only::<K>(row)?;
     let name = name_at(row)?;
     let rest = V::read(alloc, row)?;
     if before.number(name.as_bytes()) != 0 {
@@ -159,7 +159,7 @@ fn rights_at(on: Kind, row: &Table) -> Result<Rights, PolicyCause>
     values::some_rights(on, value_at(row, "rights")?).ok_or(PolicyCause::BadValue)
 }
 
-// Whom an allow row covers, if the policy declares it.
+// Whom a row on rights covers, if the policy declares it.
 fn subject_of(policy: &Policy, client: Choice) -> Option<Grantee>
     ensures { result ≡ subject_of policy.now.clients (chosen_name client.entry) }
 {
@@ -176,7 +176,7 @@ fn subject_of(policy: &Policy, client: Choice) -> Option<Grantee>
     }
 }
 
-// What an allow row covers, if the policy declares it.
+// What a row on rights covers, if the policy declares it.
 fn target_of(policy: &Policy, on: Kind, object: Choice) -> Option<Target>
     ensures { result ≡ target_of on (names_of policy.now on) (chosen_name object.entry) }
 {
@@ -193,26 +193,29 @@ fn target_of(policy: &Policy, on: Kind, object: Choice) -> Option<Target>
     }
 }
 
-/// An allow row: its keys, each in turn, and then the names.
-pub fn allow_row(policy: &Policy, row: &Table) -> Result<AllowRow, RowError>
-    ensures { RowGives (λ x. x) result (allow_row policy.now (table_view row.now)) }
+/// An allow row or a deny row: its keys, each in turn, and then the names.
+pub fn rights_row(policy: &Policy, row: &Table) -> Result<RightsRow, RowError>
+    ensures { RowGives (λ x. x) result (rights_row policy.now (table_view row.now)) }
 {
-    only::<AllowRow>(row)?;
+    only::<RightsKeys>(row)?;
     let client = choice_at(row, "client")?;
     let on = kind_at(row)?;
     let object = choice_at(row, "object")?;
     let rights = rights_at(on, row)?;
     let subject = subject_of(policy, client).ok_or(RowError::Fault(PolicyCause::UnknownName))?;
     let target = target_of(policy, on, object).ok_or(RowError::Fault(PolicyCause::UnknownName))?;
-    Ok(AllowRow {
+    Ok(RightsRow {
         subject,
         target,
         rights,
     })
 }
 
-impl Keys for AllowRow {
-    ghost known = { allow_keys };
+// The keys of a row on rights.
+struct RightsKeys;
+
+impl Keys for RightsKeys {
+    ghost known = { rights_keys };
 
     fn knows(key: &str) -> bool {
         same_text(key, "client")
@@ -222,7 +225,10 @@ impl Keys for AllowRow {
     }
 }
 
-impl Keys for () {
+/// The keys of a client's row.
+pub struct ClientKeys;
+
+impl Keys for ClientKeys {
     ghost known = { client_keys };
 
     fn knows(key: &str) -> bool {
@@ -238,7 +244,10 @@ impl NamedRow for () {
     }
 }
 
-impl Keys for Takes {
+/// The keys of an agent's row.
+pub struct AgentKeys;
+
+impl Keys for AgentKeys {
     ghost known = { agent_keys };
 
     fn knows(key: &str) -> bool {
@@ -254,8 +263,10 @@ impl NamedRow for Takes {
     }
 }
 
-// A region's length.
-impl Keys for u32 {
+/// The keys of a region's row.
+pub struct RegionKeys;
+
+impl Keys for RegionKeys {
     ghost known = { region_keys };
 
     fn knows(key: &str) -> bool {
@@ -263,6 +274,7 @@ impl Keys for u32 {
     }
 }
 
+// A region's length.
 impl NamedRow for u32 {
     ghost reading = { region_length };
 
@@ -271,8 +283,10 @@ impl NamedRow for u32 {
     }
 }
 
-// The value with which a signal begins.
-impl Keys for i64 {
+/// The keys of a signal's row.
+pub struct SignalKeys;
+
+impl Keys for SignalKeys {
     ghost known = { signal_keys };
 
     fn knows(key: &str) -> bool {
@@ -280,6 +294,7 @@ impl Keys for i64 {
     }
 }
 
+// The value with which a signal begins.
 impl NamedRow for i64 {
     ghost reading = { initial_value };
 
@@ -288,7 +303,10 @@ impl NamedRow for i64 {
     }
 }
 
-impl Keys for KernelSource {
+/// The keys of a kernel's row.
+pub struct KernelKeys;
+
+impl Keys for KernelKeys {
     ghost known = { kernel_keys };
 
     fn knows(key: &str) -> bool {

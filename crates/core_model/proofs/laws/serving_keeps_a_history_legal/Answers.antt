@@ -1,5 +1,5 @@
 use Rattle.core_model.proofs.Served.{event-goes_on, list-goes_on}
-use Rattle.core_model.proofs.Turns.{legal-beginning}
+use Rattle.core_model.proofs.States.{legal-beginning}
 use Rattle.core_model.proofs.laws.serving_keeps_a_history_legal.Goals as goal
 
 pub returns-clause-call : goal.returns-clause-call

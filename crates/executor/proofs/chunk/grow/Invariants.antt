@@ -1,6 +1,6 @@
 use Rattle.std.proofs.Common.{◌≡◌, ◌≤◌, ℕ, length}
 use Rattle.std.specs.Prelude.{max}
-use Rattle.executor.specs.Written.{chunk_byte}
+use Rattle.executor.specs.inner.Pages.{chunk_byte}
 use Rattle.executor.proofs.chunk.grow.Given as goal
 
 abbrev pub invariant-loop : goal.invariant-loop

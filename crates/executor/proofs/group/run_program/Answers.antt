@@ -1,4 +1,4 @@
-use Rattle.executor.specs.Items.{contents}
+use Rattle.executor.specs.inner.Held.{contents}
 use Rattle.executor.specs.Runs.{input_of}
 use Rattle.executor.proofs.GroupEnds.{finished, failed_as}
 use Rattle.executor.proofs.group.run_program.Goals as goal

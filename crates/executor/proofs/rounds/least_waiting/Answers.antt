@@ -1,7 +1,7 @@
 use Rattle.std.proofs.Common.{◌+◌, ap, arith, ◌∙◌, ◌≡◌}
 use Rattle.std.specs.Prelude.{map}
 use Rattle.executor.specs.Group.{least_waiting}
-use Rattle.executor.specs.Stops.{standing}
+use Rattle.executor.specs.inner.Stops.{standing}
 use Rattle.executor.proofs.RoundLemmas.{least_after}
 use Rattle.executor.proofs.rounds.least_waiting.Goals as goal
 

@@ -1,7 +1,7 @@
 use Rattle.std.proofs.Common.{◌≡◌, ◌+◌}
 use Rattle.std.specs.Prelude.{drop, map}
 use Rattle.executor.specs.Group.{least_waiting}
-use Rattle.executor.specs.Stops.{after, standing}
+use Rattle.executor.specs.inner.Stops.{after, standing}
 use Rattle.executor.proofs.rounds.least_waiting.Given as goal
 
 abbrev pub invariant-items : goal.invariant-items

@@ -2,7 +2,7 @@ use Rattle.std.proofs.Common.{◌≡◌}
 use Rattle.std.specs.List.{list_all}
 use Rattle.std.specs.Prelude.{drop, map}
 use Rattle.executor.specs.Group.{waits_before}
-use Rattle.executor.specs.Stops.{standing}
+use Rattle.executor.specs.inner.Stops.{standing}
 use Rattle.executor.proofs.rounds.wait_together.Given as goal
 
 abbrev pub invariant-items : goal.invariant-items

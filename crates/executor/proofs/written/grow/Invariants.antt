@@ -1,6 +1,6 @@
 use Rattle.std.proofs.Common.{◌≡◌, ◌≤◌, ℕ, length}
 use Rattle.std.specs.Prelude.{max}
-use Rattle.executor.specs.Written.{byte_at}
+use Rattle.executor.specs.inner.Pages.{byte_at}
 use Rattle.executor.proofs.written.grow.Given as goal
 
 abbrev pub invariant-loop : goal.invariant-loop

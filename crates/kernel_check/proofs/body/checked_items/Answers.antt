@@ -1,8 +1,11 @@
 use Rattle.std.proofs.Common.{◌≡◌, [], ◌∷◌, ◌+◌, drop, length, arith, ◌∙◌, ap, sym}
+use Rattle.std.proofs.lemmas.List.Elements.{All-append}
 use Rattle.std.proofs.lemmas.Result.{err_from_is_err_and}
-use Rattle.kernel_check.specs.Checks.{before, behind, behind_all, first_before, item_check, item_checks, steps_from, worked}
+use Rattle.kernel_check.specs.Checks.{before, behind, behind_all, first_before, item_check, item_checks, step_at, steps_from, worked}
 use Rattle.kernel_check.specs.Faults.{first_fault}
 use Rattle.kernel_check.specs.Names.{find}
+use Rattle.kernel_check.specs.Programs.{HasItsClasses}
+use Rattle.kernel_check.specs.declared.step.LinedStep.{LinedStep}
 use Rattle.kernel_check.proofs.BodyLemmas.{item_faults_more, steps_more, last_more}
 use Rattle.kernel_check.proofs.CheckLemmas.{stopped}
 use Rattle.kernel_check.proofs.Walks.{at_index}
@@ -42,6 +45,7 @@ items-preserved c =
           steps_more labels b next x (drop i items) tail at now.behind (steps_from labels start items) c.items.steps.items
           c.judge_item.new.steps.items now.steps old.steps;
       last = last_more labels b next x (drop i items) tail at now.behind (behind_all start items) old.last;
+      classes = rw now.steps (All-append (λ (s : LinedStep). HasItsClasses s.step) c.items.steps.items (step_at labels b x) old.classes now.classes);
       room = now.room;
       bound = now.bound;
     }

@@ -1,7 +1,9 @@
 use Rattle.std.proofs.Common.{◌≡◌, [], ◌∷◌, ◌+◌, ◌++◌, drop, length, map, arith, ◌∙◌, ap, sym}
 use Rattle.std.proofs.lemmas.Result.{err_from_is_err_and}
 use Rattle.kernel_check.specs.Checks.{kernel_checks, module_checks, program_of}
+use Rattle.std.proofs.lemmas.List.Elements.{All-push}
 use Rattle.kernel_check.specs.Faults.{first_fault}
+use Rattle.kernel_check.specs.Programs.{IsSound}
 use Rattle.kernel_check.proofs.CheckLemmas.{stopped}
 use Rattle.kernel_check.proofs.ModuleLemmas.{kernel_faults_more, programs_more, length_push}
 use Rattle.kernel_check.proofs.Walks.{at_index}
@@ -40,4 +42,5 @@ kernels-preserved c =
       programs = programs_more (map program_of kernels) c.kernels.programs.items c.judge_kernel.new.kernels.items k (drop i kernels) tail at now.kernels old.programs;
       same = omega (arith, more, grown, old.same);
       room = omega (arith, grown, old.same, now.room);
+      sound = rw now.kernels (All-push IsSound c.kernels.programs.items (program_of k) old.sound now.sound);
     }

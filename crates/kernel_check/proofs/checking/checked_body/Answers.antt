@@ -2,9 +2,10 @@ use Rattle.std.proofs.Common.{◌≡◌, List, [], Ok, sym, ap, subst, ◌∙◌
 use Rattle.std.proofs.lemmas.Result.{err_from_is_err_and}
 use Rattle.hsail_reader.specs.declared.module.Argument.{Argument}
 use Rattle.hsail_reader.specs.declared.module.Item.{Item}
-use Rattle.kernel_check.specs.Checks.{argument_checks, body_worked, first_before, item_checks, labels_from, program_of, worked}
+use Rattle.kernel_check.specs.Checks.{argument_checks, first_before, item_checks, labels_from, program_of, worked}
+use Rattle.kernel_check.specs.inner.Bodies.{body_worked}
 use Rattle.kernel_check.specs.Faults.{first_fault, unless, FailsAs}
-use Rattle.kernel_check.specs.Layout.{Laid, laid_out, kernarg_laid}
+use Rattle.kernel_check.specs.inner.Laid.{Laid, laid_out, kernarg_laid}
 use Rattle.kernel_check.specs.Names.{find}
 use Rattle.kernel_check.specs.Programs.{IsSound, program}
 use Rattle.kernel_check.specs.declared.step.LinedStep.{LinedStep}
@@ -51,7 +52,7 @@ new-requires c =
     (subst (λ (items : List Item). labels ≡ find (labels_from 0 items)) c.as_slice-items.ensures c.in_ok-labels.ensures)
     (subst (λ (items : List Item). unless (first_fault (item_checks labels b items)) (worked labels b items) ≡ Ok body)
     c.as_slice-items.ensures c.in_ok-body.ensures.value)
-    c.in_ok-name.ensures c.in_ok-block.ensures.bound c.in_ok-body.ensures.bound c.in_ok-body.ensures.room)
+    c.in_ok-name.ensures c.in_ok-block.ensures.bound c.in_ok-body.ensures.bound c.in_ok-body.ensures.room c.in_ok-body.ensures.classes)
 
 pub returns : goal.returns
 returns c =

@@ -2,7 +2,8 @@ use Rattle.std.proofs.Common.{◌≡◌, [], ◌∷◌, ◌+◌, ◌++◌, drop,
 use Rattle.std.proofs.lemmas.Result.{err_from_is_err_and}
 use Rattle.kernel_check.specs.Checks.{argument_check, argument_checks}
 use Rattle.kernel_check.specs.Faults.{first_fault}
-use Rattle.kernel_check.specs.Layout.{placed_at, end_behind, placed_from, end_from, wide_from, laid_out}
+use Rattle.kernel_check.specs.Layout.{placed_at, end_behind, placed_from, end_from, wide_from}
+use Rattle.kernel_check.specs.inner.Laid.{laid_out}
 use Rattle.kernel_check.proofs.BlockLemmas.{faults_more, names_more, wide_more, end_more}
 use Rattle.kernel_check.proofs.CheckLemmas.{stopped}
 use Rattle.kernel_check.proofs.Walks.{at_index}

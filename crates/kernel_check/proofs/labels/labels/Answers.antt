@@ -1,7 +1,8 @@
 use Rattle.std.proofs.Common.{◌+◌, sym, ap, ◌∙◌, arith, drop}
 use Rattle.std.proofs.Math.Path.{fun_ext}
 use Rattle.std.proofs.lemmas.List.{drop_all}
-use Rattle.kernel_check.specs.Names.{find, or_else}
+use Rattle.kernel_check.specs.Names.{find}
+use Rattle.kernel_check.specs.inner.Bound.{or_else}
 use Rattle.kernel_check.specs.Checks.{labels_from}
 use Rattle.kernel_check.proofs.LabelLemmas.{noted, number_behind_le}
 use Rattle.kernel_check.proofs.NameLemmas.{or_else-None}

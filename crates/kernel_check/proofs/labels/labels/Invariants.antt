@@ -1,5 +1,6 @@
 use Rattle.std.proofs.Common.{◌≡◌, ◌≤◌, ℕ, List, drop}
-use Rattle.kernel_check.specs.Names.{find, or_else}
+use Rattle.kernel_check.specs.Names.{find}
+use Rattle.kernel_check.specs.inner.Bound.{or_else}
 use Rattle.kernel_check.specs.Checks.{labels_from}
 use Rattle.kernel_check.proofs.labels.labels.Given as goal
 

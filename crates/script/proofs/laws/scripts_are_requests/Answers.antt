@@ -1,4 +1,3 @@
-use Rattle.world.specs.Headline.{begun}
 use Rattle.script.proofs.Reaching.{line_reaches, runs_reach}
 use Rattle.script.proofs.laws.scripts_are_requests.Goals as goal
 
@@ -6,6 +5,6 @@ pub returns-clause-line : goal.returns-clause-line
 returns-clause-line c = λ asked old told new done. line_reaches asked old told new done
 
 pub returns-clause-headline : goal.returns-clause-headline
-returns-clause-headline c = λ kernels capacity lines text world ran.
-    let reached = runs_reach (begun c.args.policy.now kernels capacity) world lines text ran in
-    c.the_headline.ensures kernels capacity reached.0 reached.1 world reached.2
+returns-clause-headline c = λ kernels capacity lines text opened world begun ran.
+    let reached = runs_reach opened world lines text ran in
+    c.the_headline.ensures kernels capacity reached.0 reached.1 opened world begun reached.2

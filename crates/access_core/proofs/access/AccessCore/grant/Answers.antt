@@ -11,7 +11,7 @@ use Rattle.core_model.specs.declared.outcome.Outcome.TheVariants as outcome
 use Rattle.access_core.proofs.access.AccessCore.grant.Goals as goal
 
 quiet : (client : ClientId) (on : Object) (rights : Rights) → IsQuiet (Grant client on rights) outcome.Accepted []
-quiet client on rights = record { launches = refl; progress = λ queue id p. refl; releases = λ fs. refl; views = λ m v. refl }
+quiet client on rights = record { launches = refl; progress = λ queue id p. refl; stays = λ queue id. refl; releases = λ fs. refl; views = λ m v. refl }
 
 pub returns-in-Err-clause-met : goal.returns-in-Err-clause-met
 returns-in-Err-clause-met c =
@@ -35,9 +35,9 @@ invariant_of-self c =
         granted = gives.given;
         rules = gives.same_rules;
         held = λ queue id client on right. gives.same_holds queue id client on right
-            ∙ held-still a c.self.invariant _ _ _ refl refl (flight-quiet (start_of a) a.audit.items _ _ _ calm) queue id client on right;
+            ∙ held-still a c.self.invariant _ _ _ refl calm.stays queue id client on right;
         blocks_are = rw (flight-quiet (start_of a) a.audit.items _ _ _ calm) c.self.invariant.blocks_are;
-        arguments = blocks-still a (Grant c.args.client c.args.object c.args.rights) outcome.Accepted refl _;
+        arguments = blocks-still a c.self.invariant _ _ _ refl calm.stays;
       };
       memory = memory-still a.memory [] (λ x byte. refl);
       values = refl;

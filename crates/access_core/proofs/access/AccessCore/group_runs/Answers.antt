@@ -1,7 +1,8 @@
 -- The executor can run the group on what it is lent, and what it comes to is what the history says.
+use Rattle.core_model.specs.History.{beginning}
 use Rattle.std.proofs.Common.{◌≡◌, ◌∙◌, ap, refl, sym, List, Some, All, length, slice_get, true, arith}
 use Rattle.std.proofs.lemmas.Result.{IfErr-weaker, IfOk-weaker}
-use Rattle.access_core.proofs.Terms.{Dispatch, FailsAs, FaultsAs, FinishesAs, GroupInput, Kernel, Run, group_result, input_of, is_within, next_result, numbered, region_lengths, wrote}
+use Rattle.access_core.proofs.Terms.{Dispatch, FailsAs, FaultsAs, FinishesAs, GroupInput, Kernel, WrittenRange, group_result, input_of, is_within, next_result, numbered, region_lengths, wrote}
 use Rattle.access_core.proofs.Seen.{seen}
 use Rattle.access_core.proofs.GroupRuns.{block-is, entry-below, faults-as, kernel-there, program-is, program-there, program_at, result-is, runnable, runs-within}
 use Rattle.access_core.proofs.access.AccessCore.group_runs.Goals as goal
@@ -65,7 +66,7 @@ same c = grind (
       (program-is (c.self.inside) c.self.invariant (c.args.self.now.history) (seen c.self.view_is) c.args.queue c.args.packet c.args.place c.requires.found
       (c.args.dispatch) c.requires.packet_is c.kernel_at-kernel.result.now
       (ap (λ (ks : List Kernel). numbered ks (c.args.dispatch).kernel_object.0) (sym c.as_slice.ensures.value) ∙ c.kernel_at-kernel.ensures) _
-      (here c)) c.args.place.progress.groups_run c.groups_read_where_they_may.ensures c.in_ok-view.view c.in_ok-view.ensures,
+      (here c)) c.args.place.progress.groups_run c.law_groups_read_where_they_may.ensures c.in_ok-view.view c.in_ok-view.ensures,
 )
 
 pub returns-clause-ok : goal.returns-clause-ok
@@ -80,8 +81,8 @@ returns-clause-fault c =
 
 pub returns-clause-written : goal.returns-clause-written
 returns-clause-written c =
-    IfOk-weaker c.run_group.result (FinishesAs (input c)) (λ (runs : List Run). All
-    (λ (run : Run). is_within (region_lengths c.args.self.now.history.start.policy) run.address (length run.bytes) ≡ true) runs)
+    IfOk-weaker c.run_group.result (FinishesAs (input c)) (λ (runs : List WrittenRange). All
+    (λ (run : WrittenRange). is_within (region_lengths (beginning c.args.self.now.history).policy) run.address (length run.bytes) ≡ true) runs)
     (λ runs ends. runs-within c.self.inside c.self.invariant _ (seen c.self.view_is) c.args.queue c.args.packet c.args.place c.requires.found c.args.dispatch c.requires.packet_is
     c.regions_fit.ensures c.args.place.progress.groups_run runs (same c ∙ ends.1))
     (c.run_group.ensures.ok (program_at c.kernel_at-kernel.result.now) (here c))

@@ -10,7 +10,7 @@ use Rattle.core_model.specs.declared.outcome.Outcome.TheVariants as outcome
 use Rattle.access_core.proofs.access.AccessCore.host_write.Goals as goal
 
 quiet : (client : ClientId) (address : Address) (bytes : List ℕ) → IsQuiet (HostWrite client address bytes) outcome.Accepted (Write address bytes ∷ [])
-quiet client address bytes = record { launches = refl; progress = λ queue id p. refl; releases = λ fs. refl; views = λ m v. refl }
+quiet client address bytes = record { launches = refl; progress = λ queue id p. refl; stays = λ queue id. refl; releases = λ fs. refl; views = λ m v. refl }
 
 pub invariant_of-self : goal.invariant_of-self
 invariant_of-self c =
@@ -20,7 +20,7 @@ invariant_of-self c =
     (record {
       same = ((refl, refl, refl), refl);
       audit = rw (c.one-effects.ensures, c.in_ok-written.ensures) at c.enter.ensures;
-      grants = grants-still a c.self.invariant _ _ _ refl refl (λ client on right b. refl) (flight-quiet (start_of a) a.audit.items _ _ _ calm);
+      grants = grants-still a c.self.invariant _ _ _ refl calm.stays (λ client on right b. refl) (flight-quiet (start_of a) a.audit.items _ _ _ calm);
       memory = record {
         lengths = c.lay.ensures.lengths;
         memory = λ x byte before. byte_at-written _ _ c.args.address c.args.bytes x byte (rw c.as_slice.ensures at c.lay.ensures.bytes) before;

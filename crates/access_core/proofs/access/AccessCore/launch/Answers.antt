@@ -1,9 +1,9 @@
 -- The packet is in flight, and the entry tells it.
+use Rattle.core_model.specs.History.{beginning}
 use Rattle.std.proofs.Common.{◌≡◌, ◌∙◌, ap, refl, sym, subst, true, Some, [], map, option_map}
 use Rattle.access_core.proofs.Terms.{History, IsNext-from_owed, Launched, MayHold, Packet, Take, TakesNext, arguments_of, as_rights, entry_of, launched_by, lies_in_regions, owner}
 use Rattle.access_core.proofs.Terms.{region_lengths, rights_at_launch, start_of}
 use Rattle.access_core.proofs.Seen.{seen}
-use Rattle.access_core.proofs.HeldMore.{held-launched}
 use Rattle.access_core.specs.inner.Deciding.{opening_of}
 use Rattle.access_core.proofs.HeldAfter.{grants-launched, launch-in_force}
 use Rattle.access_core.proofs.CachedMore.{IsCached-more, memory-still, owed-inside}
@@ -17,7 +17,7 @@ hold_reserved-requires-clause-in_force c =
     launch-in_force c.self.inside c.self.invariant _ c.args.launching.client _
     (rights_at_launch (start_of c.self.inside) c.self.inside.audit.items (opening_of c.args.launching) c.args.launching.packet)
     c.in_ok-reserve.ensures.same
-    (c.as_slice-2.ensures ∙ c.in_ok-rights.ensures ∙ ap (λ (h : History). map as_rights (rights_at_launch h.start h.entries (opening_of c.args.launching) c.args.launching.packet))
+    (c.as_slice-2.ensures ∙ c.in_ok-rights.ensures ∙ ap (λ (h : History). map as_rights (rights_at_launch (beginning h) h.entries (opening_of c.args.launching) c.args.launching.packet))
     (sym (seen c.self.view_is)))
     (subst (λ h. MayHold h (opening_of c.args.launching) c.args.launching.packet) (sym (seen c.self.view_is)) c.requires.5)
 
@@ -38,24 +38,21 @@ invariant_of-self-2 c =
     let owing = owed-inside a c.self.invariant _ (seen c.self.view_is) _ _ _ c.requires.0 in
     let next = IsNext-from_owed (start_of a) a.audit.items c.args.queue c.args.packet c.args.bytes.now _ _ owing in
     let owned : owner (start_of a) a.audit.items c.args.queue ≡ Some (opening_of c.args.launching) =
-    subst (λ h. owner h.start h.entries c.args.queue ≡ Some (opening_of c.args.launching)) (sym (seen c.self.view_is)) c.requires.4 in
+    subst (λ h. owner (beginning h) h.entries c.args.queue ≡ Some (opening_of c.args.launching)) (sym (seen c.self.view_is)) c.requires.4 in
     let launches : launched_by (Take c.args.queue c.args.packet c.args.bytes.now) (outcome.Taken Launched) ≡ Some (record { queue = c.args.queue; id = c.args.packet; packet = p }) =
     ap (option_map (λ (x : Packet). record { queue = c.args.queue; id = c.args.packet; packet = x })) c.requires.1 in
-    let within : lies_in_regions (region_lengths a.policy) p ≡ true = subst (λ h. lies_in_regions (region_lengths h.start.policy) p ≡ true) (sym (seen c.self.view_is)) c.requires.2 in
+    let within : lies_in_regions (region_lengths a.policy) p ≡ true = subst (λ h. lies_in_regions (region_lengths (beginning h).policy) p ≡ true) (sym (seen c.self.view_is)) c.requires.2 in
     IsCached-more a _ (Take c.args.queue c.args.packet c.args.bytes.now) (outcome.Taken Launched) [] c.self.invariant
     (record {
       same = ((refl, refl, refl), refl);
       audit = rw c.none.ensures at c.enter.ensures;
-      grants = grants-launched a c.self.invariant _ _ _ refl (λ client on right b. refl) _ _ _ (opening_of c.args.launching) c.args.queue c.args.packet p _
-          (rights_at_launch (start_of a) a.audit.items (opening_of c.args.launching) p) _ launches
+      grants = grants-launched a c.self.invariant _ _ (λ client on right b. refl) _ _ _ (opening_of c.args.launching) c.args.queue c.args.packet p _ _ launches
           (flight-launched (start_of a) a.audit.items c.args.queue c.args.packet c.args.bytes.now p c.requires.1)
           c.in_ok-reserve.ensures.same
-          (c.as_slice-2.ensures ∙ c.in_ok-rights.ensures ∙ ap (λ (h : History). map as_rights (rights_at_launch h.start h.entries (opening_of c.args.launching) p))
+          (c.as_slice-2.ensures ∙ c.in_ok-rights.ensures ∙ ap (λ (h : History). map as_rights (rights_at_launch (beginning h) h.entries (opening_of c.args.launching) p))
           (sym (seen c.self.view_is)))
-          (held-launched (start_of a) a.audit.items (entry_of (Take c.args.queue c.args.packet c.args.bytes.now) (outcome.Taken Launched) []) c.self.invariant.legal owing
-          (record { queue = c.args.queue; id = c.args.packet; packet = p }) (opening_of c.args.launching) launches owned)
           owned c.hold_reserved.ensures.holds
-          (c.in_ok-block.ensures ∙ ap (λ (h : History). arguments_of h.start h.entries p) (sym (seen c.self.view_is))) c.in_ok-push.ensures.ok;
+          (c.in_ok-block.ensures ∙ ap (λ (h : History). arguments_of (beginning h) h.entries p) (sym (seen c.self.view_is))) c.in_ok-push.ensures.ok;
       memory = memory-still a.memory _ (λ x byte. refl);
       values = refl;
       queues = rw c.place_next.ensures (queues-launched a c.self.invariant c.args.queue c.args.packet c.args.bytes.now can p c.requires.1 next.id_is within);

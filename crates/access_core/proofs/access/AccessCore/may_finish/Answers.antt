@@ -1,4 +1,5 @@
 -- What the packet is due, by whether its work is done.
+use Rattle.core_model.specs.History.{beginning}
 use Rattle.std.proofs.Common.{◌∙◌, sym, arith}
 use Rattle.core_model.specs.Owed.{owed}
 use Rattle.access_core.proofs.Terms.{owed_finish, refuse_unless-holds, signals}
@@ -20,5 +21,5 @@ returns-clause-may c =
     release-due c.self.inside c.self.invariant _ (seen c.self.view_is) c.args.queue c.args.packet c.in_ok-place.place c.in_ok-place.ensures.found _ _ _
     (finish-releases _ _ _ c.in_ok-place.place.packet)
     (owed-in_place c.args.self.now.history c.args.queue c.args.packet c.in_ok-place.place c.in_ok-place.ensures.found
-    (owed_finish (signals c.args.self.now.history.start c.args.self.now.history.entries) c.args.queue c.args.packet)
+    (owed_finish (signals (beginning c.args.self.now.history) c.args.self.now.history.entries) c.args.queue c.args.packet)
     ∙ refuse_unless-holds _ _ _ (sym c.is_finished.ensures ∙ c.if-not-is_finished.false))

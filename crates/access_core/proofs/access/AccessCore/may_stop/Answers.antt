@@ -4,7 +4,9 @@ use Rattle.access_core.proofs.Seen.{seen}
 use Rattle.access_core.proofs.Calls.{due-by}
 use Rattle.access_core.proofs.StopLemmas.{may-stop, stop-full, stop-known, stop-unknown}
 use Rattle.access_core.proofs.access.AccessCore.may_stop.Goals.{else-is_none-via-then-is_none+else-is_full, else-is_none-via-else-is_none}
-use Rattle.access_core.proofs.Terms.{Stop, numbered, refuses}
+use Rattle.access_core.proofs.Terms.{Stop, due, numbered, refuses}
+use Rattle.core_model.proofs.Room.{stop-finds}
+use Rattle.access_core.proofs.Rooms.{never-due, roomy-seen}
 use Rattle.core_model.specs.declared.refusal.Refusal.TheVariants as refusal
 use Rattle.access_core.proofs.access.AccessCore.may_stop.Goals as goal
 
@@ -19,6 +21,11 @@ returns-then-kept-clause-why c =
 
 pub returns-then-is_full-clause-why : goal.returns-then-is_full-clause-why
 returns-then-is_full-clause-why = grind (arith, stop-full)
+
+pub returns-then-is_full-clause-room : goal.returns-then-is_full-clause-room
+returns-then-is_full-clause-room c = λ id some is.
+    let full : due c.args.self.now.history (Stop c.args.queue) ≡ refuses refusal.AuditFull = grind (arith, stop-full) in
+    never-due c.args.self.now.history (Stop c.args.queue) (stop-finds c.args.self.now.history (roomy-seen c.self.inside c.self.invariant _ (seen c.self.view_is)) c.args.queue id some) full
 
 pub returns-clause-may : goal.returns-clause-may
 returns-clause-may c =

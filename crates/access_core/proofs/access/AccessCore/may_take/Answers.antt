@@ -1,4 +1,5 @@
 -- What is decided is what is due, by what is cached.
+use Rattle.core_model.specs.History.{beginning}
 use Rattle.std.proofs.Common.{◌≡◌, refl, ◌∙◌, true, false, Some, None, [], length, rules, ap, subst, nat_lt, ◌||◌, ◌==◌, map, option_map, arith}
 use Rattle.packet_processor.proofs.QueueingLemmas.{launching-waits, launching-goes}
 use Rattle.access_core.proofs.Seen.{seen}
@@ -77,11 +78,11 @@ returns-else-is_full_for_launch-clause-may c =
           (down, next, waits, judged-inside c.self.inside _ (seen c.self.view_is) c.in-Some.kept.now c.args.bytes.now None c.in-Launch.ensures.1) refl))
           ∙ (rw (room-launched _ c.args.queue c.args.packet _ _ c.in-Launch.ensures.0, ← c.is_full_for_launch.ensures, c.if-is_full_for_launch.false) refl),
       c.in-Launch.ensures.0,
-      subst (λ (h : History). lies_in_regions (region_lengths h.start.policy) c.in-Launch.packet ≡ true) (seen c.self.view_is)
+      subst (λ (h : History). lies_in_regions (region_lengths (beginning h).policy) c.in-Launch.packet ≡ true) (seen c.self.view_is)
           (within-launched (start_of c.self.inside) c.self.inside.audit.items (cached_opening c.in-Some.kept.now) c.args.bytes.now c.in-Launch.packet c.in-Launch.ensures.0
           (judged-inside c.self.inside _ (seen c.self.view_is) c.in-Some.kept.now c.args.bytes.now None c.in-Launch.ensures.1)),
       subst (λ (h : History). TakesNext h c.args.queue) (seen c.self.view_is) (takes-next c.self.inside c.self.invariant _ _ _ some down waits),
-      subst (λ (h : History). owner h.start h.entries c.args.queue ≡ Some (cached_opening c.in-Some.kept.now)) (seen c.self.view_is)
+      subst (λ (h : History). owner (beginning h) h.entries c.args.queue ≡ Some (cached_opening c.in-Some.kept.now)) (seen c.self.view_is)
           (owner-kept c.self.inside c.args.queue c.self.invariant ∙ ap (option_map cached_opening) some),
       subst (λ (h : History). MayHold h (cached_opening c.in-Some.kept.now) c.in-Launch.packet) (seen c.self.view_is)
           (may-hold (start_of c.self.inside) c.self.inside.audit.items (entry_of (Take c.args.queue c.args.packet c.args.bytes.now) (outcome.Taken Launched) [])

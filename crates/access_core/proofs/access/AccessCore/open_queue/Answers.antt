@@ -1,8 +1,9 @@
 -- What is kept moves along with the opening, which is entered where there is room.
+use Rattle.core_model.specs.History.{beginning}
 use Rattle.std.proofs.Common.{◌<◌, ◌∙◌, refl, sym, subst, ap, [], length, ℕ, arith}
 use Rattle.access_core.proofs.Terms.{AgentHandle, All-nil, All-push, ClientId, IsSound, OpenQueue, Place, QUEUES, QueueId, cached_opening, cached_view, map-append, openings, start_of}
 use Rattle.access_core.proofs.Seen.{seen}
-use Rattle.access_core.proofs.HeldAfter.{grants-opened}
+use Rattle.access_core.proofs.HeldAfter.{grants-still}
 use Rattle.access_core.proofs.QueueLemmas.{openings-count, numbered-push, few_after}
 use Rattle.access_core.proofs.CachedMore.{IsCached-more, memory-still, none-launched}
 use Rattle.access_core.proofs.QueueAt.{IsQuiet, flight-quiet, queue_at-quiet}
@@ -10,7 +11,7 @@ use Rattle.core_model.specs.declared.outcome.Outcome.TheVariants as outcome
 use Rattle.access_core.proofs.access.AccessCore.open_queue.Goals as goal
 
 quiet : (client : ClientId) (agent : AgentHandle) (size : ℕ) (queue : QueueId) → IsQuiet (OpenQueue client agent size) (outcome.Opened queue) []
-quiet client agent size queue = record { launches = refl; progress = λ q id p. refl; releases = λ fs. refl; views = λ m v. refl }
+quiet client agent size queue = record { launches = refl; progress = λ q id p. refl; stays = λ q id. refl; releases = λ fs. refl; views = λ m v. refl }
 
 pub invariant_of-self-2 : goal.invariant_of-self-2
 invariant_of-self-2 c =
@@ -22,7 +23,7 @@ invariant_of-self-2 c =
     (record {
       same = ((refl, refl, refl), refl);
       audit = rw c.none.ensures at c.enter.ensures;
-      grants = grants-opened a c.self.invariant c.args.client c.args.agent c.args.size (outcome.Opened c.in_ok-queue.queue) (flight-quiet (start_of a) a.audit.items _ _ _ calm);
+      grants = grants-still a c.self.invariant _ _ _ refl calm.stays (λ client on right b. refl) (flight-quiet (start_of a) a.audit.items _ _ _ calm);
       memory = memory-still a.memory [] (λ x byte. refl);
       values = refl;
       queues = record {
@@ -36,7 +37,7 @@ invariant_of-self-2 c =
               below = rw c.new.ensures (All-nil (λ (p : Place). p.id.0 < 0));
             }));
         few_queues = rw push (few_after a.queues.items _ (openings-count a c.self.invariant
-            (subst (λ h. length (openings h.start h.entries) < QUEUES) (sym (seen c.self.view_is)) c.in_ok-queue.ensures.few)));
+            (subst (λ h. length (openings (beginning h) h.entries) < QUEUES) (sym (seen c.self.view_is)) c.in_ok-queue.ensures.few)));
         flying = c.self.invariant.flying ∙ ap length (sym (flight-quiet (start_of a) a.audit.items _ _ _ calm));
         within = none-launched (OpenQueue c.args.client c.args.agent c.args.size) (outcome.Opened c.in_ok-queue.queue) refl (start_of a);
       };

@@ -1,4 +1,5 @@
 -- A packet that is found is in flight, and reaches only what lies whole in a region.
+use Rattle.core_model.specs.History.{beginning}
 use Rattle.std.proofs.Common.{◌≡◌, Some, None, subst, true, find}
 use Rattle.access_core.proofs.Seen.{seen}
 use Rattle.access_core.proofs.WorkLemmas.{in-place, none-in-place, reaches-in_place}
@@ -20,7 +21,7 @@ returns-in-Some-get-clause-within c =
     let a = c.self.inside in
     let some : numbered a.queues.items c.args.queue.0 ≡ Some c.in-Some.kept.now = cc c.in-Some.ensures in
     let found : find (is_place_of c.args.packet) c.in-Some.kept.now.places ≡ Some c.in-Some-get.place.now = cc c.in-Some-get.ensures in
-    subst (λ h. lies_in_regions (region_lengths h.start.policy) c.in-Some-get.place.now.packet ≡ true) (seen c.self.view_is)
+    subst (λ h. lies_in_regions (region_lengths (beginning h).policy) c.in-Some-get.place.now.packet ≡ true) (seen c.self.view_is)
     (reaches-in_place a c.self.invariant c.args.queue c.args.packet c.in-Some-get.place.now
     (in-place a c.self.invariant c.args.queue c.args.packet c.in-Some.kept.now some c.in-Some-get.place.now found))
 

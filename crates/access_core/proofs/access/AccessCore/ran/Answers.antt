@@ -1,6 +1,7 @@
 -- What is kept moves along with the group that ran, which is entered where there is room.
+use Rattle.core_model.specs.History.{beginning}
 use Rattle.std.proofs.Common.{◌≡◌, ◌∙◌, refl, sym, ap, subst, List, length, map, All, true, false, rules, inl, inr}
-use Rattle.access_core.proofs.Terms.{Effect, History, IsChanged, Ran, Run, RunNext, error_places, is_within, region_lengths, start_of, with_advance, write_of_run}
+use Rattle.access_core.proofs.Terms.{Effect, History, IsChanged, Ran, WrittenRange, RunNext, error_places, is_within, region_lengths, start_of, with_advance, write_of_run}
 use Rattle.access_core.proofs.Places.{places-kept}
 use Rattle.access_core.proofs.ChangedQueue.{errors-changed}
 use Rattle.access_core.proofs.Seen.{seen}
@@ -36,7 +37,7 @@ lay_changes-requires c =
     let a = c.self.inside in
     rw (c.as_slice.ensures.value ∙ c.in_ok-changes.ensures, c.self.invariant.lengths)
     (runs-within (region_lengths a.policy) c.args.runs
-    (subst (λ (h : History). All (λ (run : Run). is_within (region_lengths h.start.policy) run.address (length run.bytes) ≡ true) c.args.runs)
+    (subst (λ (h : History). All (λ (run : WrittenRange). is_within (region_lengths (beginning h).policy) run.address (length run.bytes) ≡ true) c.args.runs)
     (sym (seen c.self.view_is)) c.requires.written))
 
 pub advance-requires : goal.advance-requires
@@ -56,7 +57,7 @@ invariant_of-self c =
     (record {
       same = ((refl, refl, refl), refl);
       audit = rw (c.many-effects.ensures ∙ c.in_ok-changes.ensures) at c.enter.ensures;
-      grants = grants-still a c.self.invariant _ _ _ refl refl (λ client on right b. refl) (flight-advanced (start_of a) a.audit.items _ _ _ c.args.queue c.args.packet _ is);
+      grants = grants-still a c.self.invariant _ _ _ refl is.stays (λ client on right b. refl) (flight-advanced (start_of a) a.audit.items _ _ _ c.args.queue c.args.packet _ is);
       memory = record {
         lengths = c.lay_changes.ensures.lengths;
         memory = subst (λ (effects : List Effect). IsChanged a.memory effects c.lay_changes.new.memory)

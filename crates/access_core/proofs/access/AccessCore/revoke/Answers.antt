@@ -10,7 +10,7 @@ use Rattle.core_model.specs.declared.outcome.Outcome.TheVariants as outcome
 use Rattle.access_core.proofs.access.AccessCore.revoke.Goals as goal
 
 quiet : (client : ClientId) (on : Object) (rights : Rights) → IsQuiet (Revoke client on rights) outcome.Accepted []
-quiet client on rights = record { launches = refl; progress = λ queue id p. refl; releases = λ fs. refl; views = λ m v. refl }
+quiet client on rights = record { launches = refl; progress = λ queue id p. refl; stays = λ queue id. refl; releases = λ fs. refl; views = λ m v. refl }
 
 pub returns-in-Err-clause-met : goal.returns-in-Err-clause-met
 returns-in-Err-clause-met = grind (arith, revoke-refused)
@@ -31,9 +31,9 @@ invariant_of-self c =
         granted = takes.taken;
         rules = takes.same_rules;
         held = λ queue id client on right. takes.same_holds queue id client on right
-            ∙ held-still a c.self.invariant _ _ _ refl refl (flight-quiet (start_of a) a.audit.items _ _ _ calm) queue id client on right;
+            ∙ held-still a c.self.invariant _ _ _ refl calm.stays queue id client on right;
         blocks_are = rw (flight-quiet (start_of a) a.audit.items _ _ _ calm) c.self.invariant.blocks_are;
-        arguments = blocks-still a (Revoke c.args.client c.args.object c.args.rights) outcome.Accepted refl _;
+        arguments = blocks-still a c.self.invariant _ _ _ refl calm.stays;
       };
       memory = memory-still a.memory [] (λ x byte. refl);
       values = refl;

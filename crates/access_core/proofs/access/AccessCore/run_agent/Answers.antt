@@ -1,4 +1,5 @@
 -- What is kept moves along with the group that ran, which is entered where there is room.
+use Rattle.core_model.specs.History.{beginning}
 use Rattle.std.proofs.Common.{◌≡◌, ◌∙◌, refl, sym, ap, map, subst, List, true, false, rules, nat_le, inl, inr}
 use Rattle.access_core.proofs.Terms.{Effect, History, IsChanged, Ran, RunNext, agent_writes, due, enters, error_places, lies_in_regions, region_lengths, start_of, with_advance}
 use Rattle.access_core.proofs.Places.{places-kept}
@@ -16,10 +17,10 @@ use Rattle.core_model.specs.declared.refusal.Refusal.TheVariants as refusal
 use Rattle.access_core.proofs.access.AccessCore.run_agent.Goals as goal
 
 pub function_piece-requires : goal.function_piece-requires
-function_piece-requires c = ap (lies_in_regions (region_lengths c.args.self.now.history.start.policy)) (sym c.requires.packet_is) ∙ c.requires.within
+function_piece-requires c = ap (lies_in_regions (region_lengths (beginning c.args.self.now.history).policy)) (sym c.requires.packet_is) ∙ c.requires.within
 
 pub result_piece-requires : goal.result_piece-requires
-result_piece-requires c = ap (lies_in_regions (region_lengths c.args.self.now.history.start.policy)) (sym c.requires.packet_is) ∙ c.requires.within
+result_piece-requires c = ap (lies_in_regions (region_lengths (beginning c.args.self.now.history).policy)) (sym c.requires.packet_is) ∙ c.requires.within
 
 pub advance-requires : goal.advance-requires
 advance-requires c =
@@ -37,12 +38,12 @@ invariant_of-self c =
     let ran : nat_le 1 c.args.place.progress.groups_run ≡ false = search rules in
     let owing : due c.args.self.now.history (RunNext c.args.queue c.args.packet) ≡ enters (outcome.Worked (Ran 0 0)) (agent_writes (start_of a) a.audit.items c.args.dispatch) =
     agent-due c.args.self.now.history c.args.queue c.args.packet c.args.place c.requires.found c.args.dispatch c.requires.packet_is ran false (sym c.is_full.ensures ∙ c.if-is_full.false)
-    ∙ ap (λ (h : History). enters (outcome.Worked (Ran 0 0)) (agent_writes h.start h.entries c.args.dispatch)) (sym (seen c.self.view_is)) in
+    ∙ ap (λ (h : History). enters (outcome.Worked (Ran 0 0)) (agent_writes (beginning h) h.entries c.args.dispatch)) (sym (seen c.self.view_is)) in
     IsCached-more a _ (RunNext c.args.queue c.args.packet) (outcome.Worked (Ran 0 0)) (agent_writes (start_of a) a.audit.items c.args.dispatch) c.self.invariant
     (record {
       same = ((refl, refl, refl), refl);
       audit = rw (c.lay_both-effects.ensures.effects ∙ pieces) at c.enter.ensures;
-      grants = grants-still a c.self.invariant _ _ _ refl refl (λ client on right b. refl) (flight-advanced (start_of a) a.audit.items _ _ _ c.args.queue c.args.packet _ is);
+      grants = grants-still a c.self.invariant _ _ _ refl is.stays (λ client on right b. refl) (flight-advanced (start_of a) a.audit.items _ _ _ c.args.queue c.args.packet _ is);
       memory = record {
         lengths = c.lay_both-effects.ensures.lengths;
         memory = subst (λ (effects : List Effect). IsChanged a.memory effects c.lay_both-effects.new.memory) pieces c.lay_both-effects.ensures.changed;
@@ -87,7 +88,7 @@ returns-clause-met c =
     let pieces = pieces-inside a _ (seen c.self.view_is) c.args.dispatch _ _ _ _ c.in_ok-target.ensures.written c.in_ok-result.ensures.written in
     let owing : due c.args.self.now.history (RunNext c.args.queue c.args.packet) ≡ enters (outcome.Worked (Ran 0 0)) (agent_writes (start_of a) a.audit.items c.args.dispatch) =
     agent-due c.args.self.now.history c.args.queue c.args.packet c.args.place c.requires.found c.args.dispatch c.requires.packet_is ran false (sym c.is_full.ensures ∙ c.if-is_full.false)
-    ∙ ap (λ (h : History). enters (outcome.Worked (Ran 0 0)) (agent_writes h.start h.entries c.args.dispatch)) (sym (seen c.self.view_is)) in
+    ∙ ap (λ (h : History). enters (outcome.Worked (Ran 0 0)) (agent_writes (beginning h) h.entries c.args.dispatch)) (sym (seen c.self.view_is)) in
     inl (met-entry a _ (seen c.self.view_is) (RunNext c.args.queue c.args.packet) (outcome.Worked (Ran 0 0)) (agent_writes (start_of a) a.audit.items c.args.dispatch) _ owing
     (rw (c.lay_both-effects.ensures.effects ∙ pieces) at c.enter.ensures.items))
 

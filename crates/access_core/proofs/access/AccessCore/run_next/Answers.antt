@@ -1,6 +1,14 @@
 -- A packet that isn't in flight, or has no groups, is refused.
 use Rattle.std.proofs.Common.{◌≡◌, refl, rules, inl, Err, arith}
 use Rattle.access_core.proofs.RunLemmas.{no-groups, run-refused}
+use Rattle.std.proofs.Common.{sym, ap, ◌∙◌}
+use Rattle.policy.specs.Results.{map_ok}
+use Rattle.core_model.specs.Owed.{enters, refuses}
+use Rattle.core_model.specs.declared.outcome.Outcome.TheVariants as outcome
+use Rattle.core_model.specs.declared.outcome.Worked.TheVariants as worked
+use Rattle.core_model.proofs.Room.{fault-finds}
+use Rattle.access_core.proofs.Rooms.{never-told}
+use Rattle.access_core.proofs.Terms.{RunNext}
 use Rattle.access_core.proofs.access.AccessCore.run_next.Goals as goal
 
 pub returns-in_err-place-clause-met : goal.returns-in_err-place-clause-met
@@ -15,3 +23,15 @@ returns-in-BarrierAnd-clause-met = grind (arith, no-groups)
 
 pub returns-in-BarrierOr-clause-met : goal.returns-in-BarrierOr-clause-met
 returns-in-BarrierOr-clause-met = grind (arith, no-groups)
+
+-- a group that is owed a fault finds room
+
+pub returns-in-Agent-clause-room : goal.returns-in-Agent-clause-room
+returns-in-Agent-clause-room c = λ error effects owing is.
+    never-told (RunNext c.args.queue c.args.packet) _ _ _ c.run_agent.ensures.met
+    (fault-finds c.args.self.now.history c.keeps_room.ensures c.args.queue c.args.packet error effects owing) (ap (map_ok outcome.Worked) is)
+
+pub returns-in-Kernel-clause-room : goal.returns-in-Kernel-clause-room
+returns-in-Kernel-clause-room c = λ error effects owing is.
+    never-told (RunNext c.args.queue c.args.packet) _ _ _ c.run_kernel.ensures.met
+    (fault-finds c.args.self.now.history c.keeps_room.ensures c.args.queue c.args.packet error effects owing) (ap (map_ok outcome.Worked) is)

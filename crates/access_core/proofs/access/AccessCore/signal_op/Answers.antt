@@ -12,7 +12,7 @@ use Rattle.access_core.proofs.access.AccessCore.signal_op.Goals as goal
 
 quiet : (client : ClientId) (signal : SignalHandle) (operation : SignalOp) (old : ℤ)
     → IsQuiet (ChangeSignal client signal operation) (outcome.Changed (old_if_asked operation old)) (effect.Signal signal old (applied operation old) ∷ [])
-quiet client signal operation old = record { launches = refl; progress = λ queue id p. refl; releases = λ fs. refl; views = λ m v. refl }
+quiet client signal operation old = record { launches = refl; progress = λ queue id p. refl; stays = λ queue id. refl; releases = λ fs. refl; views = λ m v. refl }
 
 pub invariant_of-self : goal.invariant_of-self
 invariant_of-self c =
@@ -29,7 +29,7 @@ invariant_of-self c =
     (record {
       same = ((refl, refl, refl), refl);
       audit = record { items = rw (told, new) at entries; room = c.enter.ensures.room };
-      grants = grants-still c.self.inside c.self.invariant _ _ _ refl refl (λ client on right b. refl) (flight-quiet (start_of c.self.inside) c.self.inside.audit.items _ _ _ calm);
+      grants = grants-still c.self.inside c.self.invariant _ _ _ refl calm.stays (λ client on right b. refl) (flight-quiet (start_of c.self.inside) c.self.inside.audit.items _ _ _ calm);
       memory = memory-still c.self.inside.memory _ (λ x byte. refl);
       values = values;
       queues = queues-still c.self.inside c.self.invariant _ _ _ calm refl;

@@ -1,6 +1,7 @@
 -- The next region is lent where it is held.
+use Rattle.core_model.specs.History.{beginning}
 use Rattle.std.proofs.Common.{◌≡◌, ◌∙◌, ◌+◌, ◌++◌, ap, sym, arith, option_to_list, Option}
-use Rattle.access_core.proofs.Terms.{HeldRegion, append-nil, length-map, packet_rights}
+use Rattle.access_core.proofs.Terms.{HeldRegion, append-nil, length-map, own_rights}
 use Rattle.access_core.proofs.LendingLemmas.{lent-all, lent-behind, lent-below}
 use Rattle.access_core.proofs.access.AccessCore.view.Goals as goal
 use Rattle.access_core.proofs.access.AccessCore.view.Goals.{in-Some+in_ok-put, in_default}
@@ -21,7 +22,7 @@ pub loop-before-preserved : goal.loop-before-preserved
 loop-before-preserved c =
     let h = c.args.self.now.history in
     let before = c.loop-before.view in
-    lent-behind h.start h.entries (packet_rights h.start h.entries c.args.queue c.args.packet) c.loop-before.before before _ c.region_if_held.result c.loop-before.invariant
+    lent-behind (beginning h) h.entries (own_rights (beginning h) h.entries c.args.queue c.args.packet) c.loop-before.before before _ c.region_if_held.result c.loop-before.invariant
     c.region_if_held.ensures
     (elim c.match-region_if_held.branch [
       | in-Some+in_ok-put w ↦ w.view-is ∙ w.in_ok-put.ensures.ok ∙ ap (λ (o : Option HeldRegion). before ++ option_to_list o) (sym w.in-Some.is)
@@ -29,4 +30,6 @@ loop-before-preserved c =
     ])
 
 pub returns : goal.returns
-returns = grind (arith, length-map, lent-all)
+returns c =
+    let h = c.args.self.now.history in
+    grind (arith, length-map, lent-all (beginning h) h.entries (own_rights (beginning h) h.entries c.args.queue c.args.packet))

@@ -1,6 +1,6 @@
 -- A core in which nothing has happened is as opened.
 use Rattle.std.proofs.Common.{refl}
-use Rattle.access_core.proofs.Opened.{IsCached-opened, few_places}
+use Rattle.access_core.proofs.Opened.{IsCached-opened, IsOpening-empty, few_places}
 use Rattle.access_core.proofs.access.opening.blank.Goals as goal
 
 pub invariant_of-result : goal.invariant_of-result
@@ -10,4 +10,4 @@ invariant_of-result c =
     c.requires.untouched.places (few_places c.args.capacity c.requires.few) c.requires.entries c.requires.untouched.segments
 
 pub returns : goal.returns
-returns c = rw c.requires.untouched.empty refl
+returns c = IsOpening-empty _ _ _ _ c.requires.untouched.empty

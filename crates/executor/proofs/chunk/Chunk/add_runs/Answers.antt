@@ -1,5 +1,5 @@
 use Rattle.std.proofs.Common.{◌^◌, ap, ◌∙◌, length, get_or, arith}
-use Rattle.executor.specs.Written.{page_byte}
+use Rattle.executor.specs.inner.Pages.{page_byte}
 use Rattle.executor.proofs.Maps.{size_64}
 use Rattle.executor.proofs.RunLemmas.{gathers_block, gathers_rest}
 use Rattle.executor.proofs.chunk.Chunk.add_runs.Goals as goal

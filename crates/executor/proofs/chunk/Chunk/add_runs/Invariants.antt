@@ -1,6 +1,6 @@
 use Rattle.std.proofs.Common.{◌*◌, ◌^◌}
-use Rattle.executor.specs.Written.{chunk_byte}
-use Rattle.executor.specs.Told.{Gathers}
+use Rattle.executor.specs.inner.Pages.{chunk_byte}
+use Rattle.executor.specs.inner.Told.{Gathers}
 use Rattle.executor.proofs.chunk.Chunk.add_runs.Given as goal
 
 abbrev pub invariant-loop-index : goal.invariant-loop-index

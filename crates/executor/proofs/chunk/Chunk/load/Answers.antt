@@ -1,5 +1,5 @@
 use Rattle.std.proofs.Common.{arith}
-use Rattle.executor.specs.Written.{page_byte}
+use Rattle.executor.specs.inner.Pages.{page_byte}
 use Rattle.executor.proofs.Maps.{level_seen, level_unseen, size_64}
 use Rattle.executor.proofs.chunk.Chunk.load.Goals as goal
 

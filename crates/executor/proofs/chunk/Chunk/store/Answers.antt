@@ -1,5 +1,5 @@
 use Rattle.std.proofs.Common.{arith}
-use Rattle.executor.specs.Written.{page_byte}
+use Rattle.executor.specs.inner.Pages.{page_byte}
 use Rattle.executor.proofs.Maps.{level_stored, size_64}
 use Rattle.executor.proofs.chunk.Chunk.store.Goals as goal
 

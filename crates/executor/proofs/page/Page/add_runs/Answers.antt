@@ -1,6 +1,6 @@
 use Rattle.std.proofs.Common.{◌+◌, ◌∙◌, sym, ap, subst, arith}
-use Rattle.executor.specs.Written.{page_byte}
-use Rattle.executor.specs.Told.{Gathers}
+use Rattle.executor.specs.inner.Pages.{page_byte}
+use Rattle.executor.specs.inner.Told.{Gathers}
 use Rattle.executor.proofs.RunLemmas.{gathers_byte, gathers_gap}
 use Rattle.executor.proofs.page.Page.add_runs.Goals as goal
 use Rattle.executor.proofs.page.Page.add_runs.Goals.{in-Some+in_ok-note, in_default}

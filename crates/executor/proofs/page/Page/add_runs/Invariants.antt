@@ -1,5 +1,5 @@
-use Rattle.executor.specs.Written.{page_byte}
-use Rattle.executor.specs.Told.{Gathers}
+use Rattle.executor.specs.inner.Pages.{page_byte}
+use Rattle.executor.specs.inner.Told.{Gathers}
 use Rattle.executor.proofs.page.Page.add_runs.Given as goal
 
 abbrev pub invariant-loop-place : goal.invariant-loop-place

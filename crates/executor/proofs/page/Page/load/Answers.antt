@@ -1,5 +1,5 @@
 use Rattle.std.proofs.Common.{◌∙◌, sym, arith}
-use Rattle.executor.specs.Written.{page_byte}
+use Rattle.executor.specs.inner.Pages.{page_byte}
 use Rattle.executor.proofs.Maps.{part_after_some, part_after_none, part_all}
 use Rattle.executor.proofs.page.Page.load.Goals as goal
 use Rattle.executor.proofs.page.Page.load.Goals.{in-Some, in_default}

@@ -1,5 +1,5 @@
 use Rattle.std.proofs.Common.{◌≡◌}
-use Rattle.executor.specs.Written.{page_byte}
+use Rattle.executor.specs.inner.Pages.{page_byte}
 use Rattle.executor.proofs.Maps.{seen_part}
 use Rattle.executor.proofs.page.Page.load.Given as goal
 

@@ -1,7 +1,8 @@
 use Rattle.std.proofs.Common.{◌≡◌, ◌+◌, ◌∷◌, [], ◌∙◌, take, get_or, length, slice_set, arith}
 use Rattle.std.proofs.lemmas.Grind.{common_steps}
 use Rattle.executor.specs.declared.page.Page.{Page}
-use Rattle.executor.specs.Written.{page_byte, laid}
+use Rattle.executor.specs.inner.Pages.{page_byte}
+use Rattle.executor.specs.Written.{laid}
 use Rattle.executor.proofs.Maps.{laid_same, laid_more, page_set}
 use Rattle.executor.proofs.page.Page.store.Goals as goal
 

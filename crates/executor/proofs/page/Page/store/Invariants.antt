@@ -1,5 +1,6 @@
 use Rattle.std.proofs.Common.{◌≡◌, ℕ, take, length}
-use Rattle.executor.specs.Written.{page_byte, laid}
+use Rattle.executor.specs.inner.Pages.{page_byte}
+use Rattle.executor.specs.Written.{laid}
 use Rattle.executor.proofs.page.Page.store.Given as goal
 
 abbrev pub invariant-loop-index : goal.invariant-loop-index

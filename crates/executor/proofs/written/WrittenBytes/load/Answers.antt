@@ -1,5 +1,5 @@
 use Rattle.std.proofs.Common.{arith, sym}
-use Rattle.executor.specs.Written.{byte_at}
+use Rattle.executor.specs.inner.Pages.{byte_at}
 use Rattle.executor.proofs.Maps.{crossed_seen}
 use Rattle.executor.proofs.written.WrittenBytes.load.Goals as goal
 

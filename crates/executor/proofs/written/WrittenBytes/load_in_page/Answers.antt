@@ -1,5 +1,5 @@
 use Rattle.std.proofs.Common.{◌^◌, arith}
-use Rattle.executor.specs.Written.{region_byte}
+use Rattle.executor.specs.inner.Pages.{region_byte}
 use Rattle.executor.proofs.Maps.{level_seen, level_unseen, size_region}
 use Rattle.executor.proofs.written.WrittenBytes.load_in_page.Goals as goal
 

@@ -1,6 +1,8 @@
 use Rattle.std.proofs.Common.{◌≡◌, ◌+◌, ◌*◌, ◌^◌, length, get_or, ap, ◌∙◌, sym, subst, [], arith}
-use Rattle.executor.specs.Written.{byte_at, region_byte, AreRuns}
-use Rattle.executor.specs.Told.{Told, Gathers, runs_of}
+use Rattle.executor.specs.inner.Pages.{byte_at, region_byte}
+use Rattle.executor.specs.Written.{AreRuns}
+use Rattle.executor.specs.inner.Told.{Told, Gathers}
+use Rattle.executor.specs.Told.{runs_of}
 use Rattle.executor.proofs.Maps.{size_region}
 use Rattle.executor.proofs.RunLemmas.{gathers_all, gathers_block, gathers_value}
 use Rattle.executor.proofs.OnlyRuns.{only_runs}

@@ -1,6 +1,6 @@
 use Rattle.std.proofs.Common.{◌*◌, ◌^◌, []}
-use Rattle.executor.specs.Written.{byte_at}
-use Rattle.executor.specs.Told.{Gathers}
+use Rattle.executor.specs.inner.Pages.{byte_at}
+use Rattle.executor.specs.inner.Told.{Gathers}
 use Rattle.executor.proofs.written.WrittenBytes.runs.Given as goal
 
 abbrev pub invariant-loop-index : goal.invariant-loop-index

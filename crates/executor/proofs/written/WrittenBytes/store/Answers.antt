@@ -1,5 +1,6 @@
 use Rattle.std.proofs.Common.{◌≡◌, ℕ, arith}
-use Rattle.executor.specs.Written.{byte_at, laid}
+use Rattle.executor.specs.inner.Pages.{byte_at}
+use Rattle.executor.specs.Written.{laid}
 use Rattle.executor.proofs.Maps.{crossed_laid, ok_then, split_whole}
 use Rattle.executor.proofs.written.WrittenBytes.store.Goals as goal
 

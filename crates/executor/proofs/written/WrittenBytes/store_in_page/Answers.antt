@@ -1,5 +1,5 @@
 use Rattle.std.proofs.Common.{◌≡◌, ℕ, ◌/◌, ◌^◌, slice_set, arith}
-use Rattle.executor.specs.Written.{region_byte, byte_at}
+use Rattle.executor.specs.inner.Pages.{region_byte, byte_at}
 use Rattle.executor.proofs.Maps.{level_stored, level_kept, always_err, size_region}
 use Rattle.executor.proofs.written.WrittenBytes.store_in_page.Goals as goal
 

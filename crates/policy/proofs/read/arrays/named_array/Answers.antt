@@ -6,7 +6,7 @@ use Rattle.policy.proofs.read.arrays.named_array.Goals as goal
 
 pub loop-row-preserved : goal.loop-row-preserved
 loop-row-preserved g c = record {
-  read = read_more c.args.section (named_row g.V.Keys.known g.V.NamedRow.reading) c.in_ok-rows.rows.now c.row-item.result c.loop-row.row-index c.loop-row.table c.insert.new.self _ _
+  read = read_more c.args.section (named_row g.K.Keys.known g.V.NamedRow.reading) c.in_ok-rows.rows.now c.row-item.result c.loop-row.row-index c.loop-row.table c.insert.new.self _ _
       (omega arith) c.row-item.is c.loop-row.invariant.count
       (placed_ok c.args.section _ c.named_row.result _ named _ c.in_ok-name.ensures c.named_row.ensures)
       c.in_ok-insert.ensures.ok c.loop-row.invariant.read;

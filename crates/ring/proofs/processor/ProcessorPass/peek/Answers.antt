@@ -1,19 +1,19 @@
-use Rattle.std.proofs.Common.{rules, ◌≡◌, ◌<◌, ◌∙◌, ℕ, List, [], ◌∷◌, refl, sym, ap, subst}
+use Rattle.std.proofs.Common.{◌≡◌, ◌<◌, ◌∙◌, ℕ, List, [], ◌∷◌, refl, sym, ap, subst}
 use Rattle.std.specs.Prelude.{get_or, length, Some}
 use Rattle.ring_core.specs.declared.access.Access.TheVariants.{LoadHeader}
 use Rattle.ring_core.specs.declared.part.Part.TheVariants.{Processor}
 use Rattle.ring_core.specs.Parts.{collected_packet}
 use Rattle.ring_core.specs.Words.{is_invalid}
 use Rattle.ring_core.proofs.Sizes.{ring_size_bounds}
-use Rattle.ring.specs.Bytes.{words_of}
+use Rattle.ring.specs.Bytes.{words_of, bytes_of}
 use Rattle.ring.specs.declared.processor.Peeked.TheVariants as peeked
-use Rattle.ring.specs.Made.{Gained, WereMade, read, showing}
-use Rattle.ring.specs.Showing.{AreBytes}
+use Rattle.ring.specs.Made.{Gained, WereMade, knowing_all, read, showing}
+use Rattle.aql_packet.proofs.WordLemmas.{bytes_back}
 use Rattle.ring.specs.Steps.{only_number}
-use Rattle.ring.proofs.Again.{not_empty, words_again, bytes_told}
+use Rattle.ring.proofs.Again.{not_empty, words_again}
 use Rattle.std.specs.Bool.{then_some}
 use Rattle.ring.specs.Passes.{ProcessorSeen, as_processor, only_part}
-use Rattle.ring.proofs.Processing.{ME, shown_steps, shown_index, shown_packet, shown_pass}
+use Rattle.ring.proofs.Processing.{ME, shown_steps, shown_index, shown_retired, shown_packet, shown_pass}
 use Rattle.ring.proofs.processor.ProcessorPass.peek.Goals as goal
 
 pub invariant_of-self-in-Some : goal.invariant_of-self-in-Some
@@ -41,8 +41,7 @@ returns-in-Some-clause-again c = λ shown bytes is.
     let whole : collected_packet q ≡ Some (words_of shown.bytes) = ap (λ v. collected_packet v.part) c.self.view_is ∙ is.0 in
     let were : WereMade ring.size ring.producers 0 (Processor q) (showing words) = subst (λ (m : ME). WereMade ring.size ring.producers (only_number m.0) (only_part m.0) (showing words)) c.self.invariant.share got.2.were in
     let same : words ≡ words_of shown.bytes = words_again ring.size ring.producers q (words_of shown.bytes) words pos c.self.invariant.resting whole refl got.0 got.1 were in
-    let mine : AreBytes c.bytes_of.result = (search rules, search rules) in
-    let b : c.bytes_of.result ≡ shown.bytes = bytes_told c.bytes_of.result shown.bytes mine bytes (c.bytes_of.ensures ∙ same) in
+    let b : c.bytes_of.result ≡ shown.bytes = c.bytes_of.ensures.value ∙ ap bytes_of same ∙ bytes_back shown.bytes bytes in
     let e : c.self.inside.next ≡ shown.id.0 = c.self.invariant.index ∙ ap (λ v. length v.part.retired) c.self.view_is ∙ sym is.1 in
     λ i. peeked.Shown (record { id = record { 0 = e i }; bytes = b i })
 
@@ -51,7 +50,7 @@ returns-in-Some-clause-peeked c =
     let got = c.in-Some.ensures.loaded in
     let ring = c.args.ring.now in
     let pos : 0 < ring.size = (ring_size_bounds ring.size c.load_packet.ensures.fits).0 in
-    let words : words_of c.bytes_of.result ≡ c.in-Some.words = c.bytes_of.ensures in
+    let words : words_of c.bytes_of.result ≡ c.in-Some.words = c.bytes_of.ensures.back in
     let steps = shown_steps ring.size ring.producers c.self.inside.next (then_some c.self.inside.whole c.self.inside.packet) c.self.inside.seat.me c.load_packet.new.seat.me c.in-Some.words pos c.self.invariant got.0 got.1 got.2 in
     let index = shown_index ring.size ring.producers c.self.inside.next (then_some c.self.inside.whole c.self.inside.packet) c.self.inside.seat.me c.load_packet.new.seat.me c.in-Some.words pos c.self.invariant got.0 got.1 got.2 in
     let packet = shown_packet ring.size ring.producers c.self.inside.next (then_some c.self.inside.whole c.self.inside.packet) c.self.inside.seat.me c.load_packet.new.seat.me c.in-Some.words pos c.self.invariant got.0 got.1 got.2 in
@@ -65,3 +64,18 @@ returns-in-Some-clause-peeked c =
       ),
       (packet ∙ ap Some (sym words), index),
     )
+
+pub returns-in-None-clause-leaves : goal.returns-in-None-clause-leaves
+returns-in-None-clause-leaves c =
+    let got = c.in-None.ensures.loaded in
+    ap (λ (m : ME). (as_processor (only_part m.0)).retired) got.2.knows
+    ∙ ap (λ (m : ME). (as_processor (knowing_all (only_part m.0) (read LoadHeader got.0 ∷ []))).retired) c.self.invariant.share
+    ∙ ap (λ v. v.part.retired) c.self.view_is
+
+pub returns-in-Some-clause-leaves : goal.returns-in-Some-clause-leaves
+returns-in-Some-clause-leaves c =
+    let got = c.in-Some.ensures.loaded in
+    let ring = c.args.ring.now in
+    let pos : 0 < ring.size = (ring_size_bounds ring.size c.load_packet.ensures.fits).0 in
+    shown_retired ring.size ring.producers c.self.inside.next (then_some c.self.inside.whole c.self.inside.packet) c.self.inside.seat.me c.load_packet.new.seat.me c.in-Some.words pos c.self.invariant got.0 got.1 got.2
+    ∙ ap (λ v. v.part.retired) c.self.view_is

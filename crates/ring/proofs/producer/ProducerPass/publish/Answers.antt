@@ -1,6 +1,5 @@
-use Rattle.std.proofs.Common.{rules, ◌≡◌, ◌+◌, ◌<◌, ◌∙◌, ℕ, List, true, false, arith, refl, sym, ap, subst}
+use Rattle.std.proofs.Common.{rules, ◌≡◌, ◌+◌, ◌<◌, ◌∙◌, ℕ, List, true, false, refl, sym, ap, subst}
 use Rattle.std.specs.Prelude.{is_some, nat_lt, get_or}
-use Rattle.std.proofs.lemmas.Bool.Decides.{nat_tests}
 use Rattle.ring_core.specs.declared.part.Part.TheVariants.{Producer}
 use Rattle.ring_core.specs.Words.{is_invalid}
 use Rattle.aql_packet.specs.Ring.{is_ring_size}
@@ -12,16 +11,16 @@ use Rattle.ring.specs.Passes.{ProducerSeen, as_producer, only_part}
 use Rattle.ring.proofs.Passes.{looked_open, looked_others, fillable, published, published_others}
 use Rattle.ring.proofs.producer.ProducerPass.publish.Goals as goal
 
-pub returns-then-not-shows_room-clause-given_back : goal.returns-then-not-shows_room-clause-given_back
-returns-then-not-shows_room-clause-given_back c =
+pub returns-then-not-has_room-clause-given_back : goal.returns-then-not-has_room-clause-given_back
+returns-then-not-has_room-clause-given_back c =
     let ring = c.args.ring.now in
     let id : ℕ = c.args.ticket.id.0 in
     let pos : 0 < ring.size = (ring_size_bounds ring.size (ap (λ r. is_ring_size r.size) (sym c.ring.view_is) ∙ c.ring.invariant.fits)).0 in
     let was : is_some (open_ticket id (as_producer (only_part c.self.inside.seat.me.0)).tickets) ≡ true = ap (λ v. is_some (open_ticket id v.part.tickets)) c.self.view_is ∙ c.requires.opened in
     looked_open ring.size ring.producers c.self.inside.number c.self.inside.allowance id c.load-read_index.result c.self.inside.seat.me c.load-read_index.new.seat.me pos c.self.invariant was c.load-read_index.ensures.told
 
-pub returns-then-not-shows_room-clause-others : goal.returns-then-not-shows_room-clause-others
-returns-then-not-shows_room-clause-others c =
+pub returns-then-not-has_room-clause-others : goal.returns-then-not-has_room-clause-others
+returns-then-not-has_room-clause-others c =
     let ring = c.args.ring.now in
     let id : ℕ = c.args.ticket.id.0 in
     let pos : 0 < ring.size = (ring_size_bounds ring.size (ap (λ r. is_ring_size r.size) (sym c.ring.view_is) ∙ c.ring.invariant.fits)).0 in
@@ -47,7 +46,6 @@ returns-clause-published c =
     let pos : 0 < ring.size = (ring_size_bounds ring.size (ap (λ r. is_ring_size r.size) (sym c.ring.view_is) ∙ c.ring.invariant.fits)).0 in
     let was : is_some (open_ticket id (as_producer (only_part c.self.inside.seat.me.0)).tickets) ≡ true = ap (λ v. is_some (open_ticket id v.part.tickets)) c.self.view_is ∙ c.requires.opened in
     let room : nat_lt id (seen + ring.size) ≡ true = search rules in
-    let less : id < seen + ring.size = grind (arith, nat_tests) in
     let words : c.words_of-words.result ≡ words_of c.args.bytes.now = c.words_of-words.ensures in
     let valid : is_invalid (get_or (words_of c.args.bytes.now) 0 0) ≡ false = search rules in
     let steps = published ring.size ring.producers c.self.inside.number c.self.inside.allowance id seen c.self.inside.seat.me c.load-read_index.new.seat.me pos c.self.invariant was c.load-read_index.ensures.told c.words_of-words.result c.store_packet.new.seat.me c.store_packet.ensures.gained in
@@ -56,7 +54,7 @@ returns-clause-published c =
       valid,
       (
         seen,
-        less,
+        room,
         (
           c.store_packet.ensures.seat ∙ c.load-read_index.ensures.seat ∙ ap (λ v. v.table) c.self.view_is,
           ap (λ v. v.number) c.self.view_is,

@@ -6,7 +6,8 @@ use Rattle.aql_packet.specs.Ring.{is_ring_size}
 use Rattle.ring_core.specs.Machine.{word_place}
 use Rattle.ring_core.proofs.Places.{place_in}
 use Rattle.ring_core.proofs.Sizes.{ring_size_bounds}
-use Rattle.ring.specs.Made.{body_read, read}
+use Rattle.ring.specs.Made.{read}
+use Rattle.ring.specs.inner.Halfway.{body_read}
 use Rattle.ring.specs.Steps.{HasGained}
 use Rattle.ring.proofs.Gains.{gained_none, gained_more, one_after}
 use Rattle.ring.proofs.Loading.{ready_load, read_more}

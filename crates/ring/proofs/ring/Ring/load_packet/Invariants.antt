@@ -1,5 +1,5 @@
 use Rattle.std.proofs.Common.{◌≡◌, length, get_or}
-use Rattle.ring.specs.Made.{body_read}
+use Rattle.ring.specs.inner.Halfway.{body_read}
 use Rattle.ring.specs.Steps.{HasGained}
 use Rattle.ring.proofs.ring.Ring.load_packet.Given as goal
 

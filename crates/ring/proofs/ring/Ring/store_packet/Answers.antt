@@ -3,7 +3,7 @@ use Rattle.ring_core.specs.declared.access.Made.{Made}
 use Rattle.ring_core.specs.Machine.{word_place}
 use Rattle.ring_core.proofs.Places.{place_in}
 use Rattle.ring_core.proofs.Sizes.{ring_size_bounds}
-use Rattle.ring.specs.Made.{body_stored}
+use Rattle.ring.specs.inner.Halfway.{body_stored}
 use Rattle.ring.specs.Steps.{HasGained}
 use Rattle.ring.proofs.Gains.{ready_body, ready_header, body_more, gained_more}
 use Rattle.ring.proofs.ring.Ring.store_packet.Goals as goal
@@ -14,13 +14,14 @@ overflow_add-slot c =
     let few : c.self.inside.size ≤ 4096 = b.1 in
     let lt : word_place c.self.inside.size c.args.id.0 0 < 2 + 8 * c.self.inside.size = place_in c.self.inside.size c.args.id.0 0 b.0 (omega arith) in
     let e : c.word_place-slot.result ≡ word_place c.self.inside.size c.args.id.0 0 = c.word_place-slot.ensures in
-    let t : c.loop-before.before < 7 = c.loop-before-test.true in
+    let t : c.loop-before.before < 7 = omega (arith, c.loop-before-test.true) in
     omega (arith, lt, few, e, t)
 
 pub store-requires-clause-ready : goal.store-requires-clause-ready
 store-requires-clause-ready c =
     let slot : c.word_place-slot.result ≡ word_place c.args.self.now.size c.args.id.0 0 = c.word_place-slot.ensures ∙ ap (λ r. word_place r.size c.args.id.0 0) c.self.view_is in
-    ready_body c.args.self.now c.args.seat.now.me c.loop-before.seat.me c.args.id.0 c.word_place-slot.result c.loop-before.before c.args.words.now c.requires.fillable slot c.loop-before.invariant.1 _ c.loop-before-test.true
+    let t : c.loop-before.before < 7 = omega (arith, c.loop-before-test.true) in
+    ready_body c.args.self.now c.args.seat.now.me c.loop-before.seat.me c.args.id.0 c.word_place-slot.result c.loop-before.before c.args.words.now c.requires.fillable slot c.loop-before.invariant.1 _ t
 
 pub loop-before-preserved : goal.loop-before-preserved
 loop-before-preserved c = (

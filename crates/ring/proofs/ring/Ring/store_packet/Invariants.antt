@@ -1,5 +1,5 @@
 use Rattle.std.proofs.Common.{◌≡◌}
-use Rattle.ring.specs.Made.{body_stored}
+use Rattle.ring.specs.inner.Halfway.{body_stored}
 use Rattle.ring.specs.Steps.{HasGained}
 use Rattle.ring.proofs.ring.Ring.store_packet.Given as goal
 

@@ -1,0 +1,238 @@
+-- What a core's fields tell is what its history goes on from: the state behind its audit.
+use Rattle.std.proofs.Common.{◌≡◌, ℕ, ◌+◌, List, [], ◌∷◌, ◌++◌, length, map, refl, sym, ◌∙◌, ap, subst, Bool, true, false, Option, Some, None, arith}
+use Rattle.std.specs.Prelude.{◌&&◌, ◌||◌, ◌==◌, All, find, fold, option_map, if◌then◌else◌}
+use Rattle.std.specs.List.{cons_option, filter_map, list_any}
+use Rattle.std.specs.Option.{unwrap_or}
+use Rattle.std.proofs.lemmas.Bool.{and_from, and_parts, eq-eqb, eqb-true}
+use Rattle.std.proofs.lemmas.List.Elements.{All-cons, All-head, All-nil, All-tail, All-weaker}
+use Rattle.aql_packet.specs.Ids.{same_packet}
+use Rattle.core_model.specs.History.{Origin, PacketOrigin, QueueOrigin, begin, no_queue, packet_in, queue_in}
+use Rattle.core_model.specs.States.{state_after}
+use Rattle.core_model.proofs.Absent.{launch-absent, zero-outside}
+use Rattle.core_model.proofs.Apart.{AreApart, apart-legal, found-legal}
+use Rattle.core_model.specs.Holds.{arguments}
+use Rattle.core_model.specs.Queues.{errors, is_stopped}
+use Rattle.regions.proofs.Laws.{byte_at-outside}
+use Rattle.access_core.specs.inner.Origins.{origin_behind, packet_origin, queue_origin, sought_in}
+use Rattle.access_core.proofs.Terms.{ArgumentBlock, IsCached, Inside, InFlight, PacketId, Place, Progress, Queue, QueueId, QueueView, Start, are_region_lengths, block_behind, block_of, byte_at, cached_opening}
+use Rattle.access_core.proofs.Terms.{cached_view, flight, in_flight, is_block, is_packet, is_place_of, lies_in_region, memory_at, name_of, next_id, numbered, numbered-map, packet_of, place_of}
+use Rattle.access_core.proofs.Terms.{program_of, progress, region_lengths, start_of}
+use Rattle.access_core.proofs.WorkLemmas.{find-placed}
+use Rattle.core_model.specs.declared.flight.TheConstants.{LAUNCH_PROGRESS}
+
+-- ---- queues
+
+opened : (queues : List Queue) → map (λ (q : QueueOrigin). q.opening) (map queue_origin queues) ≡ map cached_opening queues
+opened [] = refl
+opened (q ∷ queues) = ap (λ more. cached_opening q ∷ more) (opened queues)
+
+-- what is told of a queue, by what is kept of it
+told_next : (o : Option Queue) → (unwrap_or (option_map queue_origin o) no_queue).next ≡ (cached_view o).next
+told_next None = refl
+told_next (Some q) = refl
+
+told_errors : (o : Option Queue) → (unwrap_or (option_map queue_origin o) no_queue).errors ≡ (cached_view o).errors
+told_errors None = refl
+told_errors (Some q) = refl
+
+told_stopped : (o : Option Queue) → (unwrap_or (option_map queue_origin o) no_queue).stopped ≡ (cached_view o).stopped
+told_stopped None = refl
+told_stopped (Some q) = refl
+
+module _ (a : Inside) (kept : IsCached a) where
+  abbrev Now : Start
+  Now = state_after (start_of a) a.audit.items
+
+  abbrev Flying : List InFlight
+  Flying = flight (start_of a) a.audit.items
+
+  queue-is : (queue : QueueId) → queue_in (map queue_origin a.queues.items) queue ≡ unwrap_or (option_map queue_origin (numbered a.queues.items queue.0)) no_queue
+  queue-is queue = ap (λ (o : Option QueueOrigin). unwrap_or o no_queue) (numbered-map queue_origin a.queues.items queue.0)
+
+  next-is : (queue : QueueId) → (queue_in (map queue_origin a.queues.items) queue).next ≡ next_id (start_of a) a.audit.items queue
+  next-is queue = ap (λ (q : QueueOrigin). q.next) (queue-is queue) ∙ told_next (numbered a.queues.items queue.0) ∙ ap (λ (v : QueueView). v.next) (kept.queues queue)
+
+  errors-are : (queue : QueueId) → (queue_in (map queue_origin a.queues.items) queue).errors ≡ errors (start_of a) a.audit.items queue
+  errors-are queue = ap (λ (q : QueueOrigin). q.errors) (queue-is queue) ∙ told_errors (numbered a.queues.items queue.0) ∙ ap (λ (v : QueueView). v.errors) (kept.queues queue)
+
+  stopped-is : (queue : QueueId) → (queue_in (map queue_origin a.queues.items) queue).stopped ≡ is_stopped (start_of a) a.audit.items queue
+  stopped-is queue = ap (λ (q : QueueOrigin). q.stopped) (queue-is queue) ∙ told_stopped (numbered a.queues.items queue.0) ∙ ap (λ (v : QueueView). v.stopped) (kept.queues queue)
+
+  -- ---- memory
+
+  memory-is : are_region_lengths (region_lengths a.policy) ≡ true → (x : ℕ) → unwrap_or (byte_at a.memory x) 0 ≡ memory_at (start_of a) a.audit.items x
+  memory-is fit x = by_place (lies_in_region (region_lengths a.policy) x) refl
+    where
+      by_place : (b : Bool) → lies_in_region (region_lengths a.policy) x ≡ b → unwrap_or (byte_at a.memory x) 0 ≡ memory_at (start_of a) a.audit.items x
+      by_place true lies = ap (λ (o : Option ℕ). unwrap_or o 0) (kept.memory x lies)
+      by_place false outside =
+          ap (λ (o : Option ℕ). unwrap_or o 0) (byte_at-outside a.memory x (ap (λ (ls : List ℕ). lies_in_region ls x) kept.lengths ∙ outside))
+          ∙ sym (zero-outside (start_of a) a.audit.items kept.legal fit x outside)
+
+  -- ---- packets
+
+  abbrev place_at : InFlight → Place
+  place_at f = place_of (start_of a) a.audit.items f.queue f
+
+  -- its place is in its queue, of which it is the one with its id
+  sought-view : (queue : QueueId) (id : PacketId) (o : Option Queue) → sought_in o id ≡ find (is_place_of id) (cached_view o).places
+  sought-view queue id None = refl
+  sought-view queue id (Some q) = refl
+
+  in-queue : (f : InFlight) → in_flight (start_of a) a.audit.items f.queue f.id ≡ Some f → sought_in (numbered a.queues.items f.queue.0) f.id ≡ Some (place_at f)
+  in-queue f found =
+      sought-view f.queue f.id (numbered a.queues.items f.queue.0)
+      ∙ ap (λ (v : QueueView). find (is_place_of f.id) v.places) (kept.queues f.queue)
+      ∙ find-placed (place_of (start_of a) a.audit.items f.queue) f.queue.0 f.id.0 Flying (λ f. refl)
+      ∙ ap (option_map (place_of (start_of a) a.audit.items f.queue)) found
+
+  -- what is told of a packet in flight with its block
+  abbrev told_of : InFlight → ArgumentBlock → PacketOrigin
+  told_of f block = record { flying = f; progress = progress (start_of a) a.audit.items f.queue f.id; arguments = block.bytes }
+
+  abbrev told_all : List InFlight → List ArgumentBlock → List PacketOrigin
+  told_all [] blocks = []
+  told_all (f ∷ fs) [] = []
+  told_all (f ∷ fs) (block ∷ blocks) = told_of f block ∷ told_all fs blocks
+
+  abbrev Sought : InFlight → Type 0
+  Sought f = sought_in (numbered a.queues.items f.queue.0) f.id ≡ Some (place_at f)
+
+  told-one : (f : InFlight) (block : ArgumentBlock) → block.queue ≡ f.queue → block.packet ≡ f.id → Sought f → packet_origin a.queues.items block ≡ Some (told_of f block)
+  told-one f block queue id there =
+      let here : sought_in (numbered a.queues.items block.queue.0) block.packet ≡ Some (place_at f) = (λ i. sought_in (numbered a.queues.items (queue i).0) (id i)) ∙ there in
+      ap (option_map (λ (place : Place). told_here block place)) here
+      ∙ (λ i. Some (record { flying = record { queue = queue i; id = id i; packet = f.packet }; progress = progress (start_of a) a.audit.items f.queue f.id; arguments = block.bytes }))
+    where
+      told_here : ArgumentBlock → Place → PacketOrigin
+      told_here block place = record { flying = record { queue = block.queue; id = block.packet; packet = place.packet }; progress = place.progress; arguments = block.bytes }
+
+  told-are : (fs : List InFlight) (blocks : List ArgumentBlock) → map packet_of blocks ≡ map name_of fs → All Sought fs → filter_map (packet_origin a.queues.items) blocks ≡ told_all fs blocks
+  told-are [] [] names there = refl
+  told-are [] (block ∷ blocks) names there = absurd cc
+  told-are (f ∷ fs) [] names there = absurd cc
+  told-are (f ∷ fs) (block ∷ blocks) names there =
+      let head : packet_of block ≡ name_of f = cc in
+      let rest : map packet_of blocks ≡ map name_of fs = cc in
+      (λ i. cons_option (told-one f block (ap (λ n. n.0) head) (ap (λ n. n.1) head) (All-head Sought f fs there) i) (told-are fs blocks rest (All-tail Sought f fs there) i))
+
+  flying-told : (fs : List InFlight) (blocks : List ArgumentBlock) → map packet_of blocks ≡ map name_of fs → map (λ (p : PacketOrigin). p.flying) (told_all fs blocks) ≡ fs
+  flying-told [] blocks names = refl
+  flying-told (f ∷ fs) [] names = absurd cc
+  flying-told (f ∷ fs) (block ∷ blocks) names =
+      let rest : map packet_of blocks ≡ map name_of fs = cc in
+      ap (λ more. f ∷ more) (flying-told fs blocks rest)
+
+  module _ (queue : QueueId) (id : PacketId) where
+    abbrev found_progress : Option PacketOrigin → Progress
+    found_progress found = elim found [ None ↦ LAUNCH_PROGRESS | Some p ↦ p.progress ]
+
+    abbrev found_arguments : List ℕ → Option PacketOrigin → List ℕ
+    found_arguments none found = elim found [ None ↦ none | Some p ↦ p.arguments ]
+
+    abbrev is_named : PacketOrigin → Bool
+    is_named p = same_packet p.flying.queue p.flying.id queue id
+
+    -- how far it has come
+    progress-told : (fs : List InFlight) (blocks : List ArgumentBlock) → map packet_of blocks ≡ map name_of fs →
+        found_progress (find is_named (told_all fs blocks)) ≡ (if list_any (is_packet queue id) fs then progress (start_of a) a.audit.items queue id else LAUNCH_PROGRESS)
+    progress-told [] blocks names = refl
+    progress-told (f ∷ fs) [] names = absurd cc
+    progress-told (f ∷ fs) (block ∷ blocks) names =
+        let rest : map packet_of blocks ≡ map name_of fs = cc in
+        by_test (progress-told fs blocks rest) (is_packet queue id f) refl
+      where
+        by_test : found_progress (find is_named (told_all fs blocks)) ≡ (if list_any (is_packet queue id) fs then progress (start_of a) a.audit.items queue id else LAUNCH_PROGRESS) →
+            (b : Bool) → is_packet queue id f ≡ b →
+            found_progress (if b then Some (told_of f block) else find is_named (told_all fs blocks)) ≡ (if b || list_any (is_packet queue id) fs then progress (start_of a) a.audit.items queue id else LAUNCH_PROGRESS)
+        by_test behind false is = behind
+        by_test behind true is =
+            let both = and_parts (f.queue.0 == queue.0) (f.id.0 == id.0) is in
+            let same_queue : f.queue ≡ queue = ap (λ n. record { 0 = n }) (eqb-true _ _ both.0) in
+            let same_id : f.id ≡ id = ap (λ n. record { 0 = n }) (eqb-true _ _ both.1) in
+            λ i. progress (start_of a) a.audit.items (same_queue i) (same_id i)
+
+    -- its arguments: no other block has its name
+    none-behind : (fs : List InFlight) (blocks : List ArgumentBlock) (bytes : List ℕ) → map packet_of blocks ≡ map name_of fs → list_any (is_packet queue id) fs ≡ false → fold (block_behind queue id) bytes blocks ≡ bytes
+    none-behind [] [] bytes names none = refl
+    none-behind [] (block ∷ blocks) bytes names none = absurd cc
+    none-behind (f ∷ fs) [] bytes names none = absurd cc
+    none-behind (f ∷ fs) (block ∷ blocks) bytes names none =
+        let head : packet_of block ≡ name_of f = cc in
+        let rest : map packet_of blocks ≡ map name_of fs = cc in
+        let other = or_none (is_packet queue id f) (list_any (is_packet queue id) fs) none in
+        let not_this : is_block queue id block ≡ false = (λ i. (head i).0.0 == queue.0 && (head i).1.0 == id.0) ∙ other.0 in
+        ap (λ (b : Bool). fold (block_behind queue id) (if b then block.bytes else bytes) blocks) not_this ∙ none-behind fs blocks bytes rest other.1
+      where
+        or_none : (x y : Bool) → (x || y) ≡ false → (x ≡ false) × (y ≡ false)
+        or_none false y is = (refl, is)
+        or_none true y is = absurd cc
+
+    arguments-told : (fs : List InFlight) (blocks : List ArgumentBlock) (bytes : List ℕ) → map packet_of blocks ≡ map name_of fs → AreApart fs →
+        found_arguments bytes (find is_named (told_all fs blocks)) ≡ fold (block_behind queue id) bytes blocks
+    arguments-told [] [] bytes names apart = refl
+    arguments-told [] (block ∷ blocks) bytes names apart = absurd cc
+    arguments-told (f ∷ fs) [] bytes names apart = absurd cc
+    arguments-told (f ∷ fs) (block ∷ blocks) bytes names apart =
+        let head : packet_of block ≡ name_of f = cc in
+        let rest : map packet_of blocks ≡ map name_of fs = cc in
+        by_test rest (λ i. (head i).0.0 == queue.0 && (head i).1.0 == id.0) (arguments-told fs blocks bytes rest apart.1) (is_packet queue id f) refl
+      where
+        by_test : map packet_of blocks ≡ map name_of fs → is_block queue id block ≡ is_packet queue id f → found_arguments bytes (find is_named (told_all fs blocks)) ≡ fold (block_behind queue id) bytes blocks →
+            (b : Bool) → is_packet queue id f ≡ b →
+            found_arguments bytes (if b then Some (told_of f block) else find is_named (told_all fs blocks)) ≡ fold (block_behind queue id) (if is_block queue id block then block.bytes else bytes) blocks
+        by_test rest named behind false is = behind ∙ ap (λ (b : Bool). fold (block_behind queue id) (if b then block.bytes else bytes) blocks) (sym (named ∙ is))
+        by_test rest named behind true is =
+            let both = and_parts (f.queue.0 == queue.0) (f.id.0 == id.0) is in
+            let same_queue : f.queue ≡ queue = ap (λ n. record { 0 = n }) (eqb-true _ _ both.0) in
+            let same_id : f.id ≡ id = ap (λ n. record { 0 = n }) (eqb-true _ _ both.1) in
+            let none : list_any (is_packet queue id) fs ≡ false = (λ i. list_any (is_packet (sym same_queue i) (sym same_id i)) fs) ∙ apart.0 in
+            sym (ap (λ (b : Bool). fold (block_behind queue id) (if b then block.bytes else bytes) blocks) (named ∙ is) ∙ none-behind fs blocks block.bytes rest none)
+
+  apart : AreApart Flying
+  apart = apart-legal (start_of a) a.audit.items kept.legal
+
+  all-sought : All Sought Flying
+  all-sought = All-weaker (λ (f : InFlight). in_flight (start_of a) a.audit.items f.queue f.id ≡ Some f) Sought in-queue Flying (found-legal (start_of a) a.audit.items kept.legal)
+
+  packets-are : filter_map (packet_origin a.queues.items) a.blocks.items ≡ told_all Flying a.blocks.items
+  packets-are = told-are Flying a.blocks.items kept.blocks_are all-sought
+
+  flying-are : map (λ (p : PacketOrigin). p.flying) (filter_map (packet_origin a.queues.items) a.blocks.items) ≡ Flying
+  flying-are = ap (map (λ (p : PacketOrigin). p.flying)) packets-are ∙ flying-told Flying a.blocks.items kept.blocks_are
+
+  progress-is : (queue : QueueId) (id : PacketId) → found_progress queue id (packet_in (filter_map (packet_origin a.queues.items) a.blocks.items) queue id) ≡ progress (start_of a) a.audit.items queue id
+  progress-is queue id =
+      ap (λ packets. found_progress queue id (packet_in packets queue id)) packets-are
+      ∙ progress-told queue id Flying a.blocks.items kept.blocks_are
+      ∙ by_flight (list_any (is_packet queue id) Flying) refl
+    where
+      by_flight : (b : Bool) → list_any (is_packet queue id) Flying ≡ b → (if b then progress (start_of a) a.audit.items queue id else LAUNCH_PROGRESS) ≡ progress (start_of a) a.audit.items queue id
+      by_flight true is = refl
+      by_flight false is = sym (launch-absent (start_of a) a.audit.items kept.legal queue id is)
+
+  arguments-are : (queue : QueueId) (id : PacketId) → found_arguments queue id [] (packet_in (filter_map (packet_origin a.queues.items) a.blocks.items) queue id) ≡ arguments (start_of a) a.audit.items queue id
+  arguments-are queue id =
+      ap (λ packets. found_arguments queue id [] (packet_in packets queue id)) packets-are
+      ∙ arguments-told queue id Flying a.blocks.items [] kept.blocks_are apart
+      ∙ kept.arguments queue id
+
+  -- ---- all of it
+
+  pub rotated : are_region_lengths (region_lengths a.policy) ≡ true → begin (map program_of a.kernels.items) (origin_behind a) ≡ state_after (start_of a) a.audit.items
+  rotated fit = λ i. record {
+    policy = a.policy;
+    kernels = map program_of a.kernels.items;
+    in_force = λ client on right. kept.granted client on right i;
+    memory = λ x. memory-is fit x i;
+    signals = kept.values i;
+    openings = (opened a.queues.items ∙ kept.openings) i;
+    next_id = λ queue. next-is queue i;
+    errors = λ queue. errors-are queue i;
+    is_stopped = λ queue. stopped-is queue i;
+    flight = flying-are i;
+    progress = λ queue id. progress-is queue id i;
+    held = λ queue id client on right. kept.held queue id client on right i;
+    arguments = λ queue id. arguments-are queue id i;
+    before = (start_of a).before + length a.audit.items;
+  }

@@ -1,0 +1,43 @@
+-- What the history of a core goes on from behind its audit, as data: what its fields tell.
+use Rattle.std.specs.Prelude.{◌+◌, List, find, length, map, Option, None, Some, option_map}
+use Rattle.std.specs.List.{filter_map}
+use Rattle.aql_packet.specs.declared.ids.PacketId.{PacketId}
+use Rattle.aql_packet.specs.declared.ids.QueueId.{QueueId}
+use Rattle.policy.specs.Policy.{numbered}
+use Rattle.core_model.specs.History.{Origin, PacketOrigin, QueueOrigin}
+use Rattle.packet_processor.specs.Queueing.{is_place_of}
+use Rattle.packet_processor.specs.declared.places.Place.{Place}
+use Rattle.access_core.specs.declared.access.AccessCore.TheInside.{Inside}
+use Rattle.access_core.specs.declared.argument_blocks.ArgumentBlock.{ArgumentBlock}
+use Rattle.access_core.specs.declared.queue.Queue.{Queue}
+use Rattle.access_core.specs.inner.Cached.{origin_of}
+use Rattle.access_core.specs.inner.CachedQueue.{cached_opening}
+
+-- of a queue: its opening, next id and errors, and whether it was stopped
+abbrev pub queue_origin : Queue → QueueOrigin
+queue_origin q = record { opening = cached_opening q; next = q.next; stopped = q.stopped; errors = q.errors.items }
+
+-- the place of the packet with this id, in a queue that is there
+abbrev pub sought_in : Option Queue → PacketId → Option Place
+sought_in None id = None
+sought_in (Some q) id = find (is_place_of id) q.places
+
+-- of a packet in flight: what its argument block has, and its place in its queue
+abbrev pub packet_origin : List Queue → ArgumentBlock → Option PacketOrigin
+packet_origin queues block = option_map (λ place. record {
+  flying = record { queue = block.queue; id = block.packet; packet = place.packet };
+  progress = place.progress;
+  arguments = block.bytes;
+}) (sought_in (numbered queues block.queue.0) block.packet)
+
+-- all of it; argument blocks lie in the order of launches
+abbrev pub origin_behind : Inside → Origin
+origin_behind a = record {
+  policy = a.policy;
+  grants = a.grants;
+  memory = a.memory;
+  signals = a.signals;
+  queues = map queue_origin a.queues.items;
+  packets = filter_map (packet_origin a.queues.items) a.blocks.items;
+  before = (origin_of a).before + length a.audit.items;
+}

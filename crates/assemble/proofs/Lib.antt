@@ -1,0 +1,4 @@
+pub mod Splitting
+pub mod Reading
+pub mod Digits
+pub mod Blocks

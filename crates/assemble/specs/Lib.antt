@@ -1,0 +1,5 @@
+pub mod Words
+pub mod Texts
+pub mod Sizes
+pub mod Blocks
+pub mod Packets

@@ -1,0 +1,23 @@
+-- Bytes and addresses as the lines of scripts have them (own).
+use Rattle.std.specs.Prelude.{ℕ, zero, suc, ◌+◌, ◌/◌, ◌%◌, nat_lt, List, [], ◌∷◌, ◌++◌, flat_map, if◌then◌else◌}
+
+-- a hexadecimal digit, in lower case
+abbrev pub hex_digit : ℕ → ℕ
+hex_digit n = if nat_lt n 10 then 48 + n else 87 + n
+
+-- the last `count` hexadecimal digits of a number
+unfoldable pub hex_digits : ℕ → ℕ → List ℕ
+hex_digits zero n = []
+hex_digits (suc count) n = hex_digits count (n / 16) ++ hex_digit (n % 16) ∷ []
+
+-- an address: 16 hexadecimal digits
+abbrev pub text_of_address : ℕ → List ℕ
+text_of_address address = hex_digits 16 address
+
+-- a byte: two hexadecimal digits
+abbrev pub text_of_byte : ℕ → List ℕ
+text_of_byte byte = hex_digit (byte / 16) ∷ hex_digit (byte % 16) ∷ []
+
+-- bytes in order
+abbrev pub text_of_bytes : List ℕ → List ℕ
+text_of_bytes bytes = flat_map text_of_byte bytes

@@ -1,0 +1,155 @@
+//! Why a line isn't assembled.
+
+ghost use Rattle.std.specs.Prelude.{◌≡◌};
+
+use std::alloc::{AllocError, AllocFailed};
+use std::fmt;
+
+/// What is wanted at a word's place (own).
+#[derive(Clone, Copy, Debug, PartialEq, Eq)]
+pub enum Want {
+    /// A queue's number.
+    Queue,
+    /// A producer's number.
+    Producer,
+    /// A client, who writes the argument block: the line names none.
+    Writer,
+    /// A client of the policy, or the number of a queue.
+    ClientOrQueue,
+    /// A kernel of the policy.
+    Kernel,
+    /// A kernel whose module has one of its entry's name.
+    Entry,
+    /// The word `grid`.
+    Grid,
+    /// The word `group`.
+    Group,
+    /// One to three sizes of the grid.
+    GridSizes,
+    /// As many sizes of a work-group as the grid has.
+    GroupSizes,
+    /// A value of a kernel's argument, of 8, 16, 32 or 64 bits.
+    Value8,
+    Value16,
+    Value32,
+    Value64,
+    /// The option `at`, which says where the argument block lies.
+    At,
+    /// An address.
+    Address,
+    /// A number of 64 bits.
+    Number,
+    /// A number of 32 bits.
+    Size,
+    /// The word `length`.
+    Length,
+    /// The word `with`.
+    With,
+    /// The word `to`.
+    To,
+    /// A signal of the policy.
+    Signal,
+    /// A signal of the policy, no sixth one.
+    FiveSignals,
+    /// An option of a dispatch.
+    DispatchOption,
+    /// An option of an agent's function.
+    AgentOption,
+    /// An option of a barrier packet.
+    BarrierOption,
+    /// A line of at most 16,384 bytes.
+    ShorterLine,
+}
+
+impl Want {
+    // What is wanted, in words.
+    fn text(self) -> &'static str {
+        match self {
+            Want::Queue => "the number of a queue",
+            Want::Producer => "the number of a producer",
+            Want::Writer =>
+                "`dispatch CLIENT QUEUE PRODUCER ..`: a client who writes the arguments",
+            Want::ClientOrQueue => "a client of the policy, or the number of a queue",
+            Want::Kernel => "a kernel of the policy",
+            Want::Entry => "a kernel whose text has one of its entry's name",
+            Want::Grid => "`grid`",
+            Want::Group => "`group`",
+            Want::GridSizes => "one to three sizes, as 4 or 4,2,1",
+            Want::GroupSizes => "as many sizes as the grid has, each below 65536",
+            Want::Value8 => "a value of 8 bits, -128 to 255",
+            Want::Value16 => "a value of 16 bits, -32768 to 65535",
+            Want::Value32 => "a value of 32 bits, -2147483648 to 4294967295",
+            Want::Value64 => "a value of 64 bits, or a region as buf or buf+16",
+            Want::At => "`at` and where the arguments lie, as at args",
+            Want::Address => "an address: a region as buf or buf+16, or a number",
+            Want::Number => "a number of 64 bits, as 7 or 0x5a",
+            Want::Size => "a number of 32 bits, as 64",
+            Want::Length => "`length`",
+            Want::With => "`with`",
+            Want::To => "`to`",
+            Want::Signal => "a signal of the policy",
+            Want::FiveSignals => "no sixth signal",
+            Want::DispatchOption => {
+                "`arguments` right behind the sizes, at, signal, barrier, acquire=, release=, group-bytes or private-bytes"
+            }
+            Want::AgentOption => "return, signal, barrier, acquire= or release=",
+            Want::BarrierOption =>
+                "a signal of the policy, or signal, barrier, acquire= or release=",
+            Want::ShorterLine => "a line of at most 16384 bytes",
+        }
+    }
+}
+
+impl fmt::Display for Want {
+    fn fmt<W: fmt::Write>(&self, f: &mut fmt::Formatter<W>) -> fmt::Result {
+        let text = self.text();
+        write!(f, "{text}")
+    }
+}
+
+/// A word of a line at which the line goes on in no form: how many bytes there are from that word to
+/// the end of the line, 0 at its end, and what is wanted there.
+#[derive(Clone, Copy, Debug, PartialEq, Eq)]
+pub struct Fault {
+    pub left: usize,
+    pub want: Want,
+}
+
+/// Why a line isn't assembled (own).
+#[derive(Clone, Copy, Debug, PartialEq, Eq)]
+pub enum LineError {
+    /// Memory was wanted and not to be had.
+    OutOfMemory,
+    /// The line is of no form.
+    Fault(Fault),
+}
+
+impl From<AllocError> for LineError {
+    ghost use Rattle.assemble.specs.declared.fault.LineError.TheVariants as error;
+
+    ghost from_gives = { λ _ why. why ≡ error.OutOfMemory };
+
+    fn from(_want: AllocError) -> LineError {
+        LineError::OutOfMemory
+    }
+}
+
+impl<T: Drop> From<AllocFailed<T>> for LineError {
+    ghost use Rattle.assemble.specs.declared.fault.LineError.TheVariants as error;
+
+    ghost from_gives = { λ _ why. why ≡ error.OutOfMemory };
+
+    fn from(_want: AllocFailed<T>) -> LineError {
+        LineError::OutOfMemory
+    }
+}
+
+impl From<Fault> for LineError {
+    ghost use Rattle.assemble.specs.declared.fault.LineError.TheVariants as error;
+
+    ghost from_gives = { λ fault why. why ≡ error.Fault fault };
+
+    fn from(fault: Fault) -> LineError {
+        LineError::Fault(fault)
+    }
+}

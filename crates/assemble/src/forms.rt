@@ -1,0 +1,291 @@
+//! The forms of lines: each is read word by word, and comes to the lines of a script.
+
+ghost use Rattle.std.specs.Prelude.{◌≡◌, ◌≤◌, IfOk, IsTrue};
+ghost use Rattle.aql_packet.specs.Layout.{is_well_formed};
+ghost use Rattle.assemble.specs.Sizes.{AreGridSizes, AreGroupSizes};
+
+use crate::block::read_block;
+use crate::book::{Book, Shape};
+use crate::fault::{Fault, LineError, Want};
+use crate::operands::{
+    Read, Sizes, address, fault_at, grid_sizes, group_sizes, kernel, keyword, next, number,
+    numeral, signal,
+};
+use crate::options::{Form, Options, is_option, read_options};
+use crate::packets::{
+    add_packet, all_of_packet, any_of_packet, copy_packet, dispatch_packet, fill_packet, put_packet,
+};
+use crate::texts::{put_address, put_bytes, put_word};
+use crate::words::{is_word, split_word};
+use aql_packet::{Address, KernelObject, Packet, SignalHandle};
+use policy::Policy;
+use std::alloc::{AllocError, Global};
+
+/// The words of a line that name a queue and a producer.
+#[derive(Clone, Copy)]
+struct Seat<'a> {
+    queue: &'a [u8],
+    producer: &'a [u8],
+}
+
+// `Q P`
+fn read_seat(line: &[u8]) -> Read<'_, Seat<'_>> {
+    let (queue, rest) = numeral(line, Want::Queue)?;
+    let (producer, rest) = numeral(rest, Want::Producer)?;
+    Ok((Seat { queue, producer }, rest))
+}
+
+// `fill Q P ADDRESS length N with VALUE`, and options.
+fn fill<'a>(policy: &Policy, line: &'a [u8]) -> Result<(Seat<'a>, Packet), Fault>
+    ensures { IfOk result (λ read. IsTrue (is_well_formed read.1)) }
+{
+    let (seat, rest) = read_seat(line)?;
+    let (start, rest) = address(policy, rest)?;
+    let rest = keyword(rest, "length", Want::Length)?;
+    let (length, rest) = number(rest)?;
+    let rest = keyword(rest, "with", Want::With)?;
+    let (value, rest) = number(rest)?;
+    let said = read_options(policy, Form::Agent, rest)?;
+    Ok((seat, fill_packet(start, length, value, said)))
+}
+
+// `copy Q P ADDRESS to ADDRESS length N`, and options.
+fn copy<'a>(policy: &Policy, line: &'a [u8]) -> Result<(Seat<'a>, Packet), Fault>
+    ensures { IfOk result (λ read. IsTrue (is_well_formed read.1)) }
+{
+    let (seat, rest) = read_seat(line)?;
+    let (from, rest) = address(policy, rest)?;
+    let rest = keyword(rest, "to", Want::To)?;
+    let (to, rest) = address(policy, rest)?;
+    let rest = keyword(rest, "length", Want::Length)?;
+    let (length, rest) = number(rest)?;
+    let said = read_options(policy, Form::Agent, rest)?;
+    Ok((seat, copy_packet(from, to, length, said)))
+}
+
+// `add Q P NUMBER to ADDRESS`, and options.
+fn add<'a>(policy: &Policy, line: &'a [u8]) -> Result<(Seat<'a>, Packet), Fault>
+    ensures { IfOk result (λ read. IsTrue (is_well_formed read.1)) }
+{
+    let (seat, rest) = read_seat(line)?;
+    let (amount, rest) = number(rest)?;
+    let rest = keyword(rest, "to", Want::To)?;
+    let (to, rest) = address(policy, rest)?;
+    let said = read_options(policy, Form::Agent, rest)?;
+    Ok((seat, add_packet(amount, to, said)))
+}
+
+// The next signal that a barrier packet depends on: none where an option comes, or the end.
+fn dependency<'a>(policy: &Policy, line: &'a [u8]) -> Read<'a, Option<SignalHandle>> {
+    match split_word(line) {
+        Some((word, _)) if !is_option(word) => {
+            let (signal, rest) = signal(policy, line, Want::BarrierOption)?;
+            Ok((Some(signal), rest))
+        }
+        _ => Ok((None, line)),
+    }
+}
+
+// Up to five signals that a barrier packet depends on; what isn't named is the null signal.
+fn dependencies<'a>(policy: &Policy, line: &'a [u8]) -> Read<'a, [SignalHandle; 5]> {
+    let mut found = [SignalHandle(0); 5];
+    let mut rest = line;
+    for place in 0..5 {
+        let (named, behind) = dependency(policy, rest)?;
+        match named {
+            Some(signal) => found[place] = signal,
+            None => return Ok((found, behind)),
+        }
+        rest = behind;
+    }
+    match split_word(rest) {
+        Some((word, _)) if !is_option(word) => Err(fault_at(rest, Want::FiveSignals)),
+        _ => Ok((found, rest)),
+    }
+}
+
+// `all-of Q P SIGNAL..`, and options.
+fn all_of<'a>(policy: &Policy, line: &'a [u8]) -> Result<(Seat<'a>, Packet), Fault>
+    ensures { IfOk result (λ read. IsTrue (is_well_formed read.1)) }
+{
+    let (seat, rest) = read_seat(line)?;
+    let (dependencies, rest) = dependencies(policy, rest)?;
+    let said = read_options(policy, Form::Barrier, rest)?;
+    Ok((seat, all_of_packet(dependencies, said)))
+}
+
+// `any-of Q P SIGNAL..`, and options.
+fn any_of<'a>(policy: &Policy, line: &'a [u8]) -> Result<(Seat<'a>, Packet), Fault>
+    ensures { IfOk result (λ read. IsTrue (is_well_formed read.1)) }
+{
+    let (seat, rest) = read_seat(line)?;
+    let (dependencies, rest) = dependencies(policy, rest)?;
+    let said = read_options(policy, Form::Barrier, rest)?;
+    Ok((seat, any_of_packet(dependencies, said)))
+}
+
+// Puts what a packet's line comes to behind a text.
+fn put_form(out: &mut Vec<u8>, read: Result<(Seat<'_>, Packet), Fault>) -> Result<(), LineError>
+    requires { IfOk read (λ found. IsTrue (is_well_formed found.1)) }
+{
+    let (seat, packet) = read?;
+    Ok(put_packet(out, seat.queue, seat.producer, &packet)?)
+}
+
+// The client whom a dispatch names in front of its queue: none where the queue's number comes first.
+fn writer<'a>(policy: &Policy, line: &'a [u8]) -> Read<'a, Option<&'a [u8]>> {
+    let (word, rest) = next(line, Want::ClientOrQueue)?;
+    if numeral(line, Want::ClientOrQueue).is_ok() {
+        return Ok((None, line));
+    }
+    if policy.client_named(word).0 == 0 {
+        return Err(fault_at(line, Want::ClientOrQueue));
+    }
+    Ok((Some(word), rest))
+}
+
+/// What a dispatch says before its arguments.
+#[derive(Clone, Copy)]
+struct Front<'a> {
+    writer: Option<&'a [u8]>,
+    seat: Seat<'a>,
+    kernel: KernelObject,
+    // The line from the kernel's name on.
+    named: &'a [u8],
+    grid: Sizes,
+    group: Sizes,
+}
+
+// `CLIENT? Q P KERNEL grid SIZES group SIZES`
+fn read_front<'a>(policy: &Policy, line: &'a [u8]) -> Read<'a, Front<'a>>
+    ensures grid { IfOk result (λ read. AreGridSizes read.0.grid) }
+    ensures group { IfOk result (λ read. AreGroupSizes read.0.group) }
+{
+    let (writer, rest) = writer(policy, line)?;
+    let (seat, named) = read_seat(rest)?;
+    let (kernel, rest) = kernel(policy, named)?;
+    let rest = keyword(rest, "grid", Want::Grid)?;
+    let (grid, rest) = grid_sizes(rest)?;
+    let rest = keyword(rest, "group", Want::Group)?;
+    let (group, rest) = group_sizes(rest, grid.count)?;
+    Ok((
+        Front {
+            writer,
+            seat,
+            kernel,
+            named,
+            grid,
+            group,
+        },
+        rest,
+    ))
+}
+
+// Puts the line by which a client writes an argument block behind a text; there is none for an empty block.
+fn put_block(
+    out: &mut Vec<u8>,
+    writer: &[u8],
+    place: Address,
+    block: &[u8],
+) -> Result<(), AllocError> {
+    if block.is_empty() {
+        return Ok(());
+    }
+    put_word(out, b"write")?;
+    put_word(out, writer)?;
+    put_address(out, place)?;
+    out.push(b' ')?;
+    put_bytes(out, block)?;
+    Ok(out.push(b'\n')?)
+}
+
+// Puts the line that submits a dispatch behind a text.
+fn put_dispatch(
+    out: &mut Vec<u8>,
+    front: Front<'_>,
+    shape: &Shape,
+    said: Options,
+) -> Result<(), AllocError>
+    requires grid { AreGridSizes front.grid }
+    requires group { AreGroupSizes front.group }
+{
+    let bytes = said.group_bytes.unwrap_or(shape.group_bytes);
+    let packet = dispatch_packet(front.kernel, front.grid, front.group, bytes, said);
+    put_packet(out, front.seat.queue, front.seat.producer, &packet)
+}
+
+// The rest of a dispatch with `arguments`; `line` begins with that word.
+fn with_arguments(
+    alloc: Global,
+    book: &Book,
+    front: Front<'_>,
+    shape: &Shape,
+    line: &[u8],
+    out: &mut Vec<u8>,
+) -> Result<(), LineError>
+    requires grid { AreGridSizes front.grid }
+    requires group { AreGroupSizes front.group }
+{
+    let (_, values) = next(line, Want::DispatchOption)?;
+    let Some(writer) = front.writer else {
+        return Err(LineError::Fault(fault_at(line, Want::Writer)));
+    };
+    let (bytes, rest) = read_block(alloc, &book.policy, shape.arguments.as_slice(), values)?;
+    let said = read_options(&book.policy, Form::Dispatch, rest)?;
+    match said.block {
+        Some(place) => put_block(out, writer, place, bytes.as_slice())?,
+        None if bytes.is_empty() => {}
+        None => return Err(LineError::Fault(fault_at(&[], Want::At))),
+    }
+    Ok(put_dispatch(out, front, shape, said)?)
+}
+
+// Whether a line goes on with a word.
+fn goes_on_with(line: &[u8], spelled: &str) -> bool {
+    match split_word(line) {
+        Some((word, _)) => is_word(word, spelled),
+        None => false,
+    }
+}
+
+// `dispatch CLIENT? Q P KERNEL grid SIZES group SIZES`, perhaps `arguments VALUE..`, and options.
+fn dispatch(alloc: Global, book: &Book, line: &[u8], out: &mut Vec<u8>) -> Result<(), LineError> {
+    let (front, rest) = read_front(&book.policy, line)?;
+    let Some(shape) = book.shape(front.kernel) else {
+        return Err(LineError::Fault(fault_at(front.named, Want::Entry)));
+    };
+    if goes_on_with(rest, "arguments") {
+        return with_arguments(alloc, book, front, shape, rest, out);
+    }
+    let said = read_options(&book.policy, Form::Dispatch, rest)?;
+    Ok(put_dispatch(out, front, shape, said)?)
+}
+
+/// Puts the lines that a line comes to behind a text, and tells whether it is one of the forms; any other
+/// line comes to nothing.
+pub fn put_lines(
+    alloc: Global,
+    book: &Book,
+    line: &[u8],
+    out: &mut Vec<u8>,
+) -> Result<bool, LineError> {
+    let Some((verb, rest)) = split_word(line) else {
+        return Ok(false);
+    };
+    if is_word(verb, "dispatch") {
+        dispatch(alloc, book, rest, out)?;
+    } else if is_word(verb, "fill") {
+        put_form(out, fill(&book.policy, rest))?;
+    } else if is_word(verb, "copy") {
+        put_form(out, copy(&book.policy, rest))?;
+    } else if is_word(verb, "add") {
+        put_form(out, add(&book.policy, rest))?;
+    } else if is_word(verb, "all-of") {
+        put_form(out, all_of(&book.policy, rest))?;
+    } else if is_word(verb, "any-of") {
+        put_form(out, any_of(&book.policy, rest))?;
+    } else {
+        return Ok(false);
+    }
+    Ok(true)
+}

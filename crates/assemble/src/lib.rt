@@ -1,0 +1,23 @@
+//! Readable lines to those of scripts: packets by the names of a policy, argument blocks by the layout of their kernel.
+
+// The check tries its tactics on what is left of each proof.
+#![tactic(auto)]
+
+mod block;
+mod book;
+mod fault;
+mod forms;
+mod layout;
+mod numbers;
+mod operands;
+mod options;
+mod packets;
+mod run;
+mod texts;
+mod words;
+
+pub use book::{Book, BookError, Shape};
+pub use fault::{Fault, LineError, Want};
+pub use forms::put_lines;
+pub use layout::Place;
+pub use run::{AssembleError, assemble_script};

@@ -1,0 +1,238 @@
+//! A script of readable lines is assembled as it comes.
+
+use crate::book::Book;
+use crate::fault::{Fault, LineError, Want};
+use crate::forms::put_lines;
+use crate::words::split_word;
+use std::alloc::{AllocError, AllocFailed, Global};
+use std::io;
+
+// The most bytes that a line has.
+const LONGEST_LINE: usize = 16_384;
+
+// The most reads, and the most writes for what one of them gave (own).
+const MOST_CALLS: u64 = 1 << 40;
+
+// The most bytes of a read (own).
+const BLOCK: usize = 4096;
+
+/// Why a script isn't assembled to its end (own).
+#[derive(Debug, Drop)]
+pub enum AssembleError {
+    /// Memory was wanted and not to be had.
+    OutOfMemory,
+    /// A line is of no form: this text says which, and the word at which it isn't.
+    Refused(String),
+    /// The script can't be read.
+    Read,
+    /// What was assembled can't be written.
+    Write,
+}
+
+impl From<AllocError> for AssembleError {
+    ghost use Rattle.std.specs.Prelude.{◌≡◌};
+    ghost use Rattle.assemble.specs.declared.run.AssembleError.TheVariants as error;
+
+    ghost from_gives = { λ _ why. why ≡ error.OutOfMemory };
+
+    fn from(_want: AllocError) -> AssembleError {
+        AssembleError::OutOfMemory
+    }
+}
+
+impl<T: Drop> From<AllocFailed<T>> for AssembleError {
+    ghost use Rattle.std.specs.Prelude.{◌≡◌};
+    ghost use Rattle.assemble.specs.declared.run.AssembleError.TheVariants as error;
+
+    ghost from_gives = { λ _ why. why ≡ error.OutOfMemory };
+
+    fn from(_want: AllocFailed<T>) -> AssembleError {
+        AssembleError::OutOfMemory
+    }
+}
+
+/// What is kept between bytes: the line that is begun and its number from 1, and what was assembled and not
+/// written yet.
+#[derive(Drop)]
+struct Session {
+    line: Vec<u8>,
+    number: u64,
+    out: Vec<u8>,
+}
+
+// Adds a word as it is shown: what isn't a printing letter of ASCII is `?`.
+fn show_word(text: &mut String, word: &[u8]) -> Result<(), AllocError> {
+    for byte in word {
+        text.push(match byte {
+            b'!'..=b'~' => char::from(*byte),
+            _ => '?',
+        })?;
+    }
+    Ok(())
+}
+
+// What is said of a line's fault, as `line 3: buff: wanted is a region`.
+fn fault_text(alloc: Global, number: u64, line: &[u8], fault: Fault) -> Result<String, AllocError> {
+    let before = line.len().saturating_sub(fault.left);
+    let mut text = format!(in alloc; "line {number}: ")?;
+    match split_word(line.split_at(before).1) {
+        Some((word, _)) => show_word(&mut text, word)?,
+        None => text.push_str("end of line")?,
+    }
+    let want = fault.want;
+    write!(text, ": wanted is {want}")?;
+    Ok(text)
+}
+
+// The error of a line of a number.
+fn refused(alloc: Global, number: u64, line: &[u8], fault: Fault) -> AssembleError {
+    match fault_text(alloc, number, line, fault) {
+        Ok(text) => AssembleError::Refused(text),
+        Err(_) => AssembleError::OutOfMemory,
+    }
+}
+
+// Assembles the line that ends here, or passes it on as it is.
+fn end_line(alloc: Global, book: &Book, session: &mut Session) -> Result<bool, AssembleError> {
+    let line = session.line.as_slice();
+    match put_lines(alloc, book, line, &mut session.out) {
+        Ok(assembled) => Ok(assembled),
+        Err(LineError::OutOfMemory) => Err(AssembleError::OutOfMemory),
+        Err(LineError::Fault(fault)) => Err(refused(alloc, session.number, line, fault)),
+    }
+}
+
+// Keeps the line that ends here as it is.
+fn keep_line(session: &mut Session) -> Result<(), AllocError> {
+    session.out.extend_from_slice(session.line.as_slice())
+}
+
+// Takes a byte of the script.
+fn take_byte(
+    alloc: Global,
+    book: &Book,
+    session: &mut Session,
+    byte: u8,
+) -> Result<(), AssembleError> {
+    if byte != b'\n' {
+        if session.line.len() >= LONGEST_LINE {
+            let fault = Fault {
+                left: session.line.len(),
+                want: Want::ShorterLine,
+            };
+            return Err(refused(alloc, session.number, session.line.as_slice(), fault));
+        }
+        return Ok(session.line.push(byte)?);
+    }
+    if !end_line(alloc, book, session)? {
+        keep_line(session)?;
+        session.out.push(b'\n')?;
+    }
+    session.line.clear();
+    session.number = session.number.saturating_add(1);
+    Ok(())
+}
+
+// Takes further bytes of the script.
+fn take_bytes(
+    alloc: Global,
+    book: &Book,
+    session: &mut Session,
+    bytes: &[u8],
+) -> Result<(), AssembleError> {
+    for byte in bytes {
+        take_byte(alloc, book, session, *byte)?;
+    }
+    Ok(())
+}
+
+// Takes the end of the script: a line that is begun ends there.
+fn take_end(alloc: Global, book: &Book, session: &mut Session) -> Result<(), AssembleError> {
+    if !end_line(alloc, book, session)? {
+        keep_line(session)?;
+    }
+    Ok(())
+}
+
+// Reads once: how many bytes, or none where the read was interrupted.
+fn read_once<R: io::Read>(
+    reader: &mut R,
+    block: &mut [u8],
+) -> Result<Option<usize>, AssembleError> {
+    match reader.read(block) {
+        Ok(count) => Ok(Some(count)),
+        Err(error) if error.kind() == io::ErrorKind::Interrupted => Ok(None),
+        Err(_) => Err(AssembleError::Read),
+    }
+}
+
+// Writes once: how many bytes the writer took, 0 where the write was interrupted, and none where it failed.
+fn write_once<W: io::Write>(writer: &mut W, bytes: &[u8]) -> Option<usize> {
+    match writer.write(bytes) {
+        Ok(0) => None,
+        Ok(count) => Some(count),
+        Err(error) if error.kind() == io::ErrorKind::Interrupted => Some(0),
+        Err(_) => None,
+    }
+}
+
+// Has the writer pass on what it holds.
+fn pass_on<W: io::Write>(writer: &mut W) -> Result<(), AssembleError> {
+    match writer.flush() {
+        Ok(()) => Ok(()),
+        Err(_) => Err(AssembleError::Write),
+    }
+}
+
+// Writes bytes, in as many writes as the writer takes for them, and has it pass them on.
+fn write_all<W: io::Write>(writer: &mut W, bytes: &[u8]) -> Result<(), AssembleError> {
+    let mut taken = 0;
+    for _ in 0..MOST_CALLS {
+        if taken >= bytes.len() {
+            return pass_on(writer);
+        }
+        match write_once(writer, bytes.split_at(taken).1) {
+            Some(count) => taken = taken.saturating_add(count),
+            None => return Err(AssembleError::Write),
+        }
+    }
+    Err(AssembleError::Write)
+}
+
+// Hands over what was assembled.
+fn hand_over<W: io::Write>(session: &mut Session, writer: &mut W) -> Result<(), AssembleError> {
+    let written = write_all(writer, session.out.as_slice());
+    session.out.clear();
+    written
+}
+
+/// Reads a script and writes it with each line that is a form of this crate replaced by the lines that it comes to;
+/// every other line is written as it is, byte for byte. What the lines before a fault come to is written.
+pub fn assemble_script<R: io::Read, W: io::Write>(
+    alloc: Global,
+    book: &Book,
+    reader: &mut R,
+    writer: &mut W,
+) -> Result<(), AssembleError> {
+    let mut session = Session {
+        line: Vec::new(alloc),
+        number: 1,
+        out: Vec::new(alloc),
+    };
+    let mut block = [0; BLOCK];
+    for _ in 0..MOST_CALLS {
+        let Some(count) = read_once(reader, &mut block)? else {
+            continue;
+        };
+        let taken = match count {
+            0 => take_end(alloc, book, &mut session),
+            _ => take_bytes(alloc, book, &mut session, &block[..count.min(BLOCK)]),
+        };
+        hand_over(&mut session, writer)?;
+        taken?;
+        if count == 0 {
+            return Ok(());
+        }
+    }
+    Err(AssembleError::Read)
+}

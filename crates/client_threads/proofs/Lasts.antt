@@ -1,0 +1,26 @@
+-- Queues behind the last.
+use Rattle.std.proofs.Common.{◌≡◌, ℕ, suc, zero, ◌+◌, ◌<◌, true, false, List, [], ◌∷◌, length, get_or, refl, ap, sym, ◌∙◌, arith}
+use Rattle.std.proofs.lemmas.Bool.Decides.{nat_tests}
+use Rattle.std.specs.Prelude.{Option, Some, None, cond, ◌==◌, Bool}
+use Rattle.std.specs.List.{AllWithin, cons_option, find}
+use Rattle.core_model.specs.declared.entry.Entry.{Entry}
+use Rattle.client_threads.specs.declared.served.Served.{Served}
+use Rattle.client_threads.specs.Lanes.{LaneSeen}
+use Rattle.client_threads.specs.Takes.{taken_by, takes, served_by, served_in}
+
+pub none_taken : (entries : List Entry) (queue : ℕ) → AllWithin (λ e. taken_by queue e.event ≡ None) entries 0 (length entries) → takes entries queue ≡ []
+none_taken [] queue h = refl
+none_taken (e ∷ es) queue h =
+    ap (λ o. cons_option o (takes es queue)) (h zero e (omega arith) (omega arith))
+    ∙ none_taken es queue (λ k d low lt. h (suc k) d (omega arith) (omega (arith, lt)))
+
+differs : (a b : ℕ) → a < b → (a == b) ≡ false
+differs a b lt = grind (arith, nat_tests)
+
+pub none_served : (rows : List LaneSeen) (last queue : ℕ) → last < queue → AllWithin (λ l. l.queue.0 < suc last) rows 0 (length rows) → served_by rows queue ≡ []
+none_served [] last queue lt h = refl
+none_served (r ∷ rs) last queue lt h =
+    let here : r.queue.0 < suc last = h zero r (omega arith) (omega arith) in
+    let no : (r.queue.0 == queue) ≡ false = differs r.queue.0 queue (omega (arith, here, lt)) in
+    ap (λ (b : Bool). served_in (cond b (Some r) (find (λ lane. lane.queue.0 == queue) rs))) no
+    ∙ none_served rs last queue lt (λ k d low l. h (suc k) d (omega arith) (omega (arith, l)))

@@ -1,0 +1,14 @@
+pub mod Apart
+pub mod RingOfDesks
+pub mod KeptLanes
+pub mod Calls
+pub mod GoingOn
+pub mod Settled
+pub mod Belonging
+pub mod Differences
+pub mod Lasts
+pub mod Opened
+pub mod Ends
+pub mod Readiness
+pub mod EndsOf
+pub mod Looking

@@ -1,0 +1,8 @@
+use Rattle.std.proofs.Common.{rules}
+use Rattle.client_threads.specs.Running.{IsLaneOf}
+use Rattle.client_threads.proofs.GoingOn.{at_place}
+use Rattle.client_threads.proofs.lanes.run_each.Goals as goal
+
+pub for_each_mut-requires-clause-accepts : goal.for_each_mut-requires-clause-accepts
+for_each_mut-requires-clause-accepts g c κs within =
+    λ i p lt is. let h : IsLaneOf c.args.broker.now p.now = at_place c.args.broker.now c.args.lanes.now i p.now c.requires.lanes lt is in search rules

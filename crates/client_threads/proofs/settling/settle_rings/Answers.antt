@@ -1,0 +1,17 @@
+use Rattle.std.proofs.Common.{◌≡◌, ◌<◌, rules, length, map}
+use Rattle.client_threads.specs.Desks.{seen}
+use Rattle.client_threads.proofs.Readiness.{going_over, settled_next}
+use Rattle.client_threads.proofs.settling.settle_rings.Goals as goal
+
+pub loop-desks-preserved : goal.loop-desks-preserved
+loop-desks-preserved c =
+    let some : 0 < length c.loop-desks.desks.items = search rules in (
+      rw (c.remove-desk.ensures.items, c.remove-room.ensures.items, c.push_reserved.ensures.items)
+          (settled_next (map seen c.args.desks.items) c.args.ends.items c.args.lanes.items c.loop-desks.desks.items c.loop-desks.rooms.items c.loop-desks.ends.items c.settle_queue.new.ends.items c.loop-desks.lanes.items c.settle_queue.new.lanes.items c.loop-desks.settled.items c.remove-desk.result c.settle_queue.result some c.remove-desk.ensures.value c.loop-desks.invariant.0 c.settle_queue.ensures.settled c.settle_queue.ensures.ends c.settle_queue.ensures.lanes),
+      search rules,
+    )
+
+pub returns : goal.returns
+returns c =
+    let none : length c.loop-desks.desks.items ≡ 0 = search rules in
+    going_over (map seen c.args.desks.items) c.args.ends.items c.args.lanes.items c.loop-desks.desks.items c.loop-desks.rooms.items c.loop-desks.ends.items c.loop-desks.lanes.items c.loop-desks.settled.items none c.loop-desks.invariant.0

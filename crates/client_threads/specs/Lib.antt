@@ -1,0 +1,10 @@
+pub mod Rings
+pub mod Desks
+pub mod Lanes
+pub mod Opening
+pub mod Serving
+pub mod Advancing
+pub mod Running
+pub mod Takes
+pub mod Settling
+pub mod inner

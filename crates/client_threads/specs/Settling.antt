@@ -1,0 +1,70 @@
+-- What a broker comes to once all its ends and lanes have come back (own).
+use Rattle.std.specs.Prelude.{◌≡◌, ℕ, ◌==◌, ◌<◌, ◌≤◌, ◌&&◌, Bool, List, [], ◌∷◌, length, slice_index, slice_index_or, Option, Some, None, is_some, if◌then◌else◌, ⊤}
+use Rattle.std.specs.List.{filter_map, list_all}
+use Rattle.core_model.specs.History.{beginning}
+use Rattle.core_model.specs.Legal.{IsLegal}
+use Rattle.ring_core.specs.Machine.{Machine, machine_of, slot_word}
+use Rattle.ring_core.specs.Rule.{ticket_of}
+use Rattle.ring_core.specs.Words.{word}
+use Rattle.ring.specs.Bytes.{words_of}
+use Rattle.ring.specs.Passes.{RingSeen, ProducerSeen}
+use Rattle.ring.specs.declared.closing.Settled.{Settled}
+use Rattle.ring.specs.Settling.{IsSettled, has_passes}
+use Rattle.client_threads.specs.declared.served.Served.{Served}
+use Rattle.client_threads.specs.declared.client_end.ClientEnd.{ClientEnd}
+use Rattle.client_threads.specs.declared.settling.SettledQueue.{SettledQueue}
+use Rattle.client_threads.specs.declared.settling.Settlement.{Settlement}
+use Rattle.client_threads.specs.declared.settling.Settlement.TheVariants as settlement
+use Rattle.client_threads.specs.Lanes.{LaneSeen}
+use Rattle.client_threads.specs.Rings.{QueueRing}
+use Rattle.client_threads.specs.Takes.{AllAgree, IsLeastMismatch, lane_at}
+
+-- the pass of an end of a queue
+abbrev pub pass_of : ℕ → ClientEnd → Option ProducerSeen
+pass_of queue end = if end.queue.0 == queue then Some end.pass else None
+
+-- the producers' passes to a queue's ring, in order
+abbrev pub passes_of : ℕ → List ClientEnd → List ProducerSeen
+passes_of queue ends = filter_map (pass_of queue) ends
+
+-- whether all passes of a ring are among these: those of its producers, and with its queue's lane the processor's
+abbrev pub has_its_passes : List ClientEnd → List LaneSeen → QueueRing → Bool
+has_its_passes ends lanes r = has_passes r.ring.producers (passes_of r.queue ends) && is_some (lane_at r.queue lanes)
+
+-- whether all passes of all rings are
+abbrev pub has_all_passes : List QueueRing → List ClientEnd → List LaneSeen → Bool
+has_all_passes rings ends lanes = list_all (has_its_passes ends lanes) rings
+
+-- what a lane served are the packets that were published under the ids below the read index, whole, each once; and each
+-- packet that was published under another id stands whole in its slot
+pub record AreServed (machine : Machine) (read_index : ℕ) (served : List Served) : Type 0 where
+  pub count : length served ≡ read_index
+  pub each : (id k : ℕ) (d : Served) → id < read_index → k < 8 → word (ticket_of machine.parts id).words k ≡ Some (slice_index (words_of (slice_index_or served id d).bytes) k)
+  pub stands : (id k w : ℕ) → read_index ≤ id → word (ticket_of machine.parts id).words k ≡ Some w → slot_word machine id k ≡ w
+
+-- a ring is settled with these passes and the one of a lane, and what that lane served is what was published there
+pub record IsRingSettled (ring : RingSeen) (passes : List ProducerSeen) (lane : LaneSeen) (one : Settled) : Type 0 where
+  pub settled : IsSettled ring passes lane.pass one.write_index one.read_index one.slots
+  pub served : AreServed (machine_of ring.size (one.write_index ∷ one.read_index ∷ one.slots) settled.parts) one.read_index lane.served
+
+-- a queue's ring is, with the passes of its ends and its lane
+pub record IsQueueSettled (r : QueueRing) (ends : List ClientEnd) (lanes : List LaneSeen) (one : SettledQueue) : Type 0 where
+  pub queue_is : one.queue.0 ≡ r.queue
+  pub lane : LaneSeen
+  pub lane_is : lane_at r.queue lanes ≡ Some lane
+  pub ring_is : IsRingSettled r.ring (passes_of r.queue ends) lane one.ring
+
+-- all rings are settled, in order
+abbrev pub AreSettled : List QueueRing → List ClientEnd → List LaneSeen → List SettledQueue → Type 0
+AreSettled [] ends lanes [] = ⊤
+AreSettled (r ∷ rs) ends lanes (one ∷ more) = IsQueueSettled r ends lanes one × AreSettled rs ends lanes more
+AreSettled [] ends lanes (one ∷ more) = ⊥
+AreSettled (r ∷ rs) ends lanes [] = ⊥
+
+-- what a broker came to: its core has a legal audit; and either of each queue was taken what its lane served, and all rings
+-- are settled; or this is the least place where these differ
+abbrev pub IsSettlement : List QueueRing → List ClientEnd → List LaneSeen → Settlement → Type 0
+IsSettlement rings ends lanes (settlement.Settled core settled) =
+    IsLegal (beginning core.history) core.history.entries × AllAgree core.history.entries lanes × AreSettled rings ends lanes settled.items
+IsSettlement rings ends lanes (settlement.Mismatch core queue id) =
+    IsLegal (beginning core.history) core.history.entries × IsLeastMismatch core.history.entries lanes queue.0 id.0

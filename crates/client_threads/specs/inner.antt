@@ -1,0 +1,3 @@
+pub mod Kept
+pub mod Openings
+pub mod Rooms

@@ -1,0 +1,140 @@
+//! A lane advances its pending packets.
+
+ghost use Rattle.std.specs.Prelude.{◌≡◌, ◌<◌, ◌++◌, ◌∷◌, [], length, if◌then◌else◌};
+ghost use Rattle.aql_packet.specs.Reading.{decoded};
+ghost use Rattle.core_model.specs.Legal.{MeetsOrLacks};
+ghost use Rattle.core_model.specs.declared.event.Event.{Event};
+ghost use Rattle.client_threads.specs.Advancing.{AdvancesTo, IsLastCall, is_some_barrier, leaves, next_call, served_barrier, told};
+
+use crate::lane::Lane;
+use crate::served::Served;
+use access_core::AccessCore;
+use aql_packet::{Packet, PacketId, QueueId, decode};
+use core_model::{Outcome, Polled, Refusal, Worked};
+use queue_error::QueueError;
+use std::alloc::Global;
+
+/// What became of a lane's first pending packet.
+#[derive(Clone, Copy, Debug, PartialEq, Eq)]
+pub enum Advanced {
+    /// None is pending.
+    Idle,
+    /// A group of it ran.
+    Ran(PacketId),
+    /// It was polled.
+    Polled(PacketId, Polled),
+    /// It is finished.
+    Finished(PacketId),
+    /// A group of it faulted.
+    Faulted(QueueError),
+    /// The call was refused.
+    Refused(PacketId, Refusal),
+}
+
+/// Advances the first pending packet of a lane: it is finished, and only where its work isn't done, a barrier packet is
+/// polled and another's next group is run. A packet that stays pending then goes last.
+pub fn advance_one(alloc: Global, lane: &mut Lane, core: &mut AccessCore) -> Advanced
+    ensures { AdvancesTo lane.old core.old.history result lane.new core.new.history }
+{
+    if lane.pending.is_empty() {
+        return Advanced::Idle;
+    }
+    let id = lane.pending.remove(0);
+    let barrier = is_barrier(lane.served.as_slice(), id);
+    let reply = call(alloc, core, lane.queue, id, barrier);
+    if !leaves(&reply) {
+        lane.pending.push_reserved(id);
+    }
+    told(id, reply)
+}
+
+// Whether a barrier packet was served under an id.
+fn is_barrier(served: &[Served], id: PacketId) -> bool
+    ensures { result ≡ served_barrier served.now id }
+{
+    match served.get(id.0 as usize) {
+        None => false,
+        Some(one) => lays_out_barrier(&one.bytes),
+    }
+}
+
+// Whether bytes are a barrier packet's.
+fn lays_out_barrier(bytes: &[u8; 64]) -> bool
+    ensures { result ≡ is_some_barrier (decoded bytes.now) }
+{
+    match decode(bytes) {
+        Err(_) => false,
+        Ok(Packet::BarrierAnd(_)) => true,
+        Ok(Packet::BarrierOr(_)) => true,
+        Ok(Packet::Kernel(_)) => false,
+        Ok(Packet::Agent(_)) => false,
+    }
+}
+
+// Finishes a packet or, where its work isn't done, polls it or runs its next group.
+fn call(
+    alloc: Global,
+    core: &mut AccessCore,
+    queue: QueueId,
+    id: PacketId,
+    barrier: bool,
+) -> Result<Outcome, Refusal>
+    ensures { (event : Event) × IsLastCall core.old.history queue id barrier event result × MeetsOrLacks event core.old.history core.new.history result }
+{
+    match core.finish(queue, id) {
+        Ok(()) => Ok(Outcome::Accepted),
+        Err(Refusal::NotFinished) => { call_next(alloc, core, queue, id, barrier) }
+        Err(why) => Err(why),
+    }
+}
+
+// Polls a barrier packet, or runs the next group of another.
+fn call_next(
+    alloc: Global,
+    core: &mut AccessCore,
+    queue: QueueId,
+    id: PacketId,
+    barrier: bool,
+) -> Result<Outcome, Refusal>
+    ensures { MeetsOrLacks (next_call queue id barrier) core.old.history core.new.history result }
+{
+    if barrier {
+        match core.poll(queue, id) {
+            Ok(found) => Ok(Outcome::Polled(found)),
+            Err(why) => Err(why),
+        }
+    } else {
+        match core.run_next(alloc, queue, id) {
+            Ok(worked) => Ok(Outcome::Worked(worked)),
+            Err(why) => Err(why),
+        }
+    }
+}
+
+// Whether a packet is pending no more.
+fn leaves(reply: &Result<Outcome, Refusal>) -> bool
+    ensures { result ≡ leaves reply.now }
+{
+    match reply {
+        Ok(Outcome::Worked(Worked::Faulted(_))) => true,
+        Ok(Outcome::Worked(_)) => false,
+        Ok(Outcome::Polled(Polled::Failed(_))) => true,
+        Ok(Outcome::Polled(_)) => false,
+        Ok(_) => true,
+        Err(Refusal::NotInFlight) => true,
+        Err(_) => false,
+    }
+}
+
+// What is told of the reply.
+fn told(id: PacketId, reply: Result<Outcome, Refusal>) -> Advanced
+    ensures { result ≡ told id reply }
+{
+    match reply {
+        Ok(Outcome::Worked(Worked::Faulted(error))) => Advanced::Faulted(error),
+        Ok(Outcome::Worked(_)) => Advanced::Ran(id),
+        Ok(Outcome::Polled(found)) => Advanced::Polled(id, found),
+        Ok(_) => Advanced::Finished(id),
+        Err(why) => Advanced::Refused(id, why),
+    }
+}

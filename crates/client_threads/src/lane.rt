@@ -1,0 +1,62 @@
+//! A lane: what serves a queue.
+
+ghost use Rattle.std.specs.Prelude.{◌≡◌};
+ghost use Rattle.client_threads.specs.Lanes.{IsLane};
+
+use crate::served::Served;
+use aql_packet::{PacketId, QueueId};
+use ring::ProcessorPass;
+use std::marker::Model;
+
+/// What serves a queue: its processor's pass, the packets that it served, and which of them are launched
+/// and not done. A contract sees all four, and that what the lane served is what its pass retired.
+#[derive(Drop)]
+pub struct Lane {
+    pub(crate) queue: QueueId,
+    pub(crate) pass: ProcessorPass,
+    pub(crate) served: Vec<Served>,
+    pub(crate) pending: Vec<PacketId>,
+}
+
+impl Model for Lane {
+    ghost use Rattle.client_threads.specs.Lanes.{LaneSeen};
+
+    ghost Value = { LaneSeen };
+
+    ghost use Rattle.client_threads.specs.inner.Kept.{lane_of, IsKept};
+
+    ghost view = { lane_of };
+
+    ghost invariant = { IsKept };
+}
+
+impl Lane {
+    /// Its queue.
+    pub fn queue(&self) -> QueueId
+        ensures { result ≡ self.now.queue }
+    {
+        self.queue
+    }
+
+    /// The packets that were launched or denied, in order: those that its pass retired.
+    pub fn served(&self) -> &[Served]
+        ensures served { result.now ≡ self.now.served }
+        ensures kept { IsLane self.now }
+    {
+        self.served.as_slice()
+    }
+
+    /// The launched packets that are not done, in the order in which they are advanced.
+    pub fn pending(&self) -> &[PacketId]
+        ensures { result.now ≡ self.now.pending }
+    {
+        self.pending.as_slice()
+    }
+
+    // The number by which a gate knows it: its queue's.
+    pub(crate) fn number(&self) -> u32
+        ensures { result ≡ self.now.queue.0 }
+    {
+        self.queue.0 as u32
+    }
+}

@@ -1,0 +1,146 @@
+//! Lanes run, each on a thread of its own.
+
+ghost use Rattle.std.specs.Prelude.{◌≡◌, ◌<◌, length, All};
+ghost use Rattle.client_threads.specs.Running.{EachGoesOn, GoesOn, IsLaneOf};
+
+use crate::advancing::{Advanced, advance_one};
+use crate::broker::Broker;
+use crate::lane::Lane;
+use crate::serving::{ServeAnswer, serve_one};
+use std::alloc::Global;
+use std::sync::Wait;
+use std::thread;
+use std::thread::Threads;
+
+/// What a lane did in one turn.
+#[derive(Clone, Copy, Debug, PartialEq, Eq)]
+pub struct LaneAnswer {
+    /// What became of the next packet of its queue.
+    pub served: ServeAnswer,
+    /// What became of the first of its pending packets.
+    pub advanced: Advanced,
+}
+
+/// What lets lanes make their turns, and is told what they did. Lanes call it from threads of their own.
+pub trait Gate {
+    /// Whether a lane makes this turn, or ends. The lane's number is its queue's; turns count from 1. It may
+    /// wait, at a doorbell for one.
+    fn enter(&self, lane: u32, turn: u64) -> bool;
+
+    /// A lane made this turn.
+    fn leave(&self, lane: u32, turn: u64, done: LaneAnswer);
+}
+
+impl Broker {
+    // A lane hands the next packet of its queue to the core, in one section under the lock.
+    #[tactic(auto, using(crate::proofs::GoingOn::serves_goes_on))]
+    fn serve<R: Wait>(&self, rt: &R, alloc: Global, lane: &mut Lane) -> ServeAnswer
+        requires { IsLaneOf self.now lane.old }
+        ensures { GoesOn lane.old lane.new }
+    {
+        let ring = self.ring_of(lane.queue());
+        let mut guard = self.lock(rt);
+        let core = &mut *guard;
+        serve_one(alloc, lane, core, ring)
+    }
+
+    // A lane advances its first pending packet, in another section.
+    #[tactic(auto, using(crate::proofs::GoingOn::advances_goes_on))]
+    fn advance<R: Wait>(&self, rt: &R, alloc: Global, lane: &mut Lane) -> Advanced
+        ensures { GoesOn lane.old lane.new }
+    {
+        let mut guard = self.lock(rt);
+        let core = &mut *guard;
+        advance_one(alloc, lane, core)
+    }
+
+    // One turn of a lane.
+    #[tactic(auto, using(crate::proofs::GoingOn::goes_on_both))]
+    fn turn<R: Wait>(&self, rt: &R, alloc: Global, lane: &mut Lane) -> LaneAnswer
+        requires { IsLaneOf self.now lane.old }
+        ensures { GoesOn lane.old lane.new }
+    {
+        let served = self.serve(rt, alloc, lane);
+        let advanced = self.advance(rt, alloc, lane);
+        LaneAnswer { served, advanced }
+    }
+}
+
+// Turns of a lane, from 1 on, until the gate doesn't let it in.
+#[tactic(auto, using(crate::proofs::GoingOn::goes_on_none, crate::proofs::GoingOn::goes_on_both, crate::proofs::GoingOn::still_of))]
+fn run_lane<R: Wait, G: Gate>(rt: &R, alloc: Global, broker: &Broker, lane: &mut Lane, gate: &G)
+    requires { IsLaneOf broker.now lane.old }
+    ensures { GoesOn lane.old lane.new }
+{
+    let number = lane.number();
+    for before in 0..u64::MAX {
+        let turn = before + 1;
+        if !gate.enter(number, turn) {
+            return;
+        }
+        let done = broker.turn(rt, alloc, lane);
+        gate.leave(number, turn, done);
+    }
+}
+
+// Runs lanes, each on a thread of its own where one can be made, until each has ended.
+fn run_each<R: Threads + Wait + Sync, G: Gate + Sync>(
+    rt: &R,
+    alloc: Global,
+    broker: &Broker,
+    lanes: &mut [Lane],
+    gate: &G,
+)
+    requires some { 0 < length lanes.old }
+    requires lanes { All (λ lane. IsLaneOf broker.now lane) lanes.old }
+    ensures { EachGoesOn lanes.old lanes.new }
+{
+    let threads = lanes.len();
+    thread::for_each_mut(
+        rt,
+        lanes,
+        threads,
+        &|_, lane| run_lane(rt, alloc, broker, lane, gate),
+    );
+}
+
+// Runs any number of lanes so.
+fn run_any<R: Threads + Wait + Sync, G: Gate + Sync>(
+    rt: &R,
+    alloc: Global,
+    broker: &Broker,
+    lanes: Vec<Lane>,
+    gate: &G,
+) -> Vec<Lane>
+    requires { All (λ lane. IsLaneOf broker.now lane) lanes.items }
+    ensures count { length result.items ≡ length lanes.items }
+    ensures each { EachGoesOn lanes.items result.items }
+{
+    let mut lanes = lanes;
+    if lanes.len() > 0 {
+        run_each(rt, alloc, broker, lanes.as_mut_slice(), gate);
+    }
+    lanes
+}
+
+/// Runs lanes, each on a thread of its own, until the gate has ended each of them or it made 2^64 - 1 turns.
+/// In a turn the gate is asked whether the lane enters; then the next packet of its queue is handed to the
+/// core in one section under the core's lock, and its first pending packet is advanced in another; then the
+/// gate is told. Where no thread can be made, lanes run one after another. It takes no memory of its own.
+/// The lanes come back in the order in which they were handed in, each of its queue and ring, and what each
+/// served begins with what it had served.
+#[tactic(auto, using(crate::proofs::GoingOn::all_still_of))]
+pub fn run_lanes<R: Threads + Wait + Sync, G: Gate + Sync>(
+    rt: &R,
+    alloc: Global,
+    broker: &Broker,
+    lanes: Vec<Lane>,
+    gate: &G,
+) -> Vec<Lane>
+    requires { All (λ lane. IsLaneOf broker.now lane) lanes.items }
+    ensures count { length result.items ≡ length lanes.items }
+    ensures each { EachGoesOn lanes.items result.items }
+    ensures lanes { All (λ lane. IsLaneOf broker.now lane) result.items }
+{
+    run_any(rt, alloc, broker, lanes, gate)
+}

@@ -1,0 +1,29 @@
+//! The broker for threads: clients publish packets on rings of their own without a lock, a lane a queue
+//! serves and advances them in sections under the core's lock, and after the run what the core decided is
+//! held against what was published.
+
+// The check tries its tactics on what is left of each proof.
+#![tactic(auto)]
+
+mod advancing;
+mod broker;
+mod client_end;
+mod lane;
+mod lanes;
+mod laws;
+mod mismatch;
+mod opening;
+mod served;
+mod serving;
+mod settling;
+
+pub use advancing::{Advanced, advance_one};
+pub use broker::Broker;
+pub use client_end::ClientEnd;
+pub use lane::Lane;
+pub use lanes::{Gate, LaneAnswer, run_lanes};
+pub use laws::opened_queues_belong;
+pub use opening::Opened;
+pub use served::Served;
+pub use serving::{ServeAnswer, serve_one};
+pub use settling::{SettleAllFault, SettledQueue, Settlement, UnsettledBroker, settle_all};

@@ -1,0 +1,70 @@
+//! A lane hands the next packet to the core.
+
+ghost use Rattle.std.specs.Prelude.{◌≡◌};
+ghost use Rattle.client_threads.specs.Serving.{ServesTo, served_of};
+
+use crate::lane::Lane;
+use crate::served::Served;
+use access_core::AccessCore;
+use aql_packet::PacketId;
+use core_model::{Refusal, Taken, WaitCause};
+use queue_error::QueueError;
+use ring::{Peeked, Ring, Shown};
+use std::alloc::Global;
+
+/// What became of a lane's next packet.
+#[derive(Clone, Copy, Debug, PartialEq, Eq)]
+pub enum ServeAnswer {
+    /// It is not published yet.
+    Empty,
+    /// It is in flight from now on.
+    Launched(PacketId),
+    /// It was denied, and the error names it.
+    Denied(QueueError),
+    /// It may not start yet.
+    Waiting(PacketId, WaitCause),
+    /// It was not taken.
+    Refused(PacketId, Refusal),
+}
+
+/// Hands the next packet of a lane's queue to the core: the one that its own pass is shown. Where it is launched or
+/// denied, it counts as served, and its slot is retired.
+pub fn serve_one(alloc: Global, lane: &mut Lane, core: &mut AccessCore, ring: &Ring) -> ServeAnswer
+    requires ring { lane.old.pass.table ≡ ring.now.table }
+    ensures { ServesTo ring.now lane.old core.old.history result lane.new core.new.history }
+{
+    let shown = match lane.pass.peek(ring) {
+        Peeked::Empty => return ServeAnswer::Empty,
+        Peeked::Shown(shown) => shown,
+    };
+    let id = shown.id;
+    if lane.served.reserve(1).is_err() || lane.pending.reserve(1).is_err() {
+        return ServeAnswer::Refused(id, Refusal::OutOfMemory);
+    }
+    match core.take(alloc, lane.queue, id, &shown.bytes) {
+        Err(why) => ServeAnswer::Refused(id, why),
+        Ok(Taken::Waiting(cause)) => ServeAnswer::Waiting(id, cause),
+        Ok(Taken::Launched) => {
+            lane.pass.retire(ring, shown);
+            lane.served.push_reserved(served(shown));
+            lane.pending.push_reserved(id);
+            ServeAnswer::Launched(id)
+        }
+        Ok(Taken::Denied(error)) => {
+            lane.pass.retire(ring, shown);
+            lane.served.push_reserved(served(shown));
+            ServeAnswer::Denied(error)
+        }
+    }
+}
+
+// A packet that was shown, as one that is served.
+fn served(shown: Shown) -> Served
+    ensures { result ≡ served_of shown }
+{
+    let bytes = shown.bytes;
+    Served {
+        id: shown.id,
+        bytes,
+    }
+}

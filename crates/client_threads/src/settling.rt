@@ -1,0 +1,338 @@
+//! The end of a broker: once its threads have ended, what the core decided is held against what was
+//! published and served.
+
+ghost use Rattle.std.specs.Prelude.{◌≡◌, ◌≢◌, ◌↔◌, ◌==◌, ◌&&◌, ℕ, ◌+◌, ◌<◌, ◌≤◌, [], ◌++◌, IfOk, IfErr, All, Some, None, true, false, length, map, is_some, slice_index_or, vec_capacity};
+ghost use Rattle.ring.specs.Settling.{has_pass, has_passes};
+ghost use Rattle.client_threads.specs.Desks.{seen};
+ghost use Rattle.client_threads.specs.Rings.{AreApart};
+ghost use Rattle.client_threads.specs.Running.{IsEndOf, IsLaneOf};
+ghost use Rattle.client_threads.specs.Lanes.{LaneSeen};
+ghost use Rattle.client_threads.specs.Takes.{lane_at};
+ghost use Rattle.client_threads.specs.Settling.{AreSettled, IsQueueSettled, IsRingSettled, IsSettlement, has_all_passes, has_its_passes, passes_of};
+ghost use Rattle.client_threads.specs.inner.Rooms.{AreReady, AreRoomy, IsRoomFor, IsSomeOf};
+ghost use Rattle.client_threads.specs.declared.settling.SettleAllFault.{SettleAllFault};
+
+use crate::broker::{Broker, Desk};
+use crate::client_end::ClientEnd;
+use crate::lane::Lane;
+use crate::mismatch::{find_lane, find_mismatch};
+use access_core::AccessCore;
+use aql_packet::{PacketId, QueueId};
+use ring::{ProducerPass, Ring, SettleRoom, settle_in};
+use std::alloc::{AllocError, Global};
+
+/// A queue with its settled ring.
+#[derive(Drop, Debug)]
+pub struct SettledQueue {
+    pub queue: QueueId,
+    pub ring: ring::Settled,
+}
+
+/// What a broker came to.
+#[derive(Drop)]
+pub enum Settlement {
+    /// Of each queue the audit has just the packets that its lane served, ids and bytes, and each ring is
+    /// settled.
+    Settled {
+        core: AccessCore,
+        rings: Vec<SettledQueue>,
+    },
+    /// They differ: this is the least queue and the least id at which.
+    Mismatch {
+        core: AccessCore,
+        queue: QueueId,
+        id: PacketId,
+    },
+}
+
+/// Why a broker was not settled.
+#[derive(Clone, Copy, Debug, PartialEq, Eq)]
+pub enum SettleAllFault {
+    /// Memory was wanted and not to be had.
+    OutOfMemory,
+    /// The end of a producer or the lane of a queue is not there.
+    MissingPass,
+}
+
+/// A broker that was not settled, with all that was handed in.
+#[derive(Drop)]
+pub struct UnsettledBroker {
+    pub fault: SettleAllFault,
+    pub broker: Broker,
+    pub ends: Vec<ClientEnd>,
+    pub lanes: Vec<Lane>,
+}
+
+// Whether an end is a queue's, for the producer with a number.
+fn is_end_of(end: &ClientEnd, queue: QueueId, number: u64) -> bool
+    ensures { result ≡ ((end.now.queue.0 == queue.0) && (end.now.pass.number == number)) }
+{
+    end.queue.0 == queue.0 && end.pass.number() == number
+}
+
+// Whether the end of a queue for the producer with a number is among these.
+#[tactic(auto, using(crate::proofs::Looking::end_found, crate::proofs::Looking::end_passed, crate::proofs::Looking::end_missing))]
+fn has_end(ends: &[ClientEnd], queue: QueueId, number: u64) -> bool
+    ensures { result ≡ has_pass number (passes_of queue.0 ends.now) }
+{
+    for end in ends {
+        if is_end_of(end, queue, number) {
+            return true;
+        }
+    }
+    false
+}
+
+// Whether the ends of a queue for all producers from 1 to this number are.
+fn has_ends(ends: &[ClientEnd], queue: QueueId, producers: u64) -> bool
+    ensures { result ≡ has_passes producers (passes_of queue.0 ends.now) }
+{
+    for before in 0..producers {
+        if !has_end(ends, queue, before + 1) {
+            return false;
+        }
+    }
+    true
+}
+
+// Whether all passes of a ring are among these ends and lanes.
+fn has_its_passes(desk: &Desk, ends: &[ClientEnd], lanes: &[Lane]) -> bool
+    ensures { result ≡ has_its_passes ends.now lanes.now (seen desk.now) }
+{
+    has_ends(ends, desk.queue, desk.ring.producers()) && find_lane(lanes, desk.queue).is_some()
+}
+
+// Whether all passes of all rings are.
+#[tactic(auto, using(crate::proofs::Looking::ring_lacks, crate::proofs::Looking::ring_passed, crate::proofs::Looking::rings_have))]
+fn has_all_passes(desks: &[Desk], ends: &[ClientEnd], lanes: &[Lane]) -> bool
+    ensures { result ≡ has_all_passes (map seen desks.now) ends.now lanes.now }
+{
+    for desk in desks {
+        if !has_its_passes(desk, ends, lanes) {
+            return false;
+        }
+    }
+    true
+}
+
+// Room to settle the ring of a queue: for the words of its slots, and for its producers' passes.
+#[derive(Drop)]
+struct QueueRoom {
+    words: SettleRoom,
+    passes: Vec<ProducerPass>,
+}
+
+// How many of these ends are of a queue.
+fn count_ends(ends: &[ClientEnd], queue: QueueId) -> usize
+    ensures { result ≡ length (passes_of queue.0 ends.now) }
+{
+    let mut count = 0;
+    for end in ends {
+        if end.queue.0 == queue.0 {
+            count += 1;
+        }
+    }
+    count
+}
+
+// Gets room to settle the ring of a queue.
+fn room_for(alloc: Global, desk: &Desk, ends: &[ClientEnd]) -> Result<QueueRoom, AllocError>
+    ensures { IfOk result (IsRoomFor ends.now (seen desk.now)) }
+{
+    let words = SettleRoom::new(alloc, &desk.ring)?;
+    let passes = Vec::with_capacity(alloc, count_ends(ends, desk.queue))?;
+    Ok(QueueRoom { words, passes })
+}
+
+// Gets room to settle all rings.
+fn rooms_for(
+    alloc: Global,
+    desks: &[Desk],
+    ends: &[ClientEnd],
+) -> Result<Vec<QueueRoom>, AllocError>
+    ensures { IfOk result (λ rooms. AreRoomy ends.now (map seen desks.now) rooms.items) }
+{
+    let mut rooms = Vec::with_capacity(alloc, desks.len())?;
+    for desk in desks {
+        rooms.push(room_for(alloc, desk, ends)?)?;
+    }
+    Ok(rooms)
+}
+
+// Moves the passes of a queue out of these ends, into room that was got for them.
+#[tactic(auto, using(crate::proofs::Ends::move_one, crate::proofs::Ends::pass_over, crate::proofs::Ends::room_for_one, crate::proofs::Ends::moved_all, crate::proofs::Ends::moving_begins))]
+fn take_passes(
+    ends: &mut Vec<ClientEnd>,
+    queue: QueueId,
+    room: Vec<ProducerPass>,
+) -> Vec<ProducerPass>
+    requires none { room.items ≡ [] }
+    requires room { length (passes_of queue.0 ends.old.items) ≤ vec_capacity room }
+    ensures passes { result.items ≡ passes_of queue.0 ends.old.items }
+    ensures others { (other : ℕ) → other ≢ queue.0 → passes_of other ends.new.items ≡ passes_of other ends.old.items }
+{
+    let mut passes = room;
+    let mut place = 0;
+    while place < ends.len() {
+        if ends[place].queue.0 == queue.0 {
+            let ClientEnd { pass, .. } = ends.remove(place);
+            passes.push_reserved(pass);
+        } else {
+            place += 1;
+        }
+    }
+    passes
+}
+
+// The place of the lane of a queue, which is among these.
+fn lane_place(lanes: &[Lane], queue: QueueId) -> usize
+    requires { is_some (lane_at queue.0 lanes.now) ≡ true }
+    ensures within { result < length lanes.now }
+    ensures found { (d : LaneSeen) → lane_at queue.0 lanes.now ≡ Some (slice_index_or lanes.now result d) }
+    ensures its { (d : LaneSeen) → ((slice_index_or lanes.now result d).queue.0 == queue.0) ≡ true }
+{
+    for place in 0..lanes.len() {
+        if lanes[place].queue().0 == queue.0 {
+            return place;
+        }
+    }
+    unreachable!()
+}
+
+// Moves the lane of a queue out of these.
+#[tactic(auto, using(crate::proofs::Ends::lane_stays))]
+fn take_lane(lanes: &mut Vec<Lane>, queue: QueueId) -> Lane
+    requires { is_some (lane_at queue.0 lanes.old.items) ≡ true }
+    ensures lane { lane_at queue.0 lanes.old.items ≡ Some result }
+    ensures others { (other : ℕ) → other ≢ queue.0 → lane_at other lanes.new.items ≡ lane_at other lanes.old.items }
+{
+    let place = lane_place(lanes.as_slice(), queue);
+    lanes.remove(place)
+}
+
+// Settles the ring of a queue, of which all passes are there.
+fn settle_ring(
+    ring: Ring,
+    passes: Vec<ProducerPass>,
+    lane: Lane,
+    words: SettleRoom,
+) -> ring::Settled
+    requires passes { All (λ pass. pass.table ≡ ring.table) passes.items }
+    requires lane { lane.pass.table ≡ ring.table }
+    requires words { words ≡ ring.size }
+    ensures { IsRingSettled ring passes.items lane result }
+{
+    let Lane { pass, .. } = lane;
+    settle_in(ring, passes, pass, words)
+}
+
+// Settles the ring of a queue, with the passes of its ends and its lane.
+fn settle_queue(
+    desk: Desk,
+    room: QueueRoom,
+    ends: &mut Vec<ClientEnd>,
+    lanes: &mut Vec<Lane>,
+) -> SettledQueue
+    requires room { IsRoomFor ends.old.items (seen desk) room }
+    requires passes { All (λ pass. pass.table ≡ (seen desk).ring.table) (passes_of desk.queue.0 ends.old.items) }
+    requires lane { IsSomeOf (seen desk).ring.table (lane_at desk.queue.0 lanes.old.items) }
+    ensures settled { IsQueueSettled (seen desk) ends.old.items lanes.old.items result }
+    ensures ends { (other : ℕ) → other ≢ desk.queue.0 → passes_of other ends.new.items ≡ passes_of other ends.old.items }
+    ensures lanes { (other : ℕ) → other ≢ desk.queue.0 → lane_at other lanes.new.items ≡ lane_at other lanes.old.items }
+{
+    let Desk { queue, ring, .. } = desk;
+    let QueueRoom { words, passes } = room;
+    let passes = take_passes(ends, queue, passes);
+    let lane = take_lane(lanes, queue);
+    SettledQueue {
+        queue,
+        ring: settle_ring(ring.into_inner(), passes, lane, words),
+    }
+}
+
+// Settles all rings, in order. It takes no memory.
+#[tactic(auto, using(crate::proofs::Readiness::next_ready, crate::proofs::Readiness::some_room, crate::proofs::Readiness::settled_next, crate::proofs::Readiness::going_begins, crate::proofs::Readiness::going_ends))]
+fn settle_rings(
+    desks: Vec<Desk>,
+    rooms: Vec<QueueRoom>,
+    ends: Vec<ClientEnd>,
+    lanes: Vec<Lane>,
+    room: Vec<SettledQueue>,
+) -> Vec<SettledQueue>
+    requires apart { AreApart (map seen desks.items) }
+    requires ready { AreReady ends.items lanes.items (map seen desks.items) rooms.items ends.items lanes.items }
+    requires none { room.items ≡ [] }
+    requires room { length desks.items ≤ vec_capacity room }
+    ensures { AreSettled (map seen desks.items) ends.items lanes.items result.items }
+{
+    let mut desks = desks;
+    let mut rooms = rooms;
+    let mut ends = ends;
+    let mut lanes = lanes;
+    let mut settled = room;
+    while !desks.is_empty() {
+        let desk = desks.remove(0);
+        let room = rooms.remove(0);
+        settled.push_reserved(settle_queue(desk, room, &mut ends, &mut lanes));
+    }
+    settled
+}
+
+// Gets all memory that settling takes.
+fn get_rooms(
+    alloc: Global,
+    desks: &[Desk],
+    ends: &[ClientEnd],
+) -> Result<(Vec<QueueRoom>, Vec<SettledQueue>), AllocError>
+    ensures rooms { IfOk result (λ r. AreRoomy ends.now (map seen desks.now) r.0.items) }
+    ensures none { IfOk result (λ r. r.1.items ≡ []) }
+    ensures room { IfOk result (λ r. length desks.now ≤ vec_capacity r.1) }
+{
+    let rooms = rooms_for(alloc, desks, ends)?;
+    let settled = Vec::with_capacity(alloc, desks.len())?;
+    Ok((rooms, settled))
+}
+
+/// Settles a broker once its threads have ended and all its ends and lanes have come back. Where the
+/// audit has of each queue just the packets that its lane served, ids and bytes, in order, each ring is
+/// settled: they are the packets that were published under the ids below its read index, and every other
+/// published packet stands whole in its slot. Else it names the least queue and the least id at which they
+/// differ. Where a pass is missing, or there is no memory, all comes back as it was.
+#[tactic(auto, using(crate::proofs::Readiness::all_ready))]
+pub fn settle_all(
+    alloc: Global,
+    broker: Broker,
+    ends: Vec<ClientEnd>,
+    lanes: Vec<Lane>,
+) -> Result<Settlement, UnsettledBroker>
+    requires ends { All (λ end. IsEndOf broker end) ends.items }
+    requires lanes { All (λ lane. IsLaneOf broker lane) lanes.items }
+    ensures settled { IfOk result (IsSettlement broker ends.items lanes.items) }
+    ensures all { IfOk result (λ _. has_all_passes broker ends.items lanes.items ≡ true) }
+    ensures fault { IfErr result (λ u. u.fault ≡ SettleAllFault.MissingPass ↔ has_all_passes broker ends.items lanes.items ≡ false) }
+    ensures back { IfErr result (λ u. (u.broker ≡ broker) × (u.ends.items ≡ ends.items) × (u.lanes.items ≡ lanes.items)) }
+{
+    if !has_all_passes(broker.desks.as_slice(), ends.as_slice(), lanes.as_slice()) {
+        return Err(UnsettledBroker {
+            fault: SettleAllFault::MissingPass,
+            broker,
+            ends,
+            lanes,
+        });
+    }
+    let Ok((rooms, room)) = get_rooms(alloc, broker.desks.as_slice(), ends.as_slice()) else {
+        return Err(UnsettledBroker {
+            fault: SettleAllFault::OutOfMemory,
+            broker,
+            ends,
+            lanes,
+        });
+    };
+    let Broker { core, desks } = broker;
+    let core = core.into_inner();
+    if let Some((queue, id)) = find_mismatch(core.audit(), lanes.as_slice()) {
+        return Ok(Settlement::Mismatch { core, queue, id });
+    }
+    let rings = settle_rings(desks, rooms, ends, lanes, room);
+    Ok(Settlement::Settled { core, rings })
+}

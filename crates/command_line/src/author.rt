@@ -1,0 +1,136 @@
+//! The commands for authors of kernels, scripts and policies.
+
+use crate::explain::{UNKNOWN, explained};
+use crate::perform::{failed, unread_file};
+use assemble::{AssembleError, Book, BookError, assemble_script};
+use commands::{Status, check_policy};
+use kernel_listing::{Listing, list};
+use std::alloc::Global;
+use std::fs::File;
+use std::io;
+use std::io::{Read, Write};
+
+// How many bytes of a kernel's text are read: one more than a text may have.
+const MOST_TEXT: u64 = 65_537;
+
+// Writes a text, and tells how that ended.
+fn told<W: io::Write>(out: &mut W, text: &str, status: Status) -> Status {
+    if out.write_all(text.as_bytes()).is_err() || out.flush().is_err() {
+        return Status::Failed;
+    }
+    status
+}
+
+// Writes what failed.
+fn fails<E: io::Write>(err: &mut E, what: &str) -> Status {
+    let _ = err.write_all(what.as_bytes());
+    Status::Failed
+}
+
+/// Lists the kernels of a text on `out`, or tells the text's fault on `err`.
+pub fn list_kernel<O: io::Write, E: io::Write>(
+    alloc: Global,
+    text: &[u8],
+    out: &mut O,
+    err: &mut E,
+) -> Status {
+    match list(alloc, text) {
+        Ok(Listing::Kernels(listing)) => match told(out, listing.as_str(), Status::Done) {
+            Status::Failed => fails(err, "write fault\n"),
+            status => status,
+        },
+        Ok(Listing::Fault(fault)) => told(err, fault.as_str(), Status::Refused),
+        Err(_) => fails(err, "no memory\n"),
+    }
+}
+
+// The first bytes of a file.
+fn read_text(rt: &HostRuntime, file: &str) -> io::Result<Vec<u8>> {
+    let mut text = Vec::new(rt.alloc());
+    let mut reader = File::open(rt, file)?.take(MOST_TEXT);
+    reader.read_to_end(&mut text)?;
+    Ok(text)
+}
+
+/// Lists the kernels of the text in a file.
+pub fn kernel(rt: &HostRuntime, file: &str) -> Status {
+    match read_text(rt, file) {
+        Ok(text) => list_kernel(
+            rt.alloc(),
+            text.as_slice(),
+            &mut rt.stdout(),
+            &mut rt.stderr(),
+        ),
+        Err(error) => unread_file(rt, &error),
+    }
+}
+
+// Tells why a script wasn't assembled to its end.
+fn unassembled<E: io::Write>(err: &mut E, error: &AssembleError) -> Status {
+    match error {
+        AssembleError::OutOfMemory => fails(err, "no memory\n"),
+        AssembleError::Read => fails(err, "read fault\n"),
+        AssembleError::Write => fails(err, "write fault\n"),
+        AssembleError::Refused(text) => match told(err, text.as_str(), Status::Refused) {
+            Status::Refused => told(err, "\n", Status::Refused),
+            status => status,
+        },
+    }
+}
+
+// Assembles a script by a policy without a fault.
+fn assemble_checked<R: io::Read, O: io::Write, E: io::Write>(
+    alloc: Global,
+    policy: &[u8],
+    script: &mut R,
+    out: &mut O,
+    err: &mut E,
+) -> Status {
+    match Book::read(alloc, policy) {
+        Ok(book) => match assemble_script(alloc, &book, script, out) {
+            Ok(()) => Status::Done,
+            Err(error) => unassembled(err, &error),
+        },
+        Err(BookError::OutOfMemory) => fails(err, "no memory\n"),
+        Err(BookError::Refused) => Status::Refused,
+    }
+}
+
+/// Assembles a script by the policy in a text, or tells the first fault of the policy and its kernels as `check_policy`
+/// does.
+pub fn assemble_policy<R: io::Read, O: io::Write, E: io::Write>(
+    alloc: Global,
+    policy: &[u8],
+    script: &mut R,
+    out: &mut O,
+    err: &mut E,
+) -> Status {
+    let mut counts = Vec::new(alloc);
+    match check_policy(alloc, policy, &mut counts, err) {
+        Status::Done => assemble_checked(alloc, policy, script, out, err),
+        status => status,
+    }
+}
+
+/// Assembles the script on standard input by the policy in a text.
+pub fn assemble_input(rt: &HostRuntime, policy: &[u8]) -> Status {
+    assemble_policy(
+        rt.alloc(),
+        policy,
+        &mut rt.stdin(),
+        &mut rt.stdout(),
+        &mut rt.stderr(),
+    )
+}
+
+/// Tells what a rule, a refusal or a cause means; none where the word is none of them, which is told too.
+pub fn explain(rt: &HostRuntime, word: &str) -> Option<Status> {
+    let Ok(text) = explained(rt.alloc(), word) else {
+        return Some(failed(rt, "no memory"));
+    };
+    if text.is_empty() {
+        let _ = eprintln!(rt; "{UNKNOWN}");
+        return None;
+    }
+    Some(told(&mut rt.stdout(), text.as_str(), Status::Done))
+}

@@ -1,5 +1,0 @@
-use Rattle.executor.proofs.HeldWrites.{group_held}
-use Rattle.executor.proofs.laws.writes_lie_in_held_regions.Goals as goal
-
-pub returns : goal.returns
-returns c = λ input runs short is. group_held input runs short is

@@ -1,6 +1,0 @@
-use Rattle.executor.specs.Items.{contents, surroundings}
-use Rattle.executor.proofs.RoundLemmas.{HaveGoneOn}
-use Rattle.executor.proofs.rounds.run_on.Given as goal
-
-abbrev pub invariant-items : goal.invariant-items
-invariant-items l = HaveGoneOn (surroundings l.around) l.program l.fn.stopped (contents l.fn.memory) l.number l.stopped (contents l.memory)

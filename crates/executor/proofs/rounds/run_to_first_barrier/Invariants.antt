@@ -1,0 +1,6 @@
+use Rattle.executor.specs.inner.Held.{contents, surroundings}
+use Rattle.executor.proofs.RoundLemmas.{HaveRun}
+use Rattle.executor.proofs.rounds.run_to_first_barrier.Given as goal
+
+abbrev pub invariant-items : goal.invariant-items
+invariant-items l = HaveRun (surroundings l.context) l.program l.count (contents l.fn.memory) l.number l.stopped.items (contents l.memory)

@@ -1,0 +1,11 @@
+-- What private clauses and proofs speak of.
+pub mod Extended
+pub mod Pages
+pub mod Places
+pub mod Told
+pub mod Outcomes
+pub mod Room
+pub mod Held
+pub mod Turns
+pub mod Stops
+pub mod ItemRuns

@@ -1,0 +1,19 @@
+-- What running one work-item of a group answers (own).
+use Rattle.std.specs.Prelude.{◌≡◌, ℕ, List, ◌∷◌, ◌++◌, length}
+use Rattle.executor.specs.Group.{Standing, running, faulted, Leads}
+use Rattle.executor.specs.Items.{Contents, Surroundings}
+use Rattle.executor.specs.inner.Stops.{AreStopped}
+use Rattle.executor.specs.declared.fault.RunFault.{RunFault}
+use Rattle.executor.specs.declared.fault.RunFault.TheVariants as fault
+use Rattle.kernel_check.specs.Programs.{Program}
+
+-- an item that ran from where it stood until it stopped, none of those before it being able to take a turn
+abbrev pub ItemRuns : Surroundings → Program → ℕ → Standing → Contents → Standing → Contents → Type 0
+ItemRuns a p n from before to now = (earlier rest : List Standing) → AreStopped earlier → length earlier ≡ n
+    → Leads a p (running (earlier ++ from ∷ rest) before) (running (earlier ++ to ∷ rest) now)
+
+-- an item that broke a rule; without memory nothing is said
+abbrev pub ItemFails : Surroundings → Program → ℕ → Standing → Contents → RunFault → Type 0
+ItemFails a p n from before fault.OutOfMemory = Unit {0}
+ItemFails a p n from before (fault.Fault f) = (earlier rest : List Standing) → AreStopped earlier → length earlier ≡ n
+    → Leads a p (running (earlier ++ from ∷ rest) before) (faulted f.item f.line f.rule)

@@ -1,8 +1,0 @@
--- Which rights are left of a set without those of another.
-use Rattle.std.proofs.Common.{◌≡◌, ◌<◌, ◌^◌, not, ◌&&◌, arith}
-use Rattle.std.proofs.lemmas.Nat.Bits.{bit_at_and}
-use Rattle.grants.proofs.Terms.{Right, Rights, has, has-bit, without}
-
--- a right is left where it was in the one set and isn't in the other
-pub has-without : (a b : Rights) (right : Right) → b.0 < 2 ^ 8 → has (record { 0 = without 8 a.0 b.0 }) right ≡ (has a right && not (has b right))
-has-without a b right fits = grind (arith, has-bit, bit_at_and)

@@ -1,0 +1,39 @@
+//! What is told of a kernel's text alone: its kernels with their layout and steps, or its fault with the line marked.
+
+// The check tries its tactics on what is left of each proof.
+#![tactic(auto)]
+
+mod faults;
+mod kernels;
+mod lines;
+
+use hsail_reader::{Module, ReadError, read_module};
+use kernel_check::{CheckError, check};
+use std::alloc::{AllocError, Global};
+
+/// What is told of a kernel's text (own).
+#[derive(Debug, Drop)]
+pub enum Listing {
+    /// Its kernels, with their layout and steps, and `ok`.
+    Kernels(String),
+    /// Its first fault, and the line that it lies in.
+    Fault(String),
+}
+
+// What is told of a module.
+fn list_module(alloc: Global, text: &[u8], module: &Module) -> Result<Listing, AllocError> {
+    match check(alloc, module) {
+        Ok(checked) => Ok(Listing::Kernels(kernels::listed(alloc, text, module, &checked)?)),
+        Err(CheckError::OutOfMemory) => Err(AllocError),
+        Err(CheckError::Fault(fault)) => Ok(Listing::Fault(faults::checked(alloc, text, fault)?)),
+    }
+}
+
+/// Reads and checks the text of a module, and tells its kernels or its first fault.
+pub fn list(alloc: Global, text: &[u8]) -> Result<Listing, AllocError> {
+    match read_module(alloc, text) {
+        Ok(module) => list_module(alloc, text, &module),
+        Err(ReadError::OutOfMemory) => Err(AllocError),
+        Err(ReadError::Fault(fault)) => Ok(Listing::Fault(faults::read(alloc, text, fault)?)),
+    }
+}

@@ -1,0 +1,84 @@
+-- What is said of an entry in words (own).
+use Rattle.std.specs.Prelude.{ℕ, ◌-◌, ◌==◌, Bool, List, [], ◌∷◌, ◌++◌, flat_map, codes, decimal, slice_index_or, false, if◌then◌else◌}
+use Rattle.std.specs.Option.{option_map_or}
+use Rattle.aql_packet.specs.declared.ids.ClientId.{ClientId}
+use Rattle.aql_packet.specs.declared.ids.PacketId.{PacketId}
+use Rattle.core_model.specs.declared.outcome.Satisfied.{Satisfied}
+use Rattle.core_model.specs.declared.need.TheConstants.{FILL, COPY, ADD64}
+use Rattle.policy.specs.declared.object.Object.{Object}
+use Rattle.policy.specs.declared.object.Object.TheVariants as object
+use Rattle.policy.specs.declared.rights.Right.{Right}
+use Rattle.policy.specs.declared.rights.Rights.{Rights}
+use Rattle.policy.specs.Rights.{has, all_rights}
+use Rattle.policy.specs.RightNames.{name_of_right}
+use Rattle.policy.specs.KindNames.{name_of_kind}
+use Rattle.policy.specs.Object.{kind_of}
+use Rattle.policy.specs.Policy.{Declared, numbered, name_in}
+use Rattle.queue_error.specs.declared.error.QueueError.{QueueError}
+use Rattle.queue_error.specs.Texts.{text_of_rule, text_of_end}
+use Rattle.picture.specs.declared.element.Work.{Work}
+use Rattle.picture.specs.declared.element.Work.TheVariants as work
+use Rattle.picture.specs.declared.element.Sign.{Sign}
+use Rattle.picture.specs.declared.element.Sign.TheVariants as sign
+
+-- the name of a client
+abbrev pub words_of_client : Declared → ClientId → List ℕ
+words_of_client policy client = option_map_or (λ name. name) (numbered policy.clients client.0) []
+
+-- the name of an object
+abbrev pub words_of_object : Declared → Object → List ℕ
+words_of_object policy object = option_map_or (λ name. name) (name_in policy object) []
+
+-- a right behind a blank, if the set has it
+abbrev pub right_in : Rights → Right → List ℕ
+right_in rights right = if has rights right then codes " " ++ name_of_right right else []
+
+-- `CLIENT KIND NAME RIGHT RIGHT`
+abbrev pub words_of_rights : Declared → ClientId → Object → Rights → List ℕ
+words_of_rights policy client object rights =
+    words_of_client policy client ++ codes " " ++ name_of_kind (kind_of object) ++ codes " " ++ words_of_object policy object
+    ++ flat_map (right_in rights) all_rights
+
+-- the name of an agent's function
+abbrev pub words_of_function : ℕ → List ℕ
+words_of_function function =
+    if function == FILL then codes "FILL"
+    else if function == COPY then codes "COPY"
+    else if function == ADD64 then codes "ADD64"
+    else codes "agent"
+
+-- what a packet is
+abbrev pub words_of_work : Declared → Work → List ℕ
+words_of_work policy (work.Kernel kernel) = words_of_object policy (object.Kernel kernel)
+words_of_work policy (work.Agent function) = words_of_function function
+words_of_work policy work.BarrierAnd = codes "barrier-AND"
+words_of_work policy work.BarrierOr = codes "barrier-OR"
+
+-- a position behind a blank, if it was newly seen
+abbrev pub position_in : Satisfied → ℕ → List ℕ
+position_in seen position = if slice_index_or seen.0 (position - 1) false then codes " " ++ decimal position else []
+
+-- the positions from 1 that were newly seen
+abbrev pub words_of_seen : Satisfied → List ℕ
+words_of_seen seen = flat_map (position_in seen) (1 ∷ 2 ∷ 3 ∷ 4 ∷ 5 ∷ [])
+
+-- the rule that a packet broke, and where
+abbrev pub words_of_error : QueueError → List ℕ
+words_of_error error = decimal error.packet.0 ++ codes " " ++ text_of_rule error.rule ++ text_of_end error.place
+
+-- what is said of an entry
+abbrev pub words_of : Declared → Sign → List ℕ
+words_of policy (sign.Grant client object rights) = codes "grant " ++ words_of_rights policy client object rights
+words_of policy (sign.Revocation client object rights) = codes "revoke " ++ words_of_rights policy client object rights
+words_of policy (sign.Lane queue client agent) =
+    codes "queue " ++ decimal queue.0 ++ codes " " ++ words_of_client policy client ++ codes " " ++ words_of_object policy (object.Agent agent)
+words_of policy sign.Stop = codes "stop"
+words_of policy (sign.Bar packet work ending) = decimal packet.0 ++ codes " " ++ words_of_work policy work
+words_of policy (sign.Denial error) = words_of_error error
+words_of policy (sign.Group group) = codes "group " ++ decimal group
+words_of policy (sign.Fault error) = words_of_error error
+words_of policy (sign.Look seen) = codes "seen" ++ words_of_seen seen
+words_of policy (sign.Completion packet) = decimal packet.0 ++ codes " completed"
+words_of policy (sign.Write client) = codes "write " ++ words_of_client policy client
+words_of policy (sign.Change client) = codes "signal " ++ words_of_client policy client
+words_of policy sign.Nothing = []

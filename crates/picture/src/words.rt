@@ -1,0 +1,209 @@
+//! What is said of an entry in words.
+
+ghost use Rattle.std.specs.Prelude.{◌≡◌, ◌++◌, ◌≤◌, OnOk, flat_map, string_bytes, slice_index_or, false};
+ghost use Rattle.picture.specs.Words.{words_of_client, words_of_object, right_in, words_of_rights, words_of_function, words_of_work, position_in, words_of_seen, words_of_error, words_of};
+ghost use Rattle.policy.specs.Rights.{all_rights};
+ghost use Rattle.picture.specs.declared.element.Sign.TheVariants as signs;
+
+use crate::element::{Sign, Work};
+use aql_packet::{AgentHandle, ClientId, QueueId};
+use core_model::{ADD64, COPY, FILL, Satisfied};
+use policy::{Object, Policy, Right, Rights};
+use queue_error::QueueError;
+use std::alloc::AllocError;
+
+// Writes the name of a client.
+fn write_client(out: &mut String, policy: &Policy, client: ClientId) -> Result<(), AllocError>
+    ensures { OnOk result (string_bytes out.new ≡ string_bytes out.old ++ words_of_client policy.now client) }
+{
+    match policy.client_name(client) {
+        Some(name) => out.push_str(name),
+        None => Ok(()),
+    }
+}
+
+// Writes the name of an object.
+fn write_object(out: &mut String, policy: &Policy, object: Object) -> Result<(), AllocError>
+    ensures { OnOk result (string_bytes out.new ≡ string_bytes out.old ++ words_of_object policy.now object) }
+{
+    match policy.object_name(object) {
+        Some(name) => out.push_str(name),
+        None => Ok(()),
+    }
+}
+
+// Writes a right behind a blank, if the set has it.
+fn write_right(out: &mut String, rights: Rights, right: Right) -> Result<(), AllocError>
+    ensures { OnOk result (string_bytes out.new ≡ string_bytes out.old ++ right_in rights right) }
+{
+    if rights.has(right) {
+        out.push_str(" ")?;
+        out.push_str(right.name())
+    } else {
+        Ok(())
+    }
+}
+
+// Writes the rights of a set, each behind a blank.
+fn write_all_rights(out: &mut String, rights: Rights) -> Result<(), AllocError>
+    ensures { OnOk result (string_bytes out.new ≡ string_bytes out.old ++ flat_map (right_in rights) all_rights) }
+{
+    write_right(out, rights, Right::Use)?;
+    write_right(out, rights, Right::Read)?;
+    write_right(out, rights, Right::Write)?;
+    write_right(out, rights, Right::Wait)?;
+    write_right(out, rights, Right::Change)?;
+    write_right(out, rights, Right::Launch)
+}
+
+// Writes the verb, the client, the object and the rights.
+fn write_rights(
+    out: &mut String,
+    policy: &Policy,
+    verb: &str,
+    client: ClientId,
+    object: Object,
+    rights: Rights,
+) -> Result<(), AllocError>
+    ensures { OnOk result (string_bytes out.new ≡ string_bytes out.old ++ (verb.now ++ words_of_rights policy.now client object rights)) }
+{
+    out.push_str(verb)?;
+    write_client(out, policy, client)?;
+    out.push_str(" ")?;
+    out.push_str(object.kind().name())?;
+    out.push_str(" ")?;
+    write_object(out, policy, object)?;
+    write_all_rights(out, rights)
+}
+
+// The name of an agent's function.
+fn function_name(function: u16) -> &'static str
+    ensures { result.now ≡ words_of_function function }
+{
+    if function == FILL {
+        "FILL"
+    } else if function == COPY {
+        "COPY"
+    } else if function == ADD64 {
+        "ADD64"
+    } else {
+        "agent"
+    }
+}
+
+// Writes what a packet is.
+fn write_work(out: &mut String, policy: &Policy, work: Work) -> Result<(), AllocError>
+    ensures { OnOk result (string_bytes out.new ≡ string_bytes out.old ++ words_of_work policy.now work) }
+{
+    match work {
+        Work::Kernel(kernel) => write_object(out, policy, Object::Kernel(kernel)),
+        Work::Agent(function) => out.push_str(function_name(function)),
+        Work::BarrierAnd => out.push_str("barrier-AND"),
+        Work::BarrierOr => out.push_str("barrier-OR"),
+    }
+}
+
+/// Whether the dependency at a place, from 0, was newly seen.
+pub(crate) fn is_seen(seen: Satisfied, place: usize) -> bool
+    ensures { result ≡ slice_index_or seen.0 place false }
+{
+    match seen.0.get(place) {
+        Some(was_seen) => *was_seen,
+        None => false,
+    }
+}
+
+// Writes a position behind a blank, if it was newly seen.
+fn write_position(out: &mut String, seen: Satisfied, position: u8) -> Result<(), AllocError>
+    requires { 1 ≤ position }
+    ensures { OnOk result (string_bytes out.new ≡ string_bytes out.old ++ position_in seen position) }
+{
+    if is_seen(seen, position as usize - 1) {
+        write!(out, " {position}")
+    } else {
+        Ok(())
+    }
+}
+
+// Writes the positions that were newly seen.
+fn write_seen(out: &mut String, seen: Satisfied) -> Result<(), AllocError>
+    ensures { OnOk result (string_bytes out.new ≡ string_bytes out.old ++ words_of_seen seen) }
+{
+    write_position(out, seen, 1)?;
+    write_position(out, seen, 2)?;
+    write_position(out, seen, 3)?;
+    write_position(out, seen, 4)?;
+    write_position(out, seen, 5)
+}
+
+// Writes the rule that a packet broke, and where.
+fn write_error(out: &mut String, error: &QueueError) -> Result<(), AllocError>
+    ensures { OnOk result (string_bytes out.new ≡ string_bytes out.old ++ words_of_error error.now) }
+{
+    write!(out, "{} {}", error.packet.0, error.rule)?;
+    match error.place {
+        Some(place) => write!(out, " {place}"),
+        None => Ok(()),
+    }
+}
+
+// Writes the name of a lane.
+fn write_lane(
+    out: &mut String,
+    policy: &Policy,
+    queue: QueueId,
+    client: ClientId,
+    agent: AgentHandle,
+) -> Result<(), AllocError>
+    ensures { OnOk result (string_bytes out.new ≡ string_bytes out.old ++ words_of policy.now (signs.Lane queue client agent)) }
+{
+    write!(out, "queue {} ", queue.0)?;
+    write_client(out, policy, client)?;
+    out.push_str(" ")?;
+    write_object(out, policy, Object::Agent(agent))
+}
+
+/// Writes what is said of an entry.
+pub(crate) fn write_words(out: &mut String, policy: &Policy, sign: &Sign) -> Result<(), AllocError>
+    ensures { OnOk result (string_bytes out.new ≡ string_bytes out.old ++ words_of policy.now sign.now) }
+{
+    match sign {
+        Sign::Grant {
+            client,
+            object,
+            rights,
+        } => write_rights(out, policy, "grant ", *client, *object, *rights),
+        Sign::Revocation {
+            client,
+            object,
+            rights,
+        } => write_rights(out, policy, "revoke ", *client, *object, *rights),
+        Sign::Lane {
+            queue,
+            client,
+            agent,
+        } => write_lane(out, policy, *queue, *client, *agent),
+        Sign::Stop => out.push_str("stop"),
+        Sign::Bar { packet, work, .. } => {
+            write!(out, "{} ", packet.0)?;
+            write_work(out, policy, *work)
+        }
+        Sign::Denial(error) => write_error(out, error),
+        Sign::Group(group) => write!(out, "group {group}"),
+        Sign::Fault(error) => write_error(out, error),
+        Sign::Look(seen) => {
+            out.push_str("seen")?;
+            write_seen(out, *seen)
+        }
+        Sign::Completion(packet) => write!(out, "{} completed", packet.0),
+        Sign::Write(client) => {
+            out.push_str("write ")?;
+            write_client(out, policy, *client)
+        }
+        Sign::Change(client) => {
+            out.push_str("signal ")?;
+            write_client(out, policy, *client)
+        }
+        Sign::Nothing => Ok(()),
+    }
+}

@@ -1,0 +1,58 @@
+//! What holds between any two atomic steps on a ring, as laws of the fact that its table keeps
+//! (`IsKept`), and what each step is.
+
+ghost use Rattle.atomic_table.specs.Table.{State};
+ghost use Rattle.ring.specs.Made.{step_by};
+ghost use Rattle.ring.specs.Shares.{AreMachine, IsKept, IsOneStep, alone};
+ghost use Rattle.ring.specs.declared.share.Numbered.{Numbered};
+ghost use Rattle.ring.specs.declared.share.Shape.{Shape};
+ghost use Rattle.ring_core.specs.Machine.{Machine};
+ghost use Rattle.ring_core.specs.Parts.{may_make};
+ghost use Rattle.ring_core.specs.declared.access.Access.{Access};
+ghost use Rattle.ring_core.specs.declared.part.Part.{Part};
+ghost use Rattle.std.specs.Prelude.{List, [], drop, slice_set, take, ℕ, ⊤, true, ◌++◌, ◌<◌, ◌∷◌, ◌≡◌, ◌≢◌};
+ghost use lib.ListN.{get_elem?};
+ghost use mathlib.Core.Option.{some};
+
+/// Between any two atomic steps, whoever makes them, the words of a ring and the views of all its seats
+/// are together a machine to which some list of steps leads from the opening, and which meets the ring
+/// rule.
+pub fn a_ring_is_a_machine_between_steps()
+    ensures { (shape : Shape) (state : State ⊤ (List Numbered)) → 0 < shape.size → IsKept shape state
+        → (machine : Machine) × AreMachine shape.size shape.producers state.words state.views machine }
+{}
+
+/// They are one machine alone: words and views determine it.
+pub fn words_and_views_are_one_machine()
+    ensures { (size producers : ℕ) (words : List ℕ) (views : List (List Numbered)) (one two : Machine)
+        → AreMachine size producers words views one → AreMachine size producers words views two → one ≡ two }
+{}
+
+/// Each access that a seat may make is exactly one step of that machine, its own: the word that the step
+/// touches and the view of this seat change as the step says, nothing else does, and words and views are
+/// then the machine after the step.
+pub fn each_access_is_one_step()
+    ensures { (size producers : ℕ) (words : List ℕ) (views : List (List Numbered)) (machine : Machine)
+        (seat number : ℕ) (part : Part) (access : Access)
+        → AreMachine size producers words views machine
+        → get_elem? views seat ≡ some (alone number part)
+        → may_make size part access ≡ true
+        → IsOneStep size producers words views machine seat (step_by number access) }
+{}
+
+/// Cutting a seat in two and joining two seats changes no word, and only divides or unites views: the
+/// machine stays. A seat that was joined is spent, its view empty.
+pub fn cuts_and_joins_keep_the_machine()
+    ensures cut { (size producers : ℕ) (words : List ℕ) (views : List (List Numbered)) (machine : Machine)
+        (seat : ℕ) (view : List Numbered)
+        → AreMachine size producers words views machine
+        → get_elem? views seat ≡ some view
+        → AreMachine size producers words (slice_set views seat (drop 1 view) ++ take 1 view ∷ []) machine }
+    ensures joined { (size producers : ℕ) (words : List ℕ) (views : List (List Numbered)) (machine : Machine)
+        (seat other : ℕ) (view theirs : List Numbered)
+        → AreMachine size producers words views machine
+        → other ≢ seat
+        → get_elem? views seat ≡ some view
+        → get_elem? (slice_set views seat (view ++ theirs)) other ≡ some theirs
+        → AreMachine size producers words (slice_set (slice_set views seat (view ++ theirs)) other []) machine }
+{}

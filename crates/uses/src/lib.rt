@@ -1,0 +1,11 @@
+//! Callers of the broker as a library, as a program of one's own would have them: a world of its own, and the ring that
+//! threads share. `docs/embedding.md` and `docs/rings.md` show them.
+
+// The check tries its tactics on what is left of each proof.
+#![tactic(auto)]
+
+mod own_world;
+mod two_threads;
+
+pub use own_world::{fill, open};
+pub use two_threads::through;

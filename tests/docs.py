@@ -1,0 +1,242 @@
+#!/usr/bin/env python3
+"""Runs what the pages show, README.md and docs/*.md, with a built brokerd:
+
+    tests/docs.py BROKERD
+
+docs/CONTRIBUTING.md says how a block is marked. The last line is `N passed, M failed`, as those of the other trials here,
+and the exit status is 0 where none failed."""
+
+import os
+import pathlib
+import re
+import subprocess
+import sys
+import tempfile
+
+TOP = pathlib.Path(__file__).resolve().parent.parent
+FENCE = re.compile(r"^(`{3,})(.*)$")
+SECONDS = 120
+
+# What `rt` is for a page's commands: the program is built already, so it is only run.
+RT = '#!/bin/sh\ncase "$1" in try|run) shift;; *) echo "rt $1: not here" >&2; exit 2;; esac\n[ "$1" = -- ] && shift\nexec brokerd "$@"\n'
+
+
+class Wrong(Exception):
+    """A block that isn't as the page has it."""
+
+
+class Block:
+    """A fenced block: the line of its fence, the words of its fence, and its lines."""
+
+    def __init__(self, line, words, lines):
+        self.line, self.lines = line, lines
+        self.kind = words[0] if words and "=" not in words[0] else ""
+        self.marks = dict(word.split("=", 1) for word in words if "=" in word)
+        unknown = set(self.marks) - {"over", "behind", "names", "file", "shows"}
+        if unknown:
+            raise Wrong(f"unknown mark {', '.join(sorted(unknown))}")
+
+    def is_marked(self):
+        return bool(self.kind in ("script", "console") or self.marks)
+
+    def asks(self):
+        return any(line.startswith(("> ", "$ ")) for line in self.lines)
+
+
+def blocks_of(text):
+    """The fenced blocks of a page, in order."""
+    fence, blocks = None, []
+    for number, line in enumerate(text.split("\n"), 1):
+        found = FENCE.match(line)
+        if fence is None:
+            if found:
+                fence, words, begin, lines = found[1], found[2].split(), number, []
+        elif found and found[1] == fence and not found[2]:
+            blocks.append(Block(begin, words, lines))
+            fence = None
+        else:
+            lines.append(line)
+    if fence is not None:
+        raise Wrong("a block has no end")
+    return blocks
+
+
+def differs(wanted, came):
+    """The first difference, or none; a wanted line `...` stands for any lines."""
+    if "..." not in wanted:
+        for at in range(max(len(wanted), len(came))):
+            pair = [lines[at] if at < len(lines) else None for lines in (wanted, came)]
+            if pair[0] != pair[1]:
+                told = ["nothing" if it is None else it for it in pair]
+                return f"line {at + 1} of the block\n  page: {told[0]}\n  came: {told[1]}"
+        return None
+    at = wanted.index("...")
+    head, tail = wanted[:at], wanted[at + 1 :]
+    wrong = differs(head, came[:at])
+    if wrong or not tail:
+        return wrong
+    starts = range(at, len(came) + 1)
+    if any(differs(tail, came[start:]) is None for start in starts):
+        return None
+    return f"behind `...` nothing that came is as from this line on\n  page: {tail[0]}\n  came: " + "\n        ".join(came[at:])
+
+
+def program(words, room, given="", shell=False):
+    """What a program wrote to standard output, and to standard error."""
+    ran = subprocess.run(
+        words, cwd=room, input=given, shell=shell, capture_output=True, text=True, timeout=SECONDS,
+        env={"PATH": f"{room}/bin:/usr/local/bin:/usr/bin:/bin", "LANG": "C.UTF-8"},
+    )
+    return ran.stdout.splitlines(), ran.stderr.splitlines()
+
+
+def requests_of(path, count):
+    """The first lines of a script that have a reply, so many of them or all."""
+    lines = [it for it in path.read_text().splitlines() if it.split() and not it.startswith("#")]
+    return lines[: int(count)] if count else lines
+
+
+def reply_length(line):
+    """How many lines a reply has that begins with this one."""
+    found = re.fullmatch(r"(audit|errors|list) (\d+)", line)
+    return 1 + int(found[2]) if found else 1
+
+
+class Page:
+    """The blocks of one page, run in turn in a folder of their own."""
+
+    def __init__(self, path, room):
+        self.path, self.room = path, room
+        self.asked = None
+
+    def spelled(self, block):
+        """The block's lines, with the texts that names stand for."""
+        names = {}
+        if "names" in block.marks:
+            for line in (TOP / block.marks["names"]).read_text().splitlines():
+                name, found, text = line.partition(" = ")
+                if found:
+                    names["{" + name + "}"] = text
+        lines = block.lines
+        for name, text in names.items():
+            lines = [line.replace(name, text) for line in lines]
+        return lines
+
+    def before(self, block):
+        """What is asked before a block's own requests."""
+        behind = block.marks.get("behind")
+        if behind is None:
+            return []
+        if behind == "above":
+            if self.asked is None:
+                raise Wrong("no script stands above")
+            return self.asked
+        path, _, count = behind.partition(":")
+        return requests_of(self.room / path, count)
+
+    def script(self, block):
+        """A dialogue: what is asked behind `> `, and the replies."""
+        lines = self.spelled(block)
+        before = self.before(block)
+        asked = [line[2:] for line in lines if line.startswith("> ")]
+        if not asked:
+            raise Wrong("nothing is asked")
+        self.asked = before + asked
+        out, err = program(
+            ["brokerd", "run", block.marks["over"]], self.room, "".join(f"{it}\n" for it in self.asked)
+        )
+        came = []
+        for place, line in enumerate(self.asked):
+            own = place >= len(before)
+            if own:
+                came.append(f"> {line}")
+            if line.split() and not line.startswith("#") and out:
+                count = reply_length(out[0])
+                came += out[:count] if own else []
+                out = out[count:]
+        return differs(lines, came + out + err)
+
+    def console(self, block):
+        """Commands behind `$ `, and what they write."""
+        came, at = [], 0
+        for line in block.lines:
+            if line.startswith("$ "):
+                command = line[2:].replace("crates/brokerd/out/brokerd", "brokerd")
+                out, err = program(command, self.room, shell=True)
+                came += [line, *out, *err]
+                at += 1
+        if not at:
+            raise Wrong("nothing is typed")
+        return differs(block.lines, came)
+
+    def shown(self, block):
+        """A part of a file of the repository."""
+        path = block.marks["shows"]
+        held = (TOP / path).read_text().split("\n")
+        count = len(block.lines)
+        if any(held[at : at + count] == block.lines for at in range(len(held) - count + 1)):
+            return None
+        missing = [line for line in block.lines if line not in held]
+        return f"{path} has no such lines" + (f"\n  page: {missing[0]}" if missing else " in this order")
+
+    def run(self, block):
+        """Why a block is not as the page has it, or none."""
+        if "file" in block.marks:
+            (self.room / block.marks["file"]).write_text("".join(f"{it}\n" for it in block.lines))
+        if "shows" in block.marks:
+            return self.shown(block)
+        if block.kind == "script":
+            return self.script(block)
+        if block.kind == "console":
+            return self.console(block)
+        return None
+
+
+def try_page(path, brokerd):
+    """Runs a page's blocks, and tells how many passed and failed."""
+    passed = failed = 0
+    name = path.relative_to(TOP)
+    with tempfile.TemporaryDirectory(prefix="docs-") as folder:
+        room = pathlib.Path(folder)
+        (room / "bin").mkdir()
+        (room / "bin" / "brokerd").symlink_to(brokerd)
+        (room / "bin" / "rt").write_text(RT)
+        (room / "bin" / "rt").chmod(0o755)
+        for it in ("crates", "docs", "examples", "README.md"):
+            (room / it).symlink_to(TOP / it)
+        page = Page(path, room)
+        for block in blocks_of(path.read_text()):
+            if not block.is_marked() and not block.asks():
+                continue
+            try:
+                wrong = page.run(block) if block.is_marked() else "asks something, and isn't marked"
+            except (Wrong, OSError, KeyError, UnicodeDecodeError, subprocess.TimeoutExpired) as error:
+                wrong = f"{type(error).__name__}: {error}"
+            if wrong:
+                failed += 1
+                print(f"{name}, block of line {block.line}: {wrong}")
+            else:
+                passed += 1
+    return passed, failed
+
+
+def main(words):
+    if len(words) != 2 or not os.access(words[1], os.X_OK):
+        print("usage: tests/docs.py BROKERD", file=sys.stderr)
+        return 2
+    brokerd = pathlib.Path(words[1]).resolve()
+    passed = failed = 0
+    for path in [TOP / "README.md", *sorted((TOP / "docs").glob("*.md"))]:
+        try:
+            counts = try_page(path, brokerd)
+        except Wrong as error:
+            print(f"{path.relative_to(TOP)}: {error}")
+            counts = (0, 1)
+        passed, failed = passed + counts[0], failed + counts[1]
+    print(f"docs: {passed} passed, {failed} failed")
+    print(f"{passed} passed, {failed} failed")
+    return 1 if failed or not passed else 0
+
+
+if __name__ == "__main__":
+    sys.exit(main(sys.argv))

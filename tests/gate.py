@@ -1,0 +1,58 @@
+#!/usr/bin/env python3
+"""Runs `rt ci`, and behind it the trials of this folder on the program that it has proved and built.
+
+The last line is `N passed, M failed` over all, and the status is 0 only where nothing failed. `rt ci` leaves each
+program that it has proved as crates/NAME/out/NAME. With a path, gate.py PROGRAM, the trials alone are run, on that one.
+"""
+import os
+import re
+import subprocess
+import sys
+
+from trial import HERE, TOP
+
+CASES = f"{TOP}/crates/cases/data"
+TRIALS = ("memory.py", "streams.py", "texts.py", "docs.py")
+
+
+def told(words):
+    """Runs a command and passes on what it prints: how many passed and failed, by its last line and its status."""
+    last = ""
+    with subprocess.Popen(words, cwd=TOP, stdout=subprocess.PIPE, text=True, errors="replace") as command:
+        for line in command.stdout:
+            print(line, end="", flush=True)
+            last = line if line.strip() else last
+    found = re.match(r"(\d+) passed, (\d+) failed", last)
+    passed, failed = (int(found[1]), int(found[2])) if found else (0, 1)
+    return passed, max(failed, 1) if command.returncode else failed
+
+
+def written_anew():
+    """Whether the cases that are written by a script here are those that it writes."""
+    scripts = [(["turned_bits.py", it], None, f"turned_{it}.case") for it in ("fill", "kernel", "barrier_and", "barrier_or")]
+    scripts.append((["beginnings.py"], "inc.hsail", "beginnings.case"))
+    counts = [0, 0]
+    for words, given, name in scripts:
+        with open(f"{CASES}/{given}" if given else os.devnull, "rb") as it:
+            made = subprocess.run([sys.executable, "-B", f"{HERE}/{words[0]}", *words[1:]], stdin=it, capture_output=True)
+        with open(f"{CASES}/{name}", "rb") as it:
+            well = made.returncode == 0 and made.stdout == it.read()
+        counts[0 if well else 1] += 1
+        print(f"{'ok' if well else 'FAILED'} {name} is what {words[0]} writes", flush=True)
+    return counts
+
+
+def main(program=None):
+    counts = [] if program else [told(["rt", "ci"])]
+    program = program or f"{TOP}/crates/brokerd/out/brokerd"
+    counts.append(written_anew())
+    for script in TRIALS:
+        print(f"== {script}", flush=True)
+        counts.append(told([sys.executable, "-B", f"{HERE}/{script}", os.path.abspath(program)]))
+    passed, failed = (sum(column) for column in zip(*counts))
+    print(f"{passed} passed, {failed} failed")
+    sys.exit(1 if failed else 0)
+
+
+if __name__ == "__main__":
+    main(*sys.argv[1:])

@@ -1,0 +1,91 @@
+"""What the trials of this folder share: the program, its runs, and how they are counted."""
+import os
+import subprocess
+import sys
+from concurrent.futures import ThreadPoolExecutor
+
+HERE = os.path.dirname(os.path.abspath(__file__))
+TOP = os.path.dirname(HERE)
+SAMPLE = f"{TOP}/crates/brokerd/data/sample.toml"
+
+FILL = "0414008000000000" + "0" * 16 + "0000000001000000" + "0400000000000000" + "5a00000000000000" + "0" * 32 + "0100000000000000"
+KERNEL = "0214010002000100" + "0100000004000000" + "0100000001000000" + "0" * 16 + "0100000000000000" + "0000000002000000" + "0" * 16 + "0100000000000000"
+BARRIER = "0300000000000000" + "0100000000000000" + "0200000000000000" + "0" * 80
+PRELUDE = [
+    "grant alice agent gpu USE",
+    "grant alice region buf READ,WRITE",
+    "grant alice region args READ,WRITE",
+    "grant alice signal done WAIT,CHANGE",
+    "grant alice signal go WAIT,CHANGE",
+    "grant alice kernel inc LAUNCH",
+    "queue alice gpu 2 2",
+]
+
+
+class Ended:
+    """How a run ended."""
+
+    def __init__(self, status, out, err):
+        self.status, self.out, self.err = status, out, err
+
+    def __eq__(self, other):
+        return (self.status, self.out, self.err) == (other.status, other.out, other.err)
+
+    def __repr__(self):
+        return f"status {self.status}, {self.out[-300:]!r}, {self.err[-300:]!r}"
+
+
+def run(words, given=b"", env=None, seconds=60):
+    """Runs a program on some input. A run that doesn't end in time, or by a signal, has no status of its own."""
+    try:
+        ran = subprocess.run(words, input=given, capture_output=True, env=env, timeout=seconds)
+    except subprocess.TimeoutExpired:
+        return Ended("none: it did not end", b"", b"")
+    return Ended(ran.returncode, ran.stdout, ran.stderr)
+
+
+class Trials:
+    """Tests by their names, each of many trials."""
+
+    def __init__(self, about):
+        self.about, self.passed, self.failed, self.tried = about, 0, 0, 0
+        self.pool = ThreadPoolExecutor(max(2, min(4, os.cpu_count() or 2)))
+
+    def every(self, name, trial, inputs, note=lambda: ""):
+        """Tries each input. A trial gives None where all is well, else what is wrong."""
+        inputs = list(inputs)
+        wrong = [(given, why) for given, why in zip(inputs, self.pool.map(trial, inputs)) if why]
+        self.tried += len(inputs)
+        if wrong or not inputs:
+            self.failed += 1
+            print(f"FAILED {name}: {len(wrong)} of {len(inputs)} trials")
+            for given, why in wrong[:5]:
+                print(f"    {str(given)[:200]}: {why}")
+        else:
+            self.passed += 1
+            print(f"ok {name}: {len(inputs)} trials{note()}")
+        sys.stdout.flush()
+
+    def end(self):
+        print(f"{self.about}: {self.tried} trials")
+        print(f"{self.passed} passed, {self.failed} failed")
+        sys.exit(1 if self.failed or not self.passed else 0)
+
+
+def blocks(script, out):
+    """The replies to a script's lines, one a line: what follows `list N`, `errors N` and `audit N` belongs to it."""
+    lines = out.decode(errors="replace").split("\n")
+    if lines.pop() != "":
+        return None
+    found, at = [], 0
+    while at < len(lines):
+        words = lines[at].split(" ")
+        asked = script[len(found)].split(" ")[0] if len(found) < len(script) else ""
+        count = int(words[1]) if asked in ("list", "errors", "audit") and words[0] == asked else 0
+        found.append("\n".join(lines[at : at + 1 + count]))
+        at += 1 + count
+    return found
+
+
+def text(script):
+    return "".join(f"{line}\n" for line in script).encode()
