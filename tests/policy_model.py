@@ -19,7 +19,9 @@ ARRAYS = {
     "signal": (1024, ["name", "initial"]),
     "kernel": (64, ["name", "entry", "text"]),
     "allow": (4096, ["client", "kind", "object", "rights"]),
+    "deny": (4096, ["client", "kind", "object", "rights"]),
 }
+PLURALS = {"deny": "denies"}
 
 
 class Fault(Exception):
@@ -83,14 +85,21 @@ def rows_of(tree, kind):
     return rows, keys
 
 
-def judge(tree):
-    """The counts of a tree's arrays."""
-    if any(key not in ("version", *ARRAYS) for key in tree):
+def kinds_of(tree):
+    """The arrays that a file's version has: deny rows stand in the second alone."""
+    version = tree.get("version", 1)
+    if not is_whole(version, 1, 2):
         raise Fault(3)
-    if "version" in tree and not is_whole(tree["version"], 1, 1):
+    return [it for it in ARRAYS if it != "deny" or version == 2]
+
+
+def judge(tree):
+    """The counts of a tree's arrays, each behind its name."""
+    kinds = kinds_of(tree)
+    if any(key not in ("version", *kinds) for key in tree):
         raise Fault(3)
     names, counts = {}, []
-    for kind in ARRAYS:
+    for kind in kinds:
         rows, keys = rows_of(tree, kind)
         names[kind] = []
         for number, row in enumerate(rows, 1):
@@ -101,7 +110,7 @@ def judge(tree):
                     raise Fault(2, kind, number)
                 if not is_good(key, row[key], row):
                     raise Fault(3, kind, number)
-            if kind == "allow":
+            if kind in ("allow", "deny"):
                 if row["client"] != "*" and row["client"] not in names["client"]:
                     raise Fault(4, kind, number)
                 if row["object"] != "*" and row["object"] not in names[row["kind"]]:
@@ -112,7 +121,7 @@ def judge(tree):
                 names[kind].append(row["name"])
         if kind == "region" and sum(it["length"] for it in rows) > MOST_MEMORY:
             raise Fault(6, kind, 0)
-        counts.append(len(rows))
+        counts.append((PLURALS.get(kind, f"{kind}s"), len(rows)))
     return counts
 
 
@@ -134,5 +143,5 @@ def told(text):
         return (1, b"", f"{fault}\n".encode()), kernels
     if "" in kernels:
         return (1, b"", f"kernel {kernels.index('') + 1}: read 2 line 1 column 1\n".encode()), kernels
-    lines = [f"{kind}s {count}" for kind, count in zip(ARRAYS, counts)]
+    lines = [f"{name} {count}" for name, count in counts]
     return (0, "".join(f"{it}\n" for it in [*lines, "ok"]).encode(), b""), kernels
