@@ -1,0 +1,153 @@
+#!/usr/bin/env python3
+"""Each word of the command line: what it does, the text on each stream, and the exit status: words.py PROGRAM"""
+import os
+import re
+import sys
+import tempfile
+
+from trial import FILL, PRELUDE, SAMPLE, TOP, Ended, Trials, run, text
+
+KERNEL_TEXT = f"{TOP}/crates/cases/data/inc.hsail"
+# how many entries an audit has place for at the most, and where none is named
+MOST, DEFAULT = 1_048_576, 65_536
+COMMANDS = ("check", "run", "kernel", "assemble", "explain")
+
+
+def is_told(words):
+    """That a command line isn't understood: status 2, nothing on standard output, and on standard error a text with these words."""
+
+    def trial(ended):
+        told = ended.err.decode(errors="replace")
+        missing = [it for it in words if it not in told]
+        well = ended.status == 2 and not ended.out and told.endswith("\n") and not missing
+        return None if well else f"it ended otherwise: {ended}"
+
+    return trial
+
+
+# a command line that isn't understood, and what is said of it
+WRONG = [
+    ([], ["Usage: brokerd", *COMMANDS]),
+    (["mend"], ["mend"]),
+    (["--loud"], ["--loud"]),
+    (["check"], ["POLICY"]),
+    (["check", SAMPLE, SAMPLE], [SAMPLE]),
+    (["check", SAMPLE, "--audit", "10"], ["--audit"]),
+    (["run"], ["POLICY"]),
+    (["run", SAMPLE, "--loud"], ["--loud"]),
+    (["run", SAMPLE, "--audit"], ["--audit"]),
+    (["run", SAMPLE, "--audit", "0"], ["0", "1", "1048576"]),
+    (["run", SAMPLE, "--audit", str(MOST + 1)], [str(MOST + 1), "1048576"]),
+    (["run", SAMPLE, "--audit", "18446744073709551616"], ["18446744073709551616"]),
+    (["run", SAMPLE, "--audit", "-1"], ["-1"]),
+    (["run", SAMPLE, "--audit", "ten"], ["ten"]),
+    (["run", SAMPLE, "--audit", "10", "--audit", "10"], ["--audit"]),
+    (["run", SAMPLE, "--strict=yes"], ["--strict"]),
+    (["kernel"], ["FILE"]),
+    (["assemble"], ["POLICY"]),
+    (["explain"], ["WORD"]),
+]
+
+
+def answer(program, words, given=b""):
+    return run([program, *words], given)
+
+
+def wants(ended, status, out, err=b""):
+    return None if ended == Ended(status, out, err) else f"it ended otherwise: {ended}"
+
+
+def wrong_lines(trials, program):
+    trials.every("a command line that isn't understood ends with 2 and says which word", lambda it: is_told(it[1])(answer(program, it[0])), WRONG)
+
+
+def audits(trials, program):
+    """How many entries a run has place for: as many as --audit says."""
+
+    def has_places(words, places, grants):
+        """That just so many of some grants are entered."""
+        script = [f"grant alice signal done {'WAIT' if it % 2 else 'CHANGE'}" for it in range(grants)]
+        ended = answer(program, ["run", SAMPLE, *words], text(script))
+        entered = min(places, grants)
+        wanted = b"ok\n" * entered + b"refused 10 AuditFull\n" * (grants - entered)
+        return wants(ended, 0, wanted)
+
+    def trial(it):
+        words, places, grants = it
+        return has_places(words, places, grants)
+
+    trials.every("an audit has place for as many entries as --audit says", trial, [
+        (["--audit", "1"], 1, 3), (["--audit", "10"], 10, 12), (["--audit=10"], 10, 12),
+        (["--audit", str(DEFAULT)], DEFAULT, DEFAULT + 2), ([], DEFAULT, DEFAULT + 2),
+        (["--audit", "1000000"], 1_000_000, 1_000_002), (["--audit", str(MOST)], MOST, MOST + 2),
+    ])
+    before = lambda words: wants(answer(program, words, b"grant alice signal done WAIT\nlist alice\n"), 0, b"ok\nlist 1\nsignal 1 done WAIT\n")
+    trials.every("options may stand before and behind the policy", before,
+                 [["run", "--audit", "10", SAMPLE], ["run", SAMPLE, "--audit", "10"], ["run", "--strict", SAMPLE, "--audit=10"]])
+
+
+def policies(trials, program, room):
+    """Each command over a policy that is refused, and over files that aren't there."""
+    wrong = f"{room}/wrong.toml"
+    with open(wrong, "wb") as it:
+        it.write(b'[[client]]\nname = "alice"\n[[client]]\nname = "alice"\n')
+    refused = lambda words: wants(answer(program, [*words, wrong], b"audit\n"), 1, b"", b"policy: 5 DoubleName client 2\n")
+    trials.every("a policy that is refused ends with 1, before anything is read or written", refused, [["check"], ["run"], ["run", "--strict"], ["assemble"]])
+    unread = lambda words: wants(answer(program, [*words, f"{room}/nothing"]), 3, b"", b"read fault\n")
+    trials.every("a file that isn't there ends with 3", unread, [["check"], ["run"], ["run", "--strict"], ["assemble"], ["kernel"]])
+    counts = b"clients 2\nagents 1\nregions 2\nsignals 2\nkernels 2\nallows 6\nok\n"
+    trials.every("check counts the sample's rows", lambda it: wants(answer(program, ["check", it]), 0, counts), [SAMPLE])
+
+
+def lines(trials, program):
+    """What ends a run."""
+    denied = text(PRELUDE[1:]) + b"revoke alice region buf WRITE\nwrite alice 0000000100000000 01\nlist bob\n"
+    plain = b"ok\n" * 5 + b"refused 3 Denied USE\nok\nrefused 3 Denied WRITE\nlist 0\n"
+    trials.every("a run goes on behind what is refused", lambda it: wants(answer(program, ["run", SAMPLE], it), 0, plain), [denied])
+    strict = b"ok\n" * 5 + b"refused 3 Denied USE\n"
+    trials.every("a strict run ends with 1 behind what is refused", lambda it: wants(answer(program, ["run", "--strict", SAMPLE], it), 1, strict), [denied])
+    asked = text([*PRELUDE, f"submit 1 1 {FILL}"]) + b"nonsense\nlist bob\n"
+    bad = b"ok\n" * 6 + b"queue 1\npublished 0\n"
+    trials.every("a line of no form ends a run with 1, by its number", lambda it: wants(answer(program, ["run", *it, SAMPLE], asked), 1, bad, b"line 9: bad request\n"), [[], ["--strict"]])
+
+
+def texts(trials, program):
+    """The help, the version, and what explain tells."""
+    with open(f"{TOP}/docs/scripts.md", encoding="utf-8") as it:
+        table = it.read().split("| Line |", 1)[1].split("\n\n", 1)[0]
+    forms = set(re.findall(r"^\| `([a-z-]+)", table, re.MULTILINE))
+
+    def helps(words):
+        ended = answer(program, words)
+        told = ended.out.decode(errors="replace")
+        wanted = [*COMMANDS, *forms, "L1", "L10", "Exit status"] if words == ["--help"] else ["Usage: brokerd"]
+        missing = [it for it in wanted if not re.search(rf"\b{it}\b", told)]
+        return None if ended.status == 0 and not ended.err and not missing else f"{missing} missing: {ended}"
+
+    trials.every("the help names commands, forms of lines, statuses and rules", helps, [["--help"], *([it, "--help"] for it in COMMANDS)])
+    version = lambda words: None if re.fullmatch(rb"brokerd \d+\.\d+\.\d+ \(rattle-kit-\S+ .+\)\n", answer(program, words).out) else "no version"
+    trials.every("the version names the kit", version, [["--version"]])
+    explained = lambda word: None if (it := answer(program, ["explain", word])).status == 0 and it.out and not it.err else f"it ended otherwise: {it}"
+    rules = [f"L{it}" for it in range(1, 11)] + [f"A{it}" for it in range(1, 8)] + ["B1"]
+    trials.every("explain tells each rule, refusal and cause", explained, [*rules, "AuditFull", "Busy", "NotToml", "WrongRegister", "Lexeme", "NotInProfile"])
+    unknown = lambda word: is_told([])(answer(program, ["explain", word]))
+    trials.every("explain of a word that it doesn't know ends with 2", unknown, ["L0", "L11", "A8", "B2", "", "Nothing"])
+    kernel = lambda path: None if (it := answer(program, ["kernel", path])).status == 0 and it.out.startswith(b"kernel &inc ") and it.out.endswith(b"\nok\n") and not it.err else f"{it}"
+    trials.every("kernel lists a kernel's text", kernel, [KERNEL_TEXT])
+    passed_on = b"# a comment\n\nlist alice\nsubmit 1 1 " + FILL.encode() + b"\n"
+    trials.every("assemble passes other lines on", lambda it: wants(answer(program, ["assemble", SAMPLE], it), 0, it), [passed_on, b""])
+
+
+def main(program):
+    trials = Trials("words")
+    with tempfile.TemporaryDirectory(prefix="words-") as room:
+        wrong_lines(trials, program)
+        audits(trials, program)
+        policies(trials, program, room)
+        lines(trials, program)
+        texts(trials, program)
+    trials.end()
+
+
+if __name__ == "__main__":
+    main(os.path.abspath(sys.argv[1]))
