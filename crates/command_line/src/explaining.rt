@@ -188,14 +188,10 @@ fn is_not_done(reply: &LineReply) -> bool {
     }
 }
 
-/// A run that tells: where its replies and its explanations go, and what it keeps between bytes.
+/// A run that tells: what it keeps between bytes.
 #[derive(Drop)]
-struct Telling<'a, O, E> {
+struct Telling {
     alloc: Global,
-    out: &'a mut O,
-    err: &'a mut E,
-    // The further policies.
-    later: &'a [Policy],
     is_strict: bool,
     // The replies that weren't handed over yet.
     replies: String,
@@ -204,38 +200,50 @@ struct Telling<'a, O, E> {
     number: u64,
 }
 
-impl<'a, O: io::Write, E: io::Write> Telling<'a, O, E> {
+impl Telling {
     // Hands the replies over to their writer, and keeps none.
-    fn hand_over(&mut self) -> Result<(), End> {
-        let written = self.out.write_all(self.replies.as_bytes());
+    fn hand_over<O: io::Write>(&mut self, out: &mut O) -> Result<(), End> {
+        let written = out.write_all(self.replies.as_bytes());
         self.replies.clear();
-        if written.is_err() || self.out.flush().is_err() {
+        if written.is_err() || out.flush().is_err() {
             return Err(End::Failed(Failure::Write));
         }
         Ok(())
     }
 
     // Writes an explanation behind the replies so far.
-    fn explain(&mut self, told: &str) -> Result<(), End> {
+    fn explain<O: io::Write, E: io::Write>(
+        &mut self,
+        told: &str,
+        out: &mut O,
+        err: &mut E,
+    ) -> Result<(), End> {
         if told.is_empty() {
             return Ok(());
         }
-        self.hand_over()?;
-        if self.err.write_all(told.as_bytes()).is_err() || self.err.flush().is_err() {
+        self.hand_over(out)?;
+        if err.write_all(told.as_bytes()).is_err() || err.flush().is_err() {
             return Err(End::Untold);
         }
         Ok(())
     }
 
     // Does what a line asks, and tells of its reply.
-    fn serve(&mut self, world: &mut World, command: Command) -> Result<(), End> {
+    fn serve<O: io::Write, E: io::Write>(
+        &mut self,
+        world: &mut World,
+        later: &[Policy],
+        command: Command,
+        out: &mut O,
+        err: &mut E,
+    ) -> Result<(), End> {
         let asked = asked_by(&command);
-        let reply = perform(self.alloc, world, self.later, command);
+        let reply = perform(self.alloc, world, later, command);
         let mut text = String::new(self.alloc);
         write_line(&mut text, world.policy(), &reply)?;
         self.replies.push_str(text.as_str())?;
         if let Ok(told) = retold(self.alloc, world, self.number, asked, &reply) {
-            self.explain(told.as_str())?;
+            self.explain(told.as_str(), out, err)?;
         }
         if self.is_strict && is_not_done(&reply) {
             return Err(End::NotDone);
@@ -244,12 +252,22 @@ impl<'a, O: io::Write, E: io::Write> Telling<'a, O, E> {
     }
 
     // Serves the line that ends here.
-    fn end_line(&mut self, world: &mut World) -> Result<(), End> {
-        let count = self.later.len();
-        match read_line(self.alloc, world.policy(), count, self.line.as_slice())? {
+    fn end_line<O: io::Write, E: io::Write>(
+        &mut self,
+        world: &mut World,
+        later: &[Policy],
+        out: &mut O,
+        err: &mut E,
+    ) -> Result<(), End> {
+        match read_line(
+            self.alloc,
+            world.policy(),
+            later.len(),
+            self.line.as_slice(),
+        )? {
             None => return Err(End::Failed(Failure::Line(self.number))),
             Some(Line::Quiet) => {}
-            Some(Line::Asks(command)) => self.serve(world, command)?,
+            Some(Line::Asks(command)) => self.serve(world, later, command, out, err)?,
         }
         self.line.clear();
         self.number = self.number.saturating_add(1);
@@ -257,9 +275,16 @@ impl<'a, O: io::Write, E: io::Write> Telling<'a, O, E> {
     }
 
     // Takes a byte of the script.
-    fn take_byte(&mut self, world: &mut World, byte: u8) -> Result<(), End> {
+    fn take_byte<O: io::Write, E: io::Write>(
+        &mut self,
+        world: &mut World,
+        later: &[Policy],
+        byte: u8,
+        out: &mut O,
+        err: &mut E,
+    ) -> Result<(), End> {
         if byte == b'\n' {
-            return self.end_line(world);
+            return self.end_line(world, later, out, err);
         }
         let is_full = self.line.len() >= LONGEST_LINE;
         self.line.push(byte)?;
@@ -270,34 +295,57 @@ impl<'a, O: io::Write, E: io::Write> Telling<'a, O, E> {
     }
 
     // Takes further bytes of the script, and hands over the replies to its lines.
-    fn take_bytes(&mut self, world: &mut World, bytes: &[u8]) -> Result<(), End> {
+    fn take_bytes<O: io::Write, E: io::Write>(
+        &mut self,
+        world: &mut World,
+        later: &[Policy],
+        bytes: &[u8],
+        out: &mut O,
+        err: &mut E,
+    ) -> Result<(), End> {
         for byte in bytes {
-            if let Err(end) = self.take_byte(world, *byte) {
-                self.hand_over()?;
+            if let Err(end) = self.take_byte(world, later, *byte, out, err) {
+                self.hand_over(out)?;
                 return Err(end);
             }
         }
-        self.hand_over()
+        self.hand_over(out)
     }
 
     // Takes the end of the script: a line that is begun ends there.
-    fn take_end(&mut self, world: &mut World) -> Result<(), End> {
+    fn take_end<O: io::Write, E: io::Write>(
+        &mut self,
+        world: &mut World,
+        later: &[Policy],
+        out: &mut O,
+        err: &mut E,
+    ) -> Result<(), End> {
         if !self.line.is_empty() {
-            if let Err(end) = self.end_line(world) {
-                self.hand_over()?;
+            if let Err(end) = self.end_line(world, later, out, err) {
+                self.hand_over(out)?;
                 return Err(end);
             }
         }
-        self.hand_over()
+        self.hand_over(out)
     }
 
     // Runs a script over a world.
-    fn run<R: io::Read>(&mut self, world: &mut World, script: &mut R) -> Result<(), End> {
+    fn run<R: io::Read, O: io::Write, E: io::Write>(
+        &mut self,
+        world: &mut World,
+        later: &[Policy],
+        script: &mut R,
+        out: &mut O,
+        err: &mut E,
+    ) -> Result<(), End> {
         let mut block = [0; BLOCK];
         for _ in 0..MOST_READS {
             match script.read(&mut block) {
-                Ok(0) => return self.take_end(world),
-                Ok(count) => self.take_bytes(world, block.split_at(count.min(BLOCK)).0)?,
+                Ok(0) => return self.take_end(world, later, out, err),
+                Ok(count) => {
+                    let bytes = block.split_at(count.min(BLOCK)).0;
+                    self.take_bytes(world, later, bytes, out, err)?;
+                }
                 Err(error) if error.kind() == io::ErrorKind::Interrupted => {}
                 Err(_) => return Err(End::Failed(Failure::Read)),
             }
@@ -358,23 +406,20 @@ fn run_in<R: io::Read, O: io::Write, E: io::Write>(
     let mut world = world;
     let mut telling = Telling {
         alloc,
-        out,
-        err,
-        later,
         is_strict,
         replies: String::new(alloc),
         line: Vec::new(alloc),
         number: 1,
     };
-    match telling.run(&mut world, script) {
+    match telling.run(&mut world, later, script, out, err) {
         Ok(()) => Status::Done,
         Err(End::NotDone) => Status::Refused,
         Err(End::Untold) => Status::Failed,
         Err(End::Failed(Failure::Line(number))) => {
             let told = telling.line_told();
-            name_and_tell(alloc, &mut *telling.err, Failure::Line(number), told)
+            name_and_tell(alloc, err, Failure::Line(number), told)
         }
-        Err(End::Failed(failure)) => name(alloc, &mut *telling.err, failure),
+        Err(End::Failed(failure)) => name(alloc, err, failure),
     }
 }
 

@@ -1,3 +1,0 @@
-pub mod Belonging
-pub mod Endings
-pub mod Ranges

@@ -1,5 +1,0 @@
-pub mod Plans
-pub mod Counts
-pub mod Additions
-pub mod Reports
-pub mod Loads
