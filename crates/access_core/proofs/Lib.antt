@@ -25,7 +25,6 @@ pub mod HeldRights
 pub mod HeldAfter
 pub mod Granting
 pub mod Listing
-pub mod ReloadLemmas
 pub mod Least
 pub mod Opened
 pub mod Rotated

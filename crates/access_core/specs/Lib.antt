@@ -1,6 +1,5 @@
 pub mod Cores
 pub mod Keeping
 pub mod Opening
-pub mod Reloads
 pub mod Tables
 pub mod inner

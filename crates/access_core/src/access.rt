@@ -15,7 +15,6 @@ mod opening;
 mod polling;
 mod queries;
 mod queueing;
-mod reloading;
 mod running;
 mod serving;
 mod stopping;

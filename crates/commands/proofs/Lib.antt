@@ -1,4 +1,3 @@
 pub mod Judging
 pub mod Rows
 pub mod Entries
-pub mod Reading

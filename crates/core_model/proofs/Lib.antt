@@ -21,4 +21,3 @@ pub mod Room
 mod Allowed
 mod Denied
 mod Working
-pub mod Declared

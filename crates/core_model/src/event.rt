@@ -3,7 +3,7 @@
 ghost use Rattle.std.specs.Prelude.{◌≡◌, IfOk};
 
 use aql_packet::{Address, AgentHandle, ClientId, PacketId, QueueId, SignalHandle};
-use policy::{Object, Policy, PolicyRows, Rights};
+use policy::{Object, Rights};
 use sequences::Sequence;
 use signals::{Condition, SignalOp};
 use std::alloc::{AllocError, Global};
@@ -65,10 +65,6 @@ pub enum Event {
         client: ClientId,
         signal: SignalHandle,
         operation: SignalOp,
-    },
-    /// An administrator puts another policy in force, which declares the same: these are its rows on rights.
-    Reload {
-        rows: PolicyRows,
     },
 }
 
@@ -145,9 +141,6 @@ impl Event {
                 signal: *signal,
                 operation: *operation,
             },
-            Event::Reload { rows } => Event::Reload {
-                rows: rows.copy(alloc)?,
-            },
         })
     }
 }
@@ -186,10 +179,8 @@ pub enum Query {
 }
 
 /// A call of the core.
-#[derive(Drop)]
+#[derive(Debug, Drop, PartialEq, Eq)]
 pub enum Request {
     Event(Event),
     Query(Query),
-    /// An administrator hands in a policy, whose rows on rights are to be in force from then on.
-    Reload(Policy),
 }

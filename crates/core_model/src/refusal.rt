@@ -38,8 +38,6 @@ pub enum Refusal {
     TooMany,
     /// No object of its kind has this number.
     UnknownObject,
-    /// Another policy declares other clients, agents, regions, signals or kernels.
-    OtherObjects,
 }
 
 impl Refusal {
@@ -64,7 +62,6 @@ impl Refusal {
             Refusal::BadSize => 11,
             Refusal::TooMany => 12,
             Refusal::UnknownObject => 13,
-            Refusal::OtherObjects => 16,
         }
     }
 }

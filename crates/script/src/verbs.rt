@@ -36,7 +36,6 @@ pub enum Verb {
     List,
     Errors,
     Audit,
-    Reload,
 }
 
 /// The verb of a word.
@@ -126,8 +125,6 @@ fn client_verb(word: &[u8]) -> Option<Verb>
         Some(Verb::Errors)
     } else if is_word(word, "audit") {
         Some(Verb::Audit)
-    } else if is_word(word, "reload") {
-        Some(Verb::Reload)
     } else {
         None
     }
