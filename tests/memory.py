@@ -1,114 +1,26 @@
 #!/usr/bin/env python3
 """Has each request for memory of some runs refused in turn, once, and from then on: memory.py PROGRAM
 
-With one request refused, a run ends with status 3 and `no memory` behind a beginning of its replies; or a line is
-answered `refused 0 OutOfMemory` in place of its reply, and from there on all is as if that line had not been; and where
-the line is asked again, with memory, it is answered as if it had not been asked before. (A line that stands for several
-requests in turn may be refused behind any of them: then those before it were made.) Or nobody needed the memory, and
-the run is as ever. What takes no memory is never refused for want of it. With all requests refused from one on, a run
-ends with status 3 and `no memory`.
+The runs are those of tests/commands.py. With one request refused, a run ends with status 3 and `no memory` behind a
+beginning of its replies; or a line is answered `refused 0 OutOfMemory` in place of its reply, and from there on all is
+as if that line had not been; and where the line is asked again, with memory, it is answered as if it had not been asked
+before. (A line that stands for several requests in turn may be refused behind any of them: then those before it were
+made.) Or nobody needed the memory, and the run is as ever. What takes no memory is never refused for want of it. With
+all requests refused from one on, a run ends with status 3 and `no memory`.
 """
 import functools
 import os
-import subprocess
+import resource
 import sys
 import tempfile
 
-from trial import BARRIER, FILL, HERE, KERNEL, PRELUDE, SAMPLE, Ended, Trials, blocks, run, text
+import commands
+from trial import SAMPLE, Trials, blocks, library_of, run, text
 
 WANT = "refused 0 OutOfMemory"
 # what takes no memory, and so isn't refused for want of it
 TAKES_NONE = ("finish", "revoke", "stop", "signal", "load", "test")
 NO_MEMORY = b"no memory\n"
-
-FORMS = [
-    *PRELUDE,
-    "# a remark",
-    "reserve 1 1",
-    "room 1 1 0",
-    "word 1 1 0 1 0000000000000000",
-    f"publish 1 1 0 {FILL}",
-    f"submit 1 2 {FILL}",
-    f"submit 1 1 {FILL}",
-    "look 1",
-    "part 1 4",
-    "peek 1",
-    "take 1",
-    "clear 1",
-    "advance 1",
-    "peek 1",
-    "take 1",
-    "retire 1",
-    f"publish 1 1 2 {BARRIER}",
-    "serve 1",
-    "serve 1",
-    "run 1 0",
-    "run 1 0",
-    "revoke alice region buf WRITE",
-    "finish 1 0",
-    "poll 1 2",
-    "signal alice done store 0",
-    "signal alice go add -1",
-    "poll 1 2",
-    "read alice 0000000100000000 8",
-    "write alice 0000000200000000 0102030405060708",
-    "load alice done",
-    "signal alice done exchange 5",
-    "signal alice done cas 5 7",
-    "test alice done GTE 7",
-    "grant bob region buf READ",
-    "grant bob region buf WRITE",
-    "list alice",
-    "list bob",
-    "revoke bob region buf READ",
-    "queue alice gpu 4 1",
-    "queue alice gpu 3 1",
-    "stop 2",
-    "submit 1 2 " + "00" * 64,
-    "serve 1",
-    "errors 1",
-    "run 1 1",
-    "finish 1 1",
-    "finish 1 2",
-    "revoke alice region buf READ,WRITE",
-    "revoke alice signal done WAIT,CHANGE",
-    "revoke alice agent gpu USE",
-    "list alice",
-    "audit",
-]
-
-KERNELS = [
-    *PRELUDE,
-    "queue alice gpu 4 2",
-    "write alice 0000000100000000 010000000200000003000000ffffffff",
-    "write alice 0000000200000000 0000000001000000",
-    f"submit 1 1 {KERNEL}",
-    "serve 1",
-    "revoke alice region buf WRITE",
-    "revoke alice kernel inc LAUNCH",
-    "run 1 0",
-    "run 1 0",
-    "run 1 0",
-    "finish 1 0",
-    f"submit 1 2 {KERNEL[:80]}0800000002000000{KERNEL[96:]}",
-    "serve 1",
-    "run 1 1",
-    "errors 1",
-    f"submit 2 2 {BARRIER}",
-    "submit 2 1 04140180000000000000000000000000000000000100000004000000010000000800000000000000" + "00" * 24,
-    "serve 2",
-    "serve 2",
-    "take 2",
-    "signal alice done store -1",
-    "poll 2 0",
-    "errors 2",
-    "read alice 0000000100000000 64",
-    "revoke alice kernel inc LAUNCH",
-    "revoke alice region buf READ,WRITE",
-    "revoke alice signal done WAIT,CHANGE",
-    "list alice",
-    "audit",
-]
 
 
 def elementary(line, reply):
@@ -160,31 +72,55 @@ def starves(ended, whole):
     return None
 
 
-def try_command(trials, memory, name, words, first=1):
-    """A command without a script."""
-    whole, requests = memory.count(words, b"")
-    found = {"as ever": 0, "ended": 0}
+class TextTrial:
+    """A command whose output is no list of replies, or of a strict run of lines that are all done."""
 
-    def once(at):
-        ended = memory.run(words, b"", at)
-        if ended == whole:
-            found["as ever"] += 1
+    def __init__(self, memory, row):
+        self.memory, self.row, self.given = memory, row, text(row.lines)
+        self.whole, self.requests = memory.count(row.words, self.given)
+        self.found = {"as ever": 0, "ended": 0, "refused": 0}
+
+    def once(self, at):
+        ended = self.memory.run(self.row.words, self.given, at)
+        if ended == self.whole:
+            self.found["as ever"] += 1
             return None
-        found["ended"] += 1
-        return starves(ended, whole)
+        if self.row.form == "picture" and (ended.status, ended.err) == (0, b""):
+            # (a line was refused, and isn't drawn)
+            self.found["refused"] += 1
+            return None if ended.out.endswith(b"</svg>\n") else f"it is no whole page: {ended}"
+        if self.row.form == "strict" and ended.status == 1:
+            self.found["refused"] += 1
+            return self.is_refused(ended)
+        self.found["ended"] += 1
+        return starves(ended, self.whole)
 
-    note = lambda: f" ({found['ended']} ended, {found['as ever']} as ever)"
-    trials.every(f"each request of {name} refused", once, range(first, requests + 1), note)
-    trials.every(f"all requests of {name} refused from one on", lambda at: starves(memory.run(words, b"", at, True), whole), range(first, requests + 1))
+    def is_refused(self, ended):
+        """What is wrong with the end of a strict run behind a line that was refused for want of memory."""
+        asked = [it for it in self.row.lines if it and not it.startswith("#")]
+        replies, whole = blocks(asked, ended.out), blocks(asked, self.whole.out)
+        if ended.err or not replies or replies[-1] != WANT or replies[:-1] != whole[: len(replies) - 1]:
+            return f"it ended otherwise: {ended}"
+        return None if asked[len(replies) - 1].split(" ")[0] not in TAKES_NONE else f"{ended}: refused, though it takes no memory"
+
+    def from_then_on(self, at):
+        ended = self.memory.run(self.row.words, self.given, at, True)
+        # (threads that were begun may have what they need, or try again and again in vain)
+        is_over = self.row.form == "threads" and (ended == self.whole or (ended.status == 1 and ended.out.endswith(b"unsettled\n")))
+        return None if is_over else starves(ended, self.whole)
+
+    def note(self):
+        refused = f"{self.found['refused']} refused, " if self.row.form in ("strict", "picture") else ""
+        return f" ({refused}{self.found['ended']} ended, {self.found['as ever']} as ever)"
 
 
 class ScriptTrial:
     """A script over a policy."""
 
-    def __init__(self, memory, words, lines):
-        self.memory, self.words, self.lines = memory, words, lines
-        self.asked = [it for it in lines if not it.startswith("#")]
-        self.whole, self.requests = memory.count(words, text(lines))
+    def __init__(self, memory, row):
+        self.memory, self.words = memory, row.words
+        self.lines = self.asked = [it for it in row.lines if it and not it.startswith("#")]
+        self.whole, self.requests = memory.count(row.words, text(self.lines))
         self.replies = blocks(self.asked, self.whole.out)
         self.found = {"as ever": 0, "ended": 0, "refused": 0}
         self.refused = set()
@@ -228,19 +164,27 @@ class ScriptTrial:
             return f"line {at + 1}, {self.asked[at]}: not as if it had not been asked before: {replies[at:]}"
         return None
 
-
     def from_then_on(self, number):
         return starves(self.memory.run(self.words, text(self.lines), number, True), self.whole)
 
+    def note(self):
+        found = f"{self.found['refused']} lines refused and asked again, {self.found['ended']} runs ended, {self.found['as ever']} as ever"
+        return f" ({found}; refused: {' '.join(sorted(self.refused))})"
 
-def try_script(trials, memory, name, words, lines, first):
-    trial = ScriptTrial(memory, words, [it for it in lines if not it.startswith("#")])
-    if trial.whole.status != 0 or len(trial.replies) != len(trial.asked):
-        trials.every(f"{name} runs with memory", lambda _: f"{trial.whole}", [name])
+
+def try_row(trials, memory, row, first):
+    """A command, with each of its requests refused from the first that is asked for on."""
+    trial = (ScriptTrial if row.form == "script" else TextTrial)(memory, row)
+    if row.is_new and trial.whole.status == 2:
+        print(f"skipped {row.name}: this program has no such command")
         return
-    note = lambda: f" ({trial.found['refused']} lines refused and asked again, {trial.found['ended']} runs ended, {trial.found['as ever']} as ever; refused: {' '.join(sorted(trial.refused))})"
-    trials.every(f"each request of {name} refused", trial.once, range(first, trial.requests + 1), note)
-    trials.every(f"all requests of {name} refused from one on", trial.from_then_on, range(first, trial.requests + 1))
+    if row.form != "text" and (trial.whole.status != 0 or row.form == "script" and len(trial.replies) != len(trial.asked)):
+        trials.every(f"{row.name} runs with memory", lambda _: f"{trial.whole}", [row.name])
+        return
+    # (of a run with threads no request has a number of its own, so some of them are enough)
+    numbers = range(first, trial.requests + 1, max(1, trial.requests // 100) if row.form == "threads" else 1)
+    trials.every(f"each request of {row.name} refused", trial.once, numbers, trial.note)
+    trials.every(f"all requests of {row.name} refused from one on", trial.from_then_on, numbers)
 
 
 def try_small_machines(trials, program, room):
@@ -249,14 +193,14 @@ def try_small_machines(trials, program, room):
     with open(SAMPLE, encoding="utf-8") as it, open(place, "w", encoding="utf-8") as policy:
         policy.write(it.read().replace("length = 64", "length = 16777216"))
     words = [program, "run", place, "--audit", "1048576"]
-    whole = run(words, text(FORMS))
+    whole = run(words, text(commands.FORMS))
     found = {"as ever": 0, "ended": 0}
     if whole.status != 0:
         trials.every("a large audit runs with memory", lambda _: f"{whole}", [place])
         return
 
     def trial(size):
-        ended = run(["sh", "-c", f'ulimit -v {size}; exec "$0" "$@"', *words], text(FORMS))
+        ended = run(["sh", "-c", f'ulimit -v {size}; exec "$0" "$@"', *words], text(commands.FORMS))
         if ended == whole:
             found["as ever"] += 1
             return None
@@ -267,38 +211,18 @@ def try_small_machines(trials, program, room):
     trials.every("an address space that is too small ends with 3", trial, range(16384, 524288, 8192), note)
 
 
-def large_policy():
-    """A policy with more rows, and kernels with group memory and all kinds of items."""
-    rows = [f'[[client]]\nname = "client{it}"\n' for it in range(9)]
-    rows += [f'[[agent]]\nname = "agent{it}"\ntakes = ["agent"]\n' for it in range(3)]
-    rows += [f'[[region]]\nname = "region{it}"\nlength = {64 << it}\n' for it in range(5)]
-    rows += [f'[[signal]]\nname = "signal{it}"\ninitial = {it}\n' for it in range(17)]
-    body = "align(8) group_u32 %t[4];\nld_kernarg_u64 $d0, [%p];\n@a:\nst_group_u32 $s1, [%t][$s0];\nbarrier;\ncbr_b1 $c0, @a;\natomicnoret_add_global_rlx_system_u32 [$d0+4], 1;\n"
-    kernel = "module &m:1:0:$base:$large:$default;\n" + "".join(f"kernel &k{it}(kernarg_u64 %p, kernarg_u8 %q)\n{{\n{body * 1}}};\n" for it in range(2))
-    rows += [f'[[kernel]]\nname = "kernel"\nentry = "&k1"\ntext = """\n{kernel}"""\n']
-    rows += [f'[[allow]]\nclient = "client{it % 9}"\nkind = "region"\nobject = "region{it % 5}"\nrights = ["READ", "WRITE"]\n' for it in range(19)]
-    return "".join(rows)
-
-
 def main(program):
     trials = Trials("requests for memory")
     with tempfile.TemporaryDirectory() as room:
-        library, large, bad = f"{room}/refuse.so", f"{room}/large.toml", f"{room}/bad.toml"
-        subprocess.run(["cc", "-O2", "-shared", "-fPIC", "-o", library, f"{HERE}/refuse.c", "-ldl"], check=True)
-        with open(large, "w", encoding="utf-8") as it:
-            it.write(large_policy())
-        with open(bad, "w", encoding="utf-8") as it:
-            it.write(large_policy() + '[[allow]]\nclient = "nobody"\n')
-        memory = Memory(os.path.abspath(program), library, room)
-        first = memory.count(["check", SAMPLE], b"")[1]
-        try_command(trials, memory, "check", ["check", SAMPLE])
-        try_command(trials, memory, "check of more rows", ["check", large])
-        try_command(trials, memory, "check of a fault", ["check", bad])
-        try_command(trials, memory, "the help", ["--help"])
-        try_command(trials, memory, "a bad command line", ["run", "--loud"])
-        try_script(trials, memory, "a script of all forms", ["run", SAMPLE, "--audit", "100"], FORMS, 1)
-        try_script(trials, memory, "a script of kernels", ["run", SAMPLE, "--audit", "100"], KERNELS, first - 20)
+        commands.files(room)
+        memory = Memory(os.path.abspath(program), library_of("refuse.c", room), room)
+        # (what is asked for up to there, each run over the same policy asks for)
+        common = memory.count(["check", SAMPLE], b"")[1] - 20
+        for row in commands.rows(room):
+            try_row(trials, memory, row, max(1, common) if row.shares_front else 1)
         try_small_machines(trials, memory.program, room)
+    spent = resource.getrusage(resource.RUSAGE_CHILDREN)
+    print(f"{spent.ru_utime + spent.ru_stime:.0f} seconds of processor time")
     trials.end()
 
 

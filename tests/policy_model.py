@@ -125,6 +125,24 @@ def judge(tree):
     return counts
 
 
+def allows(tree, client, kind, name, right):
+    """Whether an allow row covers a client's right on an object, and no deny row does."""
+
+    def covers(row):
+        return row["client"] in ("*", client) and row["kind"] == kind and row["object"] in ("*", name) and right in row["rights"]
+
+    return any(map(covers, tree.get("allow", []))) and not any(map(covers, tree.get("deny", [])))
+
+
+def grant_reply(tree, client, kind, name, rights):
+    """What a script's `grant` is answered under a policy without a fault."""
+    if all(it["name"] != client for it in tree.get("client", [])):
+        return "refused 1 UnknownClient"
+    if all(it["name"] != name for it in tree.get(kind, [])):
+        return "refused 13 UnknownObject"
+    return "ok" if all(allows(tree, client, kind, name, it) for it in rights) else "refused 5 NotAllowed"
+
+
 def told(text):
     """The exit status, the output and the fault, of a policy's text as bytes; and the texts of its kernels."""
     kernels = []

@@ -1,5 +1,13 @@
 #!/usr/bin/env python3
-"""Files, inputs and outputs that fail or never end, and the exit status and text of each: streams.py PROGRAM"""
+"""Files, inputs and outputs that fail or never end, and the exit status and text of each: streams.py PROGRAM
+
+Of each run of tests/commands.py each read and each write fails in turn, once, and from then on; is interrupted, and made
+again; and moves few bytes at a time. Where a read fails the run ends with status 3 and `read fault`, and the replies to
+the whole lines that were read before stand there, each once, and nothing else; where a write fails, with status 3 and
+`write fault`, and what was written before stands there, and nothing else.
+"""
+import errno
+import itertools
 import os
 import resource
 import subprocess
@@ -7,7 +15,8 @@ import sys
 import tempfile
 import threading
 
-from trial import FILL, PRELUDE, SAMPLE, Ended, Trials, run, text
+import commands
+from trial import FILL, PRELUDE, SAMPLE, Ended, Trials, blocks, library_of, run, text
 
 MOST_POLICY_BYTES = 1 << 20
 MOST_LINE_BYTES = 16384
@@ -49,6 +58,26 @@ def files(trials, program, room):
     for command in ("check", "run"):
         trials.every(f"a policy that can't be read ends {command} with 3", lambda it: wants(run([program, command, it], seconds=60), 3, READ), paths)
         trials.every(f"a policy without an end ends {command}", lambda it: wants(run([program, command, it], seconds=60), 1, b"policy: 6 TooMany\n"), ["/dev/zero"])
+
+
+def further_files(trials, program, room):
+    """Further policies: what is told is the first fault or failure in the order of the command line."""
+    bad, missing, told = f"{room}/bad.toml", f"{room}/nothing", b"policy: 3 BadValue client 0\n"
+    with open(bad, "w") as file:
+        file.write("client = 1\n")
+    ends = [
+        ([SAMPLE, SAMPLE], 0, b""),
+        ([SAMPLE] * 17, 0, b""),
+        ([SAMPLE, missing], 3, READ),
+        ([SAMPLE, SAMPLE, room, bad], 3, READ),
+        ([missing, bad], 3, READ),
+        ([bad, missing], 1, told),
+        ([SAMPLE, bad, missing], 1, told),
+        ([SAMPLE, SAMPLE, "/dev/zero"], 1, b"policy: 6 TooMany\n"),
+    ]
+    for words in ([], ["--strict"]):
+        trials.every(f"further policies end {' '.join(['run', *words])}", lambda it: wants(run([program, "run", *words, *it[0]]), *it[1:]), ends)
+    trials.every("seventeen further policies end with 2", lambda it: None if run([program, "run", *it]).status == 2 else "it ended otherwise", [[SAMPLE] * 18])
 
 
 def policy_reads(trials, program):
@@ -145,6 +174,101 @@ def broken_pipe(trials, program):
     trials.every("replies that nobody reads any more end with 3", trial, [0, 1, 20, 1000])
 
 
+class Calls:
+    """The reads and the writes of a run, in turn: what each moved, and through which descriptor."""
+
+    def __init__(self, log):
+        calls = [(what, int(file), int(moved)) for what, file, moved in (line.split(" ") for line in log.splitlines())]
+        self.reads = [(file, moved) for what, file, moved in calls if what == "r"]
+        self.writes = [(file, moved) for what, file, moved in calls if what == "w"]
+
+
+def moved_before(calls, at, file):
+    """How many bytes the calls before that of a number, from 1, moved through a descriptor."""
+    return sum(moved for of, moved in calls[: at - 1] if of == file and moved > 0)
+
+
+class Troubled:
+    """A command whose reads and writes move so many bytes at most, and fail at will."""
+
+    numbers = itertools.count()
+
+    def __init__(self, program, library, room, row, most):
+        self.program, self.library, self.room, self.row = program, library, room, row
+        self.most, self.given = most, text(row.lines)
+        self.unhooked = run([program, *row.words], self.given)
+        self.whole, self.calls = self.run()
+        self.asked = [it for it in row.lines if it and not it.startswith("#")]
+        self.replies = blocks(self.asked, self.whole.out) if row.form in ("script", "strict") else []
+
+    def run(self, trouble=None):
+        log = f"{self.room}/calls{next(self.numbers)}"
+        env = {"LD_PRELOAD": self.library, "TROUBLE_LOG": log, "TROUBLE_BYTES": str(self.most), **(trouble or {})}
+        ended = run([self.program, *self.row.words], self.given, env)
+        with open(log, encoding="ascii") as it:
+            calls = Calls(it.read())
+        os.remove(log)
+        return ended, calls
+
+    def owed(self, read):
+        """The replies that are owed to the whole lines of so many bytes of the script."""
+        lines = self.given[:read].split(b"\n")[:-1]
+        count = sum(1 for it in lines if it and not it.startswith(b"#"))
+        return "".join(f"{it}\n" for it in self.replies[:count]).encode()
+
+    def failed_read(self, given):
+        """What is wrong with a run whose read of a number failed, once or from then on."""
+        at, on = given
+        ended, calls = self.run({"TROUBLE_READ": str(at), **({"TROUBLE_ON": "1"} if on else {})})
+        if len(calls.reads) < at or calls.reads[at - 1][1] != -1:
+            return f"it made {len(calls.reads)} reads"
+        if self.row.form not in ("script", "strict"):
+            well = (ended.status, ended.err) == (3, READ) and self.whole.out.startswith(ended.out)
+            return None if well else f"it ended otherwise: {ended}"
+        of_script = calls.reads[at - 1][0] == 0
+        return wants(ended, 3, READ, self.owed(moved_before(calls.reads, at, 0)) if of_script else b"")
+
+    def failed_write(self, given):
+        """The same of a write."""
+        at, on = given
+        ended, calls = self.run({"TROUBLE_WRITE": str(at), "TROUBLE_ERROR": str(errno.ENOSPC), **({"TROUBLE_ON": "1"} if on else {})})
+        if len(calls.writes) < at or calls.writes[at - 1][1] != -1:
+            return f"it made {len(calls.writes)} writes"
+        out, err = (moved_before(calls.writes, at, file) for file in (1, 2))
+        if calls.writes[at - 1][0] == 2:
+            # (that the fault couldn't be told may be told)
+            told = self.whole.err[:err] + (WRITE if not on and ended.err.endswith(WRITE) else b"")
+            return wants(ended, 3, told, self.whole.out)
+        return wants(ended, 3, b"" if on else WRITE, self.whole.out[:out])
+
+    def interrupted(self, given):
+        """What is wrong with a run of which one call is interrupted: it is made again, and all is as ever."""
+        what, at = given
+        ended, calls = self.run({f"TROUBLE_{what}": str(at), "TROUBLE_ERROR": str(errno.EINTR)})
+        made, whole = ((it.reads if what == "READ" else it.writes) for it in (calls, self.calls))
+        if made[: at - 1] + made[at:] != whole:
+            return f"its calls were {made[at - 1:][:3]}"
+        return None if ended == self.whole else f"it ended otherwise: {ended}"
+
+    def numbered(self, calls, *others):
+        return list(itertools.product(range(1, len(calls) + 1), *others))
+
+
+def try_calls(trials, program, library, room, row, most):
+    """Every read and every write of a command."""
+    trial = Troubled(program, library, room, row, most)
+    if row.is_new and trial.whole.status == 2:
+        print(f"skipped {row.name}: this program has no such command")
+        return
+    size = f", of {most} bytes at most" if most else ""
+    trials.every(f"{row.name}{size}, is as ever", lambda _: None if trial.whole == trial.unhooked and trial.calls.writes else f"{trial.whole}", [row.name])
+    if trial.calls.reads:
+        trials.every(f"each read of {row.name}{size}, fails", trial.failed_read, trial.numbered(trial.calls.reads, (False, True)))
+        trials.every(f"each read of {row.name}{size}, is interrupted", trial.interrupted, [("READ", it) for (it,) in trial.numbered(trial.calls.reads)])
+    trials.every(f"each write of {row.name}{size}, fails", trial.failed_write, trial.numbered(trial.calls.writes, (False, True)))
+    trials.every(f"each write of {row.name}{size}, is interrupted", trial.interrupted, [("WRITE", it) for (it,) in trial.numbered(trial.calls.writes)])
+
+
 def main(program):
     program = os.path.abspath(program)
     trials = Trials("streams")
@@ -152,9 +276,18 @@ def main(program):
     closed_and_full(trials, program)
     with tempfile.TemporaryDirectory() as room:
         files(trials, program, room)
+        further_files(trials, program, room)
     policy_reads(trials, program)
     long_scripts(trials, program)
     broken_pipe(trials, program)
+    with tempfile.TemporaryDirectory() as room:
+        commands.files(room)
+        library = library_of("trouble.c", room)
+        for row in commands.rows(room):
+            for most in (0, 1) if row.name == "a short script" else (0, 97):
+                try_calls(trials, program, library, room, row, most)
+    spent = resource.getrusage(resource.RUSAGE_CHILDREN)
+    print(f"{spent.ru_utime + spent.ru_stime:.0f} seconds of processor time")
     trials.end()
 
 

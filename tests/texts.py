@@ -1,32 +1,43 @@
 #!/usr/bin/env python3
 """Texts made at random, from the grammar and with bytes turned, and an answer of the format to each.
 
-texts.py PROGRAM [SEED [POLICIES KERNELS SCRIPTS]]: so many of each, made from the seed alone. No run may crash or hang.
-A policy has to be told just what tests/policy_model.py reckons, where this Python reads TOML; of a kernel's text and of
-each line of a script the form of the answer is looked at, and that no line is refused but one with a turned byte.
+texts.py PROGRAM [--seed S] [--count N]: N texts in all, made from the seed alone. No run may crash or hang. A policy has
+to be told, and rights granted under it, just as tests/policy_model.py reckons, where this Python reads TOML; of a
+kernel's text and of each line of a script the form of the answer is looked at, and that no line is refused but one with
+a turned byte.
 """
+import argparse
 import os
 import random
 import re
-import sys
 import tempfile
+import time
 
 import policy_model
 from trial import BARRIER, FILL, KERNEL, PRELUDE, SAMPLE, Trials, blocks, run, text
 
-COUNTS = "clients \\d+\nagents \\d+\nregions \\d+\nsignals \\d+\nkernels \\d+\nallows \\d+\nok\n"
+COUNTS = "clients \\d+\nagents \\d+\nregions \\d+\nsignals \\d+\nkernels \\d+\nallows \\d+\n(denies \\d+\n)?ok\n"
 KERNEL_FAULT = re.compile(r"kernel \d+: (read [1-4] line \d+ column \d+|check [1-7] line \d+|no entry)\n")
-POLICY_FAULT = re.compile(r"policy: (1 NotToml|[2-6] (MissingKey|BadValue|UnknownName|DoubleName|TooMany)( (client|agent|region|signal|kernel|allow) \d+)?)\n")
+POLICY_FAULT = re.compile(r"policy: (1 NotToml|[2-6] (MissingKey|BadValue|UnknownName|DoubleName|TooMany)( (client|agent|region|signal|kernel|allow|deny) \d+)?)\n")
 
 NUMBER = r"(0|[1-9]\d*)"
 RULE = r"(L[1-9]|L10|A[1-7]|B1)"
 PLACE = f"group {NUMBER} item {NUMBER} line {NUMBER}"
 ERROR = f"queue {NUMBER} packet {NUMBER} rule {RULE}( {PLACE})?"
 RIGHTS = r"(-|(USE|READ|WRITE|WAIT|CHANGE|LAUNCH)(,(READ|WRITE|WAIT|CHANGE|LAUNCH))*)"
-REFUSAL = (
-    r"refused (1 UnknownClient|2 UnknownQueue|3 Denied (USE|READ|WRITE|WAIT|CHANGE|LAUNCH)|4 Busy queue \d+ packet \d+|5 NotAllowed"
-    r"|6 OutOfStep \d+|7 QueueDown|8 NotInFlight|9 NotFinished|10 AuditFull|11 BadSize|12 TooMany|13 UnknownObject|14 NotAStep)"
-)
+REFUSALS = {
+    1: "UnknownClient", 2: "UnknownQueue", 3: "Denied (USE|READ|WRITE|WAIT|CHANGE|LAUNCH)", 4: "Busy queue \\d+ packet \\d+", 5: "NotAllowed",
+    6: "OutOfStep \\d+", 7: "QueueDown", 8: "NotInFlight", 9: "NotFinished", 10: "AuditFull", 11: "BadSize", 12: "TooMany", 13: "UnknownObject",
+    14: "NotAStep",
+}
+# which of them a line may meet: those of its requests, and no other (a completion is never refused for a full audit)
+MEETS = {
+    "grant": (1, 13, 5, 10), "revoke": (1, 13, 4, 10), "queue": (1, 3, 11, 12, 10), "stop": (2, 7, 10), "reserve": (2, 14), "room": (2, 14),
+    "word": (2, 14), "publish": (2, 14), "submit": (2, 14), "look": (2, 14), "part": (2, 14), "peek": (2, 14), "take": (2, 14, 7, 6, 10),
+    "clear": (2, 14), "advance": (2, 14), "retire": (2, 14), "serve": (2, 14, 7, 6, 10), "run": (2, 8, 10), "poll": (2, 8, 10),
+    "finish": (2, 8, 9), "write": (1, 11, 3, 10), "read": (1, 11, 3), "signal": (1, 3, 10), "load": (1, 3), "test": (1, 3), "list": (1,),
+    "errors": (2,), "audit": (),
+}
 PUBLISHED = f"published {NUMBER}|busy ticket {NUMBER} read {NUMBER}|not publishable {NUMBER}"
 TAKEN = f"launched {NUMBER}|denied {ERROR}|waiting {NUMBER} (Barrier|Active|Slots)"
 EFFECTS = f"(; (write [0-9a-f]{{16}} ([0-9a-f]{{2}})+|signal {NUMBER} -?{NUMBER} -?{NUMBER}|release {NUMBER} {NUMBER}))*"
@@ -45,7 +56,8 @@ REPLIES = {
     "test": "true|false", "list": f"list {NUMBER}(\n(agent|region|signal|kernel) {NUMBER} [a-z]+ {RIGHTS})*",
     "errors": f"errors {NUMBER}(\n{ERROR})*", "audit": f"audit {NUMBER}(\n{ENTRY})*",
 }
-REPLIES = {form: re.compile(f"({reply}|{REFUSAL})", re.S) for form, reply in REPLIES.items()}
+REFUSED = {form: "|".join(f"refused {it} {REFUSALS[it]}" for it in numbers) for form, numbers in MEETS.items()}
+REPLIES = {form: re.compile("|".join(it for it in (reply, REFUSED[form]) if it), re.S) for form, reply in REPLIES.items()}
 
 
 def turned(maker, bytes):
@@ -70,74 +82,163 @@ def turned(maker, bytes):
 
 # Policies
 
-def made_policy(maker):
-    """A policy of rows with keys and values that mostly may stand there."""
-    names = ["a", "b", "c-1", "D_2", "*", "", "a b", "n" * 64, "n" * 65]
-    word = lambda *among: maker.choice([*among, maker.choice(names)] if maker.random() < 0.1 else among)
-    quoted = lambda value: maker.choice(['"{}"', "'{}'"]).format(value)
-    listed = lambda *among: "[" + ", ".join(quoted(word(*among)) for _ in range(maker.randrange(4))) + maker.choice(["", "", ","]) + "]"
-    number = lambda *among: maker.choice([*among, 0, -1, 2**24, 2**24 + 1, 2**63 - 1, -(2**63), 2**63, "0x10", "1_000", "1.5", "true", '"1"'])
-    name = lambda kind: quoted(word(*names[:4])) if maker.random() < 0.8 else quoted(f"{kind}{maker.randrange(99)}")
-    keys = {
-        "client": lambda: {"name": name("client")},
-        "agent": lambda: {"name": name("agent"), "takes": listed("kernel", "agent")},
-        "region": lambda: {"name": name("region"), "length": number(1, 64, 4096, 2**20)},
-        "signal": lambda: {"name": name("signal"), "initial": number(1, 2, 3)},
-        "allow": lambda: allow_row(),
-    }
-
-    def allow_row():
-        kind = maker.choice(["agent", "region", "signal", "kernel"])
-        rights = sorted(policy_model.RIGHTS[kind])
-        return {"client": quoted(word("*", *names[:4])), "kind": quoted(word(kind)), "object": quoted(word("*", *names[:4])), "rights": listed(*rights)}
-
-    lines = maker.choice([[], [], ["version = 1"], ["version = 2"], ["other = 1"], ["client = []"], ["client = 1"], ["allow = [[]]"]]) if maker.random() < 0.4 else []
-    for kind, make in keys.items():
-        for _ in range(maker.choice([0, 1, 1, 2, 3])):
-            row = make()
-            if maker.random() < 0.04:
-                row.pop(maker.choice(sorted(row)))
-            if maker.random() < 0.03:
-                row[maker.choice(["age", "text", "takes"])] = '"x"'
-            lines += [f"[[{kind}]]", *(f"{key} = {value}" for key, value in row.items())]
-    return "\n".join(lines).encode()
+NAMES = ["a", "b", "c-1", "D_2"]
+STRANGE_NAMES = ["*", "", "a b", "n" * 64, "n" * 65]
+KINDS = ["agent", "region", "signal", "kernel"]
+DENY = b'[[deny]]\nclient = "bob"\nkind = "region"\nobject = "buf"\nrights = ["READ"]\n'
 
 
-def try_policies(trials, program, room, seed, count):
-    """The beginnings of the sample policy, it with turned bytes, and made policies."""
-    with open(SAMPLE, "rb") as it:
-        sample = it.read()
-    known = set(policy_model.told(sample)[1]) if policy_model.tomllib else set()
+class PolicyMaker:
+    """Makes policies of rows with keys and values that mostly may stand there; how often not is a number up to 1."""
 
-    def judge(policy):
-        ended = run([program, "check", "/dev/stdin"], policy)
+    def __init__(self, maker, wrong):
+        self.maker, self.wrong = maker, wrong
+
+    def is_wrong(self):
+        return self.maker.random() < self.wrong
+
+    def quoted(self, *among):
+        word = self.maker.choice(NAMES + STRANGE_NAMES if self.is_wrong() else among)
+        return self.maker.choice(['"{}"', "'{}'"]).format(word)
+
+    def listed(self, *among):
+        words = [self.quoted(*among) for _ in range(self.maker.randrange(4))]
+        return "[" + ", ".join(words) + self.maker.choice(["", "", ","] if words else ["", " "]) + "]"
+
+    def number(self, *among):
+        strange = [0, -1, 2**24, 2**24 + 1, 2**63 - 1, -(2**63), 2**63, "0x10", "1_000", "1.5", "true", '"1"']
+        return self.maker.choice(strange if self.maker.random() < 6 * self.wrong else among)
+
+    def name(self, number):
+        return f'"{NAMES[number % len(NAMES)]}"' if not self.is_wrong() else self.quoted(f"n{self.maker.randrange(99)}", *NAMES)
+
+    def access_row(self):
+        """A row of `allow` or `deny`."""
+        kind = self.maker.choice(KINDS)
+        names = NAMES[:2] if kind != "kernel" or self.is_wrong() else []
+        rights = self.listed(*sorted(policy_model.RIGHTS[kind]))
+        return {"client": self.quoted("*", *NAMES[:2]), "kind": self.quoted(kind), "object": self.quoted("*", *names), "rights": rights}
+
+    def row(self, kind, number):
+        if kind in ("allow", "deny"):
+            return self.access_row()
+        row = {"name": self.name(number)}
+        if kind == "agent":
+            row["takes"] = self.listed("kernel", "agent")
+        if kind == "region":
+            row["length"] = self.number(1, 64, 4096, 2**20)
+        if kind == "signal":
+            row["initial"] = self.number(1, 2, 3)
+        return row
+
+    def front(self, version):
+        """The lines before the rows."""
+        odd = [["version = 0"], ["version = 3"], ["other = 1"], ["client = []"], ["client = 1"], ["allow = [[]]"], ["deny = []"], ["deny = [1]"]]
+        lines = [f"version = {version}"] if version == 2 or self.maker.random() < 0.2 else []
+        return lines + (self.maker.choice(odd) if self.is_wrong() else [])
+
+    def policy(self):
+        maker = self.maker
+        version = maker.choice([1, 2])
+        has_deny = version == 2 or self.is_wrong()
+        lines = self.front(version)
+        for kind in ["client", "agent", "region", "signal", "allow", *["deny"] * has_deny]:
+            for number in range(maker.choice([0, 1, 3, 5]) if kind in ("allow", "deny") else maker.choice([2, 2, 2, 3, 4 if self.wrong else 2, 0 if self.is_wrong() else 2])):
+                row = self.row(kind, number)
+                if maker.random() < self.wrong / 2:
+                    row.pop(maker.choice(sorted(row)))
+                if maker.random() < self.wrong / 3:
+                    row[maker.choice(["age", "text", "takes"])] = '"x"'
+                lines += [f"[[{kind}]]", *(f"{key} = {value}" for key, value in row.items())]
+        return "\n".join(lines).encode()
+
+
+class PolicyJudge:
+    """Asks the program what it tells of a policy, and whether that is so."""
+
+    def __init__(self, program, sample):
+        self.program = program
+        self.known = set(policy_model.told(sample)[1]) if policy_model.tomllib else set()
+        self.found = {"accepted": 0, "refused": 0, "with deny rows": 0}
+
+    def count(self, policy, ended):
+        self.found["accepted" if ended.status == 0 else "refused"] += 1
+        self.found["with deny rows"] += b"denies" in ended.out and b"denies 0" not in ended.out
+
+    def judge(self, policy):
+        ended = run([self.program, "check", "/dev/stdin"], policy)
+        self.count(policy, ended)
         got, err = (ended.status, ended.out, ended.err), ended.err.decode(errors="replace")
         if policy_model.tomllib:
             wanted, kernels = policy_model.told(policy)
             if got == wanted:
                 return None
             # (a kernel's text that isn't the sample's may have any fault; and some texts are TOML since its version 1.1)
-            of_kernel = wanted[0] == 0 and set(kernels) - known and KERNEL_FAULT.fullmatch(err)
+            of_kernel = wanted[0] == 0 and set(kernels) - self.known and KERNEL_FAULT.fullmatch(err)
             is_newer = b"1 NotToml" in wanted[2] and re.search(rb"\\[ex]|[=,\[]\s*\{|\d:\d", policy)
             if not of_kernel and not is_newer:
-                return f"{got}, and not {wanted}"
+                return f"{policy!r}: {got}, and not {wanted}"
         well = (ended.status == 0 and re.fullmatch(COUNTS, ended.out.decode()) and not err) or (
             ended.status == 1 and not ended.out and (POLICY_FAULT.fullmatch(err) or KERNEL_FAULT.fullmatch(err)))
         return None if well else f"it ended otherwise: {ended}"
 
+    def note(self):
+        return f" ({self.found['accepted']} accepted, {self.found['with deny rows']} of them with deny rows; {self.found['refused']} refused)"
+
+
+def try_policies(trials, program, seed, count):
+    """The beginnings of the sample policy, it with turned bytes, and made policies; half of them have deny rows."""
+    with open(SAMPLE, "rb") as it:
+        sample = it.read()
+    second = b"version = 2\n" + sample + DENY
+
     def of_seed(number):
         maker = random.Random(f"{seed} policy {number}")
-        made = turned(maker, sample) if number % 2 else made_policy(maker)
-        return judge(bytes(turned(maker, made) if number % 8 == 0 else made))
+        made = turned(maker, maker.choice([sample, second])) if number % 2 else PolicyMaker(maker, maker.choice([0.01, 0.03, 0.1])).policy()
+        return judge.judge(bytes(turned(maker, made) if number % 8 == 0 else made))
 
-    trials.every("each beginning of the sample policy is judged", lambda at: judge(sample[:at]), range(len(sample) + 1))
-    trials.every("policies made at random are judged", of_seed, range(count))
+    judge = PolicyJudge(program, sample)
+    beginnings = [sample[:at] for at in range(len(sample) + 1)] + [second[:at] for at in range(len(sample), len(second) + 1)]
+    trials.every("each beginning of the sample policy is judged", judge.judge, beginnings, judge.note)
+    judge = PolicyJudge(program, sample)
+    trials.every("policies made at random are judged", of_seed, range(count), judge.note)
+
+
+def try_grants(trials, program, room, seed, count):
+    """Rights that are granted just where a made policy allows them, and no deny row covers them."""
+    found = {"ok": 0, "refused 5 NotAllowed": 0, "refused 1 UnknownClient": 0, "refused 13 UnknownObject": 0}
+
+    def of_seed(number):
+        maker = random.Random(f"{seed} grants {number}")
+        policy = PolicyMaker(maker, 0).policy()
+        if policy_model.told(policy)[0][0] != 0:
+            return None
+        tree, asked, wanted = policy_model.tomllib.loads(policy.decode()), [], []
+        allowed = [it for it in tree.get("allow", []) if it["rights"]]
+        for _ in range(40):
+            client, kind, name = maker.choice(NAMES[:3]), maker.choice(KINDS), maker.choice(NAMES[:3])
+            among = sorted(policy_model.RIGHTS[kind]) if maker.random() < 0.9 else ["USE", "READ", "WAIT", "LAUNCH"]
+            rights = maker.sample(among, maker.randrange(1, len(among) + 1))
+            if allowed and maker.random() < 0.7:
+                row = maker.choice(allowed)
+                client, name = (NAMES[maker.randrange(2)] if it == "*" else it for it in (row["client"], row["object"]))
+                kind, rights = row["kind"], [maker.choice(row["rights"])]
+            asked.append(f"grant {client} {kind} {name} {','.join(rights)}")
+            wanted.append(policy_model.grant_reply(tree, client, kind, name, rights))
+        place = f"{room}/grants{number}.toml"
+        with open(place, "wb") as it:
+            it.write(policy)
+        ended = run([program, "run", place], text(asked))
+        os.remove(place)
+        for reply in wanted:
+            found[reply] += 1
+        return None if (ended.status, ended.out, ended.err) == (0, text(wanted), b"") else f"{policy!r}, {asked}: {ended}, and not {wanted}"
+
+    note = lambda: f" ({found['ok']} rights granted, {sum(found.values()) - found['ok']} refused)"
+    trials.every("rights are granted as policies made at random say", of_seed, range(count), note)
 
 
 # Kernels
-
-TYPES = {"u": 32, "s": 32}
-
 
 def operand(maker, width):
     """A register of a width, or a constant."""
@@ -341,7 +442,7 @@ def made_packet(maker):
     return packet.hex().upper() if maker.random() < 0.1 else packet.hex()
 
 
-def try_scripts(trials, program, room, seed, count):
+def try_scripts(trials, program, seed, count):
     """Scripts of lines that have a form, a line of most of them with a turned byte."""
     lines = [0, 0]
 
@@ -369,15 +470,24 @@ def try_scripts(trials, program, room, seed, count):
     trials.every("scripts made at random are answered", of_seed, range(count), note)
 
 
-def main(program, seed="1", policies="2500", kernels="1500", scripts="1000"):
+def main():
+    parser = argparse.ArgumentParser(description="Texts made at random, and an answer of the format to each.")
+    parser.add_argument("program", type=os.path.abspath)
+    parser.add_argument("--seed", default="1")
+    parser.add_argument("--count", type=int, default=5500, help="how many texts are made in all")
+    asked = parser.parse_args()
+    begin = time.monotonic()
     trials = Trials("texts")
-    program = os.path.abspath(program)
     with tempfile.TemporaryDirectory() as room:
-        try_policies(trials, program, room, seed, int(policies))
-        try_kernels(trials, program, room, seed, int(kernels))
-        try_scripts(trials, program, room, seed, int(scripts))
+        parts = [asked.count * part // 11 for part in (5, 1, 3, 2)]
+        try_policies(trials, asked.program, asked.seed, parts[0])
+        if policy_model.tomllib:
+            try_grants(trials, asked.program, room, asked.seed, parts[1])
+        try_kernels(trials, asked.program, room, asked.seed, parts[2])
+        try_scripts(trials, asked.program, asked.seed, parts[3])
+    print(f"seed {asked.seed}: {sum(parts)} texts in {time.monotonic() - begin:.0f} seconds")
     trials.end()
 
 
 if __name__ == "__main__":
-    main(*sys.argv[1:])
+    main()

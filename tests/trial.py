@@ -44,6 +44,13 @@ def run(words, given=b"", env=None, seconds=60):
     return Ended(ran.returncode, ran.stdout, ran.stderr)
 
 
+def library_of(source, room):
+    """Builds a library of this folder that is preloaded before a program."""
+    library = f"{room}/{source.removesuffix('.c')}.so"
+    subprocess.run(["cc", "-O2", "-shared", "-fPIC", "-o", library, f"{HERE}/{source}", "-ldl"], check=True)
+    return library
+
+
 class Trials:
     """Tests by their names, each of many trials."""
 
@@ -53,8 +60,11 @@ class Trials:
 
     def every(self, name, trial, inputs, note=lambda: ""):
         """Tries each input. A trial gives None where all is well, else what is wrong."""
-        inputs = list(inputs)
-        wrong = [(given, why) for given, why in zip(inputs, self.pool.map(trial, inputs)) if why]
+        inputs, wrong = list(inputs), []
+        # (a part at a time, as what the pool has yet to do takes memory)
+        for begin in range(0, len(inputs), 4096):
+            some = inputs[begin : begin + 4096]
+            wrong += [(given, why) for given, why in zip(some, self.pool.map(trial, some)) if why]
         self.tried += len(inputs)
         if wrong or not inputs:
             self.failed += 1

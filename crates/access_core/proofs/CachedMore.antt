@@ -8,6 +8,10 @@ use Rattle.access_core.proofs.Terms.{enters, entry_of, flight, flight-more, hist
 use Rattle.access_core.proofs.Terms.{lies_in_region, lies_in_regions, ltb-false, memory_at, memory_at-more, numbered, openings-more, owed, queue_at}
 use Rattle.access_core.proofs.Terms.{region_lengths, signals-more, signals_after, start_of, with_entry, with_some}
 use Rattle.core_model.specs.Queues.{opening_of}
+use Rattle.core_model.specs.Policies.{policy_at, rows_after}
+use Rattle.core_model.proofs.More.{rows_at-more}
+use Rattle.policy.specs.declared.rows.PolicyRows.{PolicyRows}
+use Rattle.access_core.proofs.Terms.{Rules, rules_of}
 use Rattle.core_model.proofs.Flying.{all-after}
 use Rattle.core_model.proofs.States.{IsLegal-more}
 use Rattle.core_model.specs.Holds.{arguments, held}
@@ -17,7 +21,7 @@ use Rattle.grants.specs.Ledger as ledger
 -- How the grants follow an entry, and with them the argument blocks.
 pub record GrantsAfter (a : Inside) (new : Ledger) (blocks : List ArgumentBlock) (event : Event) (outcome : Outcome) (effects : List Effect) : Type 0 where
   pub granted : (client : ClientId) (on : Object) (right : Right) → ledger.in_force new client on right ≡ in_force_after client on right (ledger.in_force a.grants client on right) event
-  pub rules : ledger.rules_in new ≡ ledger.rules_in a.grants
+  pub rules : ledger.rules_in new ≡ record (ledger.rules_in a.grants) { rows = rows_after (ledger.rules_in a.grants).rows event }
   pub held : (queue : QueueId) (id : PacketId) (client : ClientId) (on : Object) (right : Right)
       → ledger.holds new queue id client on right ≡ held (start_of a) (with_entry a.audit.items event outcome effects) queue id client on right
   pub blocks_are : AreBlocksOf (flight (start_of a) (with_entry a.audit.items event outcome effects)) blocks
@@ -70,6 +74,11 @@ module _ (a b : Inside) (event : Event) (outcome : Outcome) (effects : List Effe
   granted-after : (client : ClientId) (on : Object) (right : Right) → ledger.in_force b.grants client on right ≡ in_force (start_of b) b.audit.items client on right
   granted-after client on right = grind (arith, in_force-more)
 
+  rules-after : ledger.rules_in b.grants ≡ rules_of (policy_at (start_of b) b.audit.items)
+  rules-after = rw (after.same.0.0, after.same.0.1, after.audit.items)
+      (after.grants.rules ∙ ap (λ (r : Rules). record r { rows = rows_after r.rows event }) was.rules
+      ∙ ap (λ (rows : PolicyRows). record (rules_of a.policy) { rows = rows }) (sym (rows_at-more (start_of a) a.audit.items (entry_of event outcome effects))))
+
   memory-after : (x : ℕ) → lies_in_region (region_lengths b.policy) x ≡ true → byte_at b.memory x ≡ Some (memory_at (start_of b) b.audit.items x)
   memory-after x lies = grind (arith, memory_at-more)
 
@@ -78,7 +87,7 @@ module _ (a b : Inside) (event : Event) (outcome : Outcome) (effects : List Effe
       let room = room-inside a was old seen_as event outcome effects is_due in
       record {
         granted = granted-after;
-        rules = rw after.same.0.0 (after.grants.rules ∙ was.rules);
+        rules = rules-after;
         held = λ queue id client on right. rw (after.same.0.0, after.same.0.1, after.audit.items) (after.grants.held queue id client on right);
         blocks_are = rw (after.same.0.0, after.same.0.1, after.audit.items) after.grants.blocks_are;
         arguments = λ queue id. rw (after.same.0.0, after.same.0.1, after.audit.items) (after.grants.arguments queue id);

@@ -2,6 +2,7 @@
 use Rattle.std.proofs.Common.{◌≡◌, sym, ◌∙◌, ap, Bool, Option, Some, None, Ok, Err, ◌&&◌, [], Result, if◌then◌else◌, not, arith}
 use Rattle.grants.specs.declared.refusal.GrantRefusal.{GrantRefusal as Why}
 use Rattle.core_model.specs.Owed.{owed}
+use Rattle.core_model.specs.Policies.{policy_at}
 use Rattle.access_core.proofs.Calls.{due-by}
 use Rattle.access_core.proofs.HeldRights.{is_holder-history}
 use Rattle.access_core.proofs.Least.{passes, least-none, least-first}
@@ -19,16 +20,16 @@ due_of client object rights =
     if not client then Err why.UnknownClient else if not object then Err why.UnknownObject else if not rights then Err why.NotAllowed else Ok tt
 
 module _ (a : Inside) (kept : IsCached a) (client : ClientId) (on : Object) (rights : Rights) where
-  rules_is : rules_in a.grants ≡ rules_of a.policy
+  rules_is : rules_in a.grants ≡ rules_of (policy_at (start_of a) a.audit.items)
   rules_is = kept.rules
 
-  due-is : grant_due a.grants client on rights ≡ due_of (knows_client (rules_of a.policy) client) (knows_object (rules_of a.policy) on) (are_allowed (rules_of a.policy) client on rights)
+  due-is : grant_due a.grants client on rights ≡ due_of (knows_client (rules_of (policy_at (start_of a) a.audit.items)) client) (knows_object (rules_of (policy_at (start_of a) a.audit.items)) on) (are_allowed (rules_of (policy_at (start_of a) a.audit.items)) client on rights)
   due-is = ap (λ (rules : Rules). due_of (knows_client rules client) (knows_object rules on) (rules_kept.are_allowed rules client on rights)) rules_is
 
   -- what grants say is due is what is owed
   pub grant-refused : (r : Why) → Err r ≡ grant_due a.grants client on rights → owed (start_of a) a.audit.items (Grant client on rights) ≡ refuses (refusal_of r)
   unfolding owed
-  grant-refused r due = by_tests (knows_client (rules_of a.policy) client) (knows_object (rules_of a.policy) on) (are_allowed (rules_of a.policy) client on rights) (due ∙ due-is)
+  grant-refused r due = by_tests (knows_client (rules_of (policy_at (start_of a) a.audit.items)) client) (knows_object (rules_of (policy_at (start_of a) a.audit.items)) on) (are_allowed (rules_of (policy_at (start_of a) a.audit.items)) client on rights) (due ∙ due-is)
     where
       by_tests : (c o s : Bool) → Err r ≡ due_of c o s
           → refuse_unless c (refuses refusal.UnknownClient) (refuse_unless o (refuses refusal.UnknownObject) (refuse_unless s (refuses refusal.NotAllowed) (enters outcome.Accepted [])))
@@ -37,7 +38,7 @@ module _ (a : Inside) (kept : IsCached a) (client : ClientId) (on : Object) (rig
 
   grant-owed : Ok tt ≡ grant_due a.grants client on rights → owed (start_of a) a.audit.items (Grant client on rights) ≡ enters outcome.Accepted []
   unfolding owed
-  grant-owed due = by_tests (knows_client (rules_of a.policy) client) (knows_object (rules_of a.policy) on) (are_allowed (rules_of a.policy) client on rights) (due ∙ due-is)
+  grant-owed due = by_tests (knows_client (rules_of (policy_at (start_of a) a.audit.items)) client) (knows_object (rules_of (policy_at (start_of a) a.audit.items)) on) (are_allowed (rules_of (policy_at (start_of a) a.audit.items)) client on rights) (due ∙ due-is)
     where
       by_tests : (c o s : Bool) → Ok tt ≡ due_of c o s
           → refuse_unless c (refuses refusal.UnknownClient) (refuse_unless o (refuses refusal.UnknownObject) (refuse_unless s (refuses refusal.NotAllowed) (enters outcome.Accepted [])))

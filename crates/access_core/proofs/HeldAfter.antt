@@ -9,6 +9,8 @@ use Rattle.access_core.proofs.Terms.{name_of, owner, packet_of, releases, rights
 use Rattle.core_model.specs.Holds.{arguments}
 use Rattle.grants.specs.Pairs.{is_named}
 use Rattle.core_model.specs.Queues.{opening_of}
+use Rattle.core_model.specs.Policies.{rows_after}
+use Rattle.policy.specs.declared.rows.PolicyRows.{PolicyRows}
 use Rattle.access_core.proofs.CachedMore.{GrantsAfter}
 use Rattle.access_core.proofs.HeldRights.{any-before}
 use Rattle.grants.specs.Ledger as ledger
@@ -89,14 +91,19 @@ blocks-with q i p bytes fs bs are = grind (
   map-append name_of fs (record { queue = q; id = i; packet = p } ∷ []),
 )
 
+-- the rules with the same rows are the same
+rows-still : (grants : Ledger) {rows : PolicyRows} → (ledger.rules_in grants).rows ≡ rows → ledger.rules_in grants ≡ record (ledger.rules_in grants) { rows = rows }
+rows-still grants same = λ i. record (ledger.rules_in grants) { rows = same i }
+
 -- so a call that doesn't touch the grants leaves them as the history says
 pub grants-still : (a : Inside) → IsCached a → (event : Event) (outcome : Outcome) (effects : List Effect) → launched_by event outcome ≡ None
     → ((queue : QueueId) (id : PacketId) → list_any (releases queue id) effects ≡ false)
     → ((client : ClientId) (on : Object) (right : Right) (b : Bool) → in_force_after client on right b event ≡ b)
+    → ((rows : PolicyRows) → rows_after rows event ≡ rows)
     → flight (start_of a) (with_entry a.audit.items event outcome effects) ≡ flight (start_of a) a.audit.items → GrantsAfter a a.grants a.blocks.items event outcome effects
-grants-still a kept event outcome effects launches stays same flying = record {
+grants-still a kept event outcome effects launches stays same unchanged flying = record {
   granted = λ client on right. sym (same client on right _);
-  rules = refl;
+  rules = rows-still a.grants (sym (unchanged (ledger.rules_in a.grants).rows));
   held = held-still a kept event outcome effects launches stays;
   blocks_are = rw flying kept.blocks_are;
   arguments = blocks-still a kept event outcome effects launches stays;
@@ -137,13 +144,14 @@ among-set on right (h ∷ hs) = λ i. (same_object on h.0 && set-has h.1 right i
 -- a packet that leaves flight holds nothing after it, and has no argument block
 pub grants-released : (a : Inside) → IsCached a → (event : Event) (outcome : Outcome) (effects : List Effect) → launched_by event outcome ≡ None
     → ((client : ClientId) (on : Object) (right : Right) (b : Bool) → in_force_after client on right b event ≡ b)
+    → ((rows : PolicyRows) → rows_after rows event ≡ rows)
     → (new : Ledger) (blocks : List ArgumentBlock) (q : QueueId) (i : PacketId)
     → ((queue : QueueId) (id : PacketId) → list_any (releases queue id) effects ≡ same_packet queue id q i)
     → flight (start_of a) (with_entry a.audit.items event outcome effects) ≡ filter (λ f. not (is_packet q i f)) (flight (start_of a) a.audit.items) → Releases a.grants new q i
     → blocks ≡ filter (λ b. not (is_block q i b)) a.blocks.items → GrantsAfter a new blocks event outcome effects
-grants-released a kept event outcome effects launches same new blocks q i drops flying releases_it dropped = record {
+grants-released a kept event outcome effects launches same unchanged new blocks q i drops flying releases_it dropped = record {
   granted = λ client on right. releases_it.same_rights client on right ∙ sym (same client on right _);
-  rules = releases_it.same_rules;
+  rules = releases_it.same_rules ∙ rows-still a.grants (sym (unchanged (ledger.rules_in a.grants).rows));
   held = λ queue id client on right.
       releases_it.released queue id client on right
       ∙ ap (λ b. b && not (same_packet queue id q i)) (kept.held queue id client on right)
@@ -159,6 +167,7 @@ grants-released a kept event outcome effects launches same new blocks q i drops 
 -- a packet that is launched holds what its launch gives it
 pub grants-launched : (a : Inside) → IsCached a → (event : Event) (outcome : Outcome)
     → ((client : ClientId) (on : Object) (right : Right) (b : Bool) → in_force_after client on right b event ≡ b)
+    → ((rows : PolicyRows) → rows_after rows event ≡ rows)
     → (old new : Ledger) (blocks : List ArgumentBlock) (opening : Opening) (q : QueueId) (i : PacketId) (p : Packet) (rights : List (Object × Rights))
     (bytes : List ℕ)
     → launched_by event outcome ≡ Some (record { queue = q; id = i; packet = p })
@@ -166,9 +175,9 @@ pub grants-launched : (a : Inside) → IsCached a → (event : Event) (outcome :
     → old ≡ record a.grants { room = old.room } → rights ≡ map as_rights (rights_at_launch (start_of a) a.audit.items opening p)
     → owner (start_of a) a.audit.items q ≡ Some opening → Holds old new opening.client q i rights
     → bytes ≡ arguments_of (start_of a) a.audit.items p → blocks ≡ a.blocks.items ++ record { queue = q; packet = i; bytes = bytes } ∷ [] → GrantsAfter a new blocks event outcome []
-grants-launched a kept event outcome still old new blocks opening q i p rights bytes launches flying same are is holds block_is pushed = record {
+grants-launched a kept event outcome still unchanged old new blocks opening q i p rights bytes launches flying same are is holds block_is pushed = record {
   granted = λ client on right. holds.same_rights client on right ∙ ap (λ (g : Ledger). ledger.in_force g client on right) same ∙ sym (still client on right _);
-  rules = holds.same_rules ∙ ap ledger.rules_in same;
+  rules = holds.same_rules ∙ ap ledger.rules_in same ∙ rows-still a.grants (sym (unchanged (ledger.rules_in a.grants).rows));
   held = λ queue id client on right.
       holds.held queue id client on right
       ∙ ap (λ (g : Ledger). ledger.holds g queue id client on right || (same_packet queue id q i && is_named rights opening.client client on right)) same

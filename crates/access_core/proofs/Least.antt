@@ -12,7 +12,7 @@ pub record IsFound {X : Type 0} (test : X → Bool) (xs : List X) : Type 0 where
   pub one : X
   pub is : find test xs ≡ Some one
 
-any-found : {X : Type 0} (test : X → Bool) (xs : List X) → list_any test xs ≡ true → IsFound test xs
+pub any-found : {X : Type 0} (test : X → Bool) (xs : List X) → list_any test xs ≡ true → IsFound test xs
 any-found test [] any = absurd cc
 any-found test (x ∷ xs) any = first (test x) refl any (any-found test xs)
   where
@@ -21,7 +21,7 @@ any-found test (x ∷ xs) any = first (test x) refl any (any-found test xs)
     first false is any more = let later = more any in record { one = later.one; is = rw is later.is }
 
 -- one that is found by one test, and passes another, is one that passes
-found-any : {X : Type 0} (sought test : X → Bool) (xs : List X) (f : X) → find sought xs ≡ Some f → test f ≡ true → list_any test xs ≡ true
+pub found-any : {X : Type 0} (sought test : X → Bool) (xs : List X) (f : X) → find sought xs ≡ Some f → test f ≡ true → list_any test xs ≡ true
 found-any sought test [] f found passes = absurd cc
 found-any sought test (x ∷ xs) f found passes = grind (arith, found-any sought test xs f)
 

@@ -25,6 +25,7 @@ pub mod HeldRights
 pub mod HeldAfter
 pub mod Granting
 pub mod Listing
+pub mod ReloadLemmas
 pub mod Least
 pub mod Opened
 pub mod Rotated

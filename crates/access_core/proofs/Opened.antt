@@ -7,6 +7,7 @@ use Rattle.std.proofs.Common.{List, Some, ◌∷◌, ap, length, subst, sym}
 use Rattle.std.proofs.Common.{All, map, ◌≡◌, ℕ, ◌≤◌, [], ◌∙◌, true, None, arith, refl}
 use Rattle.core_model.specs.History.{effects_of}
 use Rattle.core_model.specs.Grants.{in_force}
+use Rattle.core_model.specs.Policies.{policy_at, rows_at}
 use Rattle.core_model.specs.Memory.{memory_at, signals}
 use Rattle.core_model.specs.Queues.{openings, next_id, errors, is_stopped}
 use Rattle.core_model.specs.Flight.{flight}
@@ -29,14 +30,14 @@ legal-opened policy kernels = whole-legal (opening_state policy kernels) [] (rec
 pub IsCached-opened : (a : Inside) → IsNew a.grants → rules_in a.grants ≡ rules_of a.policy → a.memory ≡ zeros (region_lengths a.policy) → a.signals ≡ initial_values a.policy
     → a.blocks.items ≡ [] → a.queues.items ≡ [] → a.flying ≡ 0 → a.audit.items ≡ [] → a.audit.room ≡ a.capacity → a.capacity ≤ MOST_ENTRIES
     → All (λ kernel. has_entry kernel ≡ true) a.kernels.items → a.segments.items ≡ map segments_of (map program_of a.kernels.items) → IsCached a
-unfolding in_force memory_at effects_of signals openings next_id errors is_stopped flight held arguments
+unfolding rows_at in_force memory_at effects_of signals openings next_id errors is_stopped flight held arguments
 IsCached-opened a fresh ruled memory values blocks queues flying entries places few kernels segments =
     let opens : start_of a ≡ opening_state a.policy (map program_of a.kernels.items) = begin-opening a.policy (map program_of a.kernels.items) in
     let empty : (x : Start → List Entry → Type 0) → x (opening_state a.policy (map program_of a.kernels.items)) [] → x (start_of a) a.audit.items =
     λ x has. subst (x (start_of a)) (sym entries) (subst (λ (now : Start). x now []) (sym opens) has) in
     record {
       granted = λ client on right. empty (λ now es. ledger.in_force a.grants client on right ≡ in_force now es client on right) (fresh.none_in_force client on right);
-      rules = ruled;
+      rules = empty (λ now es. rules_in a.grants ≡ rules_of (policy_at now es)) ruled;
       held = λ queue id client on right. empty (λ now es. ledger.holds a.grants queue id client on right ≡ held now es queue id client on right) (fresh.none_held queue id client on right);
       blocks_are = empty (λ now es. AreBlocksOf (flight now es) a.blocks.items) (rw blocks refl);
       arguments = λ queue id. empty (λ now es. block_of a.blocks.items queue id ≡ arguments now es queue id) (rw blocks refl);

@@ -221,7 +221,7 @@ module _ (a : Inside) (kept : IsCached a) where
 
   pub rotated : are_region_lengths (region_lengths a.policy) ≡ true → begin (map program_of a.kernels.items) (origin_behind a) ≡ state_after (start_of a) a.audit.items
   rotated fit = λ i. record {
-    policy = a.policy;
+    policy = record a.policy { rows = (kept.rules i).rows };
     kernels = map program_of a.kernels.items;
     in_force = λ client on right. kept.granted client on right i;
     memory = λ x. memory-is fit x i;

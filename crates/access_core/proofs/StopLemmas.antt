@@ -107,12 +107,12 @@ module _ (a : Inside) (kept : IsCached a) (queue : QueueId) where
       → IfSome barrier (λ id. blocks ≡ filter (λ b. not (is_block queue id b)) a.blocks.items)
       → IfNone barrier (new ≡ a.grants) → IfNone barrier (blocks ≡ a.blocks.items) → GrantsAfter a new blocks (Stop queue) outcome.Accepted (release_of queue barrier)
   grants-stopped None new blocks released dropped same same_blocks =
-      rw (same, same_blocks) (grants-still a kept (Stop queue) outcome.Accepted [] refl (λ q i. refl) (λ client on right b. refl)
+      rw (same, same_blocks) (grants-still a kept (Stop queue) outcome.Accepted [] refl (λ q i. refl) (λ client on right b. refl) (λ rows. refl)
       (flight-unlaunched (start_of a) a.audit.items (Stop queue) outcome.Accepted [] refl))
   grants-stopped (Some id) new blocks released dropped same same_blocks =
       grind (
         arith,
-        grants-released a kept (Stop queue) outcome.Accepted (effect.Release queue id ∷ []) refl (λ client on right b. refl) new blocks queue id (is_release queue id).drops
+        grants-released a kept (Stop queue) outcome.Accepted (effect.Release queue id ∷ []) refl (λ client on right b. refl) (λ rows. refl) new blocks queue id (is_release queue id).drops
             (flight-released (start_of a) a.audit.items _ _ _ queue id (is_release queue id)) released dropped,
       )
 

@@ -17,7 +17,8 @@ MadeInPlace (OpenQueue client agent size) old new = KeepsPlaces (OpenQueue clien
 MadeInPlace (Take queue packet bytes) old new = KeepsPlaces (Take queue packet bytes) old new
 MadeInPlace _ old new = new.places ≡ old.places
 
--- and so does a request, for each query leaves them
+-- and so does a request, for each query leaves them, and so does a policy that is handed in
 abbrev pub ServedInPlace : Request → Core → Core → Type 0
 ServedInPlace (request.Event event) old new = MadeInPlace event old new
 ServedInPlace (request.Query query) old new = new.places ≡ old.places
+ServedInPlace (request.Reload policy) old new = new.places ≡ old.places

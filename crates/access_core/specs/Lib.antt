@@ -1,5 +1,6 @@
 pub mod Cores
 pub mod Keeping
 pub mod Opening
+pub mod Reloads
 pub mod Tables
 pub mod inner

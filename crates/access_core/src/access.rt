@@ -15,6 +15,7 @@ mod opening;
 mod polling;
 mod queries;
 mod queueing;
+mod reloading;
 mod running;
 mod serving;
 mod stopping;

@@ -102,9 +102,33 @@ fn end_line(alloc: Global, book: &Book, session: &mut Session) -> Result<bool, A
     }
 }
 
-// Keeps the line that ends here as it is.
-fn keep_line(session: &mut Session) -> Result<(), AllocError> {
-    session.out.extend_from_slice(session.line.as_slice())
+// Puts what the line comes to, or the line as it is with what ends it, behind what was assembled.
+fn put_line(
+    alloc: Global,
+    book: &Book,
+    session: &mut Session,
+    end: &[u8],
+) -> Result<(), AssembleError> {
+    if !end_line(alloc, book, session)? {
+        session.out.extend_from_slice(session.line.as_slice())?;
+        session.out.extend_from_slice(end)?;
+    }
+    Ok(())
+}
+
+// The same; where it fails nothing is put there, so that only whole lines are handed over.
+fn put_whole_line(
+    alloc: Global,
+    book: &Book,
+    session: &mut Session,
+    end: &[u8],
+) -> Result<(), AssembleError> {
+    let before = session.out.len();
+    let put = put_line(alloc, book, session, end);
+    if put.is_err() {
+        session.out.truncate(before);
+    }
+    put
 }
 
 // Takes a byte of the script.
@@ -124,10 +148,7 @@ fn take_byte(
         }
         return Ok(session.line.push(byte)?);
     }
-    if !end_line(alloc, book, session)? {
-        keep_line(session)?;
-        session.out.push(b'\n')?;
-    }
+    put_whole_line(alloc, book, session, b"\n".as_slice())?;
     session.line.clear();
     session.number = session.number.saturating_add(1);
     Ok(())
@@ -148,10 +169,7 @@ fn take_bytes(
 
 // Takes the end of the script: a line that is begun ends there.
 fn take_end(alloc: Global, book: &Book, session: &mut Session) -> Result<(), AssembleError> {
-    if !end_line(alloc, book, session)? {
-        keep_line(session)?;
-    }
-    Ok(())
+    put_whole_line(alloc, book, session, b"".as_slice())
 }
 
 // Reads once: how many bytes, or none where the read was interrupted.
@@ -207,7 +225,7 @@ fn hand_over<W: io::Write>(session: &mut Session, writer: &mut W) -> Result<(), 
 }
 
 /// Reads a script and writes it with each line that is a form of this crate replaced by the lines that it comes to;
-/// every other line is written as it is, byte for byte. What the lines before a fault come to is written.
+/// every other line is written as it is, byte for byte. What the lines before a fault come to is written, in whole lines.
 pub fn assemble_script<R: io::Read, W: io::Write>(
     alloc: Global,
     book: &Book,

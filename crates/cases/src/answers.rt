@@ -3,9 +3,10 @@
 use crate::file::Kind;
 use crate::kernels::kernel_answer;
 use crate::names::Names;
+use crate::spelling::{bytes_of, chosen};
 use anyhow::{Error, anyhow};
 use command_line::{assemble_policy, explained, list_kernel, run_strictly};
-use commands::{Status, check_policy, run_policy};
+use commands::{PolicyText, Status, check_policy, run_policies};
 use std::alloc::{AllocError, Global};
 
 /// How many entries an audit has place for, where a case doesn't say.
@@ -51,18 +52,20 @@ fn written(out: Vec<u8>, err: Vec<u8>, status: Status) -> Result<String, Error> 
     Ok(answer)
 }
 
-// The replies to a script over a policy, with so many places in the audit.
-fn script_answer(
-    alloc: Global,
-    policy: &str,
-    places: usize,
-    script: &[u8],
-) -> Result<String, Error> {
+// The replies to a script.
+fn script_answer(alloc: Global, settings: &Settings, script: &[u8]) -> Result<String, Error> {
     let mut out = Vec::new(alloc);
     let mut err = Vec::new(alloc);
     let mut reader = script;
-    let policy = policy.as_bytes();
-    let status = run_policy(alloc, policy, places, &mut reader, &mut out, &mut err);
+    let status = run_policies(
+        alloc,
+        settings.policy.as_bytes(),
+        settings.further.as_slice(),
+        settings.places,
+        &mut reader,
+        &mut out,
+        &mut err,
+    );
     written(out, err, status)
 }
 
@@ -71,9 +74,15 @@ fn strict_answer(alloc: Global, settings: &Settings, script: &[u8]) -> Result<St
     let mut out = Vec::new(alloc);
     let mut err = Vec::new(alloc);
     let mut reader = script;
-    let policy = settings.policy.as_bytes();
-    let places = settings.places;
-    let status = run_strictly(alloc, policy, places, &mut reader, &mut out, &mut err);
+    let status = run_strictly(
+        alloc,
+        settings.policy.as_bytes(),
+        settings.further.as_slice(),
+        settings.places,
+        &mut reader,
+        &mut out,
+        &mut err,
+    );
     written(out, err, status)
 }
 
@@ -99,7 +108,7 @@ fn readable_answer(alloc: Global, settings: &Settings, script: &[u8]) -> Result<
         &mut assembled,
         &mut err,
     );
-    let mut answer = script_answer(alloc, policy, settings.places, assembled.as_slice())?;
+    let mut answer = script_answer(alloc, settings, assembled.as_slice())?;
     add_ending(&mut answer, text_of(err)?.as_str(), status)?;
     Ok(answer)
 }
@@ -132,10 +141,12 @@ fn policy_answer(alloc: Global, policy: &[u8]) -> Result<String, Error> {
     written(out, err, status)
 }
 
-/// What a case's settings change: the policy, and how many entries the audit has place for.
+/// What a case's settings change: the policy, the further policies of a script, and how many entries the audit has
+/// place for.
 #[derive(Drop)]
 pub struct Settings {
     pub policy: String,
+    pub further: Vec<PolicyText>,
     pub places: usize,
 }
 
@@ -169,6 +180,22 @@ fn places_in(line: &str) -> Result<usize, Error> {
     }
 }
 
+// A further policy: the policy with one text in place of another, or a text as it is spelled.
+fn further_policy(
+    alloc: Global,
+    setting: &Setting<'_>,
+    policy: &str,
+    text: &str,
+) -> Result<PolicyText, Error> {
+    if let Some((old, new)) = text.split_once(" => ") {
+        let policy = respelled(alloc, setting, policy, old, new)?;
+        return Ok(PolicyText::new(policy.into_bytes()));
+    }
+    let text = chosen(alloc, text, 0)?;
+    let text = setting.names.spelled(alloc, text.as_str())?;
+    Ok(PolicyText::new(bytes_of(alloc, text.as_str())?))
+}
+
 // Reads a setting, and changes what it speaks of.
 fn read_setting(
     alloc: Global,
@@ -176,7 +203,10 @@ fn read_setting(
     settings: &mut Settings,
     line: &str,
 ) -> Result<(), Error> {
-    if let Some((old, new)) = line.split_once(" => ") {
+    if let Some(text) = line.strip_prefix("further ") {
+        let further = further_policy(alloc, setting, settings.policy.as_str(), text)?;
+        settings.further.push(further)?;
+    } else if let Some((old, new)) = line.split_once(" => ") {
         settings.policy = respelled(alloc, setting, settings.policy.as_str(), old, new)?;
     } else {
         settings.places = places_in(line)?;
@@ -184,7 +214,8 @@ fn read_setting(
     Ok(())
 }
 
-/// Reads the settings of a case: `audit 10`, or `OLD => NEW`, by which a text of the policy is replaced.
+/// Reads the settings of a case: `audit 10`, `OLD => NEW`, by which a text of the policy is replaced, and `further TEXT`
+/// or `further OLD => NEW`, which is one more policy.
 pub fn read_settings(
     alloc: Global,
     setting: &Setting<'_>,
@@ -192,6 +223,7 @@ pub fn read_settings(
 ) -> Result<Settings, Error> {
     let mut settings = Settings {
         policy: String::from_str(alloc, setting.over)?,
+        further: Vec::new(alloc),
         places: PLACES,
     };
     for line in lines {
@@ -200,10 +232,11 @@ pub fn read_settings(
     Ok(settings)
 }
 
-/// The settings of a case with the text of a kernel in place of `{KERNEL}` in the policy.
+/// The settings of a case with the text of a kernel in place of `{KERNEL}` in the policy; it has no further ones.
 pub fn with_kernel(alloc: Global, settings: &Settings, kernel: &str) -> Result<Settings, Error> {
     Ok(Settings {
         policy: changed(alloc, settings.policy.as_str(), "{KERNEL}", kernel)?,
+        further: Vec::new(alloc),
         places: settings.places,
     })
 }
@@ -216,9 +249,7 @@ pub fn answer(
     asked: &[u8],
 ) -> Result<String, Error> {
     match kind {
-        Kind::Scripts | Kind::Runs => {
-            script_answer(alloc, settings.policy.as_str(), settings.places, asked)
-        }
+        Kind::Scripts | Kind::Runs => script_answer(alloc, settings, asked),
         Kind::Strict => strict_answer(alloc, settings, asked),
         Kind::Assembled => assembled_answer(alloc, settings.policy.as_str(), asked),
         Kind::Readable => readable_answer(alloc, settings, asked),

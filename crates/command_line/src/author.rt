@@ -1,7 +1,8 @@
 //! The commands for authors of kernels, scripts and policies.
 
-use crate::explain::{UNKNOWN, explained};
+use crate::meanings::{UNKNOWN, explained};
 use crate::perform::{failed, unread_file};
+use crate::writers::Nowhere;
 use assemble::{AssembleError, Book, BookError, assemble_script};
 use commands::{Status, check_policy};
 use kernel_listing::{Listing, list};
@@ -13,16 +14,16 @@ use std::io::{Read, Write};
 // How many bytes of a kernel's text are read: one more than a text may have.
 const MOST_TEXT: u64 = 65_537;
 
-// Writes a text, and tells how that ended.
-fn told<W: io::Write>(out: &mut W, text: &str, status: Status) -> Status {
+/// Writes a text, and tells how that ended.
+pub(crate) fn told<W: io::Write>(out: &mut W, text: &str, status: Status) -> Status {
     if out.write_all(text.as_bytes()).is_err() || out.flush().is_err() {
         return Status::Failed;
     }
     status
 }
 
-// Writes what failed.
-fn fails<E: io::Write>(err: &mut E, what: &str) -> Status {
+/// Writes what failed.
+pub(crate) fn fails<E: io::Write>(err: &mut E, what: &str) -> Status {
     let _ = err.write_all(what.as_bytes());
     Status::Failed
 }
@@ -105,8 +106,7 @@ pub fn assemble_policy<R: io::Read, O: io::Write, E: io::Write>(
     out: &mut O,
     err: &mut E,
 ) -> Status {
-    let mut counts = Vec::new(alloc);
-    match check_policy(alloc, policy, &mut counts, err) {
+    match check_policy(alloc, policy, &mut Nowhere, err) {
         Status::Done => assemble_checked(alloc, policy, script, out, err),
         status => status,
     }
@@ -129,8 +129,13 @@ pub fn explain(rt: &HostRuntime, word: &str) -> Option<Status> {
         return Some(failed(rt, "no memory"));
     };
     if text.is_empty() {
-        let _ = eprintln!(rt; "{UNKNOWN}");
-        return None;
+        return match eprintln!(rt; "{UNKNOWN}") {
+            Ok(()) => None,
+            Err(_) => Some(Status::Failed),
+        };
     }
-    Some(told(&mut rt.stdout(), text.as_str(), Status::Done))
+    match told(&mut rt.stdout(), text.as_str(), Status::Done) {
+        Status::Failed => Some(failed(rt, "write fault")),
+        status => Some(status),
+    }
 }

@@ -15,7 +15,7 @@ Lines of a script (docs/scripts.md):
   poll Q ID                    finish Q ID                 write C ADDRESS BYTES
   read C ADDRESS N             signal C NAME OP V          load C NAME
   test C NAME COND V           list C                      errors Q
-  audit
+  audit                        reload N
 KIND is agent, region, signal or kernel; R is USE, READ, WRITE, WAIT, CHANGE or LAUNCH, and - for none;
 OP is store, add, subtract, and, or, xor, exchange or cas (which has two V); COND is EQ, NE, LT or GTE.
 
@@ -28,6 +28,7 @@ Names that explain tells:
   rules      L1 to L10, A1 to A7, B1
   refusals   0 OutOfMemory 1 UnknownClient 2 UnknownQueue 3 Denied 4 Busy 5 NotAllowed 6 OutOfStep 7 QueueDown
              8 NotInFlight 9 NotFinished 10 AuditFull 11 BadSize 12 TooMany 13 UnknownObject 14 NotAStep 15 Spent
+             16 OtherObjects
   policy     1 NotToml 2 MissingKey 3 BadValue 4 UnknownName 5 DoubleName 6 TooMany
   read       1 Lexeme 2 Syntax 3 NotInProfile 4 TooLong
   check      1 UnknownLabel 2 DoubleName 3 WrongRegister 4 WrongType 5 UnknownArgument 6 TooLarge 7 BadAddress

@@ -1,20 +1,24 @@
 //! The program's command line: `brokerd check POLICY` checks a policy, and `brokerd run POLICY` runs a script from
-//! standard input over it; `brokerd kernel FILE` lists the kernels of a text, `brokerd assemble POLICY` turns readable
-//! packets into digits, and `brokerd explain WORD` tells what a rule means.
+//! standard input over it, of which `brokerd picture POLICY` draws a picture; `brokerd kernel FILE` lists the kernels of a
+//! text, `brokerd assemble POLICY` turns readable packets into digits, and `brokerd explain WORD` tells what a rule means.
 
 // The check tries its tactics on what is left of each proof.
 #![tactic(auto)]
 
 mod author;
-mod explain;
+mod explaining;
+mod further;
 mod help;
+mod meanings;
 mod perform;
 mod request;
 mod strict;
 mod syntax;
+mod writers;
 
 pub use author::{assemble_policy, list_kernel};
-pub use explain::explained;
+pub use explaining::{PolicyFile, check_explaining, run_explaining};
+pub use meanings::explained;
 pub use perform::{obey, out_of_memory};
-pub use request::{Request, Unread, read_words};
+pub use request::{Asked, Request, Unread, read_words};
 pub use strict::run_strictly;

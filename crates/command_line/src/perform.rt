@@ -1,10 +1,11 @@
 //! Does what a command line asks.
 
 use crate::author::{assemble_input, explain, kernel};
-use crate::request::{Request, Unread, read_words};
-use crate::strict::run_strictly;
+use crate::explaining::{PolicyFile, check_explaining};
+use crate::further::{Manner, run};
+use crate::request::{Asked, Request, Unread, read_words};
 use clap::Error;
-use commands::{Status, check_policy, run_policy};
+use commands::{Status, check_policy, draw_policy};
 use policy::MOST_POLICY_BYTES;
 use std::fs::File;
 use std::io::{self, Read};
@@ -26,9 +27,9 @@ pub fn unread_file(rt: &HostRuntime, error: &io::Error) -> Status {
     }
 }
 
-// The text of a policy file, and of one that is longer than a policy may be a byte more than that, so that it is
-// refused for its length.
-fn read_file(rt: &HostRuntime, policy: &str) -> io::Result<Vec<u8>> {
+/// The text of a policy file, and of one that is longer than a policy may be a byte more than that, so that it is
+/// refused for its length.
+pub fn read_file(rt: &HostRuntime, policy: &str) -> io::Result<Vec<u8>> {
     let most = (MOST_POLICY_BYTES as u64).saturating_add(1);
     let mut text = Vec::new(rt.alloc());
     File::open(rt, policy)?.take(most).read_to_end(&mut text)?;
@@ -48,9 +49,37 @@ fn check(rt: &HostRuntime, policy: &str) -> Status {
     }
 }
 
-// Runs the script on standard input over the policy in a text.
-fn run_over(rt: &HostRuntime, text: &[u8], places: usize) -> Status {
-    run_policy(
+/// Tells which policy couldn't be read, and why.
+pub fn unread_policy(rt: &HostRuntime, policy: &str, error: &io::Error) -> Status {
+    let status = unread_file(rt, error);
+    let why = match error.kind() {
+        io::ErrorKind::NotFound => "there is no such file",
+        io::ErrorKind::PermissionDenied => "it may not be read",
+        _ => "reading it failed",
+    };
+    let _ = eprintln!(rt; "{policy}: {why}");
+    status
+}
+
+// Checks the policy in a file, and tells where its fault lies.
+fn check_and_explain(rt: &HostRuntime, policy: &str) -> Status {
+    match read_file(rt, policy) {
+        Ok(text) => check_explaining(
+            rt.alloc(),
+            PolicyFile {
+                name: policy,
+                text: text.as_slice(),
+            },
+            &mut rt.stdout(),
+            &mut rt.stderr(),
+        ),
+        Err(error) => unread_policy(rt, policy, &error),
+    }
+}
+
+// Draws the run of the script on standard input over the policy in a text.
+fn draw_over(rt: &HostRuntime, text: &[u8], places: usize) -> Status {
+    draw_policy(
         rt.alloc(),
         text,
         places,
@@ -60,25 +89,10 @@ fn run_over(rt: &HostRuntime, text: &[u8], places: usize) -> Status {
     )
 }
 
-// Runs the script on standard input over the policy in a file.
-fn run(rt: &HostRuntime, policy: &str, places: usize) -> Status {
+// Draws the run of the script on standard input over the policy in a file.
+fn draw(rt: &HostRuntime, policy: &str, places: usize) -> Status {
     match read_file(rt, policy) {
-        Ok(text) => run_over(rt, text.as_slice(), places),
-        Err(error) => unread_file(rt, &error),
-    }
-}
-
-// Runs the script on standard input over the policy in a file, up to the first line that isn't done.
-fn run_strict(rt: &HostRuntime, policy: &str, places: usize) -> Status {
-    match read_file(rt, policy) {
-        Ok(text) => run_strictly(
-            rt.alloc(),
-            text.as_slice(),
-            places,
-            &mut rt.stdin(),
-            &mut rt.stdout(),
-            &mut rt.stderr(),
-        ),
+        Ok(text) => draw_over(rt, text.as_slice(), places),
         Err(error) => unread_file(rt, &error),
     }
 }
@@ -92,11 +106,26 @@ fn assemble_by(rt: &HostRuntime, policy: &str) -> Status {
 }
 
 // Does what is asked, and tells the exit status.
-fn perform(rt: &HostRuntime, request: Request<'_>) -> u8 {
-    match request {
+fn perform(rt: &HostRuntime, asked: &Asked<'_>) -> u8 {
+    let further = asked.further.as_slice();
+    match asked.request {
         Request::Check { policy } => check(rt, policy).number(),
-        Request::Run { policy, places } => run(rt, policy, places).number(),
-        Request::RunStrictly { policy, places } => run_strict(rt, policy, places).number(),
+        Request::CheckExplaining { policy } => check_and_explain(rt, policy).number(),
+        Request::Run { policy, places } => {
+            run(rt, policy, further, Manner::plain(places)).number()
+        }
+        Request::RunStrictly { policy, places } => {
+            run(rt, policy, further, Manner::strict(places)).number()
+        }
+        Request::RunExplaining {
+            policy,
+            places,
+            is_strict,
+        } => {
+            let manner = Manner::explaining(places, is_strict);
+            run(rt, policy, further, manner).number()
+        }
+        Request::Picture { policy, places } => draw(rt, policy, places).number(),
         Request::Kernel { file } => kernel(rt, file).number(),
         Request::Assemble { policy } => assemble_by(rt, policy).number(),
         Request::Explain { word } => match explain(rt, word) {
@@ -136,7 +165,7 @@ fn tell(rt: &HostRuntime, error: &Error) -> u8 {
 /// words that aren't understood, 3 where the text that says so can't be written.
 pub fn obey(rt: &HostRuntime, words: &[String]) -> u8 {
     match read_words(rt.alloc(), words) {
-        Ok(request) => perform(rt, request),
+        Ok(asked) => perform(rt, &asked),
         Err(Unread::Text(error)) => tell(rt, &error),
         Err(Unread::NoCommand) => NOT_UNDERSTOOD,
         Err(Unread::OutOfMemory) => out_of_memory(rt),

@@ -1,11 +1,12 @@
 //! What the words of a command line ask for.
 
 use crate::syntax::{
-    ASSEMBLE, AUDIT, CHECK, EXPLAIN, FILE, KERNEL, POLICY, RUN, STRICT, WORD, program,
+    ASSEMBLE, AUDIT, CHECK, EXPLAIN, FILE, KERNEL, MOST_NEXT, NEXT, PICTURE, POLICY, RUN, STRICT,
+    WORD, program,
 };
 use clap::error::ErrorKind;
 use clap::{ArgMatches, Error};
-use std::alloc::Global;
+use std::alloc::{AllocError, Global};
 
 /// How many entries an audit has place for, if the command line doesn't say.
 const PLACES: usize = 65536;
@@ -14,19 +15,55 @@ const PLACES: usize = 65536;
 #[derive(Clone, Copy, Debug, PartialEq, Eq)]
 pub enum Request<'a> {
     /// `check POLICY`: to check the policy in this file.
-    Check { policy: &'a str },
-    /// `run POLICY [--audit N]`: to run the script on standard input over the policy in this file, with places for
-    /// so many entries in the audit, 1 to 1,048,576.
-    Run { policy: &'a str, places: usize },
-    /// `run POLICY --strict [--audit N]`: the same, up to the first line that isn't done.
-    RunStrictly { policy: &'a str, places: usize },
+    Check {
+        policy: &'a str,
+    },
+    /// `run POLICY [NEXT..] [--audit N]`: to run the script on standard input over the policy in this file, with places
+    /// for so many entries in the audit, 1 to 1,048,576.
+    Run {
+        policy: &'a str,
+        places: usize,
+    },
+    /// `run POLICY [NEXT..] --strict [--audit N]`: the same, up to the first line that isn't done.
+    RunStrictly {
+        policy: &'a str,
+        places: usize,
+    },
+    /// `check POLICY --explain`: to check a policy, and to tell where its fault lies.
+    CheckExplaining {
+        policy: &'a str,
+    },
+    /// `run POLICY [NEXT..] --explain [--strict] [--audit N]`: to run the script, and to tell beside its replies why.
+    RunExplaining {
+        policy: &'a str,
+        places: usize,
+        is_strict: bool,
+    },
+    /// `picture POLICY [--audit N]`: to run it the same way, and to draw what the audit tells in place of the replies.
+    Picture {
+        policy: &'a str,
+        places: usize,
+    },
     /// `kernel FILE`: to list the kernels of the text in this file.
-    Kernel { file: &'a str },
+    Kernel {
+        file: &'a str,
+    },
     /// `assemble POLICY`: to turn the script on standard input into one without readable packets, by the policy in
     /// this file.
-    Assemble { policy: &'a str },
+    Assemble {
+        policy: &'a str,
+    },
     /// `explain WORD`: to tell what a rule, a refusal or a cause means.
-    Explain { word: &'a str },
+    Explain {
+        word: &'a str,
+    },
+}
+
+/// What a command line asks for, and the files of the further policies of a run, at most 16, in their order (own).
+#[derive(Debug, Drop)]
+pub struct Asked<'a> {
+    pub request: Request<'a>,
+    pub further: Vec<&'a str>,
 }
 
 /// Why the words of a command line ask for nothing (own).
@@ -49,13 +86,40 @@ impl From<Error> for Unread {
     }
 }
 
+impl From<AllocError> for Unread {
+    fn from(_error: AllocError) -> Unread {
+        Unread::OutOfMemory
+    }
+}
+
+// How many entries the audit is to have place for.
+fn places_in(asked: &ArgMatches<'_>) -> usize {
+    asked.get_one(AUDIT).unwrap_or(PLACES)
+}
+
 // The request of `run` with its arguments.
 fn run_request<'a>(policy: &'a str, asked: &ArgMatches<'a>) -> Request<'a> {
-    let places = asked.get_one(AUDIT).unwrap_or(PLACES);
-    if asked.get_flag(STRICT) {
+    let places = places_in(asked);
+    let is_strict = asked.get_flag(STRICT);
+    if asked.get_flag(EXPLAIN) {
+        Request::RunExplaining {
+            policy,
+            places,
+            is_strict,
+        }
+    } else if is_strict {
         Request::RunStrictly { policy, places }
     } else {
         Request::Run { policy, places }
+    }
+}
+
+// The request of `check` with its arguments.
+fn check_request<'a>(policy: &'a str, asked: &ArgMatches<'a>) -> Request<'a> {
+    if asked.get_flag(EXPLAIN) {
+        Request::CheckExplaining { policy }
+    } else {
+        Request::Check { policy }
     }
 }
 
@@ -63,8 +127,12 @@ fn run_request<'a>(policy: &'a str, asked: &ArgMatches<'a>) -> Request<'a> {
 fn policy_request<'a>(command: &str, asked: &ArgMatches<'a>) -> Option<Request<'a>> {
     let policy = asked.get_str(POLICY)?;
     match command {
-        CHECK => Some(Request::Check { policy }),
+        CHECK => Some(check_request(policy, asked)),
         RUN => Some(run_request(policy, asked)),
+        PICTURE => Some(Request::Picture {
+            policy,
+            places: places_in(asked),
+        }),
         ASSEMBLE => Some(Request::Assemble { policy }),
         _ => None,
     }
@@ -83,14 +151,30 @@ fn request_of<'a>(command: &str, asked: &ArgMatches<'a>) -> Option<Request<'a>> 
     }
 }
 
-// The request of a command line that was understood.
-fn request_in<'a>(matches: &ArgMatches<'a>) -> Option<Request<'a>> {
-    let (command, asked) = matches.subcommand()?;
-    request_of(command, asked)
+// The files of further policies, which `run` alone has.
+fn further_of<'a>(alloc: Global, asked: &ArgMatches<'a>) -> Result<Vec<&'a str>, AllocError> {
+    let mut further = Vec::new(alloc);
+    if let Some(files) = asked.get_strs(NEXT) {
+        further.extend_from_slice(files)?;
+    }
+    Ok(further)
+}
+
+// What a command with its arguments asks for.
+fn asked_by<'a>(alloc: Global, command: &str, asked: &ArgMatches<'a>) -> Result<Asked<'a>, Unread> {
+    let request = request_of(command, asked).ok_or(Unread::NoCommand)?;
+    let further = further_of(alloc, asked)?;
+    if further.len() > MOST_NEXT {
+        return Err(Unread::NoCommand);
+    }
+    Ok(Asked { request, further })
 }
 
 /// Reads the words of a command line, the program's own name first.
-pub fn read_words<'a>(alloc: Global, words: &'a [String]) -> Result<Request<'a>, Unread> {
+pub fn read_words<'a>(alloc: Global, words: &'a [String]) -> Result<Asked<'a>, Unread> {
     let matches = program(alloc)?.try_get_matches_from(words)?;
-    request_in(&matches).ok_or(Unread::NoCommand)
+    match matches.subcommand() {
+        Some((command, asked)) => asked_by(alloc, command, asked),
+        None => Err(Unread::NoCommand),
+    }
 }

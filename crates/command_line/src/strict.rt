@@ -1,6 +1,7 @@
 //! A run that ends at the first line that isn't done.
 
-use commands::{Status, run_policy};
+use crate::writers::FaultText;
+use commands::{PolicyText, Status, run_policies};
 use std::alloc::Global;
 use std::io;
 use std::io::Write;
@@ -93,17 +94,18 @@ fn pass_on<E: io::Write>(faults: &[u8], err: &mut E, status: Status) -> Status {
     }
 }
 
-/// Runs a script over the policy in a text as `run_policy` does, and ends with `Status::Refused` behind the first reply
+/// Runs a script over the policies in texts as `run_policies` does, and ends with `Status::Refused` behind the first reply
 /// that tells that a line was refused, denied, faulted or failed: no further line has a reply.
 pub fn run_strictly<R: io::Read, O: io::Write, E: io::Write>(
     alloc: Global,
     text: &[u8],
+    further: &[PolicyText],
     places: usize,
     script: &mut R,
     out: &mut O,
     err: &mut E,
 ) -> Status {
-    let mut faults = Vec::new(alloc);
+    let mut faults = FaultText::new();
     let mut strict = StrictReplies {
         replies: out,
         front: [0; 8],
@@ -111,7 +113,15 @@ pub fn run_strictly<R: io::Read, O: io::Write, E: io::Write>(
         is_over: false,
         is_broken: false,
     };
-    let status = run_policy(alloc, text, places, script, &mut strict, &mut faults);
+    let status = run_policies(
+        alloc,
+        text,
+        further,
+        places,
+        script,
+        &mut strict,
+        &mut faults,
+    );
     if strict.is_over && !strict.is_broken {
         return Status::Refused;
     }

@@ -11,13 +11,17 @@ pub const CHECK: &str = "check";
 /// The name of the command that runs a script.
 pub const RUN: &str = "run";
 
+/// The name of the command that draws the run of a script.
+pub const PICTURE: &str = "picture";
+
 /// The name of the command that checks a kernel's text.
 pub const KERNEL: &str = "kernel";
 
 /// The name of the command that assembles a script.
 pub const ASSEMBLE: &str = "assemble";
 
-/// The name of the command that tells what a rule, a refusal or a cause means.
+/// The name of the command that tells what a rule, a refusal or a cause means, and of the option by which a check and a
+/// run tell why.
 pub const EXPLAIN: &str = "explain";
 
 /// The argument that names the file of a kernel's text.
@@ -32,6 +36,12 @@ pub const STRICT: &str = "strict";
 /// The argument that names the policy file.
 pub const POLICY: &str = "POLICY";
 
+/// The argument that names the files of further policies.
+pub const NEXT: &str = "NEXT";
+
+/// How many further policies a run has at the most.
+pub const MOST_NEXT: usize = 16;
+
 /// The option that says how many entries the audit has place for.
 pub const AUDIT: &str = "audit";
 
@@ -43,6 +53,15 @@ fn policy_file<'a>(alloc: Global) -> Arg<'a> {
         .required(true)
         .action(ArgAction::Set)
         .help("The policy file")
+}
+
+fn further_files<'a>(alloc: Global) -> Arg<'a> {
+    Arg::new(alloc, NEXT)
+        .num_args(0..=MOST_NEXT)
+        .action(ArgAction::Append)
+        .help(
+            "The files of further policies, at most 16: `reload N` in the script puts the N-th in force",
+        )
 }
 
 fn audit_places<'a>(alloc: Global) -> Arg<'a> {
@@ -59,6 +78,15 @@ fn strictly<'a>(alloc: Global) -> Arg<'a> {
         .long(STRICT)
         .action(ArgAction::SetTrue)
         .help("Ends with status 1 behind the first line that is refused, denied, faulted or failed")
+}
+
+fn explaining<'a>(alloc: Global) -> Arg<'a> {
+    Arg::new(alloc, EXPLAIN)
+        .long(EXPLAIN)
+        .action(ArgAction::SetTrue)
+        .help(
+            "Tells on standard error behind each fault, refusal and denial why, and what mends it",
+        )
 }
 
 fn kernel_file<'a>(alloc: Global) -> Arg<'a> {
@@ -78,7 +106,8 @@ fn explained_word<'a>(alloc: Global) -> Arg<'a> {
 fn check_command<'a>(alloc: Global) -> Result<Command<'a>, Error> {
     let check = Command::new(alloc, CHECK)
         .about("Checks a policy: counts its rows, or names its first fault")
-        .arg(policy_file(alloc))?;
+        .arg(policy_file(alloc))?
+        .arg(explaining(alloc))?;
     Ok(check)
 }
 
@@ -86,9 +115,21 @@ fn run_command<'a>(alloc: Global) -> Result<Command<'a>, Error> {
     let run = Command::new(alloc, RUN)
         .about("Runs the script on standard input over a policy, and writes the replies")
         .arg(policy_file(alloc))?
+        .arg(further_files(alloc))?
         .arg(audit_places(alloc))?
-        .arg(strictly(alloc))?;
+        .arg(strictly(alloc))?
+        .arg(explaining(alloc))?;
     Ok(run)
+}
+
+fn picture_command<'a>(alloc: Global) -> Result<Command<'a>, Error> {
+    let picture = Command::new(alloc, PICTURE)
+        .about(
+            "Runs the script on standard input over a policy, and writes a picture of the run, an SVG page",
+        )
+        .arg(policy_file(alloc))?
+        .arg(audit_places(alloc))?;
+    Ok(picture)
 }
 
 fn kernel_command<'a>(alloc: Global) -> Result<Command<'a>, Error> {
@@ -133,11 +174,20 @@ fn with_run<'a>(alloc: Global) -> Result<Command<'a>, Error> {
     Ok(program)
 }
 
+// With the one that draws a run, too.
+fn with_picture<'a>(alloc: Global) -> Result<Command<'a>, Error> {
+    let picture = picture_command(alloc)?;
+    let program = with_run(alloc)?.subcommand(picture)?;
+    Ok(program)
+}
+
 // With those that read a kernel's text or a readable script, too.
 fn with_authoring<'a>(alloc: Global) -> Result<Command<'a>, Error> {
     let kernel = kernel_command(alloc)?;
     let assemble = assemble_command(alloc)?;
-    let program = with_run(alloc)?.subcommand(kernel)?.subcommand(assemble)?;
+    let program = with_picture(alloc)?
+        .subcommand(kernel)?
+        .subcommand(assemble)?;
     Ok(program)
 }
 

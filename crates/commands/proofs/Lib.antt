@@ -1,3 +1,4 @@
 pub mod Judging
 pub mod Rows
 pub mod Entries
+pub mod Reading

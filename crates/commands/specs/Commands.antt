@@ -7,6 +7,7 @@ use Rattle.policy.specs.Policy.{Declared}
 use Rattle.policy.specs.declared.row.RightsRow.{RightsRow}
 use Rattle.policy.specs.declared.version.Version.{Version}
 use Rattle.policy.specs.declared.version.Version.TheVariants.{First, Second}
+use Rattle.policy.specs.declared.fault.ReadPolicyError.{ReadPolicyError}
 use Rattle.access_core.specs.declared.access.OpenFault.{OpenFault}
 use Rattle.access_core.specs.declared.kernel.Kernel as cores
 use Rattle.script.specs.declared.answers.Answers.{Answers}
@@ -23,7 +24,8 @@ use Rattle.commands.specs.declared.check.Setup.{Setup}
 use Rattle.commands.specs.declared.failure.Failure.TheVariants.{OutOfMemory, Policy, Kernel, KernelCount, NoEntry, Capacity, Line, Read, Write}
 use Rattle.commands.specs.declared.status.Status.{Status}
 use Rattle.commands.specs.declared.status.Status.TheVariants.{Done}
-use Rattle.commands.specs.Failures.{NamesFailure, failure_of_opening, failure_of_script}
+use Rattle.commands.specs.Failures.{NamesFailure, failure_of_opening, failure_of_reading, failure_of_script}
+use Rattle.commands.specs.Further.{ReadsEach}
 use Rattle.commands.specs.Kernels.{AreLaunchable, IsFirstRefused}
 
 -- what the reading of a policy and the check of its kernels come to: the policy, all of whose kernels pass, with what packets may
@@ -116,14 +118,14 @@ pub record Streams : Type 0 where
 abbrev pub streams : Option (List ℕ) → Option (List ℕ) → Option (List ℕ) → Streams
 streams script replies faults = record { script = script; replies = replies; faults = faults }
 
--- a script runs over a world, once: what is left of it, and its replies
-unfoldable pub RunsOver : Joined → Joined → (script left replies replied : Option (List ℕ)) → Result ⊤ ScriptFault → Type 0
-RunsOver old new script left replies replied ended =
-    RunsScript worlds old new replies replied script left ended
+-- a script runs over a world with these further policies, once: what is left of it, and its replies
+unfoldable pub RunsOver : List Declared → Joined → Joined → (script left replies replied : Option (List ℕ)) → Result ⊤ ScriptFault → Type 0
+RunsOver later old new script left replies replied ended =
+    RunsScript (worlds later) old new replies replied script left ended
 
 -- the same, whatever becomes of the world
-abbrev pub RunsFrom : Joined → (script left replies replied : Option (List ℕ)) → Result ⊤ ScriptFault → Type 0
-RunsFrom old script left replies replied ended = (new : Joined) × RunsOver old new script left replies replied ended
+abbrev pub RunsFrom : List Declared → Joined → (script left replies replied : Option (List ℕ)) → Result ⊤ ScriptFault → Type 0
+RunsFrom later old script left replies replied ended = (new : Joined) × RunsOver later old new script left replies replied ended
 
 -- nothing was read and no reply written, and a failure is named
 abbrev pub StopsBefore : Failure → Noted → (before after : Streams) → Status → Type 0
@@ -134,30 +136,41 @@ StopsBefore failure noted before after status =
 abbrev pub IsTold : Result ⊤ ScriptFault → Answers → Type 0
 IsTold ended asked = IfErr ended (IsCaused asked) × OnOk ended (NoneFailed asked)
 
--- a script runs over a world that is newly open
-abbrev pub RunsIn : Joined → Noted → (before after : Streams) → Status → Type 0
-RunsIn world noted before after status =
-    (ended : Result ⊤ ScriptFault) × RunsFrom world before.script after.script before.replies after.replies ended
+-- a script runs over a world that is newly open, with these further policies
+abbrev pub RunsIn : List Declared → Joined → Noted → (before after : Streams) → Status → Type 0
+RunsIn later world noted before after status =
+    (ended : Result ⊤ ScriptFault) × RunsFrom later world before.script after.script before.replies after.replies ended
     × IsTold ended noted.asked × TellsEnd ended noted.faults before.faults after.faults status
 
--- the script runs over the world, where one was opened; else the failure is named: that of the first kernel without its entry, where
--- there is one
-abbrev pub RunsWorld : Result Joined OpenFault → Noted → (before after : Streams) → Status → Type 0
-RunsWorld (Ok world) noted before after status = RunsIn world noted before after status
-RunsWorld (Err fault) noted before after status = StopsBefore (failure_of_opening fault) noted before after status
+-- the script runs over a world with the further policies, where they are read; else it is named why they aren't
+abbrev pub RunsLater : Joined → Result (List Declared) ReadPolicyError → Noted → (before after : Streams) → Status → Type 0
+RunsLater world (Ok later) noted before after status = RunsIn later world noted before after status
+RunsLater world (Err why) noted before after status = StopsBefore (failure_of_reading why) noted before after status
+
+-- the texts of the further policies are read in order, and the script runs over a world that is newly open
+abbrev pub RunsBehind : Joined → List (List ℕ) → Noted → (before after : Streams) → Status → Type 0
+RunsBehind world further noted before after status =
+    (read : Result (List Declared) ReadPolicyError) × ReadsEach further read × RunsLater world read noted before after status
+
+-- the further policies are read, and the script runs over the world, where one was opened; else the failure is named: that of the first
+-- kernel without its entry, where there is one
+abbrev pub RunsWorld : Result Joined OpenFault → List (List ℕ) → Noted → (before after : Streams) → Status → Type 0
+RunsWorld (Ok world) further noted before after status = RunsBehind world further noted before after status
+RunsWorld (Err fault) further noted before after status = StopsBefore (failure_of_opening fault) noted before after status
 
 -- a world is opened under a policy, with what packets may launch and so many places in its audit, and the script runs over it
-abbrev pub RunsUnder : Declared → List cores.Kernel → ℕ → Noted → (before after : Streams) → Status → Type 0
-RunsUnder policy kernels places noted before after status =
-    (opened : Result Joined OpenFault) × Begins policy kernels places opened × RunsWorld opened noted before after status
+abbrev pub RunsUnder : Declared → List cores.Kernel → List (List ℕ) → ℕ → Noted → (before after : Streams) → Status → Type 0
+RunsUnder policy kernels further places noted before after status =
+    (opened : Result Joined OpenFault) × Begins policy kernels places opened × RunsWorld opened further noted before after status
 
 -- the same, where the policy is good
-abbrev pub RunsVerdict : Result Setup Failure → ℕ → Noted → (before after : Streams) → Status → Type 0
-RunsVerdict (Ok setup) places noted before after status = RunsUnder setup.policy setup.kernels.items places noted before after status
-RunsVerdict (Err failure) places noted before after status = StopsBefore failure noted before after status
+abbrev pub RunsVerdict : Result Setup Failure → List (List ℕ) → ℕ → Noted → (before after : Streams) → Status → Type 0
+RunsVerdict (Ok setup) further places noted before after status =
+    RunsUnder setup.policy setup.kernels.items further places noted before after status
+RunsVerdict (Err failure) further places noted before after status = StopsBefore failure noted before after status
 
--- a policy is judged, and the script runs over it, or its failure is named: what the reader and the writers answered, and their
--- bytes before and after
-abbrev pub RunsPolicy : List ℕ → ℕ → Noted → (before after : Streams) → Status → Type 0
-RunsPolicy text places noted before after status =
-    (verdict : Result Setup Failure) × JudgesPolicy text verdict × RunsVerdict verdict places noted before after status
+-- a policy is judged, then further ones are read, and the script runs, or the first failure is named: what the reader and the writers
+-- answered, and their bytes before and after
+abbrev pub RunsPolicies : List ℕ → List (List ℕ) → ℕ → Noted → (before after : Streams) → Status → Type 0
+RunsPolicies text further places noted before after status =
+    (verdict : Result Setup Failure) × JudgesPolicy text verdict × RunsVerdict verdict further places noted before after status

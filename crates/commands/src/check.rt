@@ -54,8 +54,12 @@ fn text_of_counts(alloc: Global, policy: &Policy) -> Result<String, AllocError>
     Ok(text)
 }
 
-// Writes a text of counts, and has the writer pass it on.
-fn pass_on<W: io::Write>(text: &str, out: &mut W, answers: &mut Answers) -> Result<(), ScriptFault>
+/// Writes a text, and has the writer pass it on.
+pub(crate) fn pass_on<W: io::Write>(
+    text: &str,
+    out: &mut W,
+    answers: &mut Answers,
+) -> Result<(), ScriptFault>
     requires { answers.old.write_failed ≡ false }
     ensures { WritesText text.now result answers.new (W.contents out.old) (W.contents out.new) }
 {

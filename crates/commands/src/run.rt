@@ -1,13 +1,14 @@
 //! The command that runs a script over a policy.
 
-ghost use Rattle.std.specs.Prelude.{◌≡◌};
-ghost use Rattle.commands.specs.Commands.{IsTold, RunsOver, RunsFrom, RunsUnder, RunsPolicy, none_noted, streams};
+ghost use Rattle.std.specs.Prelude.{◌≡◌, []};
+ghost use Rattle.commands.specs.Commands.{IsTold, RunsBehind, RunsOver, RunsFrom, RunsUnder, RunsPolicies, none_noted, streams};
 ghost use Rattle.commands.specs.declared.noted.Noted.{Noted};
 ghost use Rattle.script.specs.Answers.{none_yet};
 ghost use Rattle.world.specs.Starting.{Begins};
 
 use crate::check::{Setup, judge};
 use crate::failure::{Failure, name_failure, tell_end};
+use crate::further::{PolicyText, read_further};
 use crate::noted::Noted;
 use crate::status::Status;
 use access_core::{Kernel, OpenFault};
@@ -20,8 +21,8 @@ use world::World;
 // The two calls below say in a word what is promised of worlds and scripts, so that the proofs of their callers
 // don't carry it.
 
-// Opens a world under a policy.
-fn open_world(
+/// Opens a world under a policy.
+pub(crate) fn open_world(
     alloc: Global,
     policy: Policy,
     kernels: Vec<Kernel>,
@@ -32,42 +33,76 @@ fn open_world(
     World::open(alloc, policy, kernels, places)
 }
 
-// Runs a script.
+/// Runs a script.
 #[tactic(auto, unfolding(crate::specs::Commands::RunsOver))]
-fn run_through<R: io::Read, O: io::Write>(
+pub(crate) fn run_through<R: io::Read, O: io::Write>(
     alloc: Global,
     world: &mut World,
+    later: &[Policy],
     script: &mut R,
     out: &mut O,
     answers: &mut Answers,
 ) -> Result<(), ScriptFault>
     requires { answers.old ≡ none_yet }
-    ensures outcome { RunsOver world.old world.new (R.remaining script.old) (R.remaining script.new) (O.contents out.old) (O.contents out.new) result }
+    ensures outcome { RunsOver later.now world.old world.new (R.remaining script.old) (R.remaining script.new) (O.contents out.old) (O.contents out.new) result }
     ensures told { IsTold result answers.new }
 {
-    run_noting(alloc, script, out, world, answers)
+    run_noting(alloc, script, out, world, later, answers)
 }
 
 // Runs a script over a world, and lets the world go.
 fn run_in<R: io::Read, O: io::Write>(
     alloc: Global,
     world: World,
+    later: &[Policy],
     script: &mut R,
     out: &mut O,
     answers: &mut Answers,
 ) -> Result<(), ScriptFault>
     requires { answers.old ≡ none_yet }
-    ensures outcome { RunsFrom world (R.remaining script.old) (R.remaining script.new) (O.contents out.old) (O.contents out.new) result }
+    ensures outcome { RunsFrom later.now world (R.remaining script.old) (R.remaining script.new) (O.contents out.old) (O.contents out.new) result }
     ensures told { IsTold result answers.new }
 {
     let mut world = world;
-    run_through(alloc, &mut world, script, out, answers)
+    run_through(alloc, &mut world, later, script, out, answers)
+}
+
+// Reads the texts of further policies, and runs a script over a world.
+fn run_behind<R: io::Read, O: io::Write, E: io::Write>(
+    alloc: Global,
+    world: World,
+    further: &[PolicyText],
+    script: &mut R,
+    out: &mut O,
+    err: &mut E,
+    noted: &mut Noted,
+) -> Status
+    requires { noted.old ≡ none_noted }
+    ensures { RunsBehind world further.now noted.new
+        (streams (R.remaining script.old) (O.contents out.old) (E.contents err.old))
+        (streams (R.remaining script.new) (O.contents out.new) (E.contents err.new)) result }
+{
+    match read_further(alloc, further) {
+        Ok(later) => {
+            let ended = run_in(
+                alloc,
+                world,
+                later.policies(),
+                script,
+                out,
+                &mut noted.asked,
+            );
+            tell_end(alloc, ended, err, &mut noted.faults)
+        }
+        Err(why) => name_failure(alloc, Failure::of_reading(why), err, &mut noted.faults),
+    }
 }
 
 // Runs a script over a policy that was let pass.
 fn run_under<R: io::Read, O: io::Write, E: io::Write>(
     alloc: Global,
     setup: Setup,
+    further: &[PolicyText],
     places: usize,
     script: &mut R,
     out: &mut O,
@@ -75,23 +110,63 @@ fn run_under<R: io::Read, O: io::Write, E: io::Write>(
     noted: &mut Noted,
 ) -> Status
     requires { noted.old ≡ none_noted }
-    ensures { RunsUnder setup.policy setup.kernels.items places noted.new
+    ensures { RunsUnder setup.policy setup.kernels.items further.now places noted.new
         (streams (R.remaining script.old) (O.contents out.old) (E.contents err.old))
         (streams (R.remaining script.new) (O.contents out.new) (E.contents err.new)) result }
 {
     let Setup { policy, kernels } = setup;
     match open_world(alloc, policy, kernels, places) {
-        Ok(world) => {
-            let ended = run_in(alloc, world, script, out, &mut noted.asked);
-            tell_end(alloc, ended, err, &mut noted.faults)
-        }
+        Ok(world) => run_behind(alloc, world, further, script, out, err, noted),
         Err(why) => name_failure(alloc, Failure::of_opening(why), err, &mut noted.faults),
     }
 }
 
-/// Runs a script over a policy as `run_policy` does, and notes what the reader and the writers answered. It fails
+/// Runs a script over policies as `run_policies` does, and notes what the reader and the writers answered. It fails
 /// only where `no memory` stands on `err`, or `read fault` or `write fault`, each with its cause (`run_noting` in
 /// `script`), or where the writer of faults failed.
+pub fn run_policies_noting<R: io::Read, O: io::Write, E: io::Write>(
+    alloc: Global,
+    text: &[u8],
+    further: &[PolicyText],
+    places: usize,
+    script: &mut R,
+    out: &mut O,
+    err: &mut E,
+    noted: &mut Noted,
+) -> Status
+    requires { noted.old ≡ none_noted }
+    ensures { RunsPolicies text.now further.now places noted.new (streams (R.remaining script.old) (O.contents out.old) (E.contents err.old))
+        (streams (R.remaining script.new) (O.contents out.new) (E.contents err.new)) result }
+{
+    match judge(alloc, text) {
+        Ok(setup) => run_under(alloc, setup, further, places, script, out, err, noted),
+        Err(why) => name_failure(alloc, why, err, &mut noted.faults),
+    }
+}
+
+/// Runs a script over the policy in a text, with places for so many entries (1 to 2^20) in the
+/// audit. Replies go to `out`. A fault of the policy or of a kernel is named on `err` as
+/// `check_policy` does, and behind all of these the first kernel whose module has none of its entry's
+/// name as `kernel 2: no entry`, and behind that the first fault of the further policies, as that of a
+/// policy, before any reply; a line of no form as `line 3: bad request`, after the replies to the
+/// lines before it.
+pub fn run_policies<R: io::Read, O: io::Write, E: io::Write>(
+    alloc: Global,
+    text: &[u8],
+    further: &[PolicyText],
+    places: usize,
+    script: &mut R,
+    out: &mut O,
+    err: &mut E,
+) -> Status
+    ensures { (noted : Noted) × RunsPolicies text.now further.now places noted (streams (R.remaining script.old) (O.contents out.old) (E.contents err.old))
+        (streams (R.remaining script.new) (O.contents out.new) (E.contents err.new)) result }
+{
+    let mut noted = Noted::none();
+    run_policies_noting(alloc, text, further, places, script, out, err, &mut noted)
+}
+
+/// Runs a script over a policy as `run_policy` does, and notes what the reader and the writers answered.
 pub fn run_policy_noting<R: io::Read, O: io::Write, E: io::Write>(
     alloc: Global,
     text: &[u8],
@@ -102,20 +177,13 @@ pub fn run_policy_noting<R: io::Read, O: io::Write, E: io::Write>(
     noted: &mut Noted,
 ) -> Status
     requires { noted.old ≡ none_noted }
-    ensures { RunsPolicy text.now places noted.new (streams (R.remaining script.old) (O.contents out.old) (E.contents err.old))
+    ensures { RunsPolicies text.now [] places noted.new (streams (R.remaining script.old) (O.contents out.old) (E.contents err.old))
         (streams (R.remaining script.new) (O.contents out.new) (E.contents err.new)) result }
 {
-    match judge(alloc, text) {
-        Ok(setup) => run_under(alloc, setup, places, script, out, err, noted),
-        Err(why) => name_failure(alloc, why, err, &mut noted.faults),
-    }
+    run_policies_noting(alloc, text, &[], places, script, out, err, noted)
 }
 
-/// Runs a script over the policy in a text, with places for so many entries (1 to 2^20) in the
-/// audit. Replies go to `out`. A fault of the policy or of a kernel is named on `err` as
-/// `check_policy` does, and behind all of these the first kernel whose module has none of its entry's
-/// name as `kernel 2: no entry`, before any reply; a line of no form as `line 3: bad request`, after the
-/// replies to the lines before it.
+/// Runs a script over the policy in a text as `run_policies` does, with no further policies.
 pub fn run_policy<R: io::Read, O: io::Write, E: io::Write>(
     alloc: Global,
     text: &[u8],
@@ -124,9 +192,8 @@ pub fn run_policy<R: io::Read, O: io::Write, E: io::Write>(
     out: &mut O,
     err: &mut E,
 ) -> Status
-    ensures { (noted : Noted) × RunsPolicy text.now places noted (streams (R.remaining script.old) (O.contents out.old) (E.contents err.old))
+    ensures { (noted : Noted) × RunsPolicies text.now [] places noted (streams (R.remaining script.old) (O.contents out.old) (E.contents err.old))
         (streams (R.remaining script.new) (O.contents out.new) (E.contents err.new)) result }
 {
-    let mut noted = Noted::none();
-    run_policy_noting(alloc, text, places, script, out, err, &mut noted)
+    run_policies(alloc, text, &[], places, script, out, err)
 }

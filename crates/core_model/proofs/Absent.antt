@@ -18,7 +18,7 @@ use Rattle.core_model.specs.declared.entry.Effect.{Effect}
 use Rattle.core_model.specs.declared.entry.Effect.TheVariants.{Write, Signal, Release}
 use Rattle.core_model.specs.declared.entry.Entry.{Entry}
 use Rattle.core_model.specs.declared.event.Event.{Event}
-use Rattle.core_model.specs.declared.event.Event.TheVariants.{Grant, Revoke, OpenQueue, Stop, Take, RunNext, Poll, Finish, HostWrite, ChangeSignal}
+use Rattle.core_model.specs.declared.event.Event.TheVariants.{Grant, Revoke, OpenQueue, Stop, Take, RunNext, Poll, Finish, HostWrite, ChangeSignal, Reload}
 use Rattle.core_model.specs.declared.flight.InFlight.{InFlight}
 use Rattle.core_model.specs.declared.flight.Progress.{Progress}
 use Rattle.core_model.specs.declared.flight.TheConstants.{LAUNCH_PROGRESS}
@@ -185,6 +185,7 @@ module _ (start : Start) (queue : QueueId) (id : PacketId) where
   stays es (Finish q i) told effects owing none p is = is
   stays es (HostWrite client address bytes) told effects owing none p is = is
   stays es (ChangeSignal client signal operation) told effects owing none p is = is
+  stays es (Reload rows) told effects owing none p is = is
 
   abbrev IsAtLaunch : List Entry → Type 0
   IsAtLaunch es = flies es ≡ false → progress start es queue id ≡ LAUNCH_PROGRESS
@@ -221,9 +222,9 @@ module _ (start : Start) (queue : QueueId) (id : PacketId) where
 module _ (s : Start) (es : List Entry) (legal : IsLegal s es) where
   pub zero-outside : are_region_lengths (region_lengths s.policy) ≡ true → (x : ℕ) → lies_in_region (region_lengths s.policy) x ≡ false → memory_at s es x ≡ 0
   zero-outside fit x outside =
-      let same : s.policy ≡ legal.first = ap (λ (now : Start). now.policy) legal.start_is in
+      let same : region_lengths s.policy ≡ region_lengths legal.first = ap (λ (now : Start). region_lengths now.policy) legal.start_is in
       subst (λ (now : Start). now.memory x ≡ 0) (same-state s es legal)
-      (zero-whole (first s es legal) (ap (λ p. are_region_lengths (region_lengths p)) (sym same) ∙ fit) x (ap (λ p. lies_in_region (region_lengths p) x) (sym same) ∙ outside) (all s es legal) legal.whole)
+      (zero-whole (first s es legal) (ap are_region_lengths (sym same) ∙ fit) x (ap (λ (lengths : List ℕ). lies_in_region lengths x) (sym same) ∙ outside) (all s es legal) legal.whole)
 
   pub launch-absent : (queue : QueueId) (id : PacketId) → list_any (is_packet queue id) (flight s es) ≡ false → progress s es queue id ≡ LAUNCH_PROGRESS
   launch-absent queue id =

@@ -28,7 +28,7 @@ use Rattle.queue_error.specs.declared.error.QueueError.{QueueError}
 use Rattle.queue_error.specs.declared.rule.Rule.{Rule}
 use Rattle.queue_error.specs.declared.rule.Rule.TheVariants.{B1}
 use Rattle.core_model.specs.declared.event.Event.{Event}
-use Rattle.core_model.specs.declared.event.Event.TheVariants.{Grant, Revoke, OpenQueue, Stop, Take, RunNext, Poll, Finish, HostWrite, ChangeSignal}
+use Rattle.core_model.specs.declared.event.Event.TheVariants.{Grant, Revoke, OpenQueue, Stop, Take, RunNext, Poll, Finish, HostWrite, ChangeSignal, Reload}
 use Rattle.core_model.specs.declared.outcome.Outcome.{Outcome}
 use Rattle.core_model.specs.declared.outcome.Outcome.TheVariants as outcome
 use Rattle.core_model.specs.declared.outcome.Taken.TheVariants as taken
@@ -60,7 +60,7 @@ use Rattle.core_model.specs.Legal.{IsWhole}
 use Rattle.core_model.specs.Headline.{AllInForce, ChangeIsGranted, InFlightSince, MayReach, MayReachRange, MayUseSignal, IsReleasedBy, ReleaseIsDue, WriteIsGranted, packet_named, ranges_written, writes_of}
 use Rattle.core_model.proofs.Lists.{all-left, all-one, all-right, filter-passes, found-all, found-passes}
 use Rattle.core_model.proofs.Holding.{flying-since}
-use Rattle.core_model.proofs.Entered.{named-found, IsQuiet, HasSeen, HasFailed, HasRun, GroupRan, KernelRan, GroupWrote, GroupFaulted, kernel-ended, grant-effects, revoke-effects, open-effects, stop-effects, take-decided, run-entered, poll-entered, finish-entered, write-entered, change-entered}
+use Rattle.core_model.proofs.Entered.{named-found, IsQuiet, HasSeen, HasFailed, HasRun, GroupRan, KernelRan, GroupWrote, GroupFaulted, kernel-ended, grant-effects, revoke-effects, reload-effects, open-effects, stop-effects, take-decided, run-entered, poll-entered, finish-entered, write-entered, change-entered}
 
 -- ---- the ranges that a function names
 
@@ -261,6 +261,7 @@ module _ (start : Start) (es : List Entry) (legal : IsWhole start es) where
       each-change (HostWrite client address bytes) told effects owing =
           let w = write-entered start es told effects client address bytes owing in
           subst (All (P (HostWrite client address bytes) told)) (sym w.effects_are) (all-one (P (HostWrite client address bytes) told) (effect.Write address bytes) (written told client address bytes w.some (record { lies_whole = w.whole; granted = w.granted })))
+      each-change (Reload rows) told effects owing = quietly _ told effects (reload-effects start es told effects rows owing).is_quiet
       each-change (ChangeSignal client signal operation) told effects owing =
           let c = change-entered start es told effects client signal operation owing in
           subst (All (P (ChangeSignal client signal operation) told)) (sym c.effects_are) (all-one (P (ChangeSignal client signal operation) told) (effect.Signal signal c.old (applied operation c.old)) (changed told client signal operation c.old c.was c.granted))
@@ -363,6 +364,7 @@ module _ (start : Start) (es : List Entry) (legal : IsWhole start es) where
       by_poll (inr failed) = ap (λ x. named x.queue x.packet) (failed-error told effects error queue id failed is)
   error-named (Finish queue id) told effects error owing is = none-told told error is (finish-entered start es told effects queue id owing).no_error
   error-named (HostWrite client address bytes) told effects error owing is = none-told told error is (write-entered start es told effects client address bytes owing).no_error
+  error-named (Reload rows) told effects error owing is = none-told told error is (reload-effects start es told effects rows owing).is_quiet.no_error
   error-named (ChangeSignal client signal operation) told effects error owing is = none-told told error is (change-entered start es told effects client signal operation owing).no_error
 
   pub fault-released : (event : Event) (told : Outcome) (effects : List Effect) (error : QueueError) → owed start es event ≡ enters told effects → Faults told error → effects ≡ effect.Release error.queue error.packet ∷ []
@@ -399,4 +401,5 @@ module _ (start : Start) (es : List Entry) (legal : IsWhole start es) where
       by_poll (inr failed) = failed.effects_are ∙ ap (λ e. effect.Release e.queue e.packet ∷ []) (failed-error told effects error queue id failed (error-told told error faults))
   fault-released (Finish queue id) told effects error owing faults = none-told told error (error-told told error faults) (finish-entered start es told effects queue id owing).no_error
   fault-released (HostWrite client address bytes) told effects error owing faults = none-told told error (error-told told error faults) (write-entered start es told effects client address bytes owing).no_error
+  fault-released (Reload rows) told effects error owing faults = none-told told error (error-told told error faults) (reload-effects start es told effects rows owing).is_quiet.no_error
   fault-released (ChangeSignal client signal operation) told effects error owing faults = none-told told error (error-told told error faults) (change-entered start es told effects client signal operation owing).no_error

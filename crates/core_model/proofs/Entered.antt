@@ -28,7 +28,7 @@ use Rattle.signals.specs.Values.{applied, value_of}
 use Rattle.signals.specs.declared.operation.SignalOp.{SignalOp}
 use Rattle.queue_error.specs.declared.rule.Rule.{Rule}
 use Rattle.queue_error.specs.declared.rule.Rule.TheVariants.{B1}
-use Rattle.core_model.specs.declared.event.Event.TheVariants.{Grant, Revoke, OpenQueue, Stop, Take, RunNext, Poll, Finish, HostWrite, ChangeSignal}
+use Rattle.core_model.specs.declared.event.Event.TheVariants.{Grant, Revoke, OpenQueue, Stop, Take, RunNext, Poll, Finish, HostWrite, ChangeSignal, Reload}
 use Rattle.core_model.specs.declared.outcome.WaitCause.{WaitCause}
 use Rattle.core_model.specs.declared.outcome.Outcome.{Outcome}
 use Rattle.core_model.specs.declared.outcome.Outcome.TheVariants as outcome
@@ -49,7 +49,9 @@ use Rattle.core_model.specs.Memory.{signals}
 use Rattle.core_model.specs.Queues.{error_of, Opening, owner, openings, next_id, is_down, is_stopped}
 use Rattle.core_model.specs.declared.outcome.TheConstants.{NONE_SATISFIED}
 use Rattle.core_model.specs.Flight.{flight, flight_of, in_flight, is_packet, progress, satisfied_by_either}
-use Rattle.core_model.specs.Holds.{holder}
+use Rattle.core_model.specs.Holds.{blocked, holder}
+use Rattle.core_model.specs.Policies.{policy_at}
+use Rattle.policy.specs.declared.rows.PolicyRows.{PolicyRows}
 use Rattle.core_model.specs.declared.limits.TheConstants.{QUEUES}
 use Rattle.core_model.specs.Needs.{completion_signal}
 use Rattle.core_model.specs.LaunchRules.{first_failing_rule, cause_to_wait, is_barrier}
@@ -83,13 +85,19 @@ module _ (start : Start) (es : List Entry) (told : Outcome) (effects : List Effe
 
   -- ---- a grant, a revocation, an opening change nothing
 
-  pub grant-effects : (client : ClientId) (on : Object) (rights : Rights) → owed start es (Grant client on rights) ≡ enters told effects → IsQuiet × (are_allowed (rules_of start.policy) client on rights ≡ true)
+  pub grant-effects : (client : ClientId) (on : Object) (rights : Rights) → owed start es (Grant client on rights) ≡ enters told effects → IsQuiet × (are_allowed (rules_of (policy_at start es)) client on rights ≡ true)
   unfolding owed
   grant-effects client on rights owing =
       let one = refuse_unless-passed (knows_client (rules_of start.policy) client) _ _ told effects owing in
       let two = refuse_unless-passed (knows_object (rules_of start.policy) on) _ _ told effects one.rest_is in
-      let three = refuse_unless-passed (are_allowed (rules_of start.policy) client on rights) _ _ told effects two.rest_is in
+      let three = refuse_unless-passed (are_allowed (rules_of (policy_at start es)) client on rights) _ _ told effects two.rest_is in
       (quiet outcome.Accepted refl three.rest_is, three.test_is)
+
+  pub grant-known : (client : ClientId) (on : Object) (rights : Rights) → owed start es (Grant client on rights) ≡ enters told effects → knows_object (rules_of start.policy) on ≡ true
+  unfolding owed
+  grant-known client on rights owing =
+      let one = refuse_unless-passed (knows_client (rules_of start.policy) client) _ _ told effects owing in
+      (refuse_unless-passed (knows_object (rules_of start.policy) on) _ _ told effects one.rest_is).test_is
 
   -- no packet in flight holds what is revoked
   pub record Revoked (client : ClientId) (on : Object) (rights : Rights) : Type 0 where
@@ -107,6 +115,17 @@ module _ (start : Start) (es : List Entry) (told : Outcome) (effects : List Effe
       let two = refuse_unless-passed (knows_object (rules_of start.policy) on) _ _ told effects one.rest_is in
       let three = unheld-passed (holder start es client on rights) _ two.rest_is in
       record { is_quiet = quiet outcome.Accepted refl three.1; unheld = three.0 }
+
+  -- no packet in flight holds what a reload doesn't allow
+  pub record Reloaded (rows : PolicyRows) : Type 0 where
+    pub is_quiet : IsQuiet
+    pub unheld : blocked start es rows ≡ None
+
+  pub reload-effects : (rows : PolicyRows) → owed start es (Reload rows) ≡ enters told effects → Reloaded rows
+  unfolding owed
+  reload-effects rows owing =
+      let one = unheld-passed (blocked start es rows) _ owing in
+      record { is_quiet = quiet outcome.Accepted refl one.1; unheld = one.0 }
 
   -- the queue that was opened is the next, for a client that may use the agent
   pub record HasOpened (client : ClientId) (agent : AgentHandle) : Type 0 where

@@ -12,7 +12,7 @@ use Rattle.aql_packet.specs.declared.packet.Packet.{Packet}
 use Rattle.aql_packet.specs.declared.packet.Packet.TheVariants as packet
 use Rattle.regions.specs.Memory.{lies_in_region, region_of}
 use Rattle.aql_packet.specs.Reading.{decoded}
-use Rattle.policy.specs.Policy.{numbered, region_lengths}
+use Rattle.policy.specs.Policy.{numbered, region_lengths, rules_of}
 use Rattle.policy.specs.declared.object.Object.{Object}
 use Rattle.policy.specs.declared.object.Object.TheVariants as object
 use Rattle.policy.specs.declared.rights.Right.{Right}
@@ -23,7 +23,7 @@ use Rattle.policy.specs.declared.rights.Right.TheVariants as right
 use Rattle.queue_error.specs.declared.rule.Rule.{Rule}
 use Rattle.queue_error.specs.declared.rule.Rule.TheVariants as rule
 use Rattle.core_model.specs.declared.event.Event.{Event}
-use Rattle.core_model.specs.declared.event.Event.TheVariants.{Grant, Revoke, OpenQueue, Stop, Take, RunNext, Poll, Finish, HostWrite, ChangeSignal}
+use Rattle.core_model.specs.declared.event.Event.TheVariants.{Grant, Revoke, OpenQueue, Stop, Take, RunNext, Poll, Finish, HostWrite, ChangeSignal, Reload}
 use Rattle.core_model.specs.declared.outcome.Outcome.TheVariants as outcome
 use Rattle.core_model.specs.declared.outcome.Taken.TheVariants.{Launched}
 use Rattle.core_model.specs.declared.entry.Effect.{Effect}
@@ -38,7 +38,7 @@ use Rattle.core_model.specs.Flight.{flight, in_flight, is_packet, launched_by, r
 use Rattle.core_model.specs.Needs.{needs, object_of}
 use Rattle.core_model.specs.LaunchRules.{Facts, holds_rule, need_is_met, launch_rules, lies_whole}
 use Rattle.core_model.specs.Kernels.{argument_block, kernel_of, wide_arguments}
-use Rattle.core_model.specs.Holds.{ObjectRight, all_in_force, along, arguments, arguments_if, arguments_of, held, held_after, right_needed, rights_at_launch, gives, own_rights, held_by_arguments, held_by_needs, held_by_pointer, is_among, is_launch, holds_one_of, is_up_to, least_in_flight}
+use Rattle.core_model.specs.Holds.{ObjectRight, all_in_force, along, arguments, arguments_if, arguments_of, held, held_after, right_needed, rights_at_launch, gives, own_rights, held_by_arguments, held_by_needs, held_by_pointer, is_among, is_launch, holds_denied, holds_one_of, is_up_to, least_in_flight}
 use Rattle.core_model.specs.Owed.{owed, enters, facts_of}
 use Rattle.core_model.specs.Legal.{IsWhole, entry_of}
 use Rattle.core_model.specs.Headline.{AllInForce, HasItsRights, HoldsInForce, InFlightSince, Launch}
@@ -49,7 +49,11 @@ use Rattle.core_model.proofs.Viewing.{among-granted}
 use Rattle.policy.proofs.PairLemmas.{same_object_is}
 use Rattle.std.proofs.lemmas.List.Folds.{list_any-append}
 use Rattle.core_model.proofs.Flying.{flying-legal}
-use Rattle.core_model.proofs.Entered.{named-found, revoke-effects}
+use Rattle.core_model.proofs.Entered.{named-found, reload-effects, revoke-effects}
+use Rattle.core_model.proofs.Declared.{any-object, any-right, known-legal}
+use Rattle.policy.specs.declared.rows.PolicyRows.{PolicyRows}
+use Rattle.policy.specs.Rules.{count, rows_allow}
+use Rattle.policy.specs.Listing.{all_objects}
 use Rattle.core_model.proofs.Launching.{launch-granted, has-rights, needs-met}
 
 -- ---- a packet that wasn't launched holds nothing
@@ -121,7 +125,7 @@ module _ (Q : InFlight → Type 0) where
       lower rest false up = record { one = rest.one; holds = rest.holds; up_to = and_from _ _ (up_to-turned f rest.one up) rest.up_to }
 
 -- where there is no least one, there is none
-least-none : (fs : List InFlight) → least_in_flight fs ≡ None → fs ≡ []
+pub least-none : (fs : List InFlight) → least_in_flight fs ≡ None → fs ≡ []
 least-none [] none = refl
 least-none (f ∷ fs) none =
     let lowest = lowest-of (λ m. list_all (is_up_to m) (f ∷ fs) ≡ false) f fs (none-passes (λ m. list_all (is_up_to m) (f ∷ fs)) (f ∷ fs) none) in
@@ -129,7 +133,7 @@ least-none (f ∷ fs) none =
     let down = lowest.holds in
     absurd cc
 
-filtered-none : (test : InFlight → Bool) (fs : List InFlight) → filter test fs ≡ [] → All (λ f. test f ≡ false) fs
+pub filtered-none : (test : InFlight → Bool) (fs : List InFlight) → filter test fs ≡ [] → All (λ f. test f ≡ false) fs
 filtered-none test [] none = All-nil (λ f. test f ≡ false)
 filtered-none test (f ∷ fs) none = by_test (test f) refl none (filtered-none test fs)
   where
@@ -155,14 +159,6 @@ all-among (h ∷ hs) =
     or-right : (a b : Bool) → b ≡ true → (a || b) ≡ true
     or-right true b is = refl
     or-right false b is = is
-
-any-right : (test : Right → Bool) (one : Right) → test one ≡ true → list_any test all_rights ≡ true
-any-right test right.Use is = grind (arith, is)
-any-right test right.Read is = grind (arith, is)
-any-right test right.Write is = grind (arith, is)
-any-right test right.Wait is = grind (arith, is)
-any-right test right.Change is = grind (arith, is)
-any-right test right.Launch is = grind (arith, is)
 
 -- rights that are in force stay so where none of them is named
 unnamed-stay : (client named : ClientId) (on : Object) (rights : Rights) (before : Object → Right → Bool) (hs : List ObjectRight) →
@@ -275,13 +271,13 @@ module _ (start : Start) (es : List Entry) (e : Entry) where
       }
 
   -- what an event does to rights in force that are held by none that it names
-  kept-by : (event : Event) (f : InFlight) (h : HoldsNow start es f) →
+  kept-by : IsWhole start es → (event : Event) (f : InFlight) (h : HoldsNow start es f) → ((rows : PolicyRows) → event ≡ Reload rows → holds_denied start es rows f ≡ false) →
       ((client : ClientId) (on : Object) (rights : Rights) → event ≡ Revoke client on rights → holds_one_of start es client on rights f ≡ false) →
       All (λ g. in_force_after h.launch.opening.client g.0 g.1 (in_force start es h.launch.opening.client g.0 g.1) event ≡ true) (rights_at_launch start h.launch.before h.launch.opening f.packet)
-  kept-by (Grant c o rights) f h none =
+  kept-by legal (Grant c o rights) f h free none =
       All-weaker (λ g. in_force start es h.launch.opening.client g.0 g.1 ≡ true) (λ g. (in_force start es h.launch.opening.client g.0 g.1 || is_one_of h.launch.opening.client g.0 g.1 c o rights) ≡ true)
       (λ g is. rw is refl) (rights_at_launch start h.launch.before h.launch.opening f.packet) h.granted
-  kept-by (Revoke c o rights) f h none =
+  kept-by legal (Revoke c o rights) f h free none =
       unnamed-stay h.launch.opening.client c o rights (in_force start es h.launch.opening.client) (rights_at_launch start h.launch.before h.launch.opening f.packet)
       (sym (any-own (h.launch.opening.client.0 == c.0) (is_among (rights_at_launch start h.launch.before h.launch.opening f.packet) o) all_rights)
       ∙ sym (λ i. list_any (λ one. has rights one && h.held_is c o one i) all_rights) ∙ none c o rights refl) h.granted
@@ -289,14 +285,39 @@ module _ (start : Start) (es : List Entry) (e : Entry) where
       any-own : (own : Bool) (test : Right → Bool) (all : List Right) → list_any (λ one. has rights one && (own && test one)) all ≡ (own && list_any (λ one. has rights one && test one) all)
       any-own own test [] = grind arith
       any-own own test (one ∷ more) = grind (arith, any-own own test more)
-  kept-by (OpenQueue _ _ _) f h none = h.granted
-  kept-by (Stop _) f h none = h.granted
-  kept-by (Take _ _ _) f h none = h.granted
-  kept-by (RunNext _ _) f h none = h.granted
-  kept-by (Poll _ _) f h none = h.granted
-  kept-by (Finish _ _) f h none = h.granted
-  kept-by (HostWrite _ _ _) f h none = h.granted
-  kept-by (ChangeSignal _ _ _) f h none = h.granted
+  kept-by legal (OpenQueue _ _ _) f h free none = h.granted
+  kept-by legal (Stop _) f h free none = h.granted
+  kept-by legal (Take _ _ _) f h free none = h.granted
+  kept-by legal (RunNext _ _) f h free none = h.granted
+  kept-by legal (Poll _ _) f h free none = h.granted
+  kept-by legal (Finish _ _) f h free none = h.granted
+  kept-by legal (HostWrite _ _ _) f h free none = h.granted
+  kept-by legal (ChangeSignal _ _ _) f h free none = h.granted
+  kept-by legal (Reload rows) f h free none = λ k d below.
+      let g = get_or (rights_at_launch start h.launch.before h.launch.opening f.packet) k d in
+      allowed g (h.granted k d below) (all-among (rights_at_launch start h.launch.before h.launch.opening f.packet) k d below) (rows_allow rows h.launch.opening.client g.0 g.1) refl
+    where
+      client : ClientId
+      client = h.launch.opening.client
+
+      denied : Object → Right → Bool
+      denied on right = held start es f.queue f.id client on right && not (rows_allow rows client on right)
+
+      allowed : (g : ObjectRight) → in_force start es client g.0 g.1 ≡ true → is_among (rights_at_launch start h.launch.before h.launch.opening f.packet) g.0 g.1 ≡ true → (b : Bool) → rows_allow rows client g.0 g.1 ≡ b →
+          (in_force start es client g.0 g.1 && rows_allow rows client g.0 g.1) ≡ true
+      allowed g granted here true covers = and_from _ _ granted covers
+      allowed g granted here false covers =
+          let holds_it : held start es f.queue f.id client g.0 g.1 ≡ true = h.held_is client g.0 g.1 ∙ and_from _ _ (eq-eqb client.0 client.0 refl) here in
+          let one : denied g.0 g.1 ≡ true = and_from _ _ holds_it (ap not covers) in
+          let some : list_any (λ on. list_any (denied on) all_rights) (all_objects (count (rules_of start.policy))) ≡ true =
+          any-object (count (rules_of start.policy)) (λ on. list_any (denied on) all_rights) g.0 (known-legal start client g.0 g.1 es legal granted) (any-right (denied g.0) g.1 one) in
+          let whole : holds_denied start es rows f ≡ true =
+          ap (λ (o : Option Opening). elim o [
+            | None ↦ false
+            | Some opening ↦ list_any (λ on. list_any (λ right. held start es f.queue f.id opening.client on right && not (rows_allow rows opening.client on right)) all_rights) (all_objects (count (rules_of start.policy)))
+          ]) h.owner_is ∙ some in
+          let none_so = free rows refl in
+          absurd cc
 
   -- a revocation that was made names nothing that a packet in flight holds
   unheld : owed start es e.event ≡ enters e.outcome e.effects → (client : ClientId) (on : Object) (rights : Rights) → e.event ≡ Revoke client on rights →
@@ -305,10 +326,15 @@ module _ (start : Start) (es : List Entry) (e : Entry) where
       let revoked = revoke-effects start es e.outcome e.effects client on rights (rw is at owing) in
       filtered-none (holds_one_of start es client on rights) (flight start es) (least-none _ revoked.unheld)
 
+  unblocked : owed start es e.event ≡ enters e.outcome e.effects → (rows : PolicyRows) → e.event ≡ Reload rows → All (λ f. holds_denied start es rows f ≡ false) (flight start es)
+  unblocked owing rows is =
+      let reloaded = reload-effects start es e.outcome e.effects rows (rw is at owing) in
+      filtered-none (holds_denied start es rows) (flight start es) (least-none _ reloaded.unheld)
+
   more : IsWhole start es → owed start es e.event ≡ enters e.outcome e.effects → All (HoldsNow start es) (flight start es) → All (λ f. list_any (releases_packet f) e.effects ≡ false → HoldsNow start later f) (flight start es)
   more legal owing all k d below stays =
       let h = all k d below in
-      holds-more legal owing _ h stays (kept-by e.event _ h (λ client on rights is. unheld owing client on rights is k d below))
+      holds-more legal owing _ h stays (kept-by legal e.event _ h (λ rows is. unblocked owing rows is k d below) (λ client on rights is. unheld owing client on rights is k d below))
 
   -- ---- at its launch
 

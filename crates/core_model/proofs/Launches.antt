@@ -8,7 +8,7 @@ use Rattle.std.proofs.lemmas.List.Folds.{list_any-append}
 use Rattle.aql_packet.specs.declared.ids.QueueId.{QueueId}
 use Rattle.aql_packet.specs.declared.ids.PacketId.{PacketId}
 use Rattle.core_model.specs.declared.event.Event.{Event}
-use Rattle.core_model.specs.declared.event.Event.TheVariants.{Grant, Revoke, OpenQueue, Stop, Take, RunNext, Poll, Finish, HostWrite, ChangeSignal}
+use Rattle.core_model.specs.declared.event.Event.TheVariants.{Grant, Revoke, OpenQueue, Stop, Take, RunNext, Poll, Finish, HostWrite, ChangeSignal, Reload}
 use Rattle.core_model.specs.declared.outcome.Outcome.{Outcome}
 use Rattle.core_model.specs.declared.outcome.Outcome.TheVariants as outcome
 use Rattle.core_model.specs.declared.outcome.Taken.TheVariants.{Launched, Denied, Waiting}
@@ -99,6 +99,7 @@ launched_by-is (Poll _ _) told f is = absurd (cc)
 launched_by-is (Finish _ _) told f is = absurd (cc)
 launched_by-is (HostWrite _ _ _) told f is = absurd (cc)
 launched_by-is (ChangeSignal _ _ _) told f is = absurd (cc)
+launched_by-is (Reload _) told f is = absurd (cc)
 
 -- whether some entry launches a packet
 abbrev pub was_launched : List Entry → QueueId → PacketId → Bool

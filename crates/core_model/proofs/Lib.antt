@@ -21,3 +21,4 @@ pub mod Room
 mod Allowed
 mod Denied
 mod Working
+pub mod Declared

@@ -14,6 +14,7 @@ use Rattle.queue_error.specs.declared.error.QueueError.{QueueError}
 use Rattle.core_model.specs.declared.entry.Entry.{Entry}
 use Rattle.core_model.specs.History.{Start, effects_of}
 use Rattle.core_model.specs.Grants.{in_force, in_force_after}
+use Rattle.core_model.specs.Policies.{rows_after, rows_at}
 use Rattle.core_model.specs.Memory.{memory_at, byte_after, signals, signals_after}
 use Rattle.core_model.specs.Queues.{openings, opening_of, next_id, hands_over_packet_of, errors, error_of, is_stopped, stops_queue}
 use Rattle.core_model.specs.Flight.{flight, flight_after, progress, progress_after}
@@ -80,3 +81,7 @@ held-more start es e queue id client on right = along-append (held_after start q
 pub arguments-more : (start : Start) (es : List Entry) (e : Entry) (queue : QueueId) (id : PacketId) → arguments start (es ++ e ∷ []) queue id ≡ arguments_after start queue id es (arguments start es queue id) e
 unfolding arguments
 arguments-more start es e queue id = along-append (arguments_after start queue id) [] (start.arguments queue id) es (e ∷ [])
+
+pub rows_at-more : (start : Start) (es : List Entry) (e : Entry) → rows_at start (es ++ e ∷ []) ≡ rows_after (rows_at start es) e.event
+unfolding rows_at
+rows_at-more start es e = fold-append _ _ es (e ∷ [])

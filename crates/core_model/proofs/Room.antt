@@ -14,7 +14,7 @@ use Rattle.kernel_check.specs.Programs.{Program}
 use Rattle.policy.specs.Policy.{Declared, rules_of}
 use Rattle.queue_error.specs.declared.error.QueueError.{QueueError}
 use Rattle.core_model.specs.declared.event.Event.{Event}
-use Rattle.core_model.specs.declared.event.Event.TheVariants.{Grant, Revoke, OpenQueue, Stop, Take, RunNext, Poll, Finish, HostWrite, ChangeSignal}
+use Rattle.core_model.specs.declared.event.Event.TheVariants.{Grant, Revoke, OpenQueue, Stop, Take, RunNext, Poll, Finish, HostWrite, ChangeSignal, Reload}
 use Rattle.core_model.specs.declared.event.Request.{Request}
 use Rattle.core_model.specs.declared.event.Request.TheVariants as request
 use Rattle.core_model.specs.declared.outcome.Outcome.{Outcome}
@@ -33,7 +33,8 @@ use Rattle.core_model.specs.Flight.{flight, flight_after, flight_after_effect, f
 use Rattle.core_model.specs.LaunchRules.{cause_to_wait, first_failing_rule, is_barrier}
 use Rattle.core_model.specs.Queues.{Opening, is_down, is_stopped, next_id, openings, owner}
 use Rattle.core_model.specs.Grants.{in_force, in_force_on_range}
-use Rattle.core_model.specs.Holds.{holder}
+use Rattle.core_model.specs.Holds.{blocked, holder}
+use Rattle.core_model.specs.Policies.{policy_at}
 use Rattle.core_model.specs.declared.limits.TheConstants.{QUEUES}
 use Rattle.policy.specs.Rules.{knows_client, knows_object, are_allowed}
 use Rattle.policy.specs.declared.object.Object.TheVariants as object
@@ -45,7 +46,7 @@ use Rattle.core_model.specs.declared.outcome.WaitCause.{WaitCause}
 use Rattle.queue_error.specs.declared.rule.Rule.{Rule}
 use Rattle.aql_packet.specs.Reading.{barrier_bit}
 use Rattle.core_model.specs.Owed.{Owed, answers, barrier_in, completion_of, enters, error_without_place, facts_of, for_packet, group_owed, is_finished, is_host_size, old_if_asked, owed, owed_finish, owed_group, owed_poll, owed_sight, owed_take, owed_verdict, refuses, release_of, signal_decrement}
-use Rattle.core_model.specs.Legal.{AreReplies, IsOpening, IsServed, MeetsOrLacks, due, entry_of, history_after, lacks_room, within_room}
+use Rattle.core_model.specs.Legal.{AreReplies, IsOpening, IsServed, MeetsOrLacks, ReloadMeetsOrLacks, due, entry_of, history_after, lacks_room, within_room}
 use Rattle.core_model.specs.Queries.{AnswerOrRefusal}
 use Rattle.core_model.specs.Room.{FindsRoom, HasRoom}
 use Rattle.core_model.proofs.Lists.{found-passes}
@@ -249,7 +250,7 @@ unfolding owed
 never-owed start entries (Grant client on rights) is =
     unless-never (knows_client (rules_of start.policy) client) refusal.UnknownClient _ (λ e. absurd cc)
     (unless-never (knows_object (rules_of start.policy) on) refusal.UnknownObject _ (λ e. absurd cc)
-    (unless-never (are_allowed (rules_of start.policy) client on rights) refusal.NotAllowed _ (λ e. absurd cc) (entered-never outcome.Accepted []))) is
+    (unless-never (are_allowed (rules_of (policy_at start entries)) client on rights) refusal.NotAllowed _ (λ e. absurd cc) (entered-never outcome.Accepted []))) is
 never-owed start entries (Revoke client on rights) is =
     unless-never (knows_client (rules_of start.policy) client) refusal.UnknownClient _ (λ e. absurd cc)
     (unless-never (knows_object (rules_of start.policy) on) refusal.UnknownObject _ (λ e. absurd cc) (revoke-never (holder start entries client on rights))) is
@@ -285,6 +286,7 @@ never-owed start entries (ChangeSignal client signal operation) is =
     by_value : (o : Option ℤ) → for_some o (refuses (refusal.Denied right.Change)) (λ old. enters (outcome.Changed (old_if_asked operation old)) (effect.Signal signal old (applied operation old) ∷ [])) ≡ refuses refusal.AuditFull → ⊥
     by_value None same = absurd cc
     by_value (Some old) same = absurd cc
+never-owed start entries (Reload rows) is = revoke-never (blocked start entries rows) is
 
 -- ---- the room stays
 
@@ -316,6 +318,11 @@ module _ (old : History) (room : HasRoom old) (event : Event) where
 request-roomy : (old new : History) (asked : Request) (reply : AnswerOrRefusal) → HasRoom old → IsServed old asked reply new → HasRoom new
 request-roomy old new (request.Event event) reply room served = event-roomy old room event new served.0 served.2
 request-roomy old new (request.Query query) reply room served = subst HasRoom (sym served.1) room
+request-roomy old new (request.Reload policy) reply room served = by_reload served.2
+  where
+    by_reload : ReloadMeetsOrLacks policy old new served.0 → HasRoom new
+    by_reload (inl other) = subst HasRoom (sym other.history_is) room
+    by_reload (inr same) = event-roomy old room (Reload policy.rows) new served.0 same.1
 
 pub list-roomy : (old new : History) (requests : List Request) (replies : List AnswerOrRefusal) → HasRoom old → AreReplies old requests replies new → HasRoom new
 list-roomy old new [] [] room is = subst HasRoom (sym is) room

@@ -3,6 +3,7 @@ use Rattle.std.proofs.Common.{◌≡◌, List, [], ◌∷◌, ◌++◌, refl, sy
 use Rattle.std.specs.Prelude.{if◌then◌else◌}
 use Rattle.std.proofs.lemmas.List.{append-nil}
 use Rattle.core_model.specs.declared.event.Event.{Event}
+use Rattle.core_model.specs.declared.event.Event.TheVariants.{Reload}
 use Rattle.core_model.specs.declared.event.Request.{Request}
 use Rattle.core_model.specs.declared.event.Request.TheVariants as request
 use Rattle.core_model.specs.declared.outcome.Outcome.{Outcome}
@@ -10,7 +11,7 @@ use Rattle.core_model.specs.declared.refusal.Refusal.{Refusal}
 use Rattle.core_model.specs.declared.refusal.Refusal.TheVariants as refusal
 use Rattle.core_model.specs.History.{beginning, History}
 use Rattle.core_model.specs.Owed.{Owed, owed, refuses, answers, enters}
-use Rattle.core_model.specs.Legal.{IsLegal, IsServed, MeetsOrLacks, AreReplies, as_reply, reply_of, due, entry_of, history_after, lacks_room, within_room}
+use Rattle.core_model.specs.Legal.{IsLegal, IsServed, MeetsOrLacks, ReloadMeetsOrLacks, AreReplies, as_reply, reply_of, due, entry_of, history_after, lacks_room, within_room}
 use Rattle.core_model.specs.Queries.{AnswerOrRefusal}
 use Rattle.core_model.specs.Headline.{GoesOn}
 use Rattle.core_model.proofs.States.{IsLegal-more}
@@ -56,6 +57,11 @@ module _ (old : History) (legal : Legal old) (event : Event) where
 request-goes_on : (old new : History) (asked : Request) (reply : AnswerOrRefusal) → Legal old → IsServed old asked reply new → GoesOn old new
 request-goes_on old new (request.Event event) reply legal served = event-goes_on old legal event new served.0 served.2
 request-goes_on old new (request.Query query) reply legal served = stays old new legal served.1
+request-goes_on old new (request.Reload policy) reply legal served = by_reload served.2
+  where
+    by_reload : ReloadMeetsOrLacks policy old new served.0 → GoesOn old new
+    by_reload (inl other) = stays old new legal other.history_is
+    by_reload (inr same) = event-goes_on old legal (Reload policy.rows) new served.0 same.1
 
 through : (old mid new : History) → GoesOn old mid → GoesOn mid new → GoesOn old new
 through old mid new one two = record {
@@ -86,3 +92,6 @@ pub refused-stays : (old new : History) (asked : Request) (why : Refusal) → Is
 refused-stays old new (request.Event event) why (made, told, inl meets) = refused-event old new event why (due old event) (told ∙ ap as_reply meets.reply_is) meets.history_is
 refused-stays old new (request.Event event) why (made, told, inr lacks) = lacks.history_is
 refused-stays old new (request.Query query) why served = served.1
+refused-stays old new (request.Reload policy) why (made, told, inl other) = other.history_is
+refused-stays old new (request.Reload policy) why (made, told, inr (same, inl meets)) = refused-event old new (Reload policy.rows) why (due old (Reload policy.rows)) (told ∙ ap as_reply meets.reply_is) meets.history_is
+refused-stays old new (request.Reload policy) why (made, told, inr (same, inr lacks)) = lacks.history_is

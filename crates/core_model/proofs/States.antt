@@ -24,6 +24,7 @@ use Rattle.std.specs.Option.{unwrap_or}
 use Rattle.core_model.specs.declared.flight.TheConstants.{LAUNCH_PROGRESS}
 use Rattle.kernel_check.specs.Programs.{Program}
 use Rattle.core_model.specs.Grants.{in_force, in_force_after}
+use Rattle.core_model.specs.Policies.{rows_at}
 use Rattle.core_model.specs.Memory.{byte_after, memory_at, signals, signals_after}
 use Rattle.core_model.specs.Queues.{openings, owner, next_id, errors, is_stopped}
 use Rattle.core_model.specs.Flight.{flight, launched_by, progress, releases}
@@ -36,7 +37,7 @@ use Rattle.core_model.proofs.More.{along-append, effects_of-append}
 
 -- what is owed behind some entries is owed in the state behind them
 pub owed-now : (start : Start) (es : List Entry) (event : Event) → owed start es event ≡ owed (state_after start es) [] event
-unfolding owed in_force memory_at signals openings next_id errors is_stopped flight progress held arguments effects_of
+unfolding owed rows_at in_force memory_at signals openings next_id errors is_stopped flight progress held arguments effects_of
 owed-now start es event = refl
 
 -- and so is what a query is answered, but for the audit's own
@@ -51,7 +52,7 @@ answer-now start es query.Audit other = absurd (other refl)
 
 -- behind no entry the state is the one that was begun from
 pub state-now : (s : Start) → state_after s [] ≡ s
-unfolding in_force memory_at signals openings next_id errors is_stopped flight progress held arguments effects_of
+unfolding rows_at in_force memory_at signals openings next_id errors is_stopped flight progress held arguments effects_of
 state-now s = λ i. record {
   policy = s.policy;
   kernels = s.kernels;
@@ -81,6 +82,10 @@ module _ (s : Start) (a b : List Entry) where
   in_force-join : (client : ClientId) (on : Object) (right : Right) → in_force s (a ++ b) client on right ≡ in_force mid b client on right
   unfolding in_force
   in_force-join client on right = fold-append _ _ a b
+
+  rows-join : rows_at s (a ++ b) ≡ rows_at mid b
+  unfolding rows_at
+  rows-join = fold-append _ _ a b
 
   memory-join : (x : ℕ) → memory_at s (a ++ b) x ≡ memory_at mid b x
   unfolding memory_at
@@ -170,7 +175,7 @@ module _ (s : Start) (a b : List Entry) where
   -- the state behind two lists of entries is that behind the second, from the state behind the first
   pub state-join : state_after s (a ++ b) ≡ state_after (state_after s a) b
   state-join = λ i. record {
-    policy = s.policy;
+    policy = record s.policy { rows = rows-join s a b i };
     kernels = s.kernels;
     in_force = λ client on right. in_force-join s a b client on right i;
     memory = λ x. memory-join s a b x i;

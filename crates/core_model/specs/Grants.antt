@@ -1,4 +1,4 @@
--- Which rights are in force: what was granted, and not revoked since.
+-- Which rights are in force: what was granted, and neither revoked since nor taken by other rows.
 use Rattle.std.specs.Prelude.{ℕ, List, fold, Bool, false, ◌&&◌, ◌||◌, not}
 use Rattle.aql_packet.specs.declared.ids.ClientId.{ClientId}
 use Rattle.policy.specs.declared.object.Object.{Object}
@@ -8,7 +8,8 @@ use Rattle.policy.specs.Pairs.{is_one_of}
 use Rattle.policy.specs.Policy.{region_lengths}
 use Rattle.regions.specs.Memory.{is_within, region_of}
 use Rattle.core_model.specs.declared.event.Event.{Event}
-use Rattle.core_model.specs.declared.event.Event.TheVariants.{Grant, Revoke}
+use Rattle.core_model.specs.declared.event.Event.TheVariants.{Grant, Reload, Revoke}
+use Rattle.policy.specs.Rules.{rows_allow}
 use Rattle.core_model.specs.declared.entry.Entry.{Entry}
 use Rattle.core_model.specs.History.{Start}
 
@@ -16,9 +17,10 @@ use Rattle.core_model.specs.History.{Start}
 abbrev pub in_force_after : ClientId → Object → Right → Bool → Event → Bool
 in_force_after client object right before (Grant c o rights) = before || is_one_of client object right c o rights
 in_force_after client object right before (Revoke c o rights) = before && not (is_one_of client object right c o rights)
+in_force_after client object right before (Reload rows) = before && rows_allow rows client object right
 in_force_after client object right before _ = before
 
--- whether a client's right on an object is in force: it was at the start, or a grant gave it, and no later revocation took it (own)
+-- whether a client's right on an object is in force: it was at the start, or a grant gave it, and no later revocation or reload took it (own)
 unfoldable pub in_force : Start → List Entry → ClientId → Object → Right → Bool
 in_force start entries client object right = fold (λ before entry. in_force_after client object right before entry.event) (start.in_force client object right) entries
 

@@ -1,4 +1,4 @@
--- What packets in flight hold, and which of them stands against a revocation.
+-- What packets in flight hold, and which of them stands against a revocation or a reload.
 use Rattle.std.specs.Prelude.{ℕ, ◌==◌, ◌&&◌, ◌||◌, Bool, false, not, nat_lt, nat_le, List, [], ◌∷◌, ◌++◌, map, filter, find, Option, Some, None, if◌then◌else◌}
 use Rattle.std.specs.List.{flat_map, list_all, list_any}
 use Rattle.aql_packet.specs.declared.ids.ClientId.{ClientId}
@@ -17,7 +17,10 @@ use Rattle.core_model.specs.declared.entry.Entry.{Entry}
 use Rattle.core_model.specs.declared.flight.InFlight.{InFlight}
 use Rattle.core_model.specs.History.{HeldRights, Start}
 use Rattle.core_model.specs.Grants.{in_force}
-use Rattle.policy.specs.Policy.{region_lengths}
+use Rattle.policy.specs.Policy.{region_lengths, rules_of}
+use Rattle.policy.specs.Listing.{all_objects}
+use Rattle.policy.specs.Rules.{count, rows_allow}
+use Rattle.policy.specs.declared.rows.PolicyRows.{PolicyRows}
 use Rattle.core_model.specs.Kernels.{argument_block, kernel_of, wide_arguments}
 use Rattle.core_model.specs.Queues.{Opening, owner}
 use Rattle.core_model.specs.Flight.{flight, is_packet, launched_by, releases}
@@ -131,3 +134,15 @@ least_in_flight all = find (λ f. list_all (is_up_to f) all) all
 -- of all packets that hold one of these rights, the one with the least queue, then the least id (own)
 abbrev pub holder : Start → List Entry → ClientId → Object → Rights → Option InFlight
 holder start entries client on rights = least_in_flight (holders start entries client on rights)
+
+-- whether a packet in flight holds a right, of the owner of its queue, that these rows don't allow (own)
+abbrev pub holds_denied : Start → List Entry → PolicyRows → InFlight → Bool
+holds_denied start entries rows f = elim (owner start entries f.queue) [
+  | None ↦ false
+  | Some opening ↦ list_any (λ on. list_any (λ right. held start entries f.queue f.id opening.client on right && not (rows_allow rows opening.client on right)) all_rights)
+      (all_objects (count (rules_of start.policy)))
+]
+
+-- of all packets that hold one, the packet with the least queue, then the least id: it stands against a reload of these rows (own)
+abbrev pub blocked : Start → List Entry → PolicyRows → Option InFlight
+blocked start entries rows = least_in_flight (filter (holds_denied start entries rows) (flight start entries))

@@ -1,7 +1,7 @@
 -- Which histories are legal, and what a list of requests is owed in turn.
 use Rattle.std.specs.Prelude.{ℕ, ◌+◌, ◌≡◌, ◌⊎◌, Bool, true, false, List, [], ◌∷◌, ◌++◌, length, nat_lt, Result, Ok, Err, if◌then◌else◌}
 use Rattle.core_model.specs.declared.event.Event.{Event}
-use Rattle.core_model.specs.declared.event.Event.TheVariants.{OpenQueue, Take, RunNext, HostWrite}
+use Rattle.core_model.specs.declared.event.Event.TheVariants.{OpenQueue, Take, RunNext, HostWrite, Reload}
 use Rattle.core_model.specs.declared.event.Query.{Query}
 use Rattle.core_model.specs.declared.event.Request.{Request}
 use Rattle.core_model.specs.declared.event.Request.TheVariants as request
@@ -15,6 +15,7 @@ use Rattle.core_model.specs.declared.refusal.Refusal.{Refusal}
 use Rattle.core_model.specs.declared.refusal.Refusal.TheVariants as refusal
 use Rattle.kernel_check.specs.Programs.{Program}
 use Rattle.policy.specs.Policy.{Declared}
+use Rattle.policy.specs.Declaring.{DeclaresAs}
 use Rattle.policy.specs.Results.{map_ok}
 use Rattle.core_model.specs.History.{History, Origin, Part, Start, begin, beginning, opening_state}
 use Rattle.grants.specs.Ledger as ledger
@@ -124,7 +125,7 @@ pub record Meets (event : Event) (old new : History) (reply : Result Outcome Ref
   pub reply_is : reply ≡ reply_of (due old event)
   pub history_is : new ≡ history_after old event (due old event)
 
--- whether an event that is due this may want memory: an opening, a launch, a group and a client's write, and only where they
+-- whether an event that is due this may want memory: an opening, a launch, a group, a client's write and a reload, and only where they
 -- are entered; a group also where the audit is full, since only what it comes to tells whether its entry needs room; any other
 -- refusal, an answer without an entry, and every other call never do (own)
 abbrev pub may_lack_memory : Event → Owed → Bool
@@ -133,6 +134,7 @@ may_lack_memory (Take _ _ _) (enters (outcomes.Taken Launched) _) = true
 may_lack_memory (RunNext _ _) (enters _ _) = true
 may_lack_memory (RunNext _ _) (refuses refusal.AuditFull) = true
 may_lack_memory (HostWrite _ _ _) (enters _ _) = true
+may_lack_memory (Reload _) (enters _ _) = true
 may_lack_memory _ _ = false
 
 -- memory was wanted and not to be had, and all is as before (own)
@@ -144,6 +146,18 @@ pub record LacksMemory (event : Event) (old new : History) (reply : Result Outco
 -- an event got and left what was due, unless memory was wanted (own)
 abbrev pub MeetsOrLacks : Event → History → History → Result Outcome Refusal → Type 0
 MeetsOrLacks event old new reply = Meets event old new reply ⊎ LacksMemory event old new reply
+
+-- a policy that declares other clients or objects was refused, and all is as before (own)
+pub record IsOfOthers (policy : Declared) (old new : History) (reply : Result Outcome Refusal) : Type 0 where
+  pub others : DeclaresAs (beginning old).policy policy → ⊥
+  pub reply_is : reply ≡ Err refusal.OtherObjects
+  pub history_is : new ≡ old
+
+-- a policy was handed in, to be in force from then on: where it declares other clients or objects it was refused, before all else; else
+-- the reload of its rows got and left what was due, unless memory was wanted (own)
+abbrev pub ReloadMeetsOrLacks : Declared → History → History → Result Outcome Refusal → Type 0
+ReloadMeetsOrLacks policy old new reply =
+    IsOfOthers policy old new reply ⊎ (DeclaresAs (beginning old).policy policy × MeetsOrLacks (Reload policy.rows) old new reply)
 
 -- whether a query that is replied this may want memory: one that is answered by a list, never one that is refused (own)
 abbrev pub query_may_lack_memory : AnswerOrRefusal → Bool
@@ -165,11 +179,12 @@ abbrev pub RepliesOrLacks : Query → History → AnswerOrRefusal → Type 0
 RepliesOrLacks asked history reply =
     Replies asked history reply ⊎ ((query_may_lack_memory (query_answer (beginning history) history.entries asked) ≡ true) × (reply ≡ Err refusal.OutOfMemory))
 
--- a request was served: an event got and left what was due, and a query, which changes nothing, got its reply; or either was told that
--- memory was wanted, and then it counts as not made (own)
+-- a request was served: an event got and left what was due, so did the reload of a policy that declares as before, and a query, which
+-- changes nothing, got its reply; or it was told that memory was wanted, and then it counts as not made (own)
 abbrev pub IsServed : History → Request → AnswerOrRefusal → History → Type 0
 IsServed old (request.Event event) reply new = (made : Result Outcome Refusal) × (reply ≡ as_reply made) × MeetsOrLacks event old new made
 IsServed old (request.Query asked) reply new = RepliesOrLacks asked old reply × (new ≡ old)
+IsServed old (request.Reload policy) reply new = (made : Result Outcome Refusal) × (reply ≡ as_reply made) × ReloadMeetsOrLacks policy old new made
 
 -- these replies answer these requests in turn, and lead from one history to the other (own)
 abbrev pub AreReplies : History → List Request → List AnswerOrRefusal → History → Type 0

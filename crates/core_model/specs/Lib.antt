@@ -1,6 +1,7 @@
 pub mod Refusals
 pub mod History
 pub mod Grants
+pub mod Policies
 pub mod Memory
 pub mod Queues
 pub mod Flight

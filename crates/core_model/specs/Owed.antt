@@ -23,7 +23,7 @@ use Rattle.queue_error.specs.declared.rule.Rule.{Rule}
 use Rattle.queue_error.specs.declared.rule.Rule.TheVariants.{B1}
 use Rattle.queue_error.specs.declared.error.QueueError.{QueueError}
 use Rattle.core_model.specs.declared.event.Event.{Event}
-use Rattle.core_model.specs.declared.event.Event.TheVariants.{Grant, Revoke, OpenQueue, Stop, Take, RunNext, Poll, Finish, HostWrite, ChangeSignal}
+use Rattle.core_model.specs.declared.event.Event.TheVariants.{Grant, Revoke, OpenQueue, Stop, Take, RunNext, Poll, Finish, HostWrite, ChangeSignal, Reload}
 use Rattle.core_model.specs.declared.entry.Effect.{Effect}
 use Rattle.core_model.specs.declared.entry.Effect.TheVariants as effect
 use Rattle.core_model.specs.declared.entry.Entry.{Entry}
@@ -49,7 +49,8 @@ use Rattle.core_model.specs.declared.limits.TheConstants.{MOST_HOST_BYTES, QUEUE
 use Rattle.core_model.specs.Needs.{completion_signal}
 use Rattle.core_model.specs.LaunchRules.{Facts, first_failing_rule, cause_to_wait, is_barrier}
 use Rattle.core_model.specs.Work.{agent_writes, group_count, write_of_run, is_ready, is_negative, newly_seen_positions, seen_dependencies}
-use Rattle.core_model.specs.Holds.{holder}
+use Rattle.core_model.specs.Holds.{blocked, holder}
+use Rattle.core_model.specs.Policies.{policy_at}
 use Rattle.core_model.specs.Kernels.{segments_of}
 use Rattle.core_model.specs.View.{GivenAtLaunch, given_at_launch, group_input}
 
@@ -182,7 +183,7 @@ unfoldable pub owed : Start → List Entry → Event → Owed
 owed start entries (Grant client on rights) =
     refuse_unless (knows_client (rules_of start.policy) client) (refuses refusal.UnknownClient)
     (refuse_unless (knows_object (rules_of start.policy) on) (refuses refusal.UnknownObject)
-    (refuse_unless (are_allowed (rules_of start.policy) client on rights) (refuses refusal.NotAllowed)
+    (refuse_unless (are_allowed (rules_of (policy_at start entries)) client on rights) (refuses refusal.NotAllowed)
     (enters outcome.Accepted [])))
 owed start entries (Revoke client on rights) =
     refuse_unless (knows_client (rules_of start.policy) client) (refuses refusal.UnknownClient)
@@ -213,3 +214,4 @@ owed start entries (ChangeSignal client signal operation) =
     (refuse_unless (in_force start entries client (object.Signal signal) right.Change) (refuses (refusal.Denied right.Change))
     (for_some (value_of (signals start entries) signal.0) (refuses (refusal.Denied right.Change)) (λ old.
     enters (outcome.Changed (old_if_asked operation old)) (effect.Signal signal old (applied operation old) ∷ []))))
+owed start entries (Reload rows) = elim (blocked start entries rows) [ None ↦ enters outcome.Accepted [] | Some f ↦ refuses (refusal.Busy f.queue f.id) ]

@@ -28,3 +28,4 @@ number_of refusal.AuditFull = 10
 number_of refusal.BadSize = 11
 number_of refusal.TooMany = 12
 number_of refusal.UnknownObject = 13
+number_of refusal.OtherObjects = 16

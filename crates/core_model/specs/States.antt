@@ -3,6 +3,7 @@ use Rattle.std.specs.Prelude.{◌+◌, List, length}
 use Rattle.core_model.specs.declared.entry.Entry.{Entry}
 use Rattle.core_model.specs.History.{Start}
 use Rattle.core_model.specs.Grants.{in_force}
+use Rattle.core_model.specs.Policies.{policy_at}
 use Rattle.core_model.specs.Memory.{memory_at, signals}
 use Rattle.core_model.specs.Queues.{openings, next_id, errors, is_stopped}
 use Rattle.core_model.specs.Flight.{flight, progress}
@@ -11,7 +12,7 @@ use Rattle.core_model.specs.Holds.{held, arguments}
 -- what a history begins from that goes on behind these entries: the answer to each question, as it is behind them (own)
 abbrev pub state_after : Start → List Entry → Start
 state_after start entries = record {
-  policy = start.policy;
+  policy = policy_at start entries;
   kernels = start.kernels;
   in_force = in_force start entries;
   memory = memory_at start entries;

@@ -3,7 +3,7 @@
 ghost use Rattle.std.specs.Prelude.{◌≡◌, IfOk};
 
 use aql_packet::{Address, AgentHandle, ClientId, PacketId, QueueId, SignalHandle};
-use policy::{Object, Rights};
+use policy::{Object, Policy, PolicyRows, Rights};
 use sequences::Sequence;
 use signals::{Condition, SignalOp};
 use std::alloc::{AllocError, Global};
@@ -65,6 +65,10 @@ pub enum Event {
         client: ClientId,
         signal: SignalHandle,
         operation: SignalOp,
+    },
+    /// An administrator puts another policy in force, which declares the same: these are its rows on rights.
+    Reload {
+        rows: PolicyRows,
     },
 }
 
@@ -141,6 +145,9 @@ impl Event {
                 signal: *signal,
                 operation: *operation,
             },
+            Event::Reload { rows } => Event::Reload {
+                rows: rows.copy(alloc)?,
+            },
         })
     }
 }
@@ -179,8 +186,10 @@ pub enum Query {
 }
 
 /// A call of the core.
-#[derive(Debug, Drop, PartialEq, Eq)]
+#[derive(Drop)]
 pub enum Request {
     Event(Event),
     Query(Query),
+    /// An administrator hands in a policy, whose rows on rights are to be in force from then on.
+    Reload(Policy),
 }

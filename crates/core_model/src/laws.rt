@@ -43,6 +43,7 @@ ghost use Rattle.core_model.specs.declared.outcome.Worked.TheVariants as worked;
 ghost use Rattle.core_model.specs.declared.refusal.Refusal.{Refusal};
 ghost use Rattle.core_model.specs.declared.refusal.Refusal.TheVariants as refusal;
 ghost use Rattle.core_model.specs.History.{History, Part, Start, begin, beginning, opening_origin, opening_state};
+ghost use Rattle.core_model.specs.Policies.{policy_at};
 ghost use Rattle.core_model.specs.States.{state_after};
 ghost use Rattle.kernel_check.specs.Programs.{Program};
 ghost use Rattle.core_model.specs.Grants.{in_force};
@@ -173,11 +174,11 @@ pub fn held_rights_are_in_force()
         (opening : Opening) × (owner start entries queue ≡ Some opening) × AllInForce start entries opening.client (own_rights start entries queue id) }
 {}
 
-/// A grant gives what the policy allows the client, and has no effect.
+/// A grant gives what the policy in force allows the client, and has no effect.
 pub fn each_grant_is_allowed()
     ensures { (start : Start) (entries before : List Entry) (client : ClientId) (on : Object) (rights : Rights) (told : Outcome) (effects : List Effect) →
         IsWhole start entries → IsEntryBehind entries before (entry_of (Grant client on rights) told effects) →
-        (are_allowed (rules_of start.policy) client on rights ≡ true) × (effects ≡ []) }
+        (are_allowed (rules_of (policy_at start before)) client on rights ≡ true) × (effects ≡ []) }
 {}
 
 /// A queue is opened for a client that may use the agent, and is a new one, which is the client's from
@@ -227,10 +228,10 @@ pub fn each_listed_right_is_in_force()
         (rows : List (Object × Rights)) × (told ≡ answer.Listing rows) × All (IsListed start entries client) rows }
 {}
 
-/// Each right in force is one that the policy allows the client.
+/// Each right in force is one that the policy in force allows the client.
 pub fn each_right_in_force_is_allowed()
     ensures { (start : Start) (entries : List Entry) (client : ClientId) (on : Object) (right : Right) →
-        IsWhole start entries → in_force start entries client on right ≡ true → is_allowed (rules_of start.policy) client on right ≡ true }
+        IsWhole start entries → in_force start entries client on right ≡ true → is_allowed (rules_of (policy_at start entries)) client on right ≡ true }
 {}
 
 /// A known client's own call is denied where the right that it needs is not in force: a write or a read of

@@ -38,6 +38,8 @@ pub enum Refusal {
     TooMany,
     /// No object of its kind has this number.
     UnknownObject,
+    /// Another policy declares other clients, agents, regions, signals or kernels.
+    OtherObjects,
 }
 
 impl Refusal {
@@ -62,6 +64,7 @@ impl Refusal {
             Refusal::BadSize => 11,
             Refusal::TooMany => 12,
             Refusal::UnknownObject => 13,
+            Refusal::OtherObjects => 16,
         }
     }
 }

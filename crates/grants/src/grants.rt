@@ -268,7 +268,21 @@ impl Grants {
     pub fn blocked(&self, policy: &Policy) -> Option<(QueueId, PacketId)>
         ensures { IsBlockedBy self.now policy.now.rows result }
     {
-        first_denied(self.holds.as_slice(), policy.rows())
+        self.blocked_by(policy.rows())
+    }
+
+    /// The same by rows on rights alone.
+    pub fn blocked_by(&self, rows: &PolicyRows) -> Option<(QueueId, PacketId)>
+        ensures { IsBlockedBy self.now rows.now result }
+    {
+        first_denied(self.holds.as_slice(), rows)
+    }
+
+    /// The rows on rights by which grants are allowed.
+    pub fn rows(&self) -> &PolicyRows
+        ensures { result.now ≡ (rules_in self.now).rows }
+    {
+        self.table.rules().rows()
     }
 
     /// Takes all rights that another policy doesn't allow out of force; from then on it decides what may be

@@ -77,6 +77,13 @@ impl PolicyGrid {
         self.rows = rows;
     }
 
+    /// The rows on rights.
+    pub fn rows(&self) -> &PolicyRows
+        ensures { result.now ≡ self.now.rows }
+    {
+        &self.rows
+    }
+
     /// How many clients there are.
     pub fn client_count(&self) -> usize
         ensures count { result ≡ self.now.clients }

@@ -14,17 +14,30 @@ fn words_of(alloc: Global, line: &str) -> Result<Vec<String>, AllocError> {
     Ok(words)
 }
 
+/// What the words of a line ask for, apart from further policies.
+fn request_of<'a>(alloc: Global, words: &'a [String]) -> Option<Request<'a>> {
+    Some(read_words(alloc, words).ok()?.request)
+}
+
+/// The files of further policies that the words of a line name, with a blank behind each.
+fn further_of(alloc: Global, words: &[String]) -> Result<Option<String>, AllocError> {
+    let Ok(asked) = read_words(alloc, words) else {
+        return Ok(None);
+    };
+    let mut files = String::new(alloc);
+    for file in &asked.further {
+        write!(files, "{file} ")?;
+    }
+    Ok(Some(files))
+}
+
 fn check_request(
     rt: &(impl Abort + AllocGlobal),
     line: &str,
     wanted: Option<Request<'_>>,
 ) -> Result<(), Fail> {
     let words = words_of(rt.alloc(), line)?;
-    assert_eq!(rt;
-        read_words(rt.alloc(), words.as_slice()).ok(),
-        wanted,
-        "{line}"
-    );
+    assert_eq!(rt; request_of(rt.alloc(), words.as_slice()), wanted, "{line}");
     Ok(())
 }
 
@@ -45,6 +58,21 @@ fn a_command_is_asked_for_with_its_arguments(rt: HostRuntime) -> Result<(), Fail
     check_request(&rt, "brokerd run a.toml --audit 1048577", None)?;
     let strict = Some(Request::RunStrictly { policy, places });
     check_request(&rt, "brokerd run a.toml --strict --audit 1048576", strict)?;
+    let told = Some(Request::CheckExplaining { policy });
+    check_request(&rt, "brokerd check a.toml --explain", told)?;
+    let is_strict = true;
+    let told = Some(Request::RunExplaining {
+        policy,
+        places,
+        is_strict,
+    });
+    check_request(
+        &rt,
+        "brokerd run a.toml --explain --strict --audit 1048576",
+        told,
+    )?;
+    let picture = Some(Request::Picture { policy, places });
+    check_request(&rt, "brokerd picture a.toml --audit 1048576", picture)?;
     let assemble = Some(Request::Assemble { policy });
     check_request(&rt, "brokerd assemble a.toml", assemble)?;
     let kernel = Some(Request::Kernel { file: "k.hsail" });
@@ -53,8 +81,48 @@ fn a_command_is_asked_for_with_its_arguments(rt: HostRuntime) -> Result<(), Fail
     check_request(&rt, "brokerd explain L8", explain)
 }
 
+/// The line of a run with so many further policies.
+fn line_of_run(alloc: Global, further: usize) -> Result<String, AllocError> {
+    let mut line = String::from_str(alloc, "brokerd run a.toml")?;
+    line.push_str(" n.toml".repeat(alloc, further)?.as_str())?;
+    Ok(line)
+}
+
+fn check_further(
+    rt: &(impl Abort + AllocGlobal),
+    line: &str,
+    wanted: Option<&str>,
+) -> Result<(), Fail> {
+    let words = words_of(rt.alloc(), line)?;
+    let further = further_of(rt.alloc(), words.as_slice())?;
+    let further = further.as_ref().map(|files| files.as_str());
+    assert!(rt; further == wanted, "{line}");
+    Ok(())
+}
+
+#[test]
+fn further_policies_are_taken_in_order(rt: HostRuntime) -> Result<(), Fail> {
+    check_further(&rt, "brokerd run a.toml", Some(""))?;
+    check_further(&rt, "brokerd run a.toml b.toml", Some("b.toml "))?;
+    let between = "brokerd run a.toml b.toml --audit 3 --strict c.toml b.toml";
+    check_further(&rt, between, Some("b.toml c.toml b.toml "))?;
+    check_further(&rt, "brokerd run --audit 3 a.toml b.toml", Some("b.toml "))?;
+    check_further(&rt, "brokerd check a.toml", Some(""))
+}
+
+#[test]
+fn sixteen_further_policies_are_the_most(rt: HostRuntime) -> Result<(), Fail> {
+    let most = line_of_run(rt.alloc(), 16)?;
+    let files = "n.toml ".repeat(rt.alloc(), 16)?;
+    check_further(&rt, most.as_str(), Some(files.as_str()))?;
+    let more = line_of_run(rt.alloc(), 17)?;
+    check_further(&rt, more.as_str(), None)?;
+    let parted = "brokerd run a.toml 1 2 3 4 5 6 7 8 9 10 11 --strict 12 13 14 15 16 17";
+    check_further(&rt, parted, None)
+}
+
 /// Command lines, and the exit status of each: 2 where it isn't understood, 3 where its policy can't be read.
-const STATUSES: [(&str, u8); 22] = [
+const STATUSES: [(&str, u8); 26] = [
     ("brokerd", 2),
     ("brokerd mend", 2),
     ("brokerd check", 2),
@@ -68,12 +136,16 @@ const STATUSES: [(&str, u8); 22] = [
     ("brokerd --version", 0),
     ("brokerd check nowhere.toml", 3),
     ("brokerd run nowhere.toml", 3),
+    ("brokerd run nowhere.toml b.toml", 3),
+    ("brokerd run a.toml b.toml --loud", 2),
     ("brokerd check .", 3),
     ("brokerd kernel", 2),
     ("brokerd kernel nowhere.hsail", 3),
     ("brokerd assemble", 2),
     ("brokerd assemble nowhere.toml", 3),
     ("brokerd run nowhere.toml --strict", 3),
+    ("brokerd picture", 2),
+    ("brokerd picture nowhere.toml", 3),
     ("brokerd explain", 2),
     ("brokerd explain L8", 0),
     ("brokerd explain L11", 2),

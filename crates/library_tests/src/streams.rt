@@ -152,7 +152,7 @@ fn run(
     source: &mut Source<'_>,
     sink: &mut Sink,
 ) -> Result<(), ScriptFault> {
-    run_script(alloc, source, sink, world)
+    run_script(alloc, source, sink, world, &[])
 }
 
 // (a world that a test owned would be dear to prove)

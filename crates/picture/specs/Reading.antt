@@ -66,6 +66,7 @@ spot_of_event at (event.Grant client object rights) out = at_hosts at
 spot_of_event at (event.Revoke client object rights) out = at_hosts at
 spot_of_event at (event.HostWrite client address bytes) out = at_hosts at
 spot_of_event at (event.ChangeSignal client signal operation) out = at_hosts at
+spot_of_event at (event.Reload rows) out = at_hosts at
 
 -- where an entry stands
 abbrev pub spot_of : ℕ → Entry → Spot
@@ -137,6 +138,7 @@ sign_of end (event.Poll queue id) out = sign_of_poll out
 sign_of end (event.Finish queue id) out = sign.Completion id
 sign_of end (event.HostWrite client address bytes) out = sign.Write client
 sign_of end (event.ChangeSignal client signal operation) out = sign.Change client
+sign_of end (event.Reload rows) out = sign.Nothing
 
 -- how far an entry's sign reaches: a lane's to the end, a packet's to its release, any other's nowhere
 abbrev pub reach_of : ℕ → Event → List Entry → End

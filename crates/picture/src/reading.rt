@@ -82,6 +82,7 @@ pub(crate) fn spot_of(at: u32, entry: &Entry) -> Spot
         | Event::Finish { queue, packet } => at_packet(at, *queue, *packet),
         Event::Grant { .. }
         | Event::Revoke { .. }
+        | Event::Reload { .. }
         | Event::HostWrite { .. }
         | Event::ChangeSignal { .. } => at_hosts(at),
     }
@@ -229,6 +230,7 @@ fn sign_of(ending: Ending, event: &Event, outcome: &Outcome) -> Sign
         Event::Finish { packet, .. } => Sign::Completion(*packet),
         Event::HostWrite { client, .. } => Sign::Write(*client),
         Event::ChangeSignal { client, .. } => Sign::Change(*client),
+        Event::Reload { .. } => Sign::Nothing,
     }
 }
 

@@ -1,11 +1,12 @@
 -- What a line does is a list of requests.
-use Rattle.std.proofs.Common.{◌≡◌, ℕ, zero, suc, ◌+◌, Bool, true, false, List, [], ◌∷◌, ◌++◌, drop, replicate, slice_index, slice_set, Option, Some, None, Result, Ok, Err, refl, subst}
+use Rattle.std.proofs.Common.{◌≡◌, ℕ, zero, suc, ◌+◌, Bool, true, false, List, [], ◌∷◌, ◌++◌, drop, length, replicate, slice_index, slice_set, Option, Some, None, Result, Ok, Err, refl, subst}
 use Rattle.aql_packet.specs.declared.ids.PacketId.{PacketId}
 use Rattle.aql_packet.specs.declared.ids.QueueId.{QueueId}
 use Rattle.ring_core.specs.declared.access.Access.{Access}
 use Rattle.ring_core.specs.declared.access.Access.TheVariants.{Reserve, LoadReadIndex, StoreBody, StoreHeader, LoadHeader, LoadBody, ClearHeader, RaiseReadIndex}
 use Rattle.ring_core.specs.Tickets.{shows_room}
 use Rattle.ring_core.specs.Words.{is_invalid}
+use Rattle.policy.specs.Policy.{Declared, numbered}
 use Rattle.world.specs.declared.reply.Answer.{Answer}
 use Rattle.world.specs.declared.reply.Refusal.{Refusal}
 use Rattle.world.specs.declared.request.Request.{Request}
@@ -21,7 +22,7 @@ use Rattle.script.specs.declared.command.Shown.{Shown}
 use Rattle.script.specs.declared.lines.Line.{Line}
 use Rattle.script.specs.declared.lines.Line.TheVariants as lines
 use Rattle.script.specs.Actions.{Action, and_then, asks, goes_on, if_else, makes, number_read, packet_read, reads, returns, step}
-use Rattle.script.specs.Expansions.{ask, collects, does, form_of, leaves_ring, peek, peek_line, publish, publish_room, publish_where, retire, retire_decided, retire_line, serve, serve_shown, shown_as, shown_or_empty, shows, stores, stores_body, submit}
+use Rattle.script.specs.Expansions.{ask, collects, copies, does, form_of, leaves_ring, peek, peek_line, publish, publish_room, publish_where, reload, retire, retire_decided, retire_line, serve, serve_shown, shown_as, shown_or_empty, shows, stores, stores_body, submit}
 use Rattle.script.specs.Lines.{line_of}
 use Rattle.script.specs.Runs.{Reaches, RepliedAs, Runs, worlds}
 
@@ -153,26 +154,34 @@ keeps_serve queue = keeps_then (peek queue) _ (keeps_peek queue) (λ shown. keep
 keeps_ask : (asked : Request) → Keeps (ask asked)
 keeps_ask asked = keeps_then (asks asked) _ (keeps_asks asked) (λ answer. keeps_returns (line.Answered (form_of asked) answer))
 
-keeps_does : (asked : Command) → Keeps (does asked)
-unfolding does
-keeps_does (command.Ask asked) = keeps_ask asked
-keeps_does (command.Publish queue producer ticket words) = keeps_publish queue producer ticket words
-keeps_does (command.Submit queue producer words) = keeps_submit queue producer words
-keeps_does (command.Peek queue) = keeps_peek_line queue
-keeps_does (command.Retire queue) = keeps_retire_line queue
-keeps_does (command.Serve queue) = keeps_serve queue
-
-pub line_reaches : (asked : Command) (old : Joined) (told : Result LineAnswer Refusal) (new : Joined) → does asked old told new → Reaches old new
+keeps_copies : (named : Option Declared) → Keeps (copies named)
 unfolding Keeps
-line_reaches asked old told new done = keeps_does asked old told new done
+keeps_copies named old result new done = reaches_none old new done.1
 
-replied_reaches : (old new : Joined) (stands : Option Line) (reply : List ℕ) → RepliedAs worlds old stands reply new → Reaches old new
+keeps_reload : (named : Option Declared) → Keeps (reload named)
+keeps_reload named = keeps_then (copies named) _ (keeps_copies named) (λ policy. keeps_ask (request.Reload policy))
+
+keeps_does : (later : List Declared) (asked : Command) → Keeps (does later asked)
+unfolding does
+keeps_does later (command.Ask asked) = keeps_ask asked
+keeps_does later (command.Publish queue producer ticket words) = keeps_publish queue producer ticket words
+keeps_does later (command.Submit queue producer words) = keeps_submit queue producer words
+keeps_does later (command.Peek queue) = keeps_peek_line queue
+keeps_does later (command.Retire queue) = keeps_retire_line queue
+keeps_does later (command.Serve queue) = keeps_serve queue
+keeps_does later (command.Reload number) = keeps_reload (numbered later number)
+
+pub line_reaches : (later : List Declared) (asked : Command) (old : Joined) (told : Result LineAnswer Refusal) (new : Joined) → does later asked old told new → Reaches old new
+unfolding Keeps
+line_reaches later asked old told new done = keeps_does later asked old told new done
+
+replied_reaches : (later : List Declared) (old new : Joined) (stands : Option Line) (reply : List ℕ) → RepliedAs (worlds later) old stands reply new → Reaches old new
 unfolding worlds
-replied_reaches old new None reply done = absurd done
-replied_reaches old new (Some lines.Quiet) reply done = reaches_none old new done.1
-replied_reaches old new (Some (lines.Asks asked)) reply done = line_reaches asked old done.0 new done.1
+replied_reaches later old new None reply done = absurd done
+replied_reaches later old new (Some lines.Quiet) reply done = reaches_none old new done.1
+replied_reaches later old new (Some (lines.Asks asked)) reply done = line_reaches later asked old done.0 new done.1
 
-pub runs_reach : (old new : Joined) (script : List (List ℕ)) (text : List ℕ) → Runs worlds old script text new → Reaches old new
-runs_reach old new [] text done = reaches_none old new done.1
-runs_reach old new (first ∷ script) text done =
-    reaches_more old done.0 new (replied_reaches old done.0 (line_of (worlds.names old) first) done.1 done.3) (runs_reach done.0 new script done.2 done.4)
+pub runs_reach : (later : List Declared) (old new : Joined) (script : List (List ℕ)) (text : List ℕ) → Runs (worlds later) old script text new → Reaches old new
+runs_reach later old new [] text done = reaches_none old new done.1
+runs_reach later old new (first ∷ script) text done =
+    reaches_more old done.0 new (replied_reaches later old done.0 (line_of ((worlds later).names old) (worlds later).later first) done.1 done.3) (runs_reach later done.0 new script done.2 done.4)

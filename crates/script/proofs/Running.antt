@@ -39,8 +39,8 @@ first_line [] bytes h = absurd (omega arith)
 first_line (first ∷ line) [] h = ((first ∷ line), [], lines_end (first ∷ line), omega arith)
 first_line (first ∷ line) (byte ∷ bytes) h = first_at (first ∷ line) byte bytes (eqb_tells byte 10) (first_line ((first ∷ line) ++ byte ∷ []) bytes (omega (arith, length-append line (byte ∷ []))))
 
-pub no_form : (policy : Declared) (line : List ℕ) → 16384 < length line → line_of policy line ≡ None
-no_form policy line h = let long : nat_lt 16384 (length line) ≡ true = grind (arith, nat_tests) in rw long refl
+pub no_form : (policy : Declared) (later : ℕ) (line : List ℕ) → 16384 < length line → line_of policy later line ≡ None
+no_form policy later line h = let long : nat_lt 16384 (length line) ≡ true = grind (arith, nat_tests) in rw long refl
 
 pub runs_one : {S : Type 0} (law : Law S) (old new : S) (line reply : List ℕ) → Replied law old line reply new → Runs law old (line ∷ []) reply new
 runs_one law old new line reply r = (new, reply, [], r, (refl, refl), sym (append-nil reply))
@@ -69,7 +69,7 @@ took_line law old new before after byte e ended = record {
 pub why_line : {S : Type 0} (law : Law S) (old new : S) (before : Session) (lines further : List (List ℕ)) (fault : ScriptFault) →
     lines ≡ begun before ∷ further → WhyLine law old new before fault → Why law old new before.number [] lines fault
 why_line law old new before lines further (BadLine bad) e why =
-    (why.0 ∙ omega arith, why.1, (begun before, further, e, subst (λ broker. line_of (law.names broker) (begun before) ≡ None) (sym why.1) why.2))
+    (why.0 ∙ omega arith, why.1, (begun before, further, e, subst (λ broker. line_of (law.names broker) law.later (begun before) ≡ None) (sym why.1) why.2))
 why_line law old new before lines further OutOfMemory e why = (why, (lines, refl))
 why_line law old new before lines further Read e why = why
 why_line law old new before lines further Write e why = why
@@ -97,7 +97,7 @@ failed_long law broker before after byte e long out = record {
   why = λ more.
       let longer : 16384 < length (begun before ++ byte ∷ []) = omega (arith, length-append (begun before) (byte ∷ [])) in
       let first = first_line (begun before ++ byte ∷ []) more (omega arith) in
-      (omega arith, refl, (first.0, first.1, lines_byte (begun before) byte more e ∙ first.2, no_form (law.names broker) first.0 (omega (arith, first.3))));
+      (omega arith, refl, (first.0, first.1, lines_byte (begun before) byte more e ∙ first.2, no_form (law.names broker) law.later first.0 (omega (arith, first.3))));
 }
 
 -- a byte more belongs to the line that is begun

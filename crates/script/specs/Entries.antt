@@ -74,6 +74,7 @@ text_of_event policy number (event.Finish queue packet) = codes "finish " ++ tex
 text_of_event policy number (event.HostWrite client address bytes) = codes "write " ++ text_of_client policy client
 text_of_event policy number (event.ChangeSignal client signal operation) =
     codes "signal " ++ text_of_client policy client ++ codes " " ++ name_of_operation operation
+text_of_event policy number (event.Reload rows) = codes "reload"
 
 -- the dependency at a position, from 1, was newly seen
 abbrev pub seen_at : Satisfied → ℕ → Bool

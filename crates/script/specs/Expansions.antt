@@ -1,5 +1,5 @@
 -- What each line of a script asks of a world, and what it is answered, row by row (own).
-use Rattle.std.specs.Prelude.{ℕ, zero, suc, ◌+◌, Bool, true, false, List, [], ◌∷◌, drop, replicate, slice_index, slice_set, Option, Some, None, ⊤, if◌then◌else◌}
+use Rattle.std.specs.Prelude.{ℕ, zero, suc, ◌≡◌, ◌⊎◌, ◌+◌, Bool, true, false, List, [], ◌∷◌, drop, replicate, slice_index, slice_set, Option, Some, None, Result, Ok, Err, ⊤, if◌then◌else◌}
 use Rattle.aql_packet.specs.declared.ids.PacketId.{PacketId}
 use Rattle.aql_packet.specs.declared.ids.QueueId.{QueueId}
 use Rattle.core_model.specs.declared.outcome.Taken.TheVariants as taken
@@ -11,6 +11,10 @@ use Rattle.ring_core.specs.Tickets.{shows_room}
 use Rattle.ring_core.specs.Words.{is_invalid}
 use Rattle.world.specs.declared.reply.Answer.{Answer}
 use Rattle.world.specs.declared.reply.Answer.TheVariants as answer
+use Rattle.core_model.specs.declared.refusal.Refusal.TheVariants as why
+use Rattle.policy.specs.Policy.{Declared, numbered}
+use Rattle.world.specs.declared.reply.Refusal.{Refusal}
+use Rattle.world.specs.declared.reply.Refusal.TheVariants as refusal
 use Rattle.world.specs.declared.request.Call.{Call}
 use Rattle.world.specs.declared.request.Call.TheVariants as call
 use Rattle.world.specs.declared.request.Request.{Request}
@@ -142,11 +146,28 @@ serve queue = and_then (peek queue) (λ shown. serve_shown queue shown)
 
 -- ---- any line
 
--- what a line does (own)
-unfoldable pub does : Command → Action LineAnswer
-does (command.Ask request) = ask request
-does (command.Publish queue producer ticket words) = publish queue producer ticket words
-does (command.Submit queue producer words) = submit queue producer words
-does (command.Peek queue) = peek_line queue
-does (command.Retire queue) = retire_line queue
-does (command.Serve queue) = serve queue
+-- ---- reload
+
+-- a further policy is there to be handed in, as a copy, or memory was wanted for it; a line of a form names one that is there
+abbrev pub IsCopied : Option Declared → Result Declared Refusal → Type 0
+IsCopied (Some policy) result = (result ≡ Ok policy) ⊎ (result ≡ Err (refusal.Core why.OutOfMemory))
+IsCopied None result = result ≡ Err refusal.NotAStep
+
+abbrev pub copies : Option Declared → Action Declared
+copies named old result new = IsCopied named result × (new ≡ old)
+
+-- the further policy of a number is handed in, as a copy
+abbrev pub reload : Option Declared → Action LineAnswer
+reload named = and_then (copies named) (λ policy. ask (request.Reload policy))
+
+-- ---- any line
+
+-- what a line does, where these are the further policies (own)
+unfoldable pub does : List Declared → Command → Action LineAnswer
+does later (command.Ask request) = ask request
+does later (command.Publish queue producer ticket words) = publish queue producer ticket words
+does later (command.Submit queue producer words) = submit queue producer words
+does later (command.Peek queue) = peek_line queue
+does later (command.Retire queue) = retire_line queue
+does later (command.Serve queue) = serve queue
+does later (command.Reload number) = reload (numbered later number)

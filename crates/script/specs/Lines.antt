@@ -1,5 +1,5 @@
 -- Lines and the requests that they stand for, row by row (own).
-use Rattle.std.specs.Prelude.{ℕ, Bool, false, ◌==◌, nat_lt, ℤ, List, [], ◌∷◌, length, codes, Option, Some, None, option_map, option_and_then, bytes_eq, if◌then◌else◌}
+use Rattle.std.specs.Prelude.{ℕ, Bool, false, ◌==◌, ◌&&◌, nat_le, nat_lt, ℤ, List, [], ◌∷◌, length, codes, Option, Some, None, option_map, option_and_then, bytes_eq, if◌then◌else◌}
 use Rattle.std.specs.Option.{option_or}
 use Rattle.aql_packet.specs.declared.ids.ClientId.{ClientId}
 use Rattle.aql_packet.specs.declared.ids.QueueId.{QueueId}
@@ -169,6 +169,15 @@ test_row policy words = option_and_then (λ w. option_and_then (λ condition. op
 abbrev pub list_row : Declared → List Word → Option Command
 list_row policy words = option_map (λ w. asks (query.List (client_in policy w))) (one_word words)
 
+-- a number of further policies has this one, counted from 1
+abbrev pub is_later : ℕ → ℕ → Bool
+is_later later number = nat_le 1 number && nat_le number later
+
+-- `reload N`, where there are so many further policies
+abbrev pub reload_row : ℕ → List Word → Option Command
+reload_row later words = option_and_then (λ w. option_and_then (λ number.
+    if is_later later number then Some (command.Reload number) else None) (decimal_word w)) (one_word words)
+
 -- `audit`
 abbrev pub audit_row : List Word → Option Command
 audit_row words = if no_words words then Some (asks query.Audit) else None
@@ -184,6 +193,7 @@ client_verb_of word =
     else if bytes_eq word (codes "list") then Some verb.List
     else if bytes_eq word (codes "errors") then Some verb.Errors
     else if bytes_eq word (codes "audit") then Some verb.Audit
+    else if bytes_eq word (codes "reload") then Some verb.Reload
     else None
 
 -- the verb of a word, among those and those of single steps on a ring
@@ -221,53 +231,54 @@ verb_of word =
     else if bytes_eq word (codes "finish") then Some verb.Finish
     else ring_verb_of word
 
--- the row of a verb
-abbrev pub command_of : Declared → Verb → List Word → Option Command
-command_of policy verb.Grant words = grant_row policy words
-command_of policy verb.Revoke words = revoke_row policy words
-command_of policy verb.Queue words = queue_row policy words
-command_of policy verb.Stop words = option_map (λ queue. calls (call.Stop queue)) (queue_of words)
-command_of policy verb.Reserve words = reserve_row words
-command_of policy verb.Room words = room_row words
-command_of policy verb.Word words = word_row words
-command_of policy verb.Publish words = publish_row words
-command_of policy verb.Submit words = submit_row words
-command_of policy verb.Look words = option_map (processes LoadHeader) (queue_of words)
-command_of policy verb.Part words = part_row words
-command_of policy verb.Peek words = option_map (λ queue. command.Peek queue) (queue_of words)
-command_of policy verb.Take words = option_map (λ queue. command.Ask (request.Take queue)) (queue_of words)
-command_of policy verb.Clear words = option_map (processes ClearHeader) (queue_of words)
-command_of policy verb.Advance words = option_map (processes RaiseReadIndex) (queue_of words)
-command_of policy verb.Retire words = option_map (λ queue. command.Retire queue) (queue_of words)
-command_of policy verb.Serve words = option_map (λ queue. command.Serve queue) (queue_of words)
-command_of policy verb.Run words = option_map (λ row. calls (call.RunNext row.0 row.1)) (packet_of_queue words)
-command_of policy verb.Poll words = option_map (λ row. calls (call.Poll row.0 row.1)) (packet_of_queue words)
-command_of policy verb.Finish words = option_map (λ row. calls (call.Finish row.0 row.1)) (packet_of_queue words)
-command_of policy verb.Write words = write_row policy words
-command_of policy verb.Read words = read_row policy words
-command_of policy verb.Signal words = signal_row policy words
-command_of policy verb.Load words = load_row policy words
-command_of policy verb.Test words = test_row policy words
-command_of policy verb.List words = list_row policy words
-command_of policy verb.Errors words = option_map (λ queue. asks (query.Errors queue)) (queue_of words)
-command_of policy verb.Audit words = audit_row words
+-- the row of a verb, where there are so many further policies
+abbrev pub command_of : Declared → ℕ → Verb → List Word → Option Command
+command_of policy later verb.Grant words = grant_row policy words
+command_of policy later verb.Revoke words = revoke_row policy words
+command_of policy later verb.Queue words = queue_row policy words
+command_of policy later verb.Stop words = option_map (λ queue. calls (call.Stop queue)) (queue_of words)
+command_of policy later verb.Reserve words = reserve_row words
+command_of policy later verb.Room words = room_row words
+command_of policy later verb.Word words = word_row words
+command_of policy later verb.Publish words = publish_row words
+command_of policy later verb.Submit words = submit_row words
+command_of policy later verb.Look words = option_map (processes LoadHeader) (queue_of words)
+command_of policy later verb.Part words = part_row words
+command_of policy later verb.Peek words = option_map (λ queue. command.Peek queue) (queue_of words)
+command_of policy later verb.Take words = option_map (λ queue. command.Ask (request.Take queue)) (queue_of words)
+command_of policy later verb.Clear words = option_map (processes ClearHeader) (queue_of words)
+command_of policy later verb.Advance words = option_map (processes RaiseReadIndex) (queue_of words)
+command_of policy later verb.Retire words = option_map (λ queue. command.Retire queue) (queue_of words)
+command_of policy later verb.Serve words = option_map (λ queue. command.Serve queue) (queue_of words)
+command_of policy later verb.Run words = option_map (λ row. calls (call.RunNext row.0 row.1)) (packet_of_queue words)
+command_of policy later verb.Poll words = option_map (λ row. calls (call.Poll row.0 row.1)) (packet_of_queue words)
+command_of policy later verb.Finish words = option_map (λ row. calls (call.Finish row.0 row.1)) (packet_of_queue words)
+command_of policy later verb.Write words = write_row policy words
+command_of policy later verb.Read words = read_row policy words
+command_of policy later verb.Signal words = signal_row policy words
+command_of policy later verb.Load words = load_row policy words
+command_of policy later verb.Test words = test_row policy words
+command_of policy later verb.List words = list_row policy words
+command_of policy later verb.Errors words = option_map (λ queue. asks (query.Errors queue)) (queue_of words)
+command_of policy later verb.Audit words = audit_row words
+command_of policy later verb.Reload words = reload_row later words
 
 -- what words ask: none ask nothing, else the first is a verb
-abbrev pub asked_by : Declared → List Word → Option Line
-asked_by policy [] = Some line.Quiet
-asked_by policy (word ∷ words) = option_map (λ command. line.Asks command) (option_and_then (λ verb. command_of policy verb words) (verb_of word))
+abbrev pub asked_by : Declared → ℕ → List Word → Option Line
+asked_by policy later [] = Some line.Quiet
+asked_by policy later (word ∷ words) = option_map (λ command. line.Asks command) (option_and_then (λ verb. command_of policy later verb words) (verb_of word))
 
 -- a line that begins with `#` is a comment
 abbrev pub is_comment : List ℕ → Bool
 is_comment [] = false
 is_comment (byte ∷ bytes) = byte == 35
 
--- what a line stands for, if it has at most 16,384 bytes and a form
-abbrev pub line_of : Declared → List ℕ → Option Line
-line_of policy bytes =
+-- what a line stands for, if it has at most 16,384 bytes and a form: names go by a policy, and there are so many further policies
+abbrev pub line_of : Declared → ℕ → List ℕ → Option Line
+line_of policy later bytes =
     if nat_lt 16384 (length bytes) then None
     else if is_comment bytes then Some line.Quiet
-    else asked_by policy (words bytes)
+    else asked_by policy later (words bytes)
 
 -- the verb's row needs no memory to be read
 abbrev pub IsPlain : Verb → Type 0

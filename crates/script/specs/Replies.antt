@@ -54,6 +54,7 @@ name_of_refusal refusal.AuditFull = codes "10 AuditFull"
 name_of_refusal refusal.BadSize = codes "11 BadSize"
 name_of_refusal refusal.TooMany = codes "12 TooMany"
 name_of_refusal refusal.UnknownObject = codes "13 UnknownObject"
+name_of_refusal refusal.OtherObjects = codes "16 OtherObjects"
 
 -- what a refusal names
 abbrev pub details_of_refusal : Refusal → List ℕ

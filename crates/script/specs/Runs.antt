@@ -1,5 +1,5 @@
 -- What is owed to the lines of a script.
-use Rattle.std.specs.Prelude.{ℕ, ◌≡◌, ◌==◌, ◌⊎◌, Bool, true, false, List, [], ◌∷◌, ◌++◌, Option, Some, None, Result, if◌then◌else◌}
+use Rattle.std.specs.Prelude.{ℕ, ◌≡◌, ◌==◌, ◌⊎◌, Bool, true, false, List, [], ◌∷◌, ◌++◌, Option, Some, None, Result, if◌then◌else◌, length}
 use Rattle.core_model.specs.History.{beginning}
 use Rattle.policy.specs.Policy.{Declared}
 use Rattle.world.specs.declared.reply.Refusal.{Refusal}
@@ -28,10 +28,12 @@ lines_of bytes = lines_from [] bytes
 abbrev pub Told : Type 0
 Told = Result LineAnswer Refusal
 
--- who serves lines, by what may be told to a command and by the policy whose names lines go by
+-- who serves lines, by what may be told to a command, by the policy whose names lines go by, and by how many further policies lines
+-- may name
 pub record Law (S : Type 0) : Type 1 where
   pub serves : S → Command → Told → S → Type 0
   pub names : S → Declared
+  pub later : ℕ
 
 -- what is replied to what a line stands for
 abbrev pub RepliedAs : {S : Type 0} → Law S → S → Option Line → List ℕ → S → Type 0
@@ -42,7 +44,7 @@ RepliedAs law old (Some (line.Asks command)) reply new =
 
 -- what is replied to a line
 abbrev pub Replied : {S : Type 0} → Law S → S → List ℕ → List ℕ → S → Type 0
-Replied law old line reply new = RepliedAs law old (line_of (law.names old) line) reply new
+Replied law old line reply new = RepliedAs law old (line_of (law.names old) law.later line) reply new
 
 -- what is replied to lines in turn: the replies one behind the other
 abbrev pub Runs : {S : Type 0} → Law S → S → List (List ℕ) → List ℕ → S → Type 0
@@ -54,14 +56,19 @@ Runs law old (line ∷ lines) text new =
 abbrev pub ServedAtMostOne : {S : Type 0} → Law S → S → S → Type 0
 ServedAtMostOne law old new = (new ≡ old) ⊎ ((command : Command) × (told : Told) × law.serves old command told new)
 
--- a world: each line does what its row says, and names are those of the policy that it was opened over
-unfoldable pub worlds : Law Joined
-worlds = record { serves = λ old command told new. does command old told new; names = λ world. (beginning world.core).policy }
+-- a world, and the further policies that lines may hand in: each line does what its row says, and names are those of the policy that
+-- the world was opened over
+unfoldable pub worlds : List Declared → Law Joined
+worlds later = record {
+  serves = λ old command told new. does later command old told new;
+  names = λ world. (beginning world.core).policy;
+  later = length later;
+}
 
 -- what a line's service left: its reply behind what was written, or all as it was where the line has no form
 abbrev pub Served : {S : Type 0} → Law S → S → S → List ℕ → List ℕ → List ℕ → Bool → Type 0
 Served law old new line before after true = (reply : List ℕ) × Replied law old line reply new × (after ≡ before ++ reply)
-Served law old new line before after false = (line_of (law.names old) line ≡ None) × (new ≡ old) × (after ≡ before)
+Served law old new line before after false = (line_of (law.names old) law.later line ≡ None) × (new ≡ old) × (after ≡ before)
 
 -- a service that wants memory: nothing is written, and a command was served at most
 abbrev pub Wanted : {S : Type 0} → Law S → S → S → List ℕ → List ℕ → Type 0

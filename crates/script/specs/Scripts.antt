@@ -27,7 +27,7 @@ Outcome law old new held holds left script (Ok done) = IsAtEnd left × Replies l
 -- the line of the number has no form, and the lines before it are replied to
 Outcome law old new held holds left script (Err (BadLine number)) =
     (before : List (List ℕ)) × (line : List ℕ) × (after : List (List ℕ)) × (lines_of script ≡ before ++ line ∷ after)
-    × (number ≡ length before + 1) × (line_of (law.names new) line ≡ None) × Replies law old new held holds before
+    × (number ≡ length before + 1) × (line_of (law.names new) law.later line ≡ None) × Replies law old new held holds before
 -- the lines that ended in what was read are replied to
 Outcome law old new held holds left script (Err Read) =
     (before : List (List ℕ)) × (begun : List ℕ) × (rest : List ℕ) × Tells left rest × (lines_of script ≡ before ++ lines_from begun rest)

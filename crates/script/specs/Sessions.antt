@@ -27,7 +27,7 @@ pub record Took {S : Type 0} (law : Law S) (old new : S) (before after : Session
 
 -- a line of some lines has no form
 abbrev pub HasBadLine : {S : Type 0} → Law S → S → List (List ℕ) → List (List ℕ) → Type 0
-HasBadLine law broker done lines = (line : List ℕ) × (further : List (List ℕ)) × (lines ≡ done ++ line ∷ further) × (line_of (law.names broker) line ≡ None)
+HasBadLine law broker done lines = (line : List ℕ) × (further : List (List ℕ)) × (lines ≡ done ++ line ∷ further) × (line_of (law.names broker) law.later line ≡ None)
 
 -- some lines begin with others
 abbrev pub BeginsWith : List (List ℕ) → List (List ℕ) → Type 0
@@ -72,7 +72,7 @@ pub record EndedLine {S : Type 0} (law : Law S) (old new : S) (before after : Se
 
 -- the line that was begun could not be served
 abbrev pub WhyLine : {S : Type 0} → Law S → S → S → Session → ScriptFault → Type 0
-WhyLine law old new before (BadLine bad) = (bad ≡ before.number) × (new ≡ old) × (line_of (law.names old) (begun before) ≡ None)
+WhyLine law old new before (BadLine bad) = (bad ≡ before.number) × (new ≡ old) × (line_of (law.names old) law.later (begun before) ≡ None)
 WhyLine law old new before OutOfMemory = ServedAtMostOne law old new
 WhyLine law old new before Read = ⊥
 WhyLine law old new before Write = ⊥

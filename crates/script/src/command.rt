@@ -33,6 +33,10 @@ pub enum Command {
     Serve {
         queue: QueueId,
     },
+    /// An administrator hands in the further policy of this number, from 1.
+    Reload {
+        number: u64,
+    },
 }
 
 /// How the answer to a request is told.

@@ -12,6 +12,7 @@ use crate::command::Command;
 use crate::expansions::perform;
 use crate::lines::{Line, read_line};
 use crate::replies::write_line;
+use policy::Policy;
 use std::alloc::{AllocError, Global};
 use world::World;
 
@@ -19,14 +20,15 @@ use world::World;
 fn serve(
     alloc: Global,
     world: &mut World,
+    later: &[Policy],
     command: Command,
     out: &mut String,
 ) -> Result<(), AllocError>
-    ensures served { (told : Result LineAnswer Refusal) × does command world.old told world.new
+    ensures served { (told : Result LineAnswer Refusal) × does later.now command world.old told world.new
         × OnOk result (string_bytes out.new ≡ string_bytes out.old ++ text_of_line (beginning world.new.core).policy told) }
     ensures wanted { OnErr result (string_bytes out.new ≡ string_bytes out.old) }
 {
-    let told = perform(alloc, world, command);
+    let told = perform(alloc, world, later, command);
     let mut reply = String::new(alloc);
     write_line(&mut reply, world.policy(), &told)?;
     out.push_str(reply.as_str())
@@ -37,18 +39,19 @@ fn serve(
 pub fn answer(
     alloc: Global,
     world: &mut World,
+    later: &[Policy],
     line: &[u8],
     out: &mut String,
 ) -> Result<bool, AllocError>
     ensures { MatchResult result
-        (Served worlds world.old world.new line.now (string_bytes out.old) (string_bytes out.new))
-        (λ _. Wanted worlds world.old world.new (string_bytes out.old) (string_bytes out.new)) }
+        (Served (worlds later.now) world.old world.new line.now (string_bytes out.old) (string_bytes out.new))
+        (λ _. Wanted (worlds later.now) world.old world.new (string_bytes out.old) (string_bytes out.new)) }
 {
-    match read_line(alloc, world.policy(), line)? {
+    match read_line(alloc, world.policy(), later.len(), line)? {
         None => Ok(false),
         Some(Line::Quiet) => Ok(true),
         Some(Line::Asks(command)) => {
-            serve(alloc, world, command, out)?;
+            serve(alloc, world, later, command, out)?;
             Ok(true)
         }
     }

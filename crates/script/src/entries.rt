@@ -116,6 +116,7 @@ fn write_event(
             write_client(out, policy, *client)?;
             write!(out, " {}", operation_name(operation))
         }
+        Event::Reload { .. } => out.push_str("reload"),
     }
 }
 

@@ -1,13 +1,16 @@
 //! Lines are done: each makes its requests of the world in turn, up to the first that is refused.
 
 ghost use Rattle.std.specs.Prelude.{◌≡◌, ◌∷◌, drop, replicate};
+ghost use Rattle.std.specs.Option.{option_copied};
+ghost use Rattle.policy.specs.Policy.{numbered};
 ghost use Rattle.ring_core.specs.Tickets.{shows_room};
 ghost use Rattle.script.specs.Actions.{asks, makes, number_read, packet_read, reads, step};
-ghost use Rattle.script.specs.Expansions.{ask, collects, does, form_of, form_of_access, form_of_call, leaves_ring, peek, publish, publish_where, gives_old, peek_line, retire, retire_decided, retire_line, serve, serve_shown, shown_or_empty, shows, stores, stores_body, submit};
+ghost use Rattle.script.specs.Expansions.{ask, IsCopied, reload, collects, does, form_of, form_of_access, form_of_call, leaves_ring, peek, publish, publish_where, gives_old, peek_line, retire, retire_decided, retire_line, serve, serve_shown, shown_or_empty, shows, stores, stores_body, submit};
 
 use crate::command::{Command, Form, LineAnswer, LineReply, Shown};
 use aql_packet::{PacketId, QueueId};
 use core_model::Taken;
+use policy::Policy;
 use ring_core::{Access, Seen, Step, is_invalid};
 use signals::SignalOp;
 use std::alloc::Global;
@@ -371,10 +374,41 @@ fn retire_line(alloc: Global, world: &mut World, queue: QueueId) -> LineReply
     Ok(LineAnswer::Answered { form, answer })
 }
 
-/// Does what a line asks: makes its requests in turn, up to the first that is refused.
+// A copy of the further policy of a number, from 1, if there is one.
+fn copied(alloc: Global, later: &[Policy], number: u64) -> Result<Policy, Refusal>
+    ensures { IsCopied (numbered later.now number) result }
+{
+    match named(later, number) {
+        Some(policy) => match policy.copy(alloc) {
+            Ok(copy) => Ok(copy),
+            Err(_) => Err(Refusal::Core(core_model::Refusal::OutOfMemory)),
+        },
+        None => Err(Refusal::NotAStep),
+    }
+}
+
+// The further policy of a number, from 1, if there is one.
+fn named(later: &[Policy], number: u64) -> Option<&Policy>
+    ensures { option_copied result ≡ numbered later.now number }
+{
+    if number == 0 {
+        return None;
+    }
+    later.get(number as usize - 1)
+}
+
+// A further policy is handed in, as a copy.
+fn reload(alloc: Global, world: &mut World, later: &[Policy], number: u64) -> LineReply
+    ensures { reload (numbered later.now number) world.old result world.new }
+{
+    let policy = copied(alloc, later, number)?;
+    ask(alloc, world, Request::Reload(policy))
+}
+
+/// Does what a line asks: makes its requests in turn, up to the first that is refused. These are the further policies.
 #[tactic(auto, unfolding(crate::specs::Expansions::does))]
-pub fn perform(alloc: Global, world: &mut World, command: Command) -> LineReply
-    ensures { does command world.old result world.new }
+pub fn perform(alloc: Global, world: &mut World, later: &[Policy], command: Command) -> LineReply
+    ensures { does later.now command world.old result world.new }
 {
     match command {
         Command::Ask(asked) => ask(alloc, world, asked),
@@ -392,5 +426,6 @@ pub fn perform(alloc: Global, world: &mut World, command: Command) -> LineReply
         Command::Peek { queue } => peek_line(alloc, world, queue),
         Command::Retire { queue } => retire_line(alloc, world, queue),
         Command::Serve { queue } => serve(alloc, world, queue),
+        Command::Reload { number } => reload(alloc, world, later, number),
     }
 }

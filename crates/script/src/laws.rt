@@ -3,6 +3,7 @@
 ghost use Rattle.std.specs.Prelude.{◌≡◌, ℕ, List, Some, true};
 ghost use Rattle.std.specs.List.{list_all};
 ghost use Rattle.kernel_check.specs.Programs.{Program};
+ghost use Rattle.policy.specs.Policy.{Declared};
 ghost use Rattle.world.specs.Headline.{Headline, IsBegun};
 ghost use Rattle.world.specs.States.{Joined};
 ghost use Rattle.script.specs.declared.command.Command.{Command};
@@ -30,9 +31,9 @@ pub fn numbers_are_sums_of_their_digits()
 /// What a line does is some requests to the world, served in turn; so after any script, over a world that was just
 /// opened over a policy, with any kernels, the headline holds.
 pub fn scripts_are_requests(policy: &Policy)
-    ensures line { (asked : Command) (old : Joined) (told : Told) (new : Joined) → does asked old told new → Reaches old new }
-    ensures headline { (kernels : List Program) (capacity : ℕ) (lines : List (List ℕ)) (text : List ℕ) (opened world : Joined) →
-        IsBegun opened policy.now kernels capacity → Runs worlds opened lines text world → Headline world }
+    ensures line { (later : List Declared) (asked : Command) (old : Joined) (told : Told) (new : Joined) → does later asked old told new → Reaches old new }
+    ensures headline { (later : List Declared) (kernels : List Program) (capacity : ℕ) (lines : List (List ℕ)) (text : List ℕ) (opened world : Joined) →
+        IsBegun opened policy.now kernels capacity → Runs (worlds later) opened lines text world → Headline world }
 {
     the_headline(policy);
 }

@@ -26,6 +26,6 @@ pub use fault::ScriptFault;
 pub use laws::{
     lines_give_their_text_back, numbers_are_sums_of_their_digits, scripts_are_requests,
 };
-pub use lines::{Line, read_line};
+pub use lines::{LONGEST_LINE, Line, read_line};
 pub use replies::write_line;
 pub use run::{run_noting, run_script};

@@ -2,7 +2,7 @@
 
 ghost use Rattle.std.specs.Prelude.{◌≡◌, IfOk, option_map};
 ghost use Rattle.script.specs.Words.{words};
-ghost use Rattle.script.specs.Lines.{client_in, object_in, agent_in, signal_in, rights_on, grant_row, revoke_row, queue_row, queue_of, packet_of_queue, calls, asks, steps, processes, reserve_row, room_row, store_of, word_row, part_row, publish_row, submit_row, write_row, read_row, operation_of, plain_operation, cas_operation, signal_row, load_row, test_row, list_row, audit_row, command_of, line_of, asked_by, is_comment, IsPlain};
+ghost use Rattle.script.specs.Lines.{client_in, object_in, agent_in, signal_in, rights_on, grant_row, revoke_row, queue_row, queue_of, packet_of_queue, calls, asks, steps, processes, reserve_row, room_row, store_of, word_row, part_row, publish_row, submit_row, write_row, read_row, operation_of, plain_operation, cas_operation, signal_row, load_row, test_row, list_row, is_later, reload_row, audit_row, command_of, line_of, asked_by, is_comment, IsPlain};
 
 use crate::command::Command;
 use crate::numbers::{
@@ -476,9 +476,28 @@ fn audit(line: &[u8]) -> Option<Command>
     }
 }
 
+// Whether a number of further policies has this one, counted from 1.
+fn is_later(later: usize, number: u64) -> bool
+    ensures { result ≡ is_later later number }
+{
+    1 <= number && number <= later as u64
+}
+
+// `reload N`, where there are so many further policies
+fn reload(later: usize, line: &[u8]) -> Option<Command>
+    ensures { result ≡ reload_row later (words line.now) }
+{
+    let number = decimal(one_word(line)?)?;
+    if is_later(later, number) {
+        Some(Command::Reload { number })
+    } else {
+        None
+    }
+}
+
 // The row of a verb that takes no memory, and none where it takes some.
-fn plain_command(policy: &Policy, verb: Verb, line: &[u8]) -> Option<Command>
-    ensures { IsPlain verb → result ≡ command_of policy.now verb (words line.now) }
+fn plain_command(policy: &Policy, later: usize, verb: Verb, line: &[u8]) -> Option<Command>
+    ensures { IsPlain verb → result ≡ command_of policy.now later verb (words line.now) }
 {
     match verb {
         Verb::Grant => grant(policy, line),
@@ -513,6 +532,7 @@ fn plain_command(policy: &Policy, verb: Verb, line: &[u8]) -> Option<Command>
         Verb::List => list(policy, line),
         Verb::Errors => errors(line),
         Verb::Audit => audit(line),
+        Verb::Reload => reload(later, line),
         Verb::Word | Verb::Publish | Verb::Submit | Verb::Write => None,
     }
 }
@@ -521,23 +541,29 @@ fn plain_command(policy: &Policy, verb: Verb, line: &[u8]) -> Option<Command>
 fn command(
     alloc: Global,
     policy: &Policy,
+    later: usize,
     verb: Verb,
     line: &[u8],
 ) -> Result<Option<Command>, AllocError>
-    ensures { IfOk result (λ read. read ≡ command_of policy.now verb (words line.now)) }
+    ensures { IfOk result (λ read. read ≡ command_of policy.now later verb (words line.now)) }
 {
     match verb {
         Verb::Word => word(alloc, line),
         Verb::Publish => publish(alloc, line),
         Verb::Submit => submit(alloc, line),
         Verb::Write => write(alloc, policy, line),
-        _ => Ok(plain_command(policy, verb, line)),
+        _ => Ok(plain_command(policy, later, verb, line)),
     }
 }
 
 // What words ask.
-fn asked(alloc: Global, policy: &Policy, line: &[u8]) -> Result<Option<Line>, AllocError>
-    ensures { IfOk result (λ read. read ≡ asked_by policy.now (words line.now)) }
+fn asked(
+    alloc: Global,
+    policy: &Policy,
+    later: usize,
+    line: &[u8],
+) -> Result<Option<Line>, AllocError>
+    ensures { IfOk result (λ read. read ≡ asked_by policy.now later (words line.now)) }
 {
     let Some((word, rest)) = split_word(line) else {
         return Ok(Some(Line::Quiet));
@@ -545,7 +571,7 @@ fn asked(alloc: Global, policy: &Policy, line: &[u8]) -> Result<Option<Line>, Al
     let Some(verb) = verb_named(word) else {
         return Ok(None);
     };
-    match command(alloc, policy, verb, rest)? {
+    match command(alloc, policy, later, verb, rest)? {
         Some(command) => Ok(Some(Line::Asks(command))),
         None => Ok(None),
     }
@@ -562,9 +588,14 @@ fn is_comment(line: &[u8]) -> bool
 }
 
 /// What a line stands for, without its line feed; none where it is too long or has no form. Names
-/// go by the policy, and a name that isn't there is number 0.
-pub fn read_line(alloc: Global, policy: &Policy, line: &[u8]) -> Result<Option<Line>, AllocError>
-    ensures { IfOk result (λ read. read ≡ line_of policy.now line.now) }
+/// go by the policy, and a name that isn't there is number 0; there are so many further policies.
+pub fn read_line(
+    alloc: Global,
+    policy: &Policy,
+    later: usize,
+    line: &[u8],
+) -> Result<Option<Line>, AllocError>
+    ensures { IfOk result (λ read. read ≡ line_of policy.now later line.now) }
 {
     if line.len() > LONGEST_LINE {
         return Ok(None);
@@ -572,5 +603,5 @@ pub fn read_line(alloc: Global, policy: &Policy, line: &[u8]) -> Result<Option<L
     if is_comment(line) {
         return Ok(Some(Line::Quiet));
     }
-    asked(alloc, policy, line)
+    asked(alloc, policy, later, line)
 }

@@ -34,6 +34,7 @@ fn refusal_name(refusal: &Refusal) -> &'static str
         Refusal::BadSize => "11 BadSize",
         Refusal::TooMany => "12 TooMany",
         Refusal::UnknownObject => "13 UnknownObject",
+        Refusal::OtherObjects => "16 OtherObjects",
     }
 }
 

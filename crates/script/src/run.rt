@@ -10,6 +10,7 @@ ghost use Rattle.script.specs.declared.fault.ScriptFault.TheVariants.{Write};
 use crate::answers::{Answers, flush_once, read_once, write_through};
 use crate::fault::ScriptFault;
 use crate::session::{Session, take_bytes, take_end};
+use policy::Policy;
 use std::alloc::Global;
 use std::io;
 use world::World;
@@ -49,10 +50,11 @@ pub fn run_noting<R: io::Read, W: io::Write>(
     reader: &mut R,
     writer: &mut W,
     world: &mut World,
+    later: &[Policy],
     answers: &mut Answers,
 ) -> Result<(), ScriptFault>
     requires { answers.old ≡ none_yet }
-    ensures outcome { RunsScript worlds world.old world.new (W.contents writer.old) (W.contents writer.new)
+    ensures outcome { RunsScript (worlds later.now) world.old world.new (W.contents writer.old) (W.contents writer.new)
         (R.remaining reader.old) (R.remaining reader.new) result }
     ensures caused { IfErr result (IsCaused answers.new) }
     ensures fine { OnOk result (NoneFailed answers.new) }
@@ -68,11 +70,11 @@ pub fn run_noting<R: io::Read, W: io::Write>(
             continue;
         };
         if count == 0 {
-            let ended = take_end(alloc, world, &mut session);
+            let ended = take_end(alloc, world, later, &mut session);
             hand_over(writer, &mut session.out, answers)?;
             return ended;
         }
-        let taken = take_bytes(alloc, world, &mut session, &block[..count]);
+        let taken = take_bytes(alloc, world, later, &mut session, &block[..count]);
         hand_over(writer, &mut session.out, answers)?;
         taken?;
     }
@@ -83,16 +85,17 @@ pub fn run_noting<R: io::Read, W: io::Write>(
 /// writer are, the world is one that doing some lines in turn leads to, and the writer gained just the replies
 /// that are owed to them; where the reader tells its bytes, those are the lines of its bytes. After
 /// `Write` the writer gained a beginning of the replies; after another fault, all replies of the lines before it.
-/// A run makes at most 2^40 reads.
+/// A run makes at most 2^40 reads. The line `reload N` hands in a copy of the N-th of the later policies.
 pub fn run_script<R: io::Read, W: io::Write>(
     alloc: Global,
     reader: &mut R,
     writer: &mut W,
     world: &mut World,
+    later: &[Policy],
 ) -> Result<(), ScriptFault>
-    ensures { RunsScript worlds world.old world.new (W.contents writer.old) (W.contents writer.new)
+    ensures { RunsScript (worlds later.now) world.old world.new (W.contents writer.old) (W.contents writer.new)
         (R.remaining reader.old) (R.remaining reader.new) result }
 {
     let mut answers = Answers::none();
-    run_noting(alloc, reader, writer, world, &mut answers)
+    run_noting(alloc, reader, writer, world, later, &mut answers)
 }

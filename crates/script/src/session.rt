@@ -7,6 +7,7 @@ ghost use Rattle.script.specs.Sessions.{Took, Failed, Ended, EndedLine, FailedLi
 use crate::engine::answer;
 use crate::fault::ScriptFault;
 use crate::lines::LONGEST_LINE;
+use policy::Policy;
 use std::alloc::Global;
 use world::World;
 
@@ -22,13 +23,24 @@ pub struct Session {
 }
 
 // Serves the line that ends here.
-fn end_line(alloc: Global, world: &mut World, session: &mut Session) -> Result<(), ScriptFault>
+fn end_line(
+    alloc: Global,
+    world: &mut World,
+    later: &[Policy],
+    session: &mut Session,
+) -> Result<(), ScriptFault>
     requires { session.old.number + 1 < 2 ^ 64 }
     ensures { MatchResult result
-        (λ _. EndedLine worlds world.old world.new session.old session.new)
-        (FailedLine worlds world.old world.new session.old session.new) }
+        (λ _. EndedLine (worlds later.now) world.old world.new session.old session.new)
+        (FailedLine (worlds later.now) world.old world.new session.old session.new) }
 {
-    if !answer(alloc, world, session.line.as_slice(), &mut session.out)? {
+    if !answer(
+        alloc,
+        world,
+        later,
+        session.line.as_slice(),
+        &mut session.out,
+    )? {
         return Err(ScriptFault::BadLine(session.number));
     }
     session.line.clear();
@@ -40,16 +52,17 @@ fn end_line(alloc: Global, world: &mut World, session: &mut Session) -> Result<(
 fn take_byte(
     alloc: Global,
     world: &mut World,
+    later: &[Policy],
     session: &mut Session,
     byte: u8,
 ) -> Result<(), ScriptFault>
     requires { session.old.number + 1 < 2 ^ 64 }
     ensures { MatchResult result
-        (λ _. Took worlds world.old world.new session.old session.new (byte ∷ []))
-        (Failed worlds world.old world.new session.old session.new (with_further session.old (byte ∷ []))) }
+        (λ _. Took (worlds later.now) world.old world.new session.old session.new (byte ∷ []))
+        (Failed (worlds later.now) world.old world.new session.old session.new (with_further session.old (byte ∷ []))) }
 {
     if byte == b'\n' {
-        return end_line(alloc, world, session);
+        return end_line(alloc, world, later, session);
     }
     if session.line.len() >= LONGEST_LINE {
         return Err(ScriptFault::BadLine(session.number));
@@ -62,29 +75,35 @@ fn take_byte(
 pub fn take_bytes(
     alloc: Global,
     world: &mut World,
+    later: &[Policy],
     session: &mut Session,
     bytes: &[u8],
 ) -> Result<(), ScriptFault>
     requires { session.old.number + length bytes.now < 2 ^ 64 }
     ensures { MatchResult result
-        (λ _. Took worlds world.old world.new session.old session.new bytes.now)
-        (Failed worlds world.old world.new session.old session.new (with_further session.old bytes.now)) }
+        (λ _. Took (worlds later.now) world.old world.new session.old session.new bytes.now)
+        (Failed (worlds later.now) world.old world.new session.old session.new (with_further session.old bytes.now)) }
 {
     for byte in bytes {
-        take_byte(alloc, world, session, *byte)?;
+        take_byte(alloc, world, later, session, *byte)?;
     }
     Ok(())
 }
 
 /// Takes the end of the script: a line that is begun ends there.
-pub fn take_end(alloc: Global, world: &mut World, session: &mut Session) -> Result<(), ScriptFault>
+pub fn take_end(
+    alloc: Global,
+    world: &mut World,
+    later: &[Policy],
+    session: &mut Session,
+) -> Result<(), ScriptFault>
     requires { session.old.number + 1 < 2 ^ 64 }
     ensures { MatchResult result
-        (λ _. Ended worlds world.old world.new session.old session.new)
-        (Failed worlds world.old world.new session.old session.new (at_end session.old)) }
+        (λ _. Ended (worlds later.now) world.old world.new session.old session.new)
+        (Failed (worlds later.now) world.old world.new session.old session.new (at_end session.old)) }
 {
     if session.line.is_empty() {
         return Ok(());
     }
-    end_line(alloc, world, session)
+    end_line(alloc, world, later, session)
 }

@@ -36,6 +36,7 @@ pub enum Verb {
     List,
     Errors,
     Audit,
+    Reload,
 }
 
 /// The verb of a word.
@@ -125,6 +126,8 @@ fn client_verb(word: &[u8]) -> Option<Verb>
         Some(Verb::Errors)
     } else if is_word(word, "audit") {
         Some(Verb::Audit)
+    } else if is_word(word, "reload") {
+        Some(Verb::Reload)
     } else {
         None
     }

@@ -9,9 +9,9 @@ use Rattle.aql_packet.specs.declared.ids.QueueId.{QueueId}
 use Rattle.aql_packet.specs.declared.ids.PacketId.{PacketId}
 use Rattle.aql_packet.specs.Reading.{barrier_bit}
 use Rattle.queue_error.specs.declared.rule.Rule.{Rule}
-use Rattle.policy.specs.Policy.{numbered}
+use Rattle.policy.specs.Policy.{Declared, numbered}
 use Rattle.core_model.specs.declared.event.Event.{Event}
-use Rattle.core_model.specs.declared.event.Event.TheVariants.{OpenQueue, Take}
+use Rattle.core_model.specs.declared.event.Event.TheVariants.{OpenQueue, Reload, Take}
 use Rattle.core_model.specs.declared.event.Query.{Query}
 use Rattle.core_model.specs.declared.event.Request.TheVariants as asked
 use Rattle.core_model.specs.declared.entry.Entry.{Entry}
@@ -55,7 +55,7 @@ use Rattle.core_model.proofs.Turns.{numbered-new, numbered-end}
 use Rattle.world.proofs.Numbering.{numbered_old, numbered_other, numbered_same}
 use Rattle.world.proofs.Entering.{due_answers, due_enters}
 use Rattle.world.proofs.Joining.{IsAside, same_queue}
-use Rattle.world.proofs.Kept.{call_aside, unhindered}
+use Rattle.world.proofs.Kept.{call_aside, reload_aside, unhindered}
 use Rattle.world.proofs.Obeyed.{World, ring_is}
 
 same_some : {X : Type 0} (x y : X) → Some x ≡ Some y → x ≡ y
@@ -275,9 +275,20 @@ module _ (core core' : History) (rings new : List QueueRing) (h : IsJoined (Worl
       by_served : cores_law.IsServed core (asked.Query query) replied core' → (queue : QueueId) → next_id (beginning core') core'.entries queue ≡ next_id (beginning core) core.entries queue
       by_served (is, leads) queue = ap (λ (x : History). next_id (beginning x) x.entries queue) leads
 
+  reload_decided : (policy : Declared) → Asks (asked.Reload policy) core reply core' × (new ≡ rings) → AreDecided core' new
+  reload_decided policy ((replied, served, told), same) = subst (AreDecided core') (sym same) (decided_along core core' rings (by_served served) d)
+    where
+      by_served : cores_law.IsServed core (asked.Reload policy) replied core' → (queue : QueueId) → next_id (beginning core') core'.entries queue ≡ next_id (beginning core) core.entries queue
+      by_served (made, is, inl o) queue = ap (λ (x : History). next_id (beginning x) x.entries queue) o.history_is
+      by_served (made, is, inr (declares, inl m)) queue =
+          ap (λ (x : History). next_id (beginning x) x.entries queue) m.history_is
+          ∙ aside_next core (Reload policy.rows) (reload_aside (World core rings) h policy.rows) (due core (Reload policy.rows)) queue
+      by_served (made, is, inr (declares, inr l)) queue = ap (λ (x : History). next_id (beginning x) x.entries queue) l.history_is
+
   pub obeyed_decided : (wanted : Request) → Obeys wanted core rings reply core' new → AreDecided core' new
   obeyed_decided (request.Step queue step) (makes, same) = subst (λ (x : History). AreDecided x new) (sym same) (step_decided core rings h d queue step reply new (numbered rings queue.0) refl makes)
   obeyed_decided (request.Take queue) takes = take_decided queue (numbered rings queue.0) refl takes
   obeyed_decided (request.OpenQueue client agent size producers) opens = opening_decided client agent size producers opens
   obeyed_decided (request.Call call) asks = call_decided call asks
   obeyed_decided (request.Query query) asks = query_decided query asks
+  obeyed_decided (request.Reload policy) asks = reload_decided policy asks

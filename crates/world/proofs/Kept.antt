@@ -5,6 +5,8 @@ use Rattle.std.specs.Prelude.{◌&&◌, length, slice_get, if◌then◌else◌}
 use Rattle.aql_packet.specs.declared.ids.QueueId.{QueueId}
 use Rattle.kernel_check.specs.Programs.{Program}
 use Rattle.policy.specs.Policy.{Declared}
+use Rattle.policy.specs.declared.rows.PolicyRows.{PolicyRows}
+use Rattle.core_model.specs.declared.event.Event.TheVariants.{Reload}
 use Rattle.core_model.specs.Legal.{IsOpening, IsWhole}
 use Rattle.core_model.specs.Queues.{next_id, openings}
 use Rattle.core_model.specs.declared.entry.Entry.{Entry}
@@ -79,17 +81,23 @@ module _ (world : Joined) (h : IsJoined world) where
   call_aside (call.HostWrite client address bytes) = record { opens = refl; sizes = refl; takes = λ q. refl; hands = λ q. refl }
   call_aside (call.ChangeSignal client signal operation) = record { opens = refl; sizes = refl; takes = λ q. refl; hands = λ q. refl }
 
+  -- nor does a policy that is handed in
+  pub reload_aside : (rows : PolicyRows) → IsAside (Reload rows)
+  reload_aside rows = record { opens = refl; sizes = refl; takes = λ q. refl; hands = λ q. refl }
+
   owed_kept : (asked : Request) → IsJoined (owed_to world asked).after
   owed_kept (request.Step queue step) = step_kept queue step (ring_of world queue) refl
   owed_kept (request.Take queue) = taking_kept queue (ring_of world queue) refl
   owed_kept (request.OpenQueue client agent size producers) = opening_kept world h client agent size producers
   owed_kept (request.Call asked) = aside_kept world h (event_of asked) (call_aside asked)
   owed_kept (request.Query asked) = h
+  owed_kept (request.Reload policy) = aside_kept world h (Reload policy.rows) (reload_aside policy.rows)
 
   -- one request
   pub served_kept : (asked : Request) (reply : Reply) (new : Joined) → IsServed world asked reply new → IsJoined new
-  served_kept asked reply new (inl served) = subst IsJoined (sym served.1) (owed_kept asked)
-  served_kept asked reply new (inr lacked) = subst IsJoined (sym lacked.2) h
+  served_kept asked reply new (inl (same, inl served)) = subst IsJoined (sym served.1) (owed_kept asked)
+  served_kept asked reply new (inl (same, inr lacked)) = subst IsJoined (sym lacked.2) h
+  served_kept asked reply new (inr others) = subst IsJoined (sym others.2) h
 
 -- any list of requests
 pub replies_kept : (world new : Joined) (requests : List Request) (replies : List Reply) → IsJoined world → AreReplies world requests replies new → IsJoined new
@@ -123,10 +131,12 @@ owed_start world (request.Take queue) = by_ring (ring_of world queue)
 owed_start world (request.OpenQueue client agent size producers) = refl
 owed_start world (request.Call asked) = refl
 owed_start world (request.Query asked) = refl
+owed_start world (request.Reload policy) = refl
 
 pub served_start : (world new : Joined) (asked : Request) (reply : Reply) → IsServed world asked reply new → (beginning new.core) ≡ (beginning world.core)
-served_start world new asked reply (inl served) = ap (λ w. (beginning w.core)) served.1 ∙ owed_start world asked
-served_start world new asked reply (inr lacked) = ap (λ w. (beginning w.core)) lacked.2
+served_start world new asked reply (inl (same, inl served)) = ap (λ w. (beginning w.core)) served.1 ∙ owed_start world asked
+served_start world new asked reply (inl (same, inr lacked)) = ap (λ w. (beginning w.core)) lacked.2
+served_start world new asked reply (inr others) = ap (λ w. (beginning w.core)) others.2
 
 -- any list of requests leaves it
 pub replies_start : (world new : Joined) (requests : List Request) (replies : List Reply) → AreReplies world requests replies new → (beginning new.core) ≡ (beginning world.core)

@@ -4,7 +4,7 @@ use Rattle.std.specs.Prelude.{option_map, slice_set}
 use Rattle.aql_packet.specs.declared.ids.AgentHandle.{AgentHandle}
 use Rattle.aql_packet.specs.declared.ids.ClientId.{ClientId}
 use Rattle.aql_packet.specs.declared.ids.QueueId.{QueueId}
-use Rattle.policy.specs.Policy.{numbered}
+use Rattle.policy.specs.Policy.{Declared, numbered}
 use Rattle.core_model.specs.declared.event.Event.TheVariants.{OpenQueue}
 use Rattle.core_model.specs.declared.event.Query.{Query}
 use Rattle.core_model.specs.declared.event.Request.TheVariants as asked
@@ -44,7 +44,7 @@ ring_is core rings queue o found = numbered-map (λ (r : QueueRing). r.ring) rin
 
 module _ (core core' : History) (old new : List QueueRing) (decided : AreDecided core old) (reply : Reply) where
   step_served : (queue : QueueId) (step : Step) → MakesAt (numbered old queue.0) queue step old reply new × (core' ≡ core) → IsServed (World core old) (request.Step queue step) reply (World core' new)
-  step_served queue step (makes, same) = by_ring (numbered old queue.0) refl makes
+  step_served queue step (makes, same) = inl (tt, by_ring (numbered old queue.0) refl makes)
     where
       by_hindrance : (r after : QueueRing) (o : Option Refusal) → r.decided ≡ r.decided → MakesWhere o r step reply after → new ≡ with_queue_ring old queue after → numbered old queue.0 ≡ Some r
           → Meets (World core old) (due_where (World core old) queue r.ring step o) reply (World core' new)
@@ -83,7 +83,7 @@ module _ (core core' : History) (old new : List QueueRing) (decided : AreDecided
   same_ring r (Err why) = refl
 
   take_served : (queue : QueueId) → TakesAt (numbered old queue.0) queue core old reply core' new → IsServed (World core old) (request.Take queue) reply (World core' new)
-  take_served queue takes = by_ring (numbered old queue.0) refl takes
+  take_served queue takes = inl (tt, by_ring (numbered old queue.0) refl takes)
     where
       by_packet : (r : QueueRing) → numbered old queue.0 ≡ Some r → (packet : Option (List ℕ)) → HandsOver packet r queue core old reply core' new
           → Meets (World core old) (due_collected (World core old) queue (read_index r.ring) packet) reply (World core' new)
@@ -118,10 +118,10 @@ module _ (core core' : History) (old new : List QueueRing) (decided : AreDecided
 
   opening_served : (client : ClientId) (agent : AgentHandle) (size producers : ℕ) → Opens client agent size producers core old reply core' new
       → IsServed (World core old) (request.OpenQueue client agent size producers) reply (World core' new)
-  opening_served client agent size producers (made, meets, told, put) = by_due meets
+  opening_served client agent size producers (made, meets, told, put) = inl (tt, by_due meets)
     where
       by_due : MeetsOrLacks (OpenQueue client agent (asked_size size producers)) core core' (map_ok outcome.Opened made)
-          → IsServed (World core old) (request.OpenQueue client agent size producers) reply (World core' new)
+          → Meets (World core old) (owed_to (World core old) (request.OpenQueue client agent size producers)) reply (World core' new)
       by_due (inl m) =
           let rings : rings_of new ≡ rings_after (rings_of old) size producers (reply_of (due core (OpenQueue client agent (asked_size size producers)))) =
           ap rings_of put ∙ rings_as size producers made ∙ ap (rings_after (rings_of old) size producers) m.reply_is in
@@ -133,18 +133,28 @@ module _ (core core' : History) (old new : List QueueRing) (decided : AreDecided
   -- ---- calls and queries
 
   call_served : (call : Call) → Asks (asked.Event (event_of call)) core reply core' × (new ≡ old) → IsServed (World core old) (request.Call call) reply (World core' new)
-  call_served call ((replied, served, told), same) = by_served served
+  call_served call ((replied, served, told), same) = inl (tt, by_served served)
     where
-      by_served : cores_law.IsServed core (asked.Event (event_of call)) replied core' → IsServed (World core old) (request.Call call) reply (World core' new)
+      by_served : cores_law.IsServed core (asked.Event (event_of call)) replied core' → Meets (World core old) (owed_to (World core old) (request.Call call)) reply (World core' new)
       by_served (made, is, inl m) = inl (told ∙ ap of_core (is ∙ ap as_reply m.reply_is), λ i. joined (m.history_is i) (rings_of (same i)))
       by_served (made, is, inr l) = inr (l.may, told ∙ ap of_core (is ∙ ap as_reply l.reply_is), λ i. joined (l.history_is i) (rings_of (same i)))
 
   query_served : (query : Query) → Asks (asked.Query query) core reply core' × (new ≡ old) → IsServed (World core old) (request.Query query) reply (World core' new)
-  query_served query ((replied, served, told), same) = by_served served
+  query_served query ((replied, served, told), same) = inl (tt, by_served served)
     where
-      by_served : cores_law.IsServed core (asked.Query query) replied core' → IsServed (World core old) (request.Query query) reply (World core' new)
+      by_served : cores_law.IsServed core (asked.Query query) replied core' → Meets (World core old) (owed_to (World core old) (request.Query query)) reply (World core' new)
       by_served (inl is, leads) = inl (told ∙ ap of_core is, λ i. joined (leads i) (rings_of (same i)))
       by_served (inr (may, is), leads) = inr (may, told ∙ ap of_core is, λ i. joined (leads i) (rings_of (same i)))
+
+  -- ---- a policy that is handed in
+
+  reload_served : (policy : Declared) → Asks (asked.Reload policy) core reply core' × (new ≡ old) → IsServed (World core old) (request.Reload policy) reply (World core' new)
+  reload_served policy ((replied, served, told), same) = by_served served
+    where
+      by_served : cores_law.IsServed core (asked.Reload policy) replied core' → IsServed (World core old) (request.Reload policy) reply (World core' new)
+      by_served (made, is, inl o) = inr (o.others, told ∙ ap of_core (is ∙ ap as_reply o.reply_is), λ i. joined (o.history_is i) (rings_of (same i)))
+      by_served (made, is, inr (declares, inl m)) = inl (declares, inl (told ∙ ap of_core (is ∙ ap as_reply m.reply_is), λ i. joined (m.history_is i) (rings_of (same i))))
+      by_served (made, is, inr (declares, inr l)) = inl (declares, inr (l.may, told ∙ ap of_core (is ∙ ap as_reply l.reply_is), λ i. joined (l.history_is i) (rings_of (same i))))
 
   -- any request
   pub obeyed_served : (wanted : Request) → Obeys wanted core old reply core' new → IsServed (World core old) wanted reply (World core' new)
@@ -153,3 +163,4 @@ module _ (core core' : History) (old new : List QueueRing) (decided : AreDecided
   obeyed_served (request.OpenQueue client agent size producers) h = opening_served client agent size producers h
   obeyed_served (request.Call call) h = call_served call h
   obeyed_served (request.Query query) h = query_served query h
+  obeyed_served (request.Reload policy) h = reload_served policy h

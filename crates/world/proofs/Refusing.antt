@@ -2,6 +2,7 @@
 use Rattle.std.proofs.Common.{◌≡◌, ℕ, List, Option, Some, None, Err, inl, inr, refl, ◌∙◌}
 use Rattle.aql_packet.specs.declared.ids.QueueId.{QueueId}
 use Rattle.core_model.specs.declared.event.Event.{Event}
+use Rattle.core_model.specs.declared.event.Event.TheVariants.{Reload}
 use Rattle.core_model.specs.declared.outcome.Outcome.TheVariants as outcome
 use Rattle.core_model.specs.Owed.{Owed, refuses, answers, enters}
 use Rattle.core_model.specs.Legal.{due}
@@ -58,7 +59,9 @@ refused old (request.Take queue) why is = take_refused old queue (ring_of old qu
 refused old (request.OpenQueue client agent size producers) why is = opening_refused old size producers _ _ why is
 refused old (request.Call call) why is = event_refused old (event_of call) (due old.core (event_of call)) why is
 refused old (request.Query query) why is = refl
+refused old (request.Reload policy) why is = event_refused old (Reload policy.rows) (due old.core (Reload policy.rows)) why is
 
 pub refused_stays : (old new : Joined) (asked : Request) (why : Refusal) → IsServed old asked (Err why) new → new ≡ old
-refused_stays old new asked why (inl served) = served.1 ∙ refused old asked why served.0
-refused_stays old new asked why (inr lacked) = lacked.2
+refused_stays old new asked why (inl (same, inl served)) = served.1 ∙ refused old asked why served.0
+refused_stays old new asked why (inl (same, inr lacked)) = lacked.2
+refused_stays old new asked why (inr others) = others.2

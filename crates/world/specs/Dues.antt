@@ -1,8 +1,9 @@
 -- What each request of the world is owed: its reply, and the world after it.
-use Rattle.std.specs.Prelude.{◌≡◌, ℕ, ◌==◌, ◌&&◌, ◌⊎◌, Bool, true, false, nat_lt, List, [], ◌∷◌, ◌++◌, slice_get, Option, Some, None, Result, Ok, Err, if◌then◌else◌}
+use Rattle.std.specs.Prelude.{◌≡◌, ℕ, ◌==◌, ◌&&◌, ◌⊎◌, ⊤, Bool, true, false, nat_lt, List, [], ◌∷◌, ◌++◌, slice_get, Option, Some, None, Result, Ok, Err, if◌then◌else◌}
 use Rattle.aql_packet.specs.declared.ids.QueueId.{QueueId}
+use Rattle.policy.specs.Declaring.{DeclaresAs}
 use Rattle.core_model.specs.declared.event.Event.{Event}
-use Rattle.core_model.specs.declared.event.Event.TheVariants.{OpenQueue, Take}
+use Rattle.core_model.specs.declared.event.Event.TheVariants.{OpenQueue, Reload, Take}
 use Rattle.core_model.specs.declared.event.Query.{Query}
 use Rattle.core_model.specs.declared.outcome.Outcome.{Outcome}
 use Rattle.core_model.specs.declared.outcome.Outcome.TheVariants as outcome
@@ -164,7 +165,7 @@ due_opening world size producers event owing = record {
 
 -- ---- any request
 
--- what a request is owed (own)
+-- what a request is owed; the handing in of a policy, where it declares the same as the one that the world was opened over (own)
 abbrev pub owed_to : Joined → Request → Due
 owed_to world (request.Step queue step) = due_step world queue step (ring_of world queue)
 owed_to world (request.Take queue) = due_take world queue (ring_of world queue)
@@ -172,6 +173,7 @@ owed_to world (request.OpenQueue client agent size producers) =
     due_opening world size producers (OpenQueue client agent (asked_size size producers)) (due world.core (OpenQueue client agent (asked_size size producers)))
 owed_to world (request.Call call) = due_event world (event_of call) (due world.core (event_of call))
 owed_to world (request.Query query) = due_query world query
+owed_to world (request.Reload policy) = due_event world (Reload policy.rows) (due world.core (Reload policy.rows))
 
 -- a request got what it is owed; or memory was wanted and not to be had, and all is as before (own)
 abbrev pub Meets : Joined → Due → Reply → Joined → Type 0
@@ -179,8 +181,20 @@ Meets old owed reply new =
     ((reply ≡ owed.reply) × (new ≡ owed.after))
     ⊎ ((owed.may_lack_memory ≡ true) × (reply ≡ Err (refusal.Core why.OutOfMemory)) × (new ≡ old))
 
+-- a policy that is handed in declares the same clients and objects; of any other request there is nothing to say (own)
+abbrev pub DeclaresTheSame : Joined → Request → Type 0
+DeclaresTheSame world (request.Step queue step) = ⊤
+DeclaresTheSame world (request.Take queue) = ⊤
+DeclaresTheSame world (request.OpenQueue client agent size producers) = ⊤
+DeclaresTheSame world (request.Call call) = ⊤
+DeclaresTheSame world (request.Query query) = ⊤
+DeclaresTheSame world (request.Reload policy) = DeclaresAs (beginning world.core).policy policy
+
+-- a request got what it is owed, if need be; a policy that declares other clients or objects is refused before all else (own)
 abbrev pub IsServed : Joined → Request → Reply → Joined → Type 0
-IsServed old asked reply new = Meets old (owed_to old asked) reply new
+IsServed old asked reply new =
+    (DeclaresTheSame old asked × Meets old (owed_to old asked) reply new)
+    ⊎ ((DeclaresTheSame old asked → ⊥) × (reply ≡ Err (refusal.Core why.OtherObjects)) × (new ≡ old))
 
 -- these replies answer these requests in turn, and lead from one world to the other (own)
 abbrev pub AreReplies : Joined → List Request → List Reply → Joined → Type 0

@@ -112,3 +112,4 @@ Obeys (request.Take queue) core old reply core' new = TakesAt (numbered old queu
 Obeys (request.OpenQueue client agent size producers) core old reply core' new = Opens client agent size producers core old reply core' new
 Obeys (request.Call call) core old reply core' new = Asks (asked.Event (event_of call)) core reply core' × (new ≡ old)
 Obeys (request.Query query) core old reply core' new = Asks (asked.Query query) core reply core' × (new ≡ old)
+Obeys (request.Reload policy) core old reply core' new = Asks (asked.Reload policy) core reply core' × (new ≡ old)

@@ -5,7 +5,7 @@ ghost use Rattle.world.specs.Calls.{event_of};
 
 use aql_packet::{Address, AgentHandle, ClientId, PacketId, QueueId, SignalHandle};
 use core_model::{Event, Query};
-use policy::{Object, Rights};
+use policy::{Object, Policy, Rights};
 use ring_core::Step;
 use sequences::Sequence;
 use signals::SignalOp;
@@ -81,6 +81,8 @@ pub enum Request {
     Call(Call),
     /// A call of the core that changes nothing.
     Query(Query),
+    /// An administrator hands in a policy, whose rows on rights are to be in force from then on.
+    Reload(Policy),
 }
 
 impl Call {

@@ -58,6 +58,7 @@ pub(crate) fn obey(
         }
         Request::Call(call) => ask(alloc, core, core_model::Request::Event(call.into_event())),
         Request::Query(query) => ask(alloc, core, core_model::Request::Query(query)),
+        Request::Reload(policy) => ask(alloc, core, core_model::Request::Reload(policy)),
     }
 }
 

@@ -5,7 +5,8 @@ ghost use Rattle.world.specs.Dues.{AreReplies, IsServed};
 ghost use Rattle.world.specs.Headline.{Headline};
 ghost use Rattle.world.specs.InStep.{IsJoined};
 ghost use Rattle.world.specs.Starting.{Begins};
-ghost use Rattle.world.specs.States.{slots_of};
+ghost use Rattle.std.specs.Option.{option_copied};
+ghost use Rattle.world.specs.States.{ring_of, slots_of};
 ghost use Rattle.core_model.specs.History.{beginning};
 
 use crate::laws::headline_of;
@@ -17,6 +18,7 @@ use crate::serving::obey;
 use access_core::{AccessCore, Kernel, OpenFault};
 use aql_packet::QueueId;
 use policy::Policy;
+use ring_core::RingState;
 use sequences::Reserved;
 use std::alloc::{AllocError, Global};
 use std::marker::Model;
@@ -84,6 +86,23 @@ impl World {
         match ring_at(&self.rings, queue) {
             Some(ring) => ring.ring.size(),
             None => 0,
+        }
+    }
+
+    /// The core: its policy, its audit, and what its queries tell.
+    pub fn core(&self) -> &AccessCore
+        ensures { result.now.history ≡ self.now.core }
+    {
+        &self.core
+    }
+
+    /// The ring of a queue, if the queue was opened.
+    pub fn ring(&self, queue: QueueId) -> Option<&RingState>
+        ensures { option_copied result ≡ ring_of self.now queue }
+    {
+        match ring_at(&self.rings, queue) {
+            Some(ring) => Some(&ring.ring),
+            None => None,
         }
     }
 

@@ -13,6 +13,7 @@ use Rattle.core_model.specs.declared.entry.Entry.{Entry}
 use Rattle.core_model.specs.declared.limits.TheConstants.{MOST_ENTRIES, QUEUES}
 use Rattle.core_model.specs.History.{History, Origin, Start, begin, beginning, opening_origin}
 use Rattle.core_model.specs.Grants.{in_force}
+use Rattle.core_model.specs.Policies.{policy_at}
 use Rattle.core_model.specs.Memory.{memory_at, signals}
 use Rattle.core_model.specs.Queues.{openings, owner}
 use Rattle.core_model.specs.Flight.{flight}
@@ -76,8 +77,8 @@ pub record IsEntered (old new : Roomy Entry) (entry : Entry) : Type 0 where
 pub record IsCached (a : Inside) : Type 0 where
   -- the rights in force
   pub granted : (client : ClientId) (on : Object) (right : Right) → ledger.in_force a.grants client on right ≡ in_force (start_of a) a.audit.items client on right
-  -- what the policy declares and allows
-  pub rules : ledger.rules_in a.grants ≡ rules_of a.policy
+  -- what the policy in force declares and allows
+  pub rules : ledger.rules_in a.grants ≡ rules_of (policy_at (start_of a) a.audit.items)
   -- the rights that packets in flight hold
   pub held : (queue : QueueId) (id : PacketId) (client : ClientId) (on : Object) (right : Right)
       → ledger.holds a.grants queue id client on right ≡ held (start_of a) a.audit.items queue id client on right

@@ -5,6 +5,7 @@ use Rattle.aql_packet.specs.declared.ids.PacketId.{PacketId}
 use Rattle.aql_packet.specs.declared.ids.QueueId.{QueueId}
 use Rattle.policy.specs.Policy.{numbered}
 use Rattle.core_model.specs.History.{Origin, PacketOrigin, QueueOrigin}
+use Rattle.grants.specs.Ledger.{rules_in}
 use Rattle.packet_processor.specs.Queueing.{is_place_of}
 use Rattle.packet_processor.specs.declared.places.Place.{Place}
 use Rattle.access_core.specs.declared.access.AccessCore.TheInside.{Inside}
@@ -33,7 +34,7 @@ packet_origin queues block = option_map (λ place. record {
 -- all of it; argument blocks lie in the order of launches
 abbrev pub origin_behind : Inside → Origin
 origin_behind a = record {
-  policy = a.policy;
+  policy = record a.policy { rows = (rules_in a.grants).rows };
   grants = a.grants;
   memory = a.memory;
   signals = a.signals;

@@ -1,18 +1,20 @@
 //! Queries: they change nothing, and no entry tells of them.
 
 ghost use Rattle.core_model.specs.History.{beginning};
-ghost use Rattle.std.specs.Prelude.{◌≡◌};
+ghost use Rattle.std.specs.Prelude.{◌≡◌, ◌≤◌, length};
+ghost use Rattle.core_model.specs.declared.limits.TheConstants.{MOST_ENTRIES};
 ghost use Rattle.core_model.specs.declared.answer.Answer.TheVariants as answer;
 ghost use Rattle.policy.specs.Results.{map_ok};
 ghost use Rattle.core_model.specs.Legal.{IsLegal, Replies, RepliesOrLacks};
 ghost use Rattle.access_core.specs.Tables.{table_sizes};
+ghost use Rattle.core_model.specs.Policies.{rows_at};
 ghost use Rattle.core_model.specs.Room.{HasRoom};
 
 use crate::access::AccessCore;
 use crate::tables::TableSizes;
 use aql_packet::{Address, ClientId, QueueId, SignalHandle};
 use core_model::{Entry, MOST_HOST_BYTES, Query, Range, Refusal};
-use policy::{Object, Policy, Right, Rights};
+use policy::{Object, Policy, PolicyRows, Right, Rights};
 use queue_error::QueueError;
 use regions::region_of;
 use sequences::Sequence;
@@ -20,11 +22,19 @@ use signals::Condition;
 use std::alloc::Global;
 
 impl AccessCore {
-    /// The policy that the core was opened with.
+    /// The policy that the core was opened with: all that it declares stays, and its rows on rights are in
+    /// force until others are.
     pub fn policy(&self) -> &Policy
         ensures { result.now ≡ (beginning self.now.history).policy }
     {
         &self.policy
+    }
+
+    /// The rows on rights in force: those of the policy that was put in force last.
+    pub fn rows(&self) -> &PolicyRows
+        ensures { result.now ≡ rows_at (beginning self.now.history) self.now.history.entries }
+    {
+        self.grants.rows()
     }
 
     /// Does nothing but say to callers what holds of each core: its audit keeps a place for each packet in
@@ -35,9 +45,10 @@ impl AccessCore {
         let _ = &self.audit;
     }
 
-    /// The audit's entries, in order: a legal history, of which the laws of `core_model` speak.
+    /// The audit's entries, in order, 2^20 at most: a legal history, of which the laws of `core_model` speak.
     pub fn audit(&self) -> &[Entry]
         ensures entries { result.now ≡ self.now.history.entries }
+        ensures few { length result.now ≤ MOST_ENTRIES }
         ensures legal { IsLegal (beginning self.now.history) self.now.history.entries }
     {
         self.audit.as_slice()

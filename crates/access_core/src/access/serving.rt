@@ -4,9 +4,11 @@ ghost use Rattle.core_model.specs.History.{beginning};
 ghost use Rattle.std.specs.Prelude.{◌≡◌, ◌≤◌, [], IfOk, OnErr, length};
 ghost use Rattle.core_model.specs.Legal.{AreReplies, IsLegal, IsServed, MeetsOrLacks, RepliesOrLacks, as_reply};
 ghost use Rattle.access_core.specs.Keeping.{MadeInPlace, ServedInPlace};
+ghost use Rattle.access_core.specs.Reloads.{as_reloaded};
 
 use crate::access::AccessCore;
 use core_model::{Answer, Entry, Event, Outcome, Query, Refusal, Reply, Request};
+use policy::Policy;
 use sequences::{Reserved, Sequence};
 use std::alloc::{AllocError, Global};
 
@@ -79,6 +81,7 @@ impl AccessCore {
         match request {
             Request::Event(event) => as_reply(self.make(alloc, event)),
             Request::Query(query) => self.answer(alloc, query),
+            Request::Reload(policy) => as_reply(as_reloaded(self.reload(alloc, policy))),
         }
     }
 
@@ -136,6 +139,7 @@ impl AccessCore {
             } => self
                 .signal_op(client, signal, operation)
                 .map(Outcome::Changed),
+            Event::Reload { rows } => self.reload_rows(alloc, rows).map(|()| Outcome::Accepted),
         }
     }
 
@@ -177,6 +181,16 @@ fn as_reply(made: Result<Outcome, Refusal>) -> Reply
     ensures { result ≡ as_reply made }
 {
     made.map(Answer::Outcome)
+}
+
+// What became of a policy that was handed in, which is let go where it was refused.
+fn as_reloaded(made: Result<(), (Refusal, Policy)>) -> Result<Outcome, Refusal>
+    ensures { result ≡ as_reloaded made }
+{
+    match made {
+        Ok(()) => Ok(Outcome::Accepted),
+        Err((why, _)) => Err(why),
+    }
 }
 
 // The same entries once more.

@@ -8,7 +8,7 @@ use Rattle.script.proofs.run.run_noting.Given as goal
 
 abbrev pub invariant-loop : goal.invariant-loop
 invariant-loop g l =
-    Going worlds l.initial.world l.world (g.W.Write.contents l.initial.writer) (g.W.Write.contents l.writer)
+    Going (worlds l.later) l.initial.world l.world (g.W.Write.contents l.initial.writer) (g.W.Write.contents l.writer)
     (g.R.Read.remaining l.initial.reader) (g.R.Read.remaining l.reader) l.session
     × (pending l.session ≡ [])
     × (l.session.number ≤ 4096 * l.counter + 1)

@@ -6,4 +6,4 @@ use Rattle.script.proofs.session.take_bytes.Given as goal
 
 abbrev pub invariant-loop-byte : goal.invariant-loop-byte
 invariant-loop-byte l =
-    Took worlds l.initial.world l.world l.initial.session l.session (take l.byte-index l.bytes)
+    Took (worlds l.later) l.initial.world l.world l.initial.session l.session (take l.byte-index l.bytes)

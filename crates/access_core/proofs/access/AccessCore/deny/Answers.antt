@@ -21,7 +21,7 @@ invariant_of-self c =
     (record {
       same = ((refl, refl, refl), refl);
       audit = rw c.none.ensures at c.enter.ensures;
-      grants = grants-still a c.self.invariant _ _ _ refl (λ queue id. refl) (λ client on right b. refl) (flight-denied a c.self.invariant c.args.queue c.args.packet c.args.bytes.now can c.args.rule);
+      grants = grants-still a c.self.invariant _ _ _ refl (λ queue id. refl) (λ client on right b. refl) (λ rows. refl) (flight-denied a c.self.invariant c.args.queue c.args.packet c.args.bytes.now can c.args.rule);
       memory = memory-still a.memory _ (λ x byte. refl);
       values = refl;
       queues = rw c.fail_next.ensures.queues (queues-denied a c.self.invariant c.args.queue c.args.packet c.args.bytes.now can c.args.rule);

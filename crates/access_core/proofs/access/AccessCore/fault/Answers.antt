@@ -39,7 +39,7 @@ invariant_of-self c =
     (record {
       same = ((refl, refl, refl), refl);
       audit = rw c.one-effects.ensures at c.enter.ensures;
-      grants = grants-released a c.self.invariant _ _ _ refl (λ client on right b. refl) _ _ c.args.queue c.args.packet is.drops
+      grants = grants-released a c.self.invariant _ _ _ refl (λ client on right b. refl) (λ rows. refl) _ _ c.args.queue c.args.packet is.drops
           (flight-released (start_of a) a.audit.items _ _ _ c.args.queue c.args.packet is) c.release.ensures c.release-2.ensures.rest;
       memory = memory-still a.memory _ (λ x byte. refl);
       values = refl;

@@ -20,7 +20,7 @@ invariant_of-self c =
     (record {
       same = ((refl, refl, refl), refl);
       audit = rw (c.one-effects.ensures, c.in_ok-written.ensures) at c.enter.ensures;
-      grants = grants-still a c.self.invariant _ _ _ refl calm.stays (λ client on right b. refl) (flight-quiet (start_of a) a.audit.items _ _ _ calm);
+      grants = grants-still a c.self.invariant _ _ _ refl calm.stays (λ client on right b. refl) (λ rows. refl) (flight-quiet (start_of a) a.audit.items _ _ _ calm);
       memory = record {
         lengths = c.lay.ensures.lengths;
         memory = λ x byte before. byte_at-written _ _ c.args.address c.args.bytes x byte (rw c.as_slice.ensures at c.lay.ensures.bytes) before;

@@ -46,7 +46,7 @@ invariant_of-self-2 c =
     (record {
       same = ((refl, refl, refl), refl);
       audit = rw c.none.ensures at c.enter.ensures;
-      grants = grants-launched a c.self.invariant _ _ (λ client on right b. refl) _ _ _ (opening_of c.args.launching) c.args.queue c.args.packet p _ _ launches
+      grants = grants-launched a c.self.invariant _ _ (λ client on right b. refl) (λ rows. refl) _ _ _ (opening_of c.args.launching) c.args.queue c.args.packet p _ _ launches
           (flight-launched (start_of a) a.audit.items c.args.queue c.args.packet c.args.bytes.now p c.requires.1)
           c.in_ok-reserve.ensures.same
           (c.as_slice-2.ensures ∙ c.in_ok-rights.ensures ∙ ap (λ (h : History). map as_rights (rights_at_launch (beginning h) h.entries (opening_of c.args.launching) p))

@@ -23,7 +23,7 @@ invariant_of-self-2 c =
     (record {
       same = ((refl, refl, refl), refl);
       audit = rw c.none.ensures at c.enter.ensures;
-      grants = grants-still a c.self.invariant _ _ _ refl calm.stays (λ client on right b. refl) (flight-quiet (start_of a) a.audit.items _ _ _ calm);
+      grants = grants-still a c.self.invariant _ _ _ refl calm.stays (λ client on right b. refl) (λ rows. refl) (flight-quiet (start_of a) a.audit.items _ _ _ calm);
       memory = memory-still a.memory [] (λ x byte. refl);
       values = refl;
       queues = record {

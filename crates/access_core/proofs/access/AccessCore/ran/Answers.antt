@@ -57,7 +57,7 @@ invariant_of-self c =
     (record {
       same = ((refl, refl, refl), refl);
       audit = rw (c.many-effects.ensures ∙ c.in_ok-changes.ensures) at c.enter.ensures;
-      grants = grants-still a c.self.invariant _ _ _ refl is.stays (λ client on right b. refl) (flight-advanced (start_of a) a.audit.items _ _ _ c.args.queue c.args.packet _ is);
+      grants = grants-still a c.self.invariant _ _ _ refl is.stays (λ client on right b. refl) (λ rows. refl) (flight-advanced (start_of a) a.audit.items _ _ _ c.args.queue c.args.packet _ is);
       memory = record {
         lengths = c.lay_changes.ensures.lengths;
         memory = subst (λ (effects : List Effect). IsChanged a.memory effects c.lay_changes.new.memory)

@@ -29,7 +29,7 @@ invariant_of-self c =
     (record {
       same = ((refl, refl, refl), refl);
       audit = rw (c.none.ensures, c.sight-told.ensures) at c.enter.ensures;
-      grants = grants-still a c.self.invariant _ _ _ refl is.stays (λ client on right b. refl) (flight-advanced (start_of a) a.audit.items _ _ _ c.args.queue c.args.packet _ is);
+      grants = grants-still a c.self.invariant _ _ _ refl is.stays (λ client on right b. refl) (λ rows. refl) (flight-advanced (start_of a) a.audit.items _ _ _ c.args.queue c.args.packet _ is);
       memory = memory-still a.memory _ (λ x byte. refl);
       values = refl;
       queues = rw c.advance.ensures.queues (queues-advanced a c.self.invariant c.args.queue at c.args.packet (seen_further c.args.new) _ _ _ is refl _

@@ -29,7 +29,7 @@ invariant_of-self c =
     (record {
       same = ((refl, refl, refl), refl);
       audit = record { items = rw (told, new) at entries; room = c.enter.ensures.room };
-      grants = grants-still c.self.inside c.self.invariant _ _ _ refl calm.stays (λ client on right b. refl) (flight-quiet (start_of c.self.inside) c.self.inside.audit.items _ _ _ calm);
+      grants = grants-still c.self.inside c.self.invariant _ _ _ refl calm.stays (λ client on right b. refl) (λ rows. refl) (flight-quiet (start_of c.self.inside) c.self.inside.audit.items _ _ _ calm);
       memory = memory-still c.self.inside.memory _ (λ x byte. refl);
       values = values;
       queues = queues-still c.self.inside c.self.invariant _ _ _ calm refl;

@@ -1,16 +1,8 @@
--- The first packet with a denied hold is the first that holds a right that the policy doesn't allow.
-use Rattle.std.proofs.Common.{subst, ◌∙◌, ap}
-use Rattle.std.specs.Prelude.{vec_len, vec_capacity, ◌-◌}
+-- The rows of the policy are those that are looked at.
+use Rattle.std.proofs.Common.{subst}
 use Rattle.policy.specs.declared.rows.PolicyRows.{PolicyRows}
-use Rattle.grants.proofs.Terms.{IsFirstTo}
 use Rattle.grants.specs.Ledger.{IsBlockedBy}
-use Rattle.grants.specs.inner.Reloading.{has_denied}
-use Rattle.grants.proofs.ReloadLemmas.{blocked-first}
 use Rattle.grants.proofs.grants.Grants.blocked.Goals as goal
 
 pub returns : goal.returns
-returns c =
-    let room = vec_capacity c.self.inside.holds - vec_len c.self.inside.holds in
-    subst (λ (rows : PolicyRows). IsBlockedBy c.args.self.now rows c.first_denied.result) c.rows.ensures.rows
-    (blocked-first c.rows.result.now c.self.inside.table c.self.inside.holds.items room c.args.self.now c.self.view_is c.first_denied.result
-    (subst (λ hs. IsFirstTo (has_denied c.rows.result.now hs) c.first_denied.result) c.as_slice.ensures.value c.first_denied.ensures))
+returns c = subst (λ (rows : PolicyRows). IsBlockedBy c.args.self.now rows c.blocked_by.result) c.rows.ensures.rows c.blocked_by.ensures

@@ -1,0 +1,191 @@
+-- What a reload is owed, by the grants that are cached.
+use Rattle.std.proofs.Common.{◌≡◌, ◌+◌, ◌-◌, ◌*◌, List, [], refl, sym, ◌∙◌, ap, subst, Bool, true, false, Option, Some, None, arith, ◌&&◌, ◌==◌, not, filter, if◌then◌else◌}
+use Rattle.std.proofs.lemmas.Bool.{and_from, eqb-true}
+use Rattle.policy.specs.Listing.{all_objects}
+use Rattle.policy.specs.Rules.{count, rows_allow}
+use Rattle.policy.specs.declared.rows.PolicyRows.{PolicyRows}
+use Rattle.grants.specs.Cells.{Table, has_right, in_table, item_at, object_count, object_place}
+use Rattle.grants.specs.Ledger.{HoldsDenied, IsBlockedBy}
+use Rattle.grants.specs.Ledger as ledger
+use Rattle.core_model.specs.Holds.{holds_denied}
+use Rattle.core_model.specs.Owed.{owed}
+use Rattle.core_model.specs.declared.event.Event.TheVariants.{Reload}
+use Rattle.core_model.proofs.Declared.{any-object, any-right}
+use Rattle.core_model.proofs.Entered.{named-found, reload-effects}
+use Rattle.core_model.proofs.Holding.{filtered-none}
+use Rattle.core_model.proofs.Holding as holding
+use Rattle.access_core.proofs.Calls.{due-by}
+use Rattle.access_core.proofs.CachedMore.{owed-inside}
+use Rattle.access_core.proofs.Least.{IsFound, any-found, found-any, least-first, least-none, passes}
+use Rattle.access_core.proofs.Terms.{ClientId, History, InFlight, Inside, IsCached, IsFirstTo, Object, Opening, PacketId, QueueId, Right, Rules, Start, all, all_rights, and_parts, due, enters, first, flight, found-all}
+use Rattle.access_core.proofs.Terms.{found-passes, held, held-flies, history_of, in_flight, in_force, is_full, is_packet, knows_client, knows_object, launch-whole, list_any, numbered, owner, refuses, rules_of, same-state, start_of}
+use Rattle.core_model.specs.declared.outcome.Outcome.TheVariants as outcome
+use Rattle.core_model.specs.declared.refusal.Refusal.TheVariants as refusal
+
+-- a right in force is on an object that is declared
+known-cell : (table : Table) (client : ClientId) (on : Object) (right : Right) → in_table table client on right ≡ true → knows_object table.rules on ≡ true
+known-cell table client on right is = by_tests (knows_client table.rules client) (knows_object table.rules on) refl is
+  where
+    by_tests : (c o : Bool) → knows_object table.rules on ≡ o → has_right right (item_at table.cells (if c && o then Some ((client.0 - 1) * object_count table.rules + object_place table.rules on) else None)) ≡ true → knows_object table.rules on ≡ true
+    by_tests c true is now = is
+    by_tests true false is now = absurd cc
+    by_tests false false is now = absurd cc
+
+module _ (a : Inside) (kept : IsCached a) where
+  -- a right that a packet holds: it is in flight, the right is the owner's of its queue, and is on a declared object
+  record Holding (queue : QueueId) (id : PacketId) (client : ClientId) (on : Object) : Type 0 where
+    flying : InFlight
+    found : in_flight (start_of a) a.audit.items queue id ≡ Some flying
+    opening : Opening
+    owner_is : owner (start_of a) a.audit.items queue ≡ Some opening
+    client_is : opening.client ≡ client
+    known : knows_object (rules_of (start_of a).policy) on ≡ true
+
+  holding-now : (queue : QueueId) (id : PacketId) (client : ClientId) (on : Object) (right : Right) → ledger.holds a.grants queue id client on right ≡ true → Holding queue id client on
+  holding-now queue id client on right has_it =
+      let start = start_of a in
+      let es = a.audit.items in
+      let told : held start es queue id client on right ≡ true = sym (kept.held queue id client on right) ∙ has_it in
+      let there = any-found (is_packet queue id) (flight start es) (held-flies start es kept.legal queue id client on right told) in
+      let f = there.one in
+      let whole = launch-whole start es kept.legal queue id f there.is in
+      let named = named-found start es queue id f there.is in
+      let same : held (first start es kept.legal) (all start es kept.legal) f.queue f.id client on right ≡ true =
+      ap (λ (now : Start). now.held f.queue f.id client on right) (same-state start es kept.legal)
+      ∙ (λ i. held start es (named.0 i) (named.1 i) client on right) ∙ told in
+      let parts = and_parts (whole.launch.opening.client.0 == client.0) _ (sym (whole.held_is client on right) ∙ same) in
+      let owner_is : whole.launch.opening.client ≡ client = ap (λ n. record { 0 = n }) (eqb-true _ _ parts.0) in
+      let own : held (first start es kept.legal) (all start es kept.legal) f.queue f.id whole.launch.opening.client on right ≡ true =
+      subst (λ c. held (first start es kept.legal) (all start es kept.legal) f.queue f.id c on right ≡ true) (sym owner_is) same in
+      let granted : in_force start es whole.launch.opening.client on right ≡ true =
+      sym (ap (λ (now : Start). now.in_force whole.launch.opening.client on right) (same-state start es kept.legal)) ∙ whole.holds on right own in
+      let declared : knows_object (ledger.rules_in a.grants) on ≡ true = known-cell a.grants.table whole.launch.opening.client on right (kept.granted whole.launch.opening.client on right ∙ granted) in
+      record {
+        flying = f;
+        found = there.is;
+        opening = whole.launch.opening;
+        owner_is = sym (ap (λ (now : Start). numbered now.openings queue.0) (same-state start es kept.legal)) ∙ subst (λ q. owner (first start es kept.legal) (all start es kept.legal) q ≡ Some whole.launch.opening) named.0 whole.owner_is;
+        client_is = owner_is;
+        known = ap (λ (rules : Rules). knows_object rules on) (sym kept.rules) ∙ declared;
+      }
+
+  module _ (rows : PolicyRows) where
+    abbrev blocks : InFlight → Bool
+    blocks f = holds_denied (start_of a) a.audit.items rows f
+
+    abbrev fs : List InFlight
+    fs = flight (start_of a) a.audit.items
+
+    -- one that holds a right that the rows don't allow is in flight, and told to
+    record Blocking (queue : QueueId) (id : PacketId) : Type 0 where
+      flying : InFlight
+      found : in_flight (start_of a) a.audit.items queue id ≡ Some flying
+      is : blocks flying ≡ true
+
+    denied-blocks : (queue : QueueId) (id : PacketId) → HoldsDenied a.grants rows queue id → Blocking queue id
+    denied-blocks queue id d =
+        let start = start_of a in
+        let es = a.audit.items in
+        let h = holding-now queue id d.client d.object d.right d.held in
+        let named = named-found start es queue id h.flying h.found in
+        let told : held start es h.flying.queue h.flying.id h.opening.client d.object d.right ≡ true =
+        (λ i. held start es (named.0 i) (named.1 i) (h.client_is i) d.object d.right) ∙ sym (kept.held queue id d.client d.object d.right) ∙ d.held in
+        let denied : rows_allow rows h.opening.client d.object d.right ≡ false = ap (λ c. rows_allow rows c d.object d.right) h.client_is ∙ d.denied in
+        let test : Object → Right → Bool = λ on right. held start es h.flying.queue h.flying.id h.opening.client on right && not (rows_allow rows h.opening.client on right) in
+        let one : test d.object d.right ≡ true = and_from _ _ told (ap not denied) in
+        let some : list_any (λ on. list_any (test on) all_rights) (all_objects (count (rules_of start.policy))) ≡ true =
+        any-object (count (rules_of start.policy)) (λ on. list_any (test on) all_rights) d.object h.known (any-right (test d.object) d.right one) in
+        let owned : owner start es h.flying.queue ≡ Some h.opening = subst (λ q. owner start es q ≡ Some h.opening) (sym named.0) h.owner_is in
+        record {
+          flying = h.flying;
+          found = h.found;
+          is = ap (λ (o : Option Opening). elim o [
+            | None ↦ false
+            | Some opening ↦ list_any (λ on. list_any (λ right. held start es h.flying.queue h.flying.id opening.client on right && not (rows_allow rows opening.client on right)) all_rights) (all_objects (count (rules_of start.policy)))
+          ]) owned ∙ some;
+        }
+
+    -- and one that is told to holds such a right
+    blocks-denied : (f : InFlight) → blocks f ≡ true → HoldsDenied a.grants rows f.queue f.id
+    blocks-denied f is = by_owner (owner (start_of a) a.audit.items f.queue) is
+      where
+        by_owner : (o : Option Opening) → (elim o [
+          | None ↦ false
+          | Some opening ↦ list_any (λ on. list_any (λ right. held (start_of a) a.audit.items f.queue f.id opening.client on right && not (rows_allow rows opening.client on right)) all_rights) (all_objects (count (rules_of (start_of a).policy)))
+        ]) ≡ true → HoldsDenied a.grants rows f.queue f.id
+        by_owner None is = absurd cc
+        by_owner (Some opening) is =
+            let test : Object → Right → Bool = λ on right. held (start_of a) a.audit.items f.queue f.id opening.client on right && not (rows_allow rows opening.client on right) in
+            let objects : List Object = all_objects (count (rules_of (start_of a).policy)) in
+            let on = any-found (λ on. list_any (test on) all_rights) objects is in
+            let some : list_any (test on.one) all_rights ≡ true = found-passes (λ on. list_any (test on) all_rights) objects on.one on.is in
+            let right = any-found (test on.one) all_rights some in
+            let both = and_parts (held (start_of a) a.audit.items f.queue f.id opening.client on.one right.one) _ (found-passes (test on.one) all_rights right.one right.is) in
+            record {
+              client = opening.client;
+              object = on.one;
+              right = right.one;
+              held = kept.held f.queue f.id opening.client on.one right.one ∙ both.0;
+              denied = turned (rows_allow rows opening.client on.one right.one) both.1;
+            }
+          where
+            turned : (b : Bool) → not b ≡ true → b ≡ false
+            turned true is = absurd cc
+            turned false is = refl
+
+    -- by queue and id
+    denied-passes : (queue : QueueId) (id : PacketId) → HoldsDenied a.grants rows queue id → passes blocks fs queue id ≡ true
+    denied-passes queue id d =
+        let b = denied-blocks queue id d in
+        found-any (is_packet queue id) (λ f. is_packet queue id f && blocks f) fs b.flying b.found
+        (and_from _ _ (found-passes (is_packet queue id) fs b.flying b.found) b.is)
+
+    passes-denied : (queue : QueueId) (id : PacketId) → passes blocks fs queue id ≡ true → HoldsDenied a.grants rows queue id
+    passes-denied queue id is =
+        let there = any-found (λ f. is_packet queue id f && blocks f) fs is in
+        let both = and_parts (is_packet queue id there.one) _ (found-passes (λ f. is_packet queue id f && blocks f) fs there.one there.is) in
+        let numbers = and_parts (there.one.queue.0 == queue.0) (there.one.id.0 == id.0) both.0 in
+        let same_queue : there.one.queue ≡ queue = ap (λ n. record { 0 = n }) (eqb-true _ _ numbers.0) in
+        let same_id : there.one.id ≡ id = ap (λ n. record { 0 = n }) (eqb-true _ _ numbers.1) in
+        subst (λ i. HoldsDenied a.grants rows queue i) same_id (subst (λ q. HoldsDenied a.grants rows q there.one.id) same_queue (blocks-denied there.one both.1))
+
+    first-blocked : (o : Option (QueueId × PacketId)) → IsBlockedBy a.grants rows o → IsFirstTo (passes blocks fs) o
+    first-blocked None none = λ queue id. by_test queue id (passes blocks fs queue id) refl
+      where
+        by_test : (queue : QueueId) (id : PacketId) (b : Bool) → passes blocks fs queue id ≡ b → passes blocks fs queue id ≡ false
+        by_test queue id false is = is
+        by_test queue id true is =
+            let d = passes-denied queue id is in
+            let allowed = none queue id d.client d.object d.right d.held in
+            let denied = d.denied in
+            absurd cc
+    first-blocked (Some first) is = (denied-passes first.0 first.1 is.0, λ queue id passing. is.1 queue id (passes-denied queue id passing))
+
+    -- a reload that nothing stands against is owed its entry
+    reload-owed : IsBlockedBy a.grants rows None → owed (start_of a) a.audit.items (Reload rows) ≡ enters outcome.Accepted []
+    unfolding owed
+    reload-owed none = grind (arith, least-none blocks fs (first-blocked None none))
+
+    pub reload-due : (old : History) → history_of a ≡ old → IsBlockedBy a.grants rows None → (full : Bool) → is_full old ≡ full
+        → due old (Reload rows) ≡ (if full then refuses refusal.AuditFull else enters outcome.Accepted [])
+    reload-due old seen_as may full is = due-by a old seen_as (Reload rows) _ (reload-owed may)
+        ∙ ap (λ b. if b then refuses refusal.AuditFull else enters outcome.Accepted []) is
+
+    -- one that a packet stands against is refused, with the least of them
+    pub reload-refused : (queue : QueueId) (id : PacketId) → IsBlockedBy a.grants rows (Some (queue, id)) → owed (start_of a) a.audit.items (Reload rows) ≡ refuses (refusal.Busy queue id)
+    unfolding owed
+    reload-refused queue id blocked = grind (arith, least-first blocks fs queue id (first-blocked (Some (queue, id)) blocked))
+
+    -- where a reload is owed its entry, nothing stands against it
+    pub unblocked : owed (start_of a) a.audit.items (Reload rows) ≡ enters outcome.Accepted [] → IsBlockedBy a.grants rows None
+    unblocked owing = λ queue id client on right has_it. by_test queue id client on right has_it (rows_allow rows client on right) refl
+      where
+        by_test : (queue : QueueId) (id : PacketId) (client : ClientId) (on : Object) (right : Right) → ledger.holds a.grants queue id client on right ≡ true
+            → (b : Bool) → rows_allow rows client on right ≡ b → rows_allow rows client on right ≡ true
+        by_test queue id client on right has_it true is = is
+        by_test queue id client on right has_it false is =
+            let b = denied-blocks queue id (record { client = client; object = on; right = right; held = has_it; denied = is }) in
+            let reloaded = reload-effects (start_of a) a.audit.items outcome.Accepted [] rows owing in
+            let none = found-all (λ f. blocks f ≡ false) (is_packet queue id) fs b.flying (filtered-none blocks fs (holding.least-none _ reloaded.unheld)) b.found in
+            let some = b.is in
+            absurd cc

@@ -1,0 +1,166 @@
+//! Runs the script on standard input over the policy in a file, with the policies in further files behind it.
+
+use crate::explaining::{Further, PolicyFile, run_explaining};
+use crate::perform::{read_file, unread_file, unread_policy};
+use crate::strict::run_strictly;
+use commands::{PolicyText, Status, run_policies};
+use std::io;
+
+/// How a script is run: with places for so many entries in the audit, up to the first line that isn't done, if it is
+/// strict, and with a text beside its replies that tells why, if it is explaining.
+#[derive(Clone, Copy)]
+pub struct Manner {
+    pub places: usize,
+    pub is_strict: bool,
+    pub is_explaining: bool,
+}
+
+impl Manner {
+    /// Neither strict nor explaining.
+    pub fn plain(places: usize) -> Manner {
+        Manner {
+            places,
+            is_strict: false,
+            is_explaining: false,
+        }
+    }
+
+    /// Strict, and not explaining.
+    pub fn strict(places: usize) -> Manner {
+        Manner {
+            places,
+            is_strict: true,
+            is_explaining: false,
+        }
+    }
+
+    /// Explaining.
+    pub fn explaining(places: usize, is_strict: bool) -> Manner {
+        Manner {
+            places,
+            is_strict,
+            is_explaining: true,
+        }
+    }
+}
+
+// Reads files in their order, up to the first that can't be read.
+fn read_files(rt: &HostRuntime, files: &[&str], texts: &mut Vec<PolicyText>) -> io::Result<()> {
+    for file in files {
+        let text = PolicyText::new(read_file(rt, file)?);
+        texts.push(text)?;
+    }
+    Ok(())
+}
+
+// Runs a script over the policies in texts, with nothing beside its replies.
+fn run_plainly<R: io::Read>(
+    rt: &HostRuntime,
+    text: &[u8],
+    further: &[PolicyText],
+    manner: Manner,
+    script: &mut R,
+) -> Status {
+    let places = manner.places;
+    let mut out = rt.stdout();
+    let mut err = rt.stderr();
+    if manner.is_strict {
+        run_strictly(
+            rt.alloc(),
+            text,
+            further,
+            places,
+            script,
+            &mut out,
+            &mut err,
+        )
+    } else {
+        run_policies(
+            rt.alloc(),
+            text,
+            further,
+            places,
+            script,
+            &mut out,
+            &mut err,
+        )
+    }
+}
+
+// Runs a script over the policies in texts, which have these names.
+fn run_over<R: io::Read>(
+    rt: &HostRuntime,
+    file: PolicyFile<'_>,
+    further: Further<'_>,
+    manner: Manner,
+    script: &mut R,
+) -> Status {
+    if !manner.is_explaining {
+        return run_plainly(rt, file.text, further.texts, manner, script);
+    }
+    run_explaining(
+        rt.alloc(),
+        file,
+        further,
+        manner,
+        script,
+        &mut rt.stdout(),
+        &mut rt.stderr(),
+    )
+}
+
+// Tells why a file can't be read.
+fn tell_of_file(rt: &HostRuntime, name: &str, manner: Manner, error: &io::Error) -> Status {
+    if manner.is_explaining {
+        unread_policy(rt, name, error)
+    } else {
+        unread_file(rt, error)
+    }
+}
+
+// Tells the first fault of the policies before one that can't be read, and where they have none, why it can't.
+fn tell_unread(
+    rt: &HostRuntime,
+    file: PolicyFile<'_>,
+    before: Further<'_>,
+    manner: Manner,
+    error: &io::Error,
+) -> Status {
+    let mut nothing = "".as_bytes();
+    match run_over(rt, file, before, manner, &mut nothing) {
+        Status::Done => {
+            let name = before.names.get(before.texts.len()).unwrap_or(&file.name);
+            tell_of_file(rt, name, manner, error)
+        }
+        status => status,
+    }
+}
+
+// The same over the policy in a text.
+fn run_behind(rt: &HostRuntime, file: PolicyFile<'_>, names: &[&str], manner: Manner) -> Status {
+    let mut texts = Vec::new(rt.alloc());
+    let read = read_files(rt, names, &mut texts);
+    let further = Further {
+        names,
+        texts: texts.as_slice(),
+    };
+    match read {
+        Ok(()) => run_over(rt, file, further, manner, &mut rt.stdin()),
+        Err(error) => tell_unread(rt, file, further, manner, &error),
+    }
+}
+
+/// Runs the script on standard input over the policy in a file. Faults are told in the order of the policies, before
+/// any reply.
+pub fn run(rt: &HostRuntime, policy: &str, further: &[&str], manner: Manner) -> Status {
+    match read_file(rt, policy) {
+        Ok(text) => {
+            let file = PolicyFile {
+                name: policy,
+                text: text.as_slice(),
+            };
+            run_behind(rt, file, further, manner)
+        }
+        Err(error) => tell_of_file(rt, policy, manner, &error),
+    }
+}

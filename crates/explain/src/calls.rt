@@ -1,0 +1,355 @@
+//! Why a call was refused.
+
+use crate::asked::{Asked, Verb};
+use crate::lacks::lack_of;
+use crate::rings::{tell_dependencies, tell_holder};
+use crate::scene::{Scene, begin, handed_over, is_right_on, put_why_not, say, tell_lack};
+use crate::texts::{lies_whole, put_client, put_clients, put_object, put_objects, put_range};
+use crate::work::{flight, how_far, last_error};
+use aql_packet::ClientId;
+use core_model::{InFlight, MOST_HOST_BYTES, Range, Refusal, Taken};
+use packet_processor::is_barrier;
+use policy::{Object, Right, Rights};
+use std::alloc::{AllocError, Global};
+use world::World;
+
+// No client has the name.
+fn tell_client(out: &mut String, scene: &Scene<'_>) -> Result<(), AllocError> {
+    begin(out, scene)?;
+    out.push_str("the policy declares no client of this name; it has ")?;
+    put_clients(out, scene.policy)?;
+    out.push_str("\n")
+}
+
+// No object of the kind has the name.
+fn tell_object(out: &mut String, scene: &Scene<'_>, object: Object) -> Result<(), AllocError> {
+    let kind = object.kind();
+    begin(out, scene)?;
+    write!(out, "the policy declares no {kind} of this name; it has ")?;
+    put_objects(out, scene.policy, kind)?;
+    out.push_str("\n")
+}
+
+// No queue has the number.
+fn tell_queue(out: &mut String, scene: &Scene<'_>, world: &World) -> Result<(), AllocError> {
+    let count = world.core().table_sizes().queues;
+    begin(out, scene)?;
+    if count == 0 {
+        return out.push_str("no queue is open: `queue CLIENT AGENT SIZE PRODUCERS` opens one\n");
+    }
+    writeln!(
+        out,
+        "no queue of this number is open: queues are numbered from 1, and {count} were opened"
+    )
+}
+
+// A right on an object that a client lacks for what it asks.
+fn tell_right(
+    out: &mut String,
+    scene: &Scene<'_>,
+    client: ClientId,
+    object: Object,
+    right: Right,
+) -> Result<(), AllocError> {
+    if object.number() == 0 {
+        return tell_object(out, scene, object);
+    }
+    match lack_of(scene.rows, scene.entries, client, object, right) {
+        Some(lack) => tell_lack(out, scene, &lack, ""),
+        None => Ok(()),
+    }
+}
+
+// A right on a range that a client lacks for what it asks.
+fn tell_memory(
+    out: &mut String,
+    scene: &Scene<'_>,
+    client: ClientId,
+    range: Range,
+    right: Right,
+) -> Result<(), AllocError> {
+    let region = Object::Region(regions::region_of(range.address));
+    if lies_whole(scene.policy, range) {
+        return tell_right(out, scene, client, region, right);
+    }
+    begin(out, scene)?;
+    out.push_str("the ")?;
+    put_range(out, range)?;
+    if scene.policy.object_name(region).is_none() {
+        return out.push_str(" lie in no region of the policy\n");
+    }
+    out.push_str(" don't lie whole in ")?;
+    put_object(out, scene.policy, region)?;
+    out.push_str("\n")
+}
+
+// Why a call was denied.
+fn tell_denied_call(
+    out: &mut String,
+    scene: &Scene<'_>,
+    asked: Asked,
+    right: Right,
+) -> Result<(), AllocError> {
+    match asked {
+        Asked::Opening { client, agent, .. } => {
+            tell_right(out, scene, client, Object::Agent(agent), right)
+        }
+        Asked::Signal { client, signal, .. } => {
+            tell_right(out, scene, client, Object::Signal(signal), right)
+        }
+        Asked::Memory {
+            client,
+            address,
+            length,
+            ..
+        } => {
+            let range = Range {
+                address,
+                size: length,
+            };
+            tell_memory(out, scene, client, range, right)
+        }
+        _ => Ok(()),
+    }
+}
+
+// Why a right may not be granted.
+fn tell_not_allowed(
+    out: &mut String,
+    scene: &Scene<'_>,
+    client: ClientId,
+    object: Object,
+    right: Right,
+) -> Result<(), AllocError> {
+    if scene.rows.allowed(client, object).has(right) {
+        return Ok(());
+    }
+    begin(out, scene)?;
+    if !is_right_on(right, object) {
+        let kind = object.kind();
+        return writeln!(out, "{right} is no right on a {kind}");
+    }
+    let lack = crate::lacks::Lack {
+        client,
+        object,
+        right,
+        is_allowed: false,
+    };
+    put_why_not(out, scene, &lack)?;
+    out.push_str("\n")
+}
+
+// Why rights may not be granted, each that may not.
+fn tell_grant(out: &mut String, scene: &Scene<'_>, asked: Asked) -> Result<(), AllocError> {
+    let Asked::Rights {
+        client,
+        object,
+        rights,
+    } = asked
+    else {
+        return Ok(());
+    };
+    for right in Right::ALL {
+        if rights.has(right) {
+            tell_not_allowed(out, scene, client, object, right)?;
+        }
+    }
+    Ok(())
+}
+
+// Why a queue launches nothing more.
+fn tell_down(out: &mut String, scene: &Scene<'_>, asked: Asked) -> Result<(), AllocError> {
+    let queue = match asked {
+        Asked::Processing { queue, .. } | Asked::Queue { queue } => queue,
+        _ => return Ok(()),
+    };
+    begin(out, scene)?;
+    match last_error(scene.entries, queue) {
+        Some(error) => write!(out, "the queue has the error `{error}`")?,
+        None => out.push_str("the queue was stopped")?,
+    }
+    out.push_str(", and launches nothing more: open another with `queue`\n")
+}
+
+// Why a packet isn't in flight for a call.
+fn tell_not_in_flight(
+    alloc: Global,
+    out: &mut String,
+    scene: &Scene<'_>,
+    asked: Asked,
+) -> Result<(), AllocError> {
+    let Asked::Flying {
+        queue,
+        packet,
+        verb,
+    } = asked
+    else {
+        return Ok(());
+    };
+    let id = packet.0;
+    let number = queue.0;
+    begin(out, scene)?;
+    for flying in flight(alloc, scene.entries)?.iter() {
+        if flying.queue == queue && flying.id == packet {
+            return out.push_str(match verb {
+                Verb::Run => "it is a barrier packet, which `poll` brings on, not `run`\n",
+                _ => "it is a dispatch, which `run` brings on, not `poll`\n",
+            });
+        }
+    }
+    match handed_over(scene.entries, queue, packet) {
+        None => writeln!(
+            out,
+            "packet {id} of queue {number} was not handed over yet: `serve {number}`"
+        ),
+        Some(found) => match found.taken {
+            Taken::Denied(error) => writeln!(out, "it was denied: `{error}`"),
+            _ => writeln!(
+                out,
+                "packet {id} of queue {number} was launched, and has left flight since"
+            ),
+        },
+    }
+}
+
+// Why a packet isn't finished.
+fn tell_unfinished(
+    out: &mut String,
+    scene: &Scene<'_>,
+    flying: &InFlight,
+) -> Result<(), AllocError> {
+    let queue = flying.queue.0;
+    let id = flying.id.0;
+    if is_barrier(&flying.packet) {
+        begin(out, scene)?;
+        writeln!(
+            out,
+            "the barrier packet is not ready: `poll {queue} {id}` until it is"
+        )?;
+        return tell_dependencies(out, scene, flying);
+    }
+    let run = how_far(scene.entries, flying.queue, flying.id).groups;
+    begin(out, scene)?;
+    writeln!(
+        out,
+        "work-groups are left, and {run} were run: `run {queue} {id}` until it tells `left 0`"
+    )
+}
+
+// Why a packet isn't finished, by its queue and id.
+fn tell_not_finished(
+    alloc: Global,
+    out: &mut String,
+    scene: &Scene<'_>,
+    asked: Asked,
+) -> Result<(), AllocError> {
+    let Asked::Flying { queue, packet, .. } = asked else {
+        return Ok(());
+    };
+    for flying in flight(alloc, scene.entries)?.iter() {
+        if flying.queue == queue && flying.id == packet {
+            tell_unfinished(out, scene, flying)?;
+        }
+    }
+    Ok(())
+}
+
+// Why the audit has no room.
+fn tell_full(
+    alloc: Global,
+    out: &mut String,
+    scene: &Scene<'_>,
+    world: &World,
+) -> Result<(), AllocError> {
+    let places = world.core().table_sizes().audit_places;
+    let taken = scene.entries.len();
+    let kept = flight(alloc, scene.entries)?.len();
+    begin(out, scene)?;
+    writeln!(
+        out,
+        "the audit has {places} places: {taken} are taken, and {kept} are kept for packets in flight; begin anew with `--audit N`"
+    )
+}
+
+// Why a size is refused.
+fn tell_size(out: &mut String, scene: &Scene<'_>, asked: Asked) -> Result<(), AllocError> {
+    begin(out, scene)?;
+    match asked {
+        Asked::Opening {
+            size,
+            producers,
+            ..
+        } => writeln!(
+            out,
+            "a queue has 2 to 4096 slots, a power of two, and 1 to 16 producers: {size} slots and {producers} producers are asked for"
+        ),
+        Asked::Memory { length, .. } => writeln!(
+            out,
+            "a line reads or writes 1 to {MOST_HOST_BYTES} bytes, and {length} are asked for"
+        ),
+        _ => out.push_str("a size is out of range\n"),
+    }
+}
+
+// A packet that was handed over already.
+fn tell_order(
+    out: &mut String,
+    scene: &Scene<'_>,
+    asked: Asked,
+    next: u64,
+) -> Result<(), AllocError> {
+    begin(out, scene)?;
+    match asked {
+        Asked::Processing { queue, .. } => {
+            let number = queue.0;
+            writeln!(
+                out,
+                "the packet at the read index was launched or denied already, and the next id is {next}: `retire {number}` goes on to it"
+            )
+        }
+        _ => writeln!(out, "the next id is {next}"),
+    }
+}
+
+/// Why a request was refused by the core.
+pub fn tell_refusal(
+    alloc: Global,
+    out: &mut String,
+    scene: &Scene<'_>,
+    world: &World,
+    asked: Asked,
+    refusal: &Refusal,
+) -> Result<(), AllocError> {
+    match refusal {
+        Refusal::OutOfMemory => say(
+            out,
+            scene,
+            "memory was wanted and not to be had; all is as before",
+        ),
+        Refusal::UnknownClient => tell_client(out, scene),
+        Refusal::UnknownQueue => tell_queue(out, scene, world),
+        Refusal::Denied(right) => tell_denied_call(out, scene, asked, *right),
+        Refusal::Busy { queue, packet } => tell_holder(alloc, out, scene, *queue, *packet),
+        Refusal::NotAllowed => tell_grant(out, scene, asked),
+        Refusal::OutOfStep(next) => tell_order(out, scene, asked, *next),
+        Refusal::QueueDown => tell_down(out, scene, asked),
+        Refusal::NotInFlight => tell_not_in_flight(alloc, out, scene, asked),
+        Refusal::NotFinished => tell_not_finished(alloc, out, scene, asked),
+        Refusal::AuditFull => tell_full(alloc, out, scene, world),
+        Refusal::BadSize => tell_size(out, scene, asked),
+        Refusal::TooMany => say(
+            out,
+            scene,
+            "64 queues were opened, the most: use one of those",
+        ),
+        Refusal::OtherObjects => say(
+            out,
+            scene,
+            "the further policy declares other clients or objects than the first, or one of them with another key: only rows on rights may change",
+        ),
+        Refusal::UnknownObject => match asked {
+            Asked::Rights { object, .. } => tell_object(out, scene, object),
+            _ => Ok(()),
+        },
+    }
+}

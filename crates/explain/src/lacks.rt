@@ -1,0 +1,126 @@
+//! Which right a client lacks, and whether the rows in force allow it: told from the client's own grants and rows alone.
+
+ghost use Rattle.std.specs.Prelude.{◌≡◌};
+ghost use Rattle.core_model.specs.Grants.{in_force_after};
+ghost use Rattle.core_model.specs.Needs.{object_of};
+ghost use Rattle.policy.specs.Pairs.{is_one_of};
+ghost use Rattle.explain.specs.Lacks.{in_force_since, lack_of, lack_of_need, lacked};
+
+use aql_packet::ClientId;
+use core_model::{Entry, Event, Need, Subject};
+use policy::{Object, PolicyRows, Right, Rights};
+use regions::region_of;
+
+/// A right on an object that a client lacks (own).
+#[derive(Clone, Copy, Debug, PartialEq, Eq)]
+pub struct Lack {
+    /// Who lacks it: the one who asked, or whose queue has the packet.
+    pub client: ClientId,
+    pub object: Object,
+    pub right: Right,
+    /// Whether the rows of the policy in force allow it to the client.
+    pub is_allowed: bool,
+}
+
+// Whether a right of a client on an object is one of those that a call names.
+fn is_one_of(
+    client: ClientId,
+    object: Object,
+    right: Right,
+    holder: ClientId,
+    on: Object,
+    rights: Rights,
+) -> bool
+    ensures { result ≡ is_one_of client object right holder on rights }
+{
+    client == holder && object == on && rights.has(right)
+}
+
+// Whether a client's right on an object is in force after an event, by whether it was before.
+fn in_force_after(
+    client: ClientId,
+    object: Object,
+    right: Right,
+    before: bool,
+    event: &Event,
+) -> bool
+    ensures { result ≡ in_force_after client object right before event.now }
+{
+    match event {
+        Event::Grant {
+            client: holder,
+            object: on,
+            rights,
+        } => before || is_one_of(client, object, right, *holder, *on, *rights),
+        Event::Revoke {
+            client: holder,
+            object: on,
+            rights,
+        } => before && !is_one_of(client, object, right, *holder, *on, *rights),
+        Event::Reload { rows } => before && rows.allowed(client, object).has(right),
+        _ => before,
+    }
+}
+
+/// Whether a client's right on an object is in force, by the entries since a core was opened: it was granted, and no
+/// later revocation or reload took it.
+pub fn is_in_force(entries: &[Entry], client: ClientId, object: Object, right: Right) -> bool
+    ensures { result ≡ in_force_since entries.now client object right }
+{
+    let mut held = false;
+    'entries: for entry in entries {
+        held = in_force_after(client, object, right, held, &entry.event);
+    }
+    held
+}
+
+// A right on an object as one that a client lacks.
+fn lacked(rows: &PolicyRows, client: ClientId, object: Object, right: Right) -> Lack
+    ensures { result ≡ lacked rows.now client object right }
+{
+    Lack {
+        client,
+        object,
+        right,
+        is_allowed: rows.allowed(client, object).has(right),
+    }
+}
+
+/// The right on an object that a client lacks, if it isn't in force.
+pub fn lack_of(
+    rows: &PolicyRows,
+    entries: &[Entry],
+    client: ClientId,
+    object: Object,
+    right: Right,
+) -> Option<Lack>
+    ensures { result ≡ lack_of rows.now entries.now client object right }
+{
+    if is_in_force(entries, client, object, right) {
+        None
+    } else {
+        Some(lacked(rows, client, object, right))
+    }
+}
+
+// The object that a right is needed on: of a range, its region.
+pub(crate) fn object_of(subject: &Subject) -> Object
+    ensures { result ≡ object_of subject.now }
+{
+    match subject {
+        Subject::Object(object) => *object,
+        Subject::Range(range) => Object::Region(region_of(range.address)),
+    }
+}
+
+/// The right that a client lacks of what its packet needs, if it isn't in force.
+pub fn lack_of_need(
+    rows: &PolicyRows,
+    entries: &[Entry],
+    client: ClientId,
+    need: &Need,
+) -> Option<Lack>
+    ensures { result ≡ lack_of_need rows.now entries.now client need.now }
+{
+    lack_of(rows, entries, client, object_of(&need.subject), need.right)
+}

@@ -1,0 +1,32 @@
+//! What is told beside the replies of a script and the faults of a policy: why, with names, and what mends it.
+
+// The check tries its tactics on what is left of each proof.
+#![tactic(auto)]
+
+mod asked;
+mod calls;
+mod denied;
+mod faults;
+mod kernels;
+mod keys;
+mod lacks;
+mod laws;
+mod lines;
+mod owners;
+mod packets;
+mod policies;
+mod positions;
+mod refusals;
+mod replies;
+mod rings;
+mod scene;
+mod texts;
+mod work;
+
+pub use asked::{Asked, asked_by};
+pub use lacks::{Lack, is_in_force, lack_of, lack_of_need};
+pub use laws::told_rights_are_in_force;
+pub use lines::bad_line;
+pub use owners::{Opening, owner};
+pub use policies::{kernel_fault, no_entry, policy_fault};
+pub use replies::retold;

@@ -1,0 +1,155 @@
+//! What is told beside the reply to a line.
+
+use crate::asked::Asked;
+use crate::calls::tell_refusal;
+use crate::denied::tell_denied;
+use crate::faults::{tell_failed, tell_fault};
+use crate::refusals::{tell_spent, tell_step};
+use crate::rings::{tell_busy, tell_empty, tell_waiting};
+use crate::scene::{Scene, begin};
+use aql_packet::{PacketId, QueueId};
+use core_model::{Answer, Outcome, Polled, Taken, Worked};
+use script::{LineAnswer, LineReply};
+use std::alloc::{AllocError, Global};
+use world::{Refusal, World};
+
+// The queue that a line asks something of; 0 where it asks nothing of one.
+fn queue_of(asked: Asked) -> QueueId {
+    match asked {
+        Asked::Flying { queue, .. }
+        | Asked::Producing { queue, .. }
+        | Asked::Processing { queue, .. }
+        | Asked::Queue { queue } => queue,
+        _ => QueueId(0),
+    }
+}
+
+// Why no packet was seen.
+fn empty(
+    out: &mut String,
+    scene: &Scene<'_>,
+    world: &World,
+    queue: QueueId,
+) -> Result<(), AllocError> {
+    match world.ring(queue) {
+        Some(ring) => tell_empty(out, scene, queue, ring),
+        None => Ok(()),
+    }
+}
+
+// Why there is no room.
+fn busy(
+    out: &mut String,
+    scene: &Scene<'_>,
+    world: &World,
+    queue: QueueId,
+    ticket: PacketId,
+) -> Result<(), AllocError> {
+    match world.ring(queue) {
+        Some(ring) => tell_busy(out, scene, queue, ticket, ring),
+        None => Ok(()),
+    }
+}
+
+// What became of a packet that was handed over.
+fn taken(
+    alloc: Global,
+    out: &mut String,
+    scene: &Scene<'_>,
+    queue: QueueId,
+    taken: &Taken,
+) -> Result<(), AllocError> {
+    match taken {
+        Taken::Launched => Ok(()),
+        Taken::Denied(error) => tell_denied(alloc, out, scene, error),
+        Taken::Waiting(cause) => tell_waiting(alloc, out, scene, queue, *cause),
+    }
+}
+
+// What a call came to.
+fn outcome(
+    alloc: Global,
+    out: &mut String,
+    scene: &Scene<'_>,
+    outcome: &Outcome,
+) -> Result<(), AllocError> {
+    match outcome {
+        Outcome::Worked(Worked::Faulted(error)) => tell_fault(alloc, out, scene, error),
+        Outcome::Polled(Polled::Failed(error)) => tell_failed(out, scene, error),
+        _ => Ok(()),
+    }
+}
+
+// What a line was answered.
+fn answered(
+    alloc: Global,
+    out: &mut String,
+    scene: &Scene<'_>,
+    asked: Asked,
+    answer: &world::Answer,
+) -> Result<(), AllocError> {
+    match answer {
+        world::Answer::Taken { taken: became, .. } => {
+            taken(alloc, out, scene, queue_of(asked), became)
+        }
+        world::Answer::Core(Answer::Outcome(came)) => outcome(alloc, out, scene, came),
+        world::Answer::Header { word, .. } => {
+            if !aql_packet::is_invalid(*word) {
+                return Ok(());
+            }
+            begin(out, scene)?;
+            out.push_str("the header is of type INVALID: no packet is published there\n")
+        }
+        _ => Ok(()),
+    }
+}
+
+// A packet that can't be published.
+fn not_publishable(out: &mut String, scene: &Scene<'_>) -> Result<(), AllocError> {
+    begin(out, scene)?;
+    out.push_str(
+        "its first byte, the type, is 1: INVALID, that of a slot without a packet; the ticket stays open\n",
+    )
+}
+
+// What is told of a reply.
+fn tell(
+    alloc: Global,
+    out: &mut String,
+    scene: &Scene<'_>,
+    world: &World,
+    asked: Asked,
+    reply: &LineReply,
+) -> Result<(), AllocError> {
+    match reply {
+        Ok(LineAnswer::Answered { answer, .. }) => answered(alloc, out, scene, asked, answer),
+        Ok(LineAnswer::Empty) => empty(out, scene, world, queue_of(asked)),
+        Ok(LineAnswer::Busy { ticket, .. }) => busy(out, scene, world, queue_of(asked), *ticket),
+        Ok(LineAnswer::NotPublishable(_)) => not_publishable(out, scene),
+        Ok(_) => Ok(()),
+        Err(Refusal::Core(refusal)) => tell_refusal(alloc, out, scene, world, asked, refusal),
+        Err(Refusal::NotAStep) => tell_step(out, scene, world, asked),
+        Err(Refusal::Spent) => tell_spent(out, scene, asked),
+    }
+}
+
+/// What is told beside the reply to a line of a script, the line of this number, by the world after it: why it was
+/// refused or denied, failed, waits or found nothing, in lines; no text where none of that happened.
+pub fn retold(
+    alloc: Global,
+    world: &World,
+    line: u64,
+    asked: Asked,
+    reply: &LineReply,
+) -> Result<String, AllocError> {
+    let core = world.core();
+    let scene = Scene {
+        policy: core.policy(),
+        rows: core.rows(),
+        entries: core.audit(),
+        line,
+    };
+    let mut out = String::new(alloc);
+    tell(alloc, &mut out, &scene, world, asked, reply)?;
+    Ok(out)
+}

@@ -1,0 +1,208 @@
+//! What stands in a queue's ring.
+
+use crate::scene::{Scene, begin, say};
+use crate::texts::put_object;
+use crate::work::{dependencies, flight, how_far, signal_value};
+use aql_packet::{PacketId, QueueId};
+use core_model::{InFlight, WaitCause};
+use packet_processor::is_barrier;
+use policy::Object;
+use ring_core::{Part, RingState};
+use std::alloc::{AllocError, Global};
+
+/// How a ring's ids stand that aren't retired.
+#[derive(Clone, Copy, Debug, PartialEq, Eq)]
+pub struct Standing {
+    /// The id at the head.
+    pub head: u64,
+    /// How many ids are reserved and not retired.
+    pub waiting: u64,
+    /// How many of them aren't published.
+    pub unpublished: u64,
+    /// The producer whose ticket stands at the head, where it isn't published.
+    pub holder: Option<u64>,
+}
+
+/// How the ids of a ring stand.
+pub fn standing_of(ring: &RingState) -> Standing {
+    let head = ring.read_index();
+    let mut unpublished = 0u64;
+    let mut holder = None;
+    for (seat, part) in ring.parts().iter().enumerate() {
+        if let Part::Producer(part) = part {
+            for reserved in part.tickets.open_tickets() {
+                unpublished = unpublished.saturating_add(1);
+                if reserved.id.0 == head {
+                    holder = Some(seat as u64);
+                }
+            }
+        }
+    }
+    Standing {
+        head,
+        waiting: ring.write_index().saturating_sub(head),
+        unpublished,
+        holder,
+    }
+}
+
+/// Why no packet is seen at the head of a ring.
+pub fn tell_empty(
+    out: &mut String,
+    scene: &Scene<'_>,
+    queue: QueueId,
+    ring: &RingState,
+) -> Result<(), AllocError> {
+    let standing = standing_of(ring);
+    let number = queue.0;
+    let head = standing.head;
+    begin(out, scene)?;
+    let Some(producer) = standing.holder else {
+        return writeln!(
+            out,
+            "the ring of queue {number} is empty: nobody has reserved id {head}; `submit {number} PRODUCER PACKET` does, and publishes"
+        );
+    };
+    let behind = standing.waiting.saturating_sub(standing.unpublished);
+    writeln!(
+        out,
+        "ticket {head} stands at the head of queue {number}, reserved by producer {producer} and not published; published packets behind it: {behind}"
+    )?;
+    begin(out, scene)?;
+    writeln!(
+        out,
+        "`publish {number} {producer} {head} PACKET` publishes it"
+    )
+}
+
+/// Why there is no room for a ticket.
+pub fn tell_busy(
+    out: &mut String,
+    scene: &Scene<'_>,
+    queue: QueueId,
+    ticket: PacketId,
+    ring: &RingState,
+) -> Result<(), AllocError> {
+    let number = queue.0;
+    let size = ring.size();
+    let head = ring.read_index();
+    let id = ticket.0;
+    let room = id.saturating_sub(size.saturating_sub(1));
+    begin(out, scene)?;
+    writeln!(
+        out,
+        "the ring of queue {number} has {size} slots, and its head is at id {head}: there is room for ticket {id} once the head is at {room}"
+    )?;
+    say(
+        out,
+        scene,
+        "`serve` the queue, and then `publish` under the same ticket",
+    )
+}
+
+// A signal that a barrier packet still waits for, and its value.
+fn tell_dependency(
+    out: &mut String,
+    scene: &Scene<'_>,
+    signal: aql_packet::SignalHandle,
+) -> Result<(), AllocError> {
+    begin(out, scene)?;
+    out.push_str("it waits for ")?;
+    put_object(out, scene.policy, Object::Signal(signal))?;
+    match signal_value(scene.policy, scene.entries, signal) {
+        Some(value) => writeln!(out, ", whose value is {value}"),
+        None => out.push_str("\n"),
+    }
+}
+
+/// What a barrier packet still waits for.
+pub fn tell_dependencies(
+    out: &mut String,
+    scene: &Scene<'_>,
+    flying: &InFlight,
+) -> Result<(), AllocError> {
+    let come = how_far(scene.entries, flying.queue, flying.id);
+    let signals = dependencies(&flying.packet);
+    for (signal, seen) in signals.iter().zip(come.seen.iter()) {
+        if signal.0 != 0 && !*seen {
+            tell_dependency(out, scene, *signal)?;
+        }
+    }
+    Ok(())
+}
+
+// A packet in flight, and what brings it to its end.
+fn tell_flying(out: &mut String, scene: &Scene<'_>, flying: &InFlight) -> Result<(), AllocError> {
+    let queue = flying.queue.0;
+    let id = flying.id.0;
+    begin(out, scene)?;
+    if is_barrier(&flying.packet) {
+        writeln!(
+            out,
+            "barrier packet {id} of queue {queue} is in flight: `poll {queue} {id}` until it is ready, and `finish {queue} {id}`"
+        )?;
+        return tell_dependencies(out, scene, flying);
+    }
+    writeln!(
+        out,
+        "packet {id} of queue {queue} is in flight: `run {queue} {id}` until no group is left, and `finish {queue} {id}`"
+    )
+}
+
+/// What a packet waits for.
+pub fn tell_waiting(
+    alloc: Global,
+    out: &mut String,
+    scene: &Scene<'_>,
+    queue: QueueId,
+    cause: WaitCause,
+) -> Result<(), AllocError> {
+    say(
+        out,
+        scene,
+        match cause {
+            WaitCause::Barrier => "the packet waits for a barrier packet of its queue",
+            WaitCause::Active => {
+                "its barrier bit is set, so the packet waits for all packets of its queue in flight"
+            }
+            WaitCause::Slots =>
+                "eight packets of its queue are in flight, the most: it waits for one",
+        },
+    )?;
+    for flying in flight(alloc, scene.entries)?.iter() {
+        let is_waited_for = cause != WaitCause::Barrier || is_barrier(&flying.packet);
+        if flying.queue == queue && is_waited_for {
+            tell_flying(out, scene, flying)?;
+        }
+    }
+    Ok(())
+}
+
+/// The packet that holds a right, and what would release it.
+pub fn tell_holder(
+    alloc: Global,
+    out: &mut String,
+    scene: &Scene<'_>,
+    queue: QueueId,
+    packet: PacketId,
+) -> Result<(), AllocError> {
+    say(
+        out,
+        scene,
+        "a packet in flight holds a right that is to be taken; it is released once it is finished",
+    )?;
+    for flying in flight(alloc, scene.entries)?.iter() {
+        if flying.queue == queue && flying.id == packet {
+            tell_flying(out, scene, flying)?;
+            if is_barrier(&flying.packet) {
+                let number = queue.0;
+                begin(out, scene)?;
+                writeln!(
+                    out,
+                    "`stop {number}` releases the queue's barrier packets too"
+                )?;
+            }
+        }
+    }
+    Ok(())
+}
