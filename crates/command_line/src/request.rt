@@ -1,8 +1,8 @@
 //! What the words of a command line ask for.
 
 use crate::syntax::{
-    ASSEMBLE, AUDIT, CHECK, EXPLAIN, FILE, KERNEL, MOST_NEXT, NEXT, PICTURE, POLICY, RUN, STRICT,
-    WORD, program,
+    ASSEMBLE, AUDIT, CHECK, EXPLAIN, FILE, KERNEL, MOST_NEXT, NEXT, PICTURE, POLICY, PRODUCERS,
+    RUN, STRICT, THREADS, WORD, program,
 };
 use clap::error::ErrorKind;
 use clap::{ArgMatches, Error};
@@ -56,6 +56,12 @@ pub enum Request<'a> {
     /// `explain WORD`: to tell what a rule, a refusal or a cause means.
     Explain {
         word: &'a str,
+    },
+    /// `threads POLICY --producers N`: to run the load of threads over the policy in this file, with so many producers a
+    /// queue, 1 to 16.
+    Threads {
+        policy: &'a str,
+        producers: u64,
     },
 }
 
@@ -138,6 +144,14 @@ fn policy_request<'a>(command: &str, asked: &ArgMatches<'a>) -> Option<Request<'
     }
 }
 
+// The request of `threads` with its arguments.
+fn threads_request<'a>(asked: &ArgMatches<'a>) -> Option<Request<'a>> {
+    Some(Request::Threads {
+        policy: asked.get_str(POLICY)?,
+        producers: asked.get_one(PRODUCERS)?,
+    })
+}
+
 // The request of a command with its arguments.
 fn request_of<'a>(command: &str, asked: &ArgMatches<'a>) -> Option<Request<'a>> {
     match command {
@@ -147,6 +161,7 @@ fn request_of<'a>(command: &str, asked: &ArgMatches<'a>) -> Option<Request<'a>> 
         EXPLAIN => Some(Request::Explain {
             word: asked.get_str(WORD)?,
         }),
+        THREADS => threads_request(asked),
         _ => policy_request(command, asked),
     }
 }
