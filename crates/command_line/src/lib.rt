@@ -24,4 +24,4 @@ pub use meanings::explained;
 pub use perform::{obey, out_of_memory};
 pub use request::{Asked, Request, Unread, read_words};
 pub use strict::run_strictly;
-pub use threads::run_threads;
+pub use threads::{AskedLoad, run_threads};

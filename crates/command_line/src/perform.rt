@@ -4,7 +4,8 @@ use crate::author::{assemble_input, explain, kernel};
 use crate::explaining::{PolicyFile, check_explaining};
 use crate::further::{Manner, run};
 use crate::request::{Asked, Request, Unread, read_words};
-use crate::threads::run_threads;
+use crate::syntax::MOST_NEXT;
+use crate::threads::{AskedLoad, run_threads};
 use clap::Error;
 use commands::{Status, check_policy, draw_policy};
 use policy::MOST_POLICY_BYTES;
@@ -120,18 +121,22 @@ fn run_load_of<R: Threads + Wait + Sync>(
     rt: &HostRuntime,
     threads: &R,
     policy: &str,
-    producers: u64,
+    asked: AskedLoad,
 ) -> Status {
-    tell_running(rt, producers);
+    tell_running(rt, asked.producers);
     match read_file(rt, policy) {
         Ok(text) => run_threads(
             threads,
             rt.alloc(),
-            text.as_slice(),
-            producers,
+            PolicyFile {
+                name: policy,
+                text: text.as_slice(),
+            },
+            asked,
             &mut rt.stdout(),
             &mut rt.stderr(),
         ),
+        Err(error) if asked.explains => unread_policy(rt, policy, &error),
         Err(error) => unread_file(rt, &error),
     }
 }
@@ -163,8 +168,16 @@ fn perform<R: Threads + Wait + Sync>(rt: &HostRuntime, threads: &R, asked: &Aske
             Some(status) => status.number(),
             None => NOT_UNDERSTOOD,
         },
-        Request::Threads { policy, producers } => {
-            run_load_of(rt, threads, policy, producers).number()
+        Request::Threads {
+            policy,
+            producers,
+            explains,
+        } => {
+            let asked = AskedLoad {
+                producers,
+                explains,
+            };
+            run_load_of(rt, threads, policy, asked).number()
         }
     }
 }
@@ -194,6 +207,14 @@ fn tell(rt: &HostRuntime, error: &Error) -> u8 {
     }
 }
 
+// Says that a run has more further policies than it may have.
+fn too_many_policies(rt: &HostRuntime) -> u8 {
+    match eprintln!(rt; "error: a run has at most {MOST_NEXT} further policies") {
+        Ok(()) => NOT_UNDERSTOOD,
+        Err(why) => unprinted(rt, &why).number(),
+    }
+}
+
 /// Reads the words of a command line, the program's own name first, does what they ask or says how they are to be
 /// written, and tells the exit status: that of the command (`Status::number`), 0 for the help and the version, 2 for
 /// words that aren't understood, 3 where the text that says so can't be written. The second runtime is the one whose
@@ -203,6 +224,7 @@ pub fn obey<R: Threads + Wait + Sync>(rt: &HostRuntime, threads: &R, words: &[St
         Ok(asked) => perform(rt, threads, &asked),
         Err(Unread::Text(error)) => tell(rt, &error),
         Err(Unread::NoCommand) => NOT_UNDERSTOOD,
+        Err(Unread::TooManyPolicies) => too_many_policies(rt),
         Err(Unread::OutOfMemory) => out_of_memory(rt),
     }
 }

@@ -57,11 +57,12 @@ pub enum Request<'a> {
     Explain {
         word: &'a str,
     },
-    /// `threads POLICY --producers N`: to run the load of threads over the policy in this file, with so many producers a
-    /// queue, 1 to 16.
+    /// `threads POLICY --producers N [--explain]`: to run the load of threads over the policy in this file, with so many
+    /// producers a queue, 1 to 16, and, if it explains, to tell beside a fault or the report why.
     Threads {
         policy: &'a str,
         producers: u64,
+        explains: bool,
     },
 }
 
@@ -81,6 +82,8 @@ pub enum Unread {
     Text(Error),
     /// The words name no command, and there is no text that says so.
     NoCommand,
+    /// They name more further policies than a run may have.
+    TooManyPolicies,
 }
 
 impl From<Error> for Unread {
@@ -149,6 +152,7 @@ fn threads_request<'a>(asked: &ArgMatches<'a>) -> Option<Request<'a>> {
     Some(Request::Threads {
         policy: asked.get_str(POLICY)?,
         producers: asked.get_one(PRODUCERS)?,
+        explains: asked.get_flag(EXPLAIN),
     })
 }
 
@@ -180,7 +184,7 @@ fn asked_by<'a>(alloc: Global, command: &str, asked: &ArgMatches<'a>) -> Result<
     let request = request_of(command, asked).ok_or(Unread::NoCommand)?;
     let further = further_of(alloc, asked)?;
     if further.len() > MOST_NEXT {
-        return Err(Unread::NoCommand);
+        return Err(Unread::TooManyPolicies);
     }
     Ok(Asked { request, further })
 }

@@ -178,7 +178,8 @@ fn threads_command<'a>(alloc: Global) -> Result<Command<'a>, Error> {
     let threads = Command::new(alloc, THREADS)
         .about("Runs producers and lanes on threads over a policy, and reports what came of it")
         .arg(policy_file(alloc))?
-        .arg(producer_count(alloc))?;
+        .arg(producer_count(alloc))?
+        .arg(explaining(alloc))?;
     Ok(threads)
 }
 

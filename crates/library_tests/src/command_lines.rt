@@ -187,10 +187,17 @@ const THREADS_STATUSES: [(&str, u8); 5] = [
 fn threads_have_one_to_sixteen_producers(rt: HostRuntime) -> Result<(), Fail> {
     let policy = "a.toml";
     let producers = 16;
-    let threads = Some(Request::Threads { policy, producers });
-    check_request(&rt, "brokerd threads a.toml --producers 16", threads)?;
+    let threads = |explains| {
+        Some(Request::Threads {
+            policy,
+            producers,
+            explains,
+        })
+    };
+    check_request(&rt, "brokerd threads a.toml --producers 16", threads(false))?;
+    check_request(&rt, "brokerd threads a.toml --producers 16 --explain", threads(true))?;
     for (line, wanted) in THREADS_STATUSES {
-        check_status(&rt, line, status_of(&rt, line)?, wanted);
+        check_status(&rt, line, status_of(&rt, &rt, line)?, wanted);
     }
     Ok(())
 }

@@ -3,6 +3,7 @@
 ghost use Rattle.std.specs.Prelude.{◌≡◌, All, IfErr, IfOk};
 ghost use Rattle.client_threads.specs.Opening.{IsOpened};
 ghost use Rattle.client_threads.specs.Running.{IsEndOf, IsLaneOf};
+ghost use Rattle.threads_load.specs.Stages.{IsStage};
 
 use crate::fault::LoadFault;
 use crate::plan::PlannedQueue;
@@ -19,8 +20,6 @@ pub struct Stage {
     pub broker: Broker,
     pub ends: Vec<ClientEnd>,
     pub lanes: Vec<Lane>,
-    ghost ends_are: { All (λ end. IsEndOf broker end) ends.items },
-    ghost lanes_are: { All (λ lane. IsLaneOf broker lane) lanes.items },
 }
 
 // Opens a planned queue for so many producers. Its clause is what the load needs of the call's.
@@ -126,13 +125,15 @@ fn open_queues(
     Ok(())
 }
 
-/// Opens the queues of a plan, each for so many producers.
+/// Opens the queues of a plan over a broker, each for so many producers.
 pub fn open_stage(
     alloc: Global,
     broker: Broker,
     plan: &[PlannedQueue],
     producers: u64,
-) -> Result<Stage, LoadFault> {
+) -> Result<Stage, LoadFault>
+    ensures { IfOk result IsStage }
+{
     let mut broker = broker;
     let mut ends = Vec::new(alloc);
     let mut lanes = Vec::new(alloc);

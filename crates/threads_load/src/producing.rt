@@ -17,7 +17,7 @@ use core_model::ADD64;
 use ring::{Publication, Ticket};
 use std::thread;
 
-/// How many packets a producer publishes.
+/// How many packets a producer of the load publishes.
 pub const PACKETS: u64 = 8;
 
 /// How often a producer tries again at the most, over all of its packets.
@@ -82,13 +82,13 @@ fn publish_one(broker: &Broker, end: &mut ClientEnd, bytes: &[u8; 64], tries_lef
     }
 }
 
-// Publishes all packets of a producer, until it gives up.
-fn publish_all(broker: &Broker, end: &mut ClientEnd, bytes: &[u8; 64])
+// Publishes so many packets of a producer, until it gives up.
+fn publish_all(broker: &Broker, end: &mut ClientEnd, bytes: &[u8; 64], packets: u64)
     requires { IsEndOf broker.now end.old }
     ensures { IsEndOf broker.now end.new }
 {
     let mut tries_left = MOST_TRIES;
-    for _packet in 0..PACKETS {
+    for _packet in 0..packets {
         if !publish_one(broker, end, bytes, &mut tries_left) {
             return;
         }
@@ -101,12 +101,12 @@ fn planned_of(plan: &[PlannedQueue], queue: QueueId) -> Option<PlannedQueue> {
     plan.get(before).copied()
 }
 
-/// Publishes the packets of a producer, on the queue of its end.
-pub fn produce(broker: &Broker, plan: &[PlannedQueue], end: &mut ClientEnd)
+/// Publishes so many packets of a producer, on the queue of its end.
+pub fn produce(broker: &Broker, plan: &[PlannedQueue], packets: u64, end: &mut ClientEnd)
     requires { IsEndOf broker.now end.old }
     ensures { IsEndOf broker.now end.new }
 {
     if let Some(planned) = planned_of(plan, end.queue()) {
-        publish_all(broker, end, &addition(planned.region));
+        publish_all(broker, end, &addition(planned.region), packets);
     }
 }

@@ -3,6 +3,7 @@
 ghost use Rattle.std.specs.Prelude.{◌≡◌, ◌<◌, All, length};
 ghost use Rattle.std.specs.Thread.{IsSync};
 ghost use Rattle.client_threads.specs.Running.{IsEndOf, IsLaneOf};
+ghost use Rattle.threads_load.specs.Stages.{IsStage};
 
 use crate::gate::LoadGate;
 use crate::opening::Stage;
@@ -19,6 +20,7 @@ fn produce_each<R: Threads + Sync>(
     rt: &R,
     broker: &Broker,
     plan: &[PlannedQueue],
+    packets: u64,
     ends: &mut [ClientEnd],
 )
     requires some { 0 < length ends.old }
@@ -26,7 +28,7 @@ fn produce_each<R: Threads + Sync>(
     ensures { All (λ end. IsEndOf broker.now end) ends.new }
 {
     let threads = ends.len();
-    thread::for_each_mut(rt, ends, threads, &|_, end| produce(broker, plan, end));
+    thread::for_each_mut(rt, ends, threads, &|_, end| produce(broker, plan, packets, end));
 }
 
 // Any number of producers do.
@@ -34,6 +36,7 @@ fn produce_all<R: Threads + Sync>(
     rt: &R,
     broker: &Broker,
     plan: &[PlannedQueue],
+    packets: u64,
     ends: Vec<ClientEnd>,
 ) -> Vec<ClientEnd>
     requires { All (λ end. IsEndOf broker.now end) ends.items }
@@ -41,7 +44,7 @@ fn produce_all<R: Threads + Sync>(
 {
     let mut ends = ends;
     if ends.len() > 0 {
-        produce_each(rt, broker, plan, ends.as_mut_slice());
+        produce_each(rt, broker, plan, packets, ends.as_mut_slice());
     }
     ends
 }
@@ -66,6 +69,7 @@ fn run_both<R: Threads + Wait + Sync>(
     alloc: Global,
     broker: &Broker,
     plan: &[PlannedQueue],
+    packets: u64,
     gate: &LoadGate,
     ends: Vec<ClientEnd>,
     lanes: Vec<Lane>,
@@ -80,7 +84,7 @@ fn run_both<R: Threads + Wait + Sync>(
         move || -> Vec<ClientEnd>
             requires { IsSync R.row × All (λ end. IsEndOf broker.now end) ends.items }
             ensures { All (λ end. IsEndOf broker.entry.now end) result.items }
-        { produce_all(rt, broker, plan, ends) },
+        { produce_all(rt, broker, plan, packets, ends) },
         move || -> Vec<Lane>
             requires { IsSync R.row × All (λ lane. IsLaneOf broker.now lane) lanes.items }
             ensures { All (λ lane. IsLaneOf broker.entry.now lane) result.items }
@@ -89,20 +93,24 @@ fn run_both<R: Threads + Wait + Sync>(
 }
 
 /// Runs the producers and the lanes of a broker, each on a thread of its own where one can be made, until all have
-/// ended.
+/// ended. Each producer publishes so many packets.
 pub fn run_stage<R: Threads + Wait + Sync>(
     rt: &R,
     alloc: Global,
     stage: Stage,
     plan: &[PlannedQueue],
+    packets: u64,
     gate: &LoadGate,
-) -> Stage {
+) -> Stage
+    requires { IsStage stage }
+    ensures { IsStage result }
+{
     let Stage {
         broker,
         ends,
         lanes,
     } = stage;
-    let (ends, lanes) = run_both(rt, alloc, &broker, plan, gate, ends, lanes);
+    let (ends, lanes) = run_both(rt, alloc, &broker, plan, packets, gate, ends, lanes);
     Stage {
         broker,
         ends,
