@@ -1,6 +1,6 @@
 -- What is of a broker stays so when a queue is opened, and the queue's ends and its lane are of it.
-use Rattle.std.proofs.Common.{ℕ, Bool, true, false, List, ◌∷◌, [], ◌++◌, ◌≡◌, sym, subst}
-use Rattle.std.specs.Prelude.{All, cond}
+use Rattle.std.proofs.Common.{ℕ, Bool, true, false, List, ◌∷◌, [], ◌++◌, ◌≡◌, sym, subst, arith}
+use Rattle.std.specs.Prelude.{All, cond, ◌<◌, length, slice_index_or}
 use Rattle.std.proofs.lemmas.List.Elements.{All-append, All-push}
 use Rattle.aql_packet.specs.declared.ids.QueueId.{QueueId}
 use Rattle.client_threads.specs.declared.client_end.ClientEnd.{ClientEnd}
@@ -9,6 +9,7 @@ use Rattle.client_threads.specs.Opening.{IsOpened}
 use Rattle.client_threads.specs.Rings.{QueueRing}
 use Rattle.client_threads.specs.Running.{IsEndOf, IsLaneOf}
 use Rattle.client_threads.proofs.Belonging.{ends_are_of, kept, lane_is_of}
+use Rattle.threads_load.specs.Stages.{EachIsOf}
 
 pub new_ends : (old new : List QueueRing) (size producers : ℕ) (queue : QueueId) (ends : List ClientEnd) (lane : LaneSeen)
     → IsOpened old size producers queue ends lane new → All (λ end. IsEndOf new end) ends
@@ -37,3 +38,10 @@ pub one_lane_more : (rings : List QueueRing) (made : Bool) (others lanes : List 
     → lanes ≡ cond made (others ++ lane ∷ []) others → All (λ l. IsLaneOf rings l) lanes
 one_lane_more rings true others lanes lane h k is = subst (λ xs. All (λ l. IsLaneOf rings l) xs) (sym is) (All-push (λ l. IsLaneOf rings l) others lane h k)
 one_lane_more rings false others lanes lane h k is = subst (λ xs. All (λ l. IsLaneOf rings l) xs) (sym is) h
+
+-- the end at a place is, and ends are where each at its place is
+pub end_at : (rings : List QueueRing) (ends : List ClientEnd) (i : ℕ) (end : ClientEnd) → All (λ e. IsEndOf rings e) ends → i < length ends → end ≡ slice_index_or ends i end → IsEndOf rings end
+end_at rings ends i end all lt is = subst (λ (e : ClientEnd). IsEndOf rings e) (sym is) (all i end lt)
+
+pub ends_still : (rings : List QueueRing) (old new : List ClientEnd) → length new ≡ length old → EachIsOf rings old new → All (λ e. IsEndOf rings e) new
+ends_still rings old new same each = λ k d lt. each k d (omega (arith, lt, same))

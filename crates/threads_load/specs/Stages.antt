@@ -1,5 +1,7 @@
 -- A broker with the ends and the lanes of its queues (own).
-use Rattle.std.specs.Prelude.{All}
+use Rattle.std.specs.Prelude.{ℕ, ◌<◌, List, All, length, slice_index_or}
+use Rattle.client_threads.specs.declared.client_end.ClientEnd.{ClientEnd}
+use Rattle.client_threads.specs.Rings.{QueueRing}
 use Rattle.client_threads.specs.Running.{IsEndOf, IsLaneOf}
 use Rattle.threads_load.specs.declared.opening.Stage.{Stage}
 
@@ -7,3 +9,7 @@ use Rattle.threads_load.specs.declared.opening.Stage.{Stage}
 pub record IsStage (stage : Stage) : Type 0 where
   pub ends : All (λ end. IsEndOf stage.broker end) stage.ends.items
   pub lanes : All (λ lane. IsLaneOf stage.broker lane) stage.lanes.items
+
+-- at each place where an end was, there is one of the broker's rings (own)
+abbrev pub EachIsOf : List QueueRing → List ClientEnd → List ClientEnd → Type 0
+EachIsOf rings old new = (place : ℕ) (d : ClientEnd) → place < length old → IsEndOf rings (slice_index_or new place d)

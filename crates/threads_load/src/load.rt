@@ -2,6 +2,7 @@
 
 ghost use Rattle.std.specs.Prelude.{◌≡◌, IfOk, Ok};
 ghost use Rattle.threads_load.specs.Loads.{EndsLoad, IsAgreed, IsSomeSettlement, TellsLoad, TellsPlan};
+ghost use Rattle.threads_load.specs.Stages.{IsStage};
 
 use crate::fault::LoadFault;
 use crate::gate::LoadGate;
@@ -75,6 +76,7 @@ fn fault_of(back: UnsettledBroker) -> LoadFault {
 
 // Settles a broker whose threads have ended.
 fn settle(alloc: Global, stage: Stage) -> Result<Settlement, UnsettledBroker>
+    requires { IsStage stage }
     ensures { IfOk result IsSomeSettlement }
 {
     let Stage {
@@ -87,6 +89,7 @@ fn settle(alloc: Global, stage: Stage) -> Result<Settlement, UnsettledBroker>
 
 // Settles it, and tells how the load ended.
 fn finish(alloc: Global, stage: Stage, gate: &LoadGate) -> Result<Ended, LoadFault>
+    requires { IsStage stage }
     ensures { IfOk result EndsLoad }
 {
     match settle(alloc, stage) {

@@ -3,7 +3,7 @@
 ghost use Rattle.std.specs.Prelude.{◌≡◌, ◌<◌, All, length};
 ghost use Rattle.std.specs.Thread.{IsSync};
 ghost use Rattle.client_threads.specs.Running.{IsEndOf, IsLaneOf};
-ghost use Rattle.threads_load.specs.Stages.{IsStage};
+ghost use Rattle.threads_load.specs.Stages.{EachIsOf, IsStage};
 
 use crate::gate::LoadGate;
 use crate::opening::Stage;
@@ -25,13 +25,32 @@ fn produce_each<R: Threads + Sync>(
 )
     requires some { 0 < length ends.old }
     requires ends { All (λ end. IsEndOf broker.now end) ends.old }
-    ensures { All (λ end. IsEndOf broker.now end) ends.new }
+    ensures { EachIsOf broker.now ends.old ends.new }
 {
     let threads = ends.len();
     thread::for_each_mut(rt, ends, threads, &|_, end| produce(broker, plan, packets, end));
 }
 
 // Any number of producers do.
+fn produce_any<R: Threads + Sync>(
+    rt: &R,
+    broker: &Broker,
+    plan: &[PlannedQueue],
+    packets: u64,
+    ends: Vec<ClientEnd>,
+) -> Vec<ClientEnd>
+    requires { All (λ end. IsEndOf broker.now end) ends.items }
+    ensures count { length result.items ≡ length ends.items }
+    ensures each { EachIsOf broker.now ends.items result.items }
+{
+    let mut ends = ends;
+    if ends.len() > 0 {
+        produce_each(rt, broker, plan, packets, ends.as_mut_slice());
+    }
+    ends
+}
+
+// All producers do.
 fn produce_all<R: Threads + Sync>(
     rt: &R,
     broker: &Broker,
@@ -42,11 +61,7 @@ fn produce_all<R: Threads + Sync>(
     requires { All (λ end. IsEndOf broker.now end) ends.items }
     ensures { All (λ end. IsEndOf broker.now end) result.items }
 {
-    let mut ends = ends;
-    if ends.len() > 0 {
-        produce_each(rt, broker, plan, packets, ends.as_mut_slice());
-    }
-    ends
+    produce_any(rt, broker, plan, packets, ends)
 }
 
 // Lanes run.
