@@ -1,5 +1,7 @@
 -- What is of a broker stays so when a queue is opened, and the queue's ends and its lane are of it.
-use Rattle.std.proofs.Common.{ℕ, Bool, true, false, List, ◌∷◌, [], ◌++◌, ◌≡◌, sym, subst, arith}
+use Rattle.std.proofs.Common.{ℕ, Bool, true, false, List, ◌∷◌, [], ◌++◌, ◌≡◌, sym, subst, arith, ap, ◌∙◌}
+use lib.ListN.{take}
+use Rattle.std.proofs.Math.Seq.{take-append_seam}
 use Rattle.std.specs.Prelude.{All, cond, ◌<◌, length, slice_index_or}
 use Rattle.std.proofs.lemmas.List.Elements.{All-append, All-push}
 use Rattle.aql_packet.specs.declared.ids.QueueId.{QueueId}
@@ -9,7 +11,7 @@ use Rattle.client_threads.specs.Opening.{IsOpened}
 use Rattle.client_threads.specs.Rings.{QueueRing}
 use Rattle.client_threads.specs.Running.{IsEndOf, IsLaneOf}
 use Rattle.client_threads.proofs.Belonging.{ends_are_of, kept, lane_is_of}
-use Rattle.threads_load.specs.Stages.{EachIsOf}
+use Rattle.threads_load.specs.Stages.{EachStaysOf}
 
 pub new_ends : (old new : List QueueRing) (size producers : ℕ) (queue : QueueId) (ends : List ClientEnd) (lane : LaneSeen)
     → IsOpened old size producers queue ends lane new → All (λ end. IsEndOf new end) ends
@@ -43,5 +45,9 @@ one_lane_more rings false others lanes lane h k is = subst (λ xs. All (λ l. Is
 pub end_at : (rings : List QueueRing) (ends : List ClientEnd) (i : ℕ) (end : ClientEnd) → All (λ e. IsEndOf rings e) ends → i < length ends → end ≡ slice_index_or ends i end → IsEndOf rings end
 end_at rings ends i end all lt is = subst (λ (e : ClientEnd). IsEndOf rings e) (sym is) (all i end lt)
 
-pub ends_still : (rings : List QueueRing) (old new : List ClientEnd) → length new ≡ length old → EachIsOf rings old new → All (λ e. IsEndOf rings e) new
-ends_still rings old new same each = λ k d lt. each k d (omega (arith, lt, same))
+pub ends_still : (rings : List QueueRing) (old new : List ClientEnd) → length new ≡ length old → EachStaysOf rings old new → All (λ e. IsEndOf rings e) new
+ends_still rings old new same each = λ k d lt. (each k d (omega (arith, lt, same))).is
+
+-- what is written back of ends are these, where none came or went
+pub put_back : (rings : List QueueRing) (len : ℕ) (old new rest : List ClientEnd) → len ≡ length new → EachStaysOf rings old new → EachStaysOf rings old (take len (new ++ rest))
+put_back rings len old new rest is each = subst (λ xs. EachStaysOf rings old xs) (sym (ap (λ n. take n (new ++ rest)) is ∙ take-append_seam new rest)) each

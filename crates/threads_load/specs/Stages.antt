@@ -10,6 +10,10 @@ pub record IsStage (stage : Stage) : Type 0 where
   pub ends : All (λ end. IsEndOf stage.broker end) stage.ends.items
   pub lanes : All (λ lane. IsLaneOf stage.broker lane) stage.lanes.items
 
--- at each place where an end was, there is one of the broker's rings (own)
-abbrev pub EachIsOf : List QueueRing → List ClientEnd → List ClientEnd → Type 0
-EachIsOf rings old new = (place : ℕ) (d : ClientEnd) → place < length old → IsEndOf rings (slice_index_or new place d)
+-- an end became one that is of the broker's ring for its queue (own)
+pub record StaysOf (rings : List QueueRing) (old new : ClientEnd) : Type 0 where
+  pub is : IsEndOf rings new
+
+-- the end at each place did (own)
+abbrev pub EachStaysOf : List QueueRing → List ClientEnd → List ClientEnd → Type 0
+EachStaysOf rings old new = (place : ℕ) (d : ClientEnd) → place < length old → StaysOf rings (slice_index_or old place d) (slice_index_or new place d)

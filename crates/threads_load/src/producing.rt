@@ -6,6 +6,7 @@ ghost use Rattle.aql_packet.specs.Reading.{decoded};
 ghost use Rattle.ring.specs.Publishing.{IsOpen};
 ghost use Rattle.client_threads.specs.Running.{IsEndOf};
 ghost use Rattle.threads_load.specs.Additions.{addition};
+ghost use Rattle.threads_load.specs.Stages.{StaysOf};
 
 use crate::plan::PlannedQueue;
 use aql_packet::{
@@ -104,7 +105,7 @@ fn planned_of(plan: &[PlannedQueue], queue: QueueId) -> Option<PlannedQueue> {
 /// Publishes so many packets of a producer, on the queue of its end.
 pub fn produce(broker: &Broker, plan: &[PlannedQueue], packets: u64, end: &mut ClientEnd)
     requires { IsEndOf broker.now end.old }
-    ensures { IsEndOf broker.now end.new }
+    ensures { StaysOf broker.now end.old end.new }
 {
     if let Some(planned) = planned_of(plan, end.queue()) {
         publish_all(broker, end, &addition(planned.region), packets);

@@ -3,7 +3,7 @@
 ghost use Rattle.std.specs.Prelude.{◌≡◌, ◌<◌, All, length};
 ghost use Rattle.std.specs.Thread.{IsSync};
 ghost use Rattle.client_threads.specs.Running.{IsEndOf, IsLaneOf};
-ghost use Rattle.threads_load.specs.Stages.{EachIsOf, IsStage};
+ghost use Rattle.threads_load.specs.Stages.{EachStaysOf, IsStage};
 
 use crate::gate::LoadGate;
 use crate::opening::Stage;
@@ -25,7 +25,7 @@ fn produce_each<R: Threads + Sync>(
 )
     requires some { 0 < length ends.old }
     requires ends { All (λ end. IsEndOf broker.now end) ends.old }
-    ensures { EachIsOf broker.now ends.old ends.new }
+    ensures { EachStaysOf broker.now ends.old ends.new }
 {
     let threads = ends.len();
     thread::for_each_mut(rt, ends, threads, &|_, end| produce(broker, plan, packets, end));
@@ -41,7 +41,7 @@ fn produce_any<R: Threads + Sync>(
 ) -> Vec<ClientEnd>
     requires { All (λ end. IsEndOf broker.now end) ends.items }
     ensures count { length result.items ≡ length ends.items }
-    ensures each { EachIsOf broker.now ends.items result.items }
+    ensures each { EachStaysOf broker.now ends.items result.items }
 {
     let mut ends = ends;
     if ends.len() > 0 {
