@@ -131,7 +131,8 @@ impl From<LoadFault> for Fault {
     fn from(fault: LoadFault) -> Fault {
         match fault {
             LoadFault::OutOfMemory => Fault::OutOfMemory,
-            LoadFault::Opening(_) | LoadFault::Refused(_) | LoadFault::MissingPass => Fault::Unsettled,
+            LoadFault::Opening(_) | LoadFault::Refused(_) | LoadFault::MissingPass =>
+                Fault::Unsettled,
         }
     }
 }

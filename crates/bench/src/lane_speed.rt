@@ -7,9 +7,7 @@ use std::alloc::Global;
 use std::sync::Wait;
 use std::thread::Threads;
 use std::time::{Clock, Duration, Instant};
-use threads_load::{
-    LoadGate, PlannedQueue, Stage, open_broker, open_stage, plan_load, run_stage,
-};
+use threads_load::{LoadGate, PlannedQueue, Stage, open_broker, open_stage, plan_load, run_stage};
 
 /// How many packets each producer publishes at the most: the audit has places for three entries of each.
 pub const MOST_LANE_PACKETS: u64 = 5_000;

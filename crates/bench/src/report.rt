@@ -119,7 +119,9 @@ fn measure_some_lanes<R: Print + Eprint + Clock + AllocGlobal + Threads + Wait +
     shape: (usize, u64),
 ) -> Result<(), Fault> {
     let (count, producers) = shape;
-    let all = packets.saturating_mul(producers).saturating_mul(count as u64);
+    let all = packets
+        .saturating_mul(producers)
+        .saturating_mul(count as u64);
     let (whole, tenth) = each(all, least_of_lanes(rt, packets, runs, shape)?);
     println!(rt; "lanes {count}, producers {producers} each: {all} packets, each finished")?;
     eprintln!(rt; "lanes {count}, producers {producers} each: {whole}.{tenth} ns a packet")?;

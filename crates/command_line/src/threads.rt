@@ -12,10 +12,12 @@ use std::thread::Threads;
 use threads_load::{Ending, Load, LoadFault, run_load};
 
 /// What is told of a load that has no queue.
-const NO_QUEUE: &str = "no queue is opened: no client may use an agent that takes agent packets, and read and write a region of 8 bytes at least";
+const NO_QUEUE: &str =
+    "no queue is opened: no client may use an agent that takes agent packets, and read and write a region of 8 bytes at least";
 
 /// What is told of a load whose lanes met their turns.
-const UNSETTLED: &str = "a lane made its 10000000 turns, and not all packets of its queue are finished: the lines of the queues tell of which";
+const UNSETTLED: &str =
+    "a lane made its 10000000 turns, and not all packets of its queue are finished: the lines of the queues tell of which";
 
 /// What is asked of a load.
 #[derive(Clone, Copy)]
@@ -77,7 +79,9 @@ fn ending_told(alloc: Global, load: &Load) -> Result<String, AllocError> {
 fn mismatch_told(alloc: Global, queue: QueueId, packet: PacketId) -> Result<String, AllocError> {
     let queue = queue.0;
     let packet = packet.0;
-    format!(in alloc; "what the core took of queue {queue} and what its lane served differ at packet {packet}\n")
+    format!(in alloc;
+        "what the core took of queue {queue} and what its lane served differ at packet {packet}\n"
+    )
 }
 
 // Writes the report of a load, and tells how it ended, if that is asked.

@@ -195,7 +195,11 @@ fn threads_have_one_to_sixteen_producers(rt: HostRuntime) -> Result<(), Fail> {
         })
     };
     check_request(&rt, "brokerd threads a.toml --producers 16", threads(false))?;
-    check_request(&rt, "brokerd threads a.toml --producers 16 --explain", threads(true))?;
+    check_request(
+        &rt,
+        "brokerd threads a.toml --producers 16 --explain",
+        threads(true),
+    )?;
     for (line, wanted) in THREADS_STATUSES {
         check_status(&rt, line, status_of(&rt, &rt, line)?, wanted);
     }

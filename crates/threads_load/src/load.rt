@@ -125,7 +125,11 @@ fn run_over<R: Threads + Wait + Sync>(
     ensures { IfOk result EndsLoad }
 {
     match open_stage(alloc, broker, plan, producers) {
-        Ok(stage) => finish(alloc, run_stage(rt, alloc, stage, plan, PACKETS, gate), gate),
+        Ok(stage) => finish(
+            alloc,
+            run_stage(rt, alloc, stage, plan, PACKETS, gate),
+            gate,
+        ),
         Err(why) => Err(why),
     }
 }

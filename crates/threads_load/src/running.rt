@@ -28,7 +28,12 @@ fn produce_each<R: Threads + Sync>(
     ensures { EachStaysOf broker.now ends.old ends.new }
 {
     let threads = ends.len();
-    thread::for_each_mut(rt, ends, threads, &|_, end| produce(broker, plan, packets, end));
+    thread::for_each_mut(
+        rt,
+        ends,
+        threads,
+        &|_, end| produce(broker, plan, packets, end),
+    );
 }
 
 // Any number of producers do.
