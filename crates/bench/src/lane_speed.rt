@@ -1,5 +1,7 @@
 //! The measurements of lanes: packets from `publish` to `finish`, over a core under its lock.
 
+ghost use Rattle.threads_load.specs.Stages.{IsStage};
+
 use crate::fault::Fault;
 use client_threads::{Settlement, settle_all};
 use policy::{Policy, ReadPolicyError, read_policy};
@@ -44,7 +46,9 @@ fn plan_of(alloc: Global, policy: &Policy, lanes: usize) -> Result<Vec<PlannedQu
 }
 
 // Whether a broker settles, with all packets of its lanes finished.
-fn is_settled(alloc: Global, stage: Stage, gate: &LoadGate) -> bool {
+fn is_settled(alloc: Global, stage: Stage, gate: &LoadGate) -> bool
+    requires { IsStage stage }
+{
     let Stage {
         broker,
         ends,

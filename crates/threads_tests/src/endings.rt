@@ -1,9 +1,14 @@
 //! How brokers settle.
 
-use crate::stages::{packet, publish_first, run_with, stage};
+ghost use Rattle.std.specs.Prelude.{◌≡◌, ◌++◌, ◌∷◌, [], IfSome};
+ghost use Rattle.threads_load.specs.Stages.{IsStage};
+
+use crate::stages::{packet, publish_alone, run_with, stage};
 use access_core::AccessCore;
 use aql_packet::{PacketId, QueueId};
-use client_threads::{Gate, LaneAnswer, SettleAllFault, SettledQueue, Settlement, settle_all};
+use client_threads::{
+    ClientEnd, Gate, LaneAnswer, SettleAllFault, SettledQueue, Settlement, settle_all,
+};
 use std::alloc::Global;
 use std::sync::Wait;
 use std::thread::Threads;
@@ -28,7 +33,9 @@ fn indices(rings: &[SettledQueue]) -> Option<(u64, u64)> {
 }
 
 // The indices of the first queue, if the broker settles.
-fn settled_indices(alloc: Global, stage: Stage) -> Option<(u64, u64)> {
+fn settled_indices(alloc: Global, stage: Stage) -> Option<(u64, u64)>
+    requires { IsStage stage }
+{
     let Stage {
         broker,
         ends,
@@ -41,7 +48,9 @@ fn settled_indices(alloc: Global, stage: Stage) -> Option<(u64, u64)> {
 }
 
 // Where the core took something else than lanes served, if it did.
-fn mismatch(alloc: Global, stage: Stage) -> Option<(QueueId, PacketId)> {
+fn mismatch(alloc: Global, stage: Stage) -> Option<(QueueId, PacketId)>
+    requires { IsStage stage }
+{
     let Stage {
         broker,
         ends,
@@ -63,10 +72,7 @@ fn in_flight(stage: &Stage) -> usize {
 
 // A lane of eight published packets ends behind its third turn: three are served, one of them is finished.
 fn ended_early<R: Threads + Wait + Sync>(rt: &R, alloc: Global) -> Option<(usize, (u64, u64))> {
-    let mut stage = stage(rt, alloc, 1, 1)?;
-    if !publish_first(&mut stage, 8) {
-        return None;
-    }
+    let stage = publish_alone(alloc, stage(rt, alloc, 1, 1)?, 8)?;
     let stage = run_with(rt, alloc, stage, &FewTurns(3));
     let flying = in_flight(&stage);
     Some((flying, settled_indices(alloc, stage)?))
@@ -87,9 +93,21 @@ fn taken_alone<R: Wait>(rt: &R, alloc: Global) -> Option<(QueueId, PacketId)> {
     mismatch(alloc, stage)
 }
 
-// Whether all comes back where an end is missing, and it settles once that is there.
-fn settles_at_last<R: Wait>(rt: &R, alloc: Global) -> Option<bool> {
-    let stage = stage(rt, alloc, 1, 2)?;
+// Ends with one more behind them, if there is memory.
+fn with_last(ends: Vec<ClientEnd>, last: ClientEnd) -> Option<Vec<ClientEnd>>
+    ensures { IfSome result (λ all. all.items ≡ ends.items ++ last ∷ []) }
+{
+    let mut ends = ends;
+    match ends.push(last) {
+        Ok(()) => Some(ends),
+        Err(_) => None,
+    }
+}
+
+// Whether all comes back where an end of a stage is missing, and it settles once that is there.
+fn settles_with_its_last(alloc: Global, stage: Stage) -> Option<bool>
+    requires { IsStage stage }
+{
     let Stage {
         broker,
         ends,
@@ -101,12 +119,16 @@ fn settles_at_last<R: Wait>(rt: &R, alloc: Global) -> Option<bool> {
         return None;
     };
     let is_told = back.fault == SettleAllFault::MissingPass;
-    let mut ends = back.ends;
-    ends.push(last).ok()?;
+    let ends = with_last(back.ends, last)?;
     match settle_all(alloc, back.broker, ends, back.lanes) {
         Ok(Settlement::Settled { .. }) => Some(is_told),
         _ => None,
     }
+}
+
+// Whether it does on a queue of two producers.
+fn settles_at_last<R: Wait>(rt: &R, alloc: Global) -> Option<bool> {
+    settles_with_its_last(alloc, stage(rt, alloc, 1, 2)?)
 }
 
 #[test]

@@ -3,6 +3,7 @@
 ghost use Rattle.std.specs.Prelude.{◌≡◌, ◌<◌, All, length};
 ghost use Rattle.std.specs.Thread.{IsSync};
 ghost use Rattle.client_threads.specs.Running.{IsEndOf, IsLaneOf};
+ghost use Rattle.threads_load.specs.Stages.{EachStaysOf, IsStage};
 
 use crate::stages::{packet, stage};
 use crate::waking::{EACH, PRODUCERS, WakingGate, publish_turns};
@@ -23,7 +24,7 @@ fn publish_from_threads<R: Threads + Wait + Sync>(
     ends: &mut [ClientEnd],
 )
     requires { All (λ end. IsEndOf broker.now end) ends.old }
-    ensures { All (λ end. IsEndOf broker.now end) ends.new }
+    ensures { EachStaysOf broker.now ends.old ends.new }
 {
     thread::for_each_mut(
         rt,
@@ -31,6 +32,22 @@ fn publish_from_threads<R: Threads + Wait + Sync>(
         16,
         &|producer, end| publish_turns(rt, broker, gate, producer, end),
     );
+}
+
+// Any number of producers publish.
+fn publish_from_any<R: Threads + Wait + Sync>(
+    rt: &R,
+    broker: &Broker,
+    gate: &WakingGate,
+    ends: Vec<ClientEnd>,
+) -> Vec<ClientEnd>
+    requires { All (λ end. IsEndOf broker.now end) ends.items }
+    ensures count { length result.items ≡ length ends.items }
+    ensures each { EachStaysOf broker.now ends.items result.items }
+{
+    let mut ends = ends;
+    publish_from_threads(rt, broker, gate, ends.as_mut_slice());
+    ends
 }
 
 // All producers publish.
@@ -43,9 +60,7 @@ fn publish_from_all<R: Threads + Wait + Sync>(
     requires { All (λ end. IsEndOf broker.now end) ends.items }
     ensures { All (λ end. IsEndOf broker.now end) result.items }
 {
-    let mut ends = ends;
-    publish_from_threads(rt, broker, gate, ends.as_mut_slice());
-    ends
+    publish_from_any(rt, broker, gate, ends)
 }
 
 // Lanes run.
@@ -95,7 +110,10 @@ fn run_many<R: Threads + Wait + Sync>(
     alloc: Global,
     stage: Stage,
     gate: &WakingGate,
-) -> Stage {
+) -> Stage
+    requires { IsStage stage }
+    ensures { IsStage result }
+{
     let Stage {
         broker,
         ends,
@@ -152,7 +170,9 @@ fn are_whole(lanes: &[Lane]) -> bool {
 }
 
 // The core, if the broker settles.
-fn settled_core(alloc: Global, stage: Stage) -> Option<AccessCore> {
+fn settled_core(alloc: Global, stage: Stage) -> Option<AccessCore>
+    requires { IsStage stage }
+{
     let Stage {
         broker,
         ends,

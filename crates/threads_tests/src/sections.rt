@@ -1,6 +1,7 @@
 //! What happens while a thread is inside the core, and what one section leaves to the next.
 
 ghost use Rattle.client_threads.specs.Running.{IsEndOf};
+ghost use Rattle.threads_load.specs.Stages.{IsStage};
 
 use crate::stages::{publish_all, reaches, stage};
 use access_core::AccessCore;
@@ -61,11 +62,10 @@ fn publishes_beside<R: Threads + Wait + Sync>(rt: &R, broker: &Broker, end: Clie
     stayed
 }
 
-// Whether the first client does.
-fn first_publishes_beside<R: Threads + Wait + Sync>(rt: &R, alloc: Global) -> bool {
-    let Some(stage) = stage(rt, alloc, 1, 1) else {
-        return false;
-    };
+// Whether the last client of a stage does.
+fn last_publishes_beside<R: Threads + Wait + Sync>(rt: &R, stage: Stage) -> bool
+    requires { IsStage stage }
+{
     let Stage {
         broker,
         ends,
@@ -74,6 +74,14 @@ fn first_publishes_beside<R: Threads + Wait + Sync>(rt: &R, alloc: Global) -> bo
     let mut ends = ends;
     match ends.pop() {
         Some(end) => publishes_beside(rt, &broker, end),
+        None => false,
+    }
+}
+
+// Whether a client does.
+fn one_publishes_beside<R: Threads + Wait + Sync>(rt: &R, alloc: Global) -> bool {
+    match stage(rt, alloc, 1, 1) {
+        Some(stage) => last_publishes_beside(rt, stage),
         None => false,
     }
 }
@@ -117,7 +125,7 @@ fn sees_sections<R: Threads + Wait + Sync>(rt: &R, alloc: Global, broker: &Broke
 
 #[test]
 fn clients_publish_while_another_thread_is_inside_the_core(rt: HostRuntime) {
-    assert!(rt; first_publishes_beside(&rt, rt.alloc()));
+    assert!(rt; one_publishes_beside(&rt, rt.alloc()));
 }
 
 #[test]

@@ -1,8 +1,9 @@
 //! Brokers with queues of the load, and what producers and lanes do on them.
 
-ghost use Rattle.std.specs.Prelude.{◌≡◌};
+ghost use Rattle.std.specs.Prelude.{◌≡◌, IfSome, [], ◌∷◌};
 ghost use Rattle.ring.specs.Publishing.{IsOpen};
 ghost use Rattle.client_threads.specs.Running.{IsEndOf};
+ghost use Rattle.threads_load.specs.Stages.{IsStage};
 
 use aql_packet::{
     Address, AgentDispatch, Header, Packet, REGION_SPAN, Scope, SignalHandle, encode,
@@ -70,7 +71,9 @@ fn open_over<R: Wait>(
     policy: Policy,
     queues: usize,
     producers: u64,
-) -> Option<Stage> {
+) -> Option<Stage>
+    ensures { IfSome result IsStage }
+{
     let mut plan = plan_load(alloc, &policy).ok()?;
     plan.truncate(queues);
     let broker = open_broker(rt, alloc, policy, Vec::new(alloc), PLACES).ok()?;
@@ -78,7 +81,9 @@ fn open_over<R: Wait>(
 }
 
 /// Opens a stage with so many queues, up to four, each with so many producers.
-pub fn stage<R: Wait>(rt: &R, alloc: Global, queues: usize, producers: u64) -> Option<Stage> {
+pub fn stage<R: Wait>(rt: &R, alloc: Global, queues: usize, producers: u64) -> Option<Stage>
+    ensures { IfSome result IsStage }
+{
     let policy = read(alloc, FOUR_AGENTS).ok()?;
     open_over(rt, alloc, policy, queues, producers)
 }
@@ -142,13 +147,48 @@ pub fn publish_all(
     }
 }
 
-/// Publishes so many packets of the first end, if there is one. Answers whether all are published.
-pub fn publish_first(stage: &mut Stage, packets: u64) -> bool {
+// Publishes so many packets of an end. Answers how many are published.
+fn publish_some(broker: &Broker, end: &mut ClientEnd, packets: u64) -> u64
+    requires { IsEndOf broker.now end.old }
+    ensures { IsEndOf broker.now end.new }
+{
     let published = AtomicU64::new(0);
-    if let Some(end) = stage.ends.get_mut(0) {
-        publish_all(&stage.broker, end, 0, packets, &published);
+    publish_all(broker, end, 0, packets, &published);
+    published.load(Ordering::SeqCst)
+}
+
+/// Publishes so many packets of the only end of a stage. The stage comes back if all are published.
+pub fn publish_alone(alloc: Global, stage: Stage, packets: u64) -> Option<Stage>
+    requires { IsStage stage }
+    ensures { IfSome result IsStage }
+{
+    let Stage {
+        broker,
+        ends,
+        lanes,
+    } = stage;
+    let mut ends = ends;
+    let mut end = ends.pop()?;
+    if publish_some(&broker, &mut end, packets) != packets || !ends.is_empty() {
+        return None;
     }
-    published.load(Ordering::SeqCst) == packets
+    let ends = alone(alloc, end)?;
+    Some(Stage {
+        broker,
+        ends,
+        lanes,
+    })
+}
+
+// An end alone, if there is memory.
+fn alone(alloc: Global, end: ClientEnd) -> Option<Vec<ClientEnd>>
+    ensures { IfSome result (λ ends. ends.items ≡ end ∷ []) }
+{
+    let mut ends = Vec::new(alloc);
+    match ends.push(end) {
+        Ok(()) => Some(ends),
+        Err(_) => None,
+    }
 }
 
 /// Runs the lanes of a stage.
@@ -157,7 +197,10 @@ pub fn run_with<R: Threads + Wait + Sync, G: Gate + Sync>(
     alloc: Global,
     stage: Stage,
     gate: &G,
-) -> Stage {
+) -> Stage
+    requires { IsStage stage }
+    ensures { IsStage result }
+{
     let Stage {
         broker,
         ends,

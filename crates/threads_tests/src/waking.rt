@@ -2,6 +2,7 @@
 
 ghost use Rattle.ring.specs.Publishing.{IsOpen};
 ghost use Rattle.client_threads.specs.Running.{IsEndOf};
+ghost use Rattle.threads_load.specs.Stages.{StaysOf};
 
 use crate::stages::{LOOKS, packet};
 use client_threads::{Broker, ClientEnd, Gate, LaneAnswer, ServeAnswer};
@@ -118,7 +119,7 @@ pub fn publish_turns<R: Wait>(
     end: &mut ClientEnd,
 )
     requires { IsEndOf broker.now end.old }
-    ensures { IsEndOf broker.now end.new }
+    ensures { StaysOf broker.now end.old end.new }
 {
     for turn in 0..EACH {
         let Ok(ticket) = end.reserve(broker) else {
