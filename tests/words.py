@@ -10,7 +10,7 @@ from trial import FILL, PRELUDE, SAMPLE, TOP, Ended, Trials, run, text
 KERNEL_TEXT = f"{TOP}/crates/cases/data/inc.hsail"
 # how many entries an audit has place for at the most, and where none is named
 MOST, DEFAULT = 1_048_576, 65_536
-COMMANDS = ("check", "run", "kernel", "assemble", "explain")
+COMMANDS = ("check", "run", "picture", "kernel", "assemble", "explain", "threads")
 
 
 def is_told(words):
@@ -46,6 +46,11 @@ WRONG = [
     (["kernel"], ["FILE"]),
     (["assemble"], ["POLICY"]),
     (["explain"], ["WORD"]),
+    (["run", *[SAMPLE] * 18], ["16"]),
+    (["threads", SAMPLE], ["--producers"]),
+    (["threads", "--producers", "2"], ["POLICY"]),
+    (["threads", SAMPLE, "--producers", "0"], ["0", "1", "16"]),
+    (["threads", SAMPLE, "--producers", "17"], ["17", "16"]),
 ]
 
 
@@ -111,6 +116,31 @@ def lines(trials, program):
     trials.every("a line of no form ends a run with 1, by its number", lambda it: wants(answer(program, ["run", *it, SAMPLE], asked), 1, bad, b"line 9: bad request\n"), [[], ["--strict"]])
 
 
+def loads(trials, program, room):
+    """What a load of threads reports: eight additions of each producer."""
+
+    def settles(producers):
+        counted = 8 * producers
+        lines = [f"queue 1 client alice agent gpu launched {counted} finished {counted} denied 0", f"region 1 buf {counted.to_bytes(8, 'little').hex()}", "settled"]
+        return wants(answer(program, ["threads", SAMPLE, "--producers", str(producers)]), 0, text(lines))
+
+    trials.every("a load on the sample settles, with as many packets as its producers publish", settles, [1, 2, 3, 16])
+    alone = f"{room}/alone.toml"
+    with open(alone, "wb") as it:
+        it.write(b'[[client]]\nname = "alice"\n')
+    trials.every("a load without queues settles", lambda words: wants(answer(program, ["threads", alone, "--producers", "1", *words]), 0, b"settled\n", b"" if not words else
+                 b"no queue is opened: no client may use an agent that takes agent packets, and read and write a region of 8 bytes at least\n"), [[], ["--explain"]])
+    wrong = f"{room}/double.toml"
+    with open(wrong, "wb") as it:
+        it.write(b'[[client]]\nname = "alice"\n[[client]]\nname = "alice"\n')
+    refused = b"policy: 5 DoubleName client 2\n"
+    trials.every("a load over a policy that is refused ends with 1", lambda it: wants(answer(program, ["threads", it, "--producers", "1"]), 1, b"", refused), [wrong])
+    told = lambda it: None if (ended := answer(program, ["threads", it, "--producers", "1", "--explain"])).status == 1 and ended.err.startswith(refused) and b"line 4" in ended.err else f"{ended}"
+    trials.every("and with --explain tells the line", told, [wrong])
+    unread = lambda it: wants(answer(program, ["threads", it, "--producers", "1"]), 3, b"", b"read fault\n")
+    trials.every("a load over a file that isn't there ends with 3", unread, [f"{room}/nothing"])
+
+
 def texts(trials, program):
     """The help, the version, and what explain tells."""
     with open(f"{TOP}/docs/scripts.md", encoding="utf-8") as it:
@@ -145,6 +175,7 @@ def main(program):
         audits(trials, program)
         policies(trials, program, room)
         lines(trials, program)
+        loads(trials, program, room)
         texts(trials, program)
     trials.end()
 

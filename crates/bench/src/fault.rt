@@ -3,10 +3,12 @@
 use executor::RunFault;
 use hsail_reader::ReadError;
 use kernel_check::CheckError;
+use policy::ReadPolicyError;
 use ring::{RingFault, Spent};
 use std::alloc::AllocError;
 use std::error::Error;
 use std::{fmt, io};
+use threads_load::LoadFault;
 
 /// Why a measurement told no figure.
 #[derive(Clone, Copy, Debug, PartialEq, Eq)]
@@ -29,6 +31,8 @@ pub enum Fault {
     Script,
     /// A script's replies are not those that are wanted.
     OtherReplies,
+    /// A broker was not opened, or lanes did not finish what was published.
+    Unsettled,
 }
 
 /// How often a producer looks for room, and the processor for a packet, before it gives up.
@@ -47,6 +51,7 @@ impl Fault {
             Fault::OtherSum => "what the items stored does not add up",
             Fault::Script => "a script did not end well",
             Fault::OtherReplies => "the replies to a script are not those that are wanted",
+            Fault::Unsettled => "lanes did not finish what was published",
         }
     }
 }
@@ -109,6 +114,25 @@ impl From<RunFault> for Fault {
         match fault {
             RunFault::OutOfMemory => Fault::OutOfMemory,
             RunFault::Fault(_) => Fault::Kernel,
+        }
+    }
+}
+
+impl From<ReadPolicyError> for Fault {
+    fn from(error: ReadPolicyError) -> Fault {
+        match error {
+            ReadPolicyError::OutOfMemory => Fault::OutOfMemory,
+            ReadPolicyError::Fault(_) => Fault::Unsettled,
+        }
+    }
+}
+
+impl From<LoadFault> for Fault {
+    fn from(fault: LoadFault) -> Fault {
+        match fault {
+            LoadFault::OutOfMemory => Fault::OutOfMemory,
+            LoadFault::Opening(_) | LoadFault::Refused(_) | LoadFault::MissingPass =>
+                Fault::Unsettled,
         }
     }
 }

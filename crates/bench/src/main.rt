@@ -1,12 +1,13 @@
-//! The program that measures. `bench ring PACKETS` measures the ring over atomics, `bench script PACKETS`
-//! the broker from a script's text to its replies, `bench kernels ITEMS` the executor of kernels, and
-//! `bench all PACKETS ITEMS` all three. Its figures go to standard error, and standard output says what is
+//! The program that measures. `bench ring PACKETS` measures the ring over atomics, `bench lanes PACKETS` lanes over a
+//! core under its lock, `bench script PACKETS` the broker from a script's text to its replies, `bench kernels ITEMS` the
+//! executor of kernels, and `bench all PACKETS ITEMS` all four. Its figures go to standard error, and standard output says what is
 //! the same in every run.
 #![tactic(auto)]
 
 mod fault;
 mod kernel_speed;
 mod lane;
+mod lane_speed;
 mod mark;
 mod report;
 mod ring_speed;
@@ -17,10 +18,12 @@ use clap::error::ErrorKind;
 use clap::{Arg, ArgAction, ArgMatches, Command, Error};
 use fault::Fault;
 use kernel_speed::MOST_ITEMS;
-use report::{measure_kernels, measure_ring, measure_script};
+use lane_speed::MOST_LANE_PACKETS;
+use report::{measure_kernels, measure_lanes, measure_ring, measure_script};
 use script_speed::MOST_PACKETS;
 use std::alloc::{AllocError, Global};
 use std::process::ExitCode;
+use std::sync::Wait;
 use std::thread::Threads;
 use std::time::Clock;
 use std::{env, io};
@@ -52,6 +55,15 @@ fn ring_packets<'a>(alloc: Global) -> Arg<'a> {
         alloc,
         MOST_RING_PACKETS,
         "How many packets each producer sends, 1 to 1000000000",
+    )
+}
+
+// That argument where lanes are measured.
+fn lane_packets<'a>(alloc: Global) -> Arg<'a> {
+    packets(
+        alloc,
+        MOST_LANE_PACKETS,
+        "How many packets each producer sends, 1 to 5000",
     )
 }
 
@@ -91,6 +103,14 @@ fn ring_command<'a>(alloc: Global) -> Result<Command<'a>, AllocError> {
         .arg(runs(alloc))
 }
 
+// The command that measures lanes.
+fn lanes_command<'a>(alloc: Global) -> Result<Command<'a>, AllocError> {
+    Command::new(alloc, "lanes")
+        .about("Measures lanes over a core under its lock, from publish to finish")
+        .arg(lane_packets(alloc))?
+        .arg(runs(alloc))
+}
+
 // The command that measures scripts.
 fn script_command<'a>(alloc: Global) -> Result<Command<'a>, AllocError> {
     Command::new(alloc, "script")
@@ -110,7 +130,7 @@ fn kernels_command<'a>(alloc: Global) -> Result<Command<'a>, AllocError> {
 // The command that measures all.
 fn all_command<'a>(alloc: Global) -> Result<Command<'a>, AllocError> {
     Command::new(alloc, "all")
-        .about("Measures all three")
+        .about("Measures all four")
         .arg(script_packets(alloc))?
         .arg(items(alloc))?
         .arg(runs(alloc))
@@ -119,6 +139,7 @@ fn all_command<'a>(alloc: Global) -> Result<Command<'a>, AllocError> {
 // The command line that the program understands.
 fn command<'a>(alloc: Global) -> Result<Command<'a>, AllocError> {
     let ring = ring_command(alloc)?;
+    let lanes = lanes_command(alloc)?;
     let script = script_command(alloc)?;
     let kernels = kernels_command(alloc)?;
     let all = all_command(alloc)?;
@@ -127,6 +148,7 @@ fn command<'a>(alloc: Global) -> Result<Command<'a>, AllocError> {
         .version("0.1.0")
         .subcommand_required(true)
         .subcommand(ring)?
+        .subcommand(lanes)?
         .subcommand(script)?
         .subcommand(kernels)?
         .subcommand(all)
@@ -137,6 +159,8 @@ fn command<'a>(alloc: Global) -> Result<Command<'a>, AllocError> {
 struct Request {
     // How many packets each producer sends, where the ring is measured.
     ring: Option<u64>,
+    // The same where lanes are.
+    lanes: Option<u64>,
     // How many packets a script has, where one is measured.
     script: Option<u64>,
     // How many items a kernel has, where kernels are measured.
@@ -145,12 +169,15 @@ struct Request {
 }
 
 // Measures what is asked for.
-fn measure<R: Print + Eprint + Clock + AllocGlobal + Threads + Sync>(
+fn measure<R: Print + Eprint + Clock + AllocGlobal + Threads + Wait + Sync>(
     rt: &R,
     request: Request,
 ) -> Result<(), Fault> {
     if let Some(packets) = request.ring {
         measure_ring(rt, packets, request.runs)?;
+    }
+    if let Some(packets) = request.lanes {
+        measure_lanes(rt, packets, request.runs)?;
     }
     if let Some(packets) = request.script {
         measure_script(rt, packets, request.runs)?;
@@ -192,9 +219,11 @@ fn understand(rt: &HostRuntime, words: &[String]) -> Result<Request, u8> {
 fn requested(matches: &ArgMatches<'_>) -> Option<Request> {
     let (name, asked) = matches.subcommand()?;
     let packets = asked.get_one("PACKETS");
+    let all = name == "all";
     Some(Request {
-        ring: packets.filter(|_| name != "script"),
-        script: packets.filter(|_| name != "ring"),
+        ring: packets.filter(|_| all || name == "ring"),
+        lanes: packets.filter(|_| all || name == "lanes"),
+        script: packets.filter(|_| all || name == "script"),
         items: asked.get_one("ITEMS"),
         runs: asked.get_one("runs").unwrap_or(1),
     })

@@ -2,8 +2,10 @@
 
 use crate::fault::Fault;
 use crate::kernel_speed::{Taken, count, meet, store};
+use crate::lane_speed::{MOST_LANE_PACKETS, lanes};
 use crate::ring_speed::{many_threads, one_thread};
 use crate::script_speed::{LINES, serve};
+use std::sync::Wait;
 use std::thread::Threads;
 use std::time::{Clock, Duration};
 
@@ -78,6 +80,63 @@ pub fn measure_ring<R: Print + Eprint + Clock + AllocGlobal + Threads + Sync>(
     measure_one(rt, packets, runs)?;
     for producers in PRODUCERS {
         measure_many(rt, packets, runs, producers)?;
+    }
+    Ok(())
+}
+
+/// How many lanes are measured, each with how many producers.
+const LANES: [(usize, u64); 9] = [
+    (1, 1),
+    (1, 4),
+    (1, 16),
+    (2, 1),
+    (2, 4),
+    (2, 16),
+    (4, 1),
+    (4, 4),
+    (4, 16),
+];
+
+// The least time of all runs with so many lanes.
+fn least_of_lanes<R: Clock + AllocGlobal + Threads + Wait + Sync>(
+    rt: &R,
+    packets: u64,
+    runs: u64,
+    (count, producers): (usize, u64),
+) -> Result<Duration, Fault> {
+    let mut least = lanes(rt, rt.alloc(), count, producers, packets)?;
+    for _ in 1..runs {
+        least = least.min(lanes(rt, rt.alloc(), count, producers, packets)?);
+    }
+    Ok(least)
+}
+
+// Measures so many lanes, each with so many producers on threads of their own.
+fn measure_some_lanes<R: Print + Eprint + Clock + AllocGlobal + Threads + Wait + Sync>(
+    rt: &R,
+    packets: u64,
+    runs: u64,
+    shape: (usize, u64),
+) -> Result<(), Fault> {
+    let (count, producers) = shape;
+    let all = packets
+        .saturating_mul(producers)
+        .saturating_mul(count as u64);
+    let (whole, tenth) = each(all, least_of_lanes(rt, packets, runs, shape)?);
+    println!(rt; "lanes {count}, producers {producers} each: {all} packets, each finished")?;
+    eprintln!(rt; "lanes {count}, producers {producers} each: {whole}.{tenth} ns a packet")?;
+    Ok(())
+}
+
+/// Measures lanes over a core under its lock, with more and more threads; each producer sends so many packets, at most
+/// 5,000.
+pub fn measure_lanes<R: Print + Eprint + Clock + AllocGlobal + Threads + Wait + Sync>(
+    rt: &R,
+    packets: u64,
+    runs: u64,
+) -> Result<(), Fault> {
+    for shape in LANES {
+        measure_some_lanes(rt, packets.min(MOST_LANE_PACKETS), runs, shape)?;
     }
     Ok(())
 }

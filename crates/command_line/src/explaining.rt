@@ -85,8 +85,8 @@ fn kernels_told(
     }
 }
 
-// What is told of a policy with a fault.
-fn policy_told(alloc: Global, file: PolicyFile<'_>) -> Result<String, AllocError> {
+/// What is told of a policy with a fault.
+pub fn policy_told(alloc: Global, file: PolicyFile<'_>) -> Result<String, AllocError> {
     match read_policy(alloc, file.text) {
         Ok(policy) => kernels_told(alloc, file, &policy),
         Err(ReadPolicyError::OutOfMemory) => Err(AllocError),
@@ -94,8 +94,8 @@ fn policy_told(alloc: Global, file: PolicyFile<'_>) -> Result<String, AllocError
     }
 }
 
-// Writes an explanation, if there was memory for it, and tells how the command ends.
-fn tell<E: io::Write>(err: &mut E, told: Result<String, AllocError>, status: Status) -> Status {
+/// Writes an explanation, if there was memory for it, and tells how the command ends.
+pub fn tell<E: io::Write>(err: &mut E, told: Result<String, AllocError>, status: Status) -> Status {
     match told {
         Ok(text) => {
             if err.write_all(text.as_bytes()).is_err() || err.flush().is_err() {
@@ -120,24 +120,24 @@ pub fn check_explaining<O: io::Write, E: io::Write>(
     }
 }
 
-// The failure of the reading of a policy.
-fn unread(why: ReadPolicyError) -> Failure {
+/// The failure of the reading of a policy.
+pub fn unread(why: ReadPolicyError) -> Failure {
     match why {
         ReadPolicyError::OutOfMemory => Failure::OutOfMemory,
         ReadPolicyError::Fault(fault) => Failure::Policy(fault),
     }
 }
 
-// The failure of the check of its kernels.
-fn unchecked(why: KernelError) -> Failure {
+/// The failure of the check of its kernels.
+pub fn unchecked(why: KernelError) -> Failure {
     match why {
         KernelError::OutOfMemory => Failure::OutOfMemory,
         KernelError::Fault(fault) => Failure::Kernel(fault),
     }
 }
 
-// The failure of the opening of its core.
-fn unopened(why: OpenFault) -> Failure {
+/// The failure of the opening of its core.
+pub fn unopened(why: OpenFault) -> Failure {
     match why {
         OpenFault::OutOfMemory => Failure::OutOfMemory,
         OpenFault::KernelCount => Failure::KernelCount,

@@ -1,6 +1,7 @@
 //! The program's command line: `brokerd check POLICY` checks a policy, and `brokerd run POLICY` runs a script from
 //! standard input over it, of which `brokerd picture POLICY` draws a picture; `brokerd kernel FILE` lists the kernels of a
-//! text, `brokerd assemble POLICY` turns readable packets into digits, and `brokerd explain WORD` tells what a rule means.
+//! text, `brokerd assemble POLICY` turns readable packets into digits, `brokerd explain WORD` tells what a rule means, and
+//! `brokerd threads POLICY` runs a load of threads over a policy.
 
 // The check tries its tactics on what is left of each proof.
 #![tactic(auto)]
@@ -14,6 +15,7 @@ mod perform;
 mod request;
 mod strict;
 mod syntax;
+mod threads;
 mod writers;
 
 pub use author::{assemble_policy, list_kernel};
@@ -22,3 +24,4 @@ pub use meanings::explained;
 pub use perform::{obey, out_of_memory};
 pub use request::{Asked, Request, Unread, read_words};
 pub use strict::run_strictly;
+pub use threads::{AskedLoad, run_threads};

@@ -4,11 +4,15 @@ use crate::author::{assemble_input, explain, kernel};
 use crate::explaining::{PolicyFile, check_explaining};
 use crate::further::{Manner, run};
 use crate::request::{Asked, Request, Unread, read_words};
+use crate::syntax::MOST_NEXT;
+use crate::threads::{AskedLoad, run_threads};
 use clap::Error;
 use commands::{Status, check_policy, draw_policy};
 use policy::MOST_POLICY_BYTES;
 use std::fs::File;
-use std::io::{self, Read};
+use std::io::{self, IsTerminal, Read};
+use std::sync::Wait;
+use std::thread::Threads;
 
 /// The exit status for a command line that isn't understood.
 const NOT_UNDERSTOOD: u8 = 2;
@@ -105,8 +109,40 @@ fn assemble_by(rt: &HostRuntime, policy: &str) -> Status {
     }
 }
 
+// Says on a terminal that a load runs.
+fn tell_running(rt: &HostRuntime, producers: u64) {
+    if rt.stderr().is_terminal() {
+        let _ = eprintln!(rt; "running, with {producers} producers a queue");
+    }
+}
+
+// Runs the load of threads over the policy in a file.
+fn run_load_of<R: Threads + Wait + Sync>(
+    rt: &HostRuntime,
+    threads: &R,
+    policy: &str,
+    asked: AskedLoad,
+) -> Status {
+    tell_running(rt, asked.producers);
+    match read_file(rt, policy) {
+        Ok(text) => run_threads(
+            threads,
+            rt.alloc(),
+            PolicyFile {
+                name: policy,
+                text: text.as_slice(),
+            },
+            asked,
+            &mut rt.stdout(),
+            &mut rt.stderr(),
+        ),
+        Err(error) if asked.explains => unread_policy(rt, policy, &error),
+        Err(error) => unread_file(rt, &error),
+    }
+}
+
 // Does what is asked, and tells the exit status.
-fn perform(rt: &HostRuntime, asked: &Asked<'_>) -> u8 {
+fn perform<R: Threads + Wait + Sync>(rt: &HostRuntime, threads: &R, asked: &Asked<'_>) -> u8 {
     let further = asked.further.as_slice();
     match asked.request {
         Request::Check { policy } => check(rt, policy).number(),
@@ -132,6 +168,17 @@ fn perform(rt: &HostRuntime, asked: &Asked<'_>) -> u8 {
             Some(status) => status.number(),
             None => NOT_UNDERSTOOD,
         },
+        Request::Threads {
+            policy,
+            producers,
+            explains,
+        } => {
+            let asked = AskedLoad {
+                producers,
+                explains,
+            };
+            run_load_of(rt, threads, policy, asked).number()
+        }
     }
 }
 
@@ -160,14 +207,24 @@ fn tell(rt: &HostRuntime, error: &Error) -> u8 {
     }
 }
 
+// Says that a run has more further policies than it may have.
+fn too_many_policies(rt: &HostRuntime) -> u8 {
+    match eprintln!(rt; "error: a run has at most {MOST_NEXT} further policies") {
+        Ok(()) => NOT_UNDERSTOOD,
+        Err(why) => unprinted(rt, &why).number(),
+    }
+}
+
 /// Reads the words of a command line, the program's own name first, does what they ask or says how they are to be
 /// written, and tells the exit status: that of the command (`Status::number`), 0 for the help and the version, 2 for
-/// words that aren't understood, 3 where the text that says so can't be written.
-pub fn obey(rt: &HostRuntime, words: &[String]) -> u8 {
+/// words that aren't understood, 3 where the text that says so can't be written. The second runtime is the one whose
+/// threads a load runs on.
+pub fn obey<R: Threads + Wait + Sync>(rt: &HostRuntime, threads: &R, words: &[String]) -> u8 {
     match read_words(rt.alloc(), words) {
-        Ok(asked) => perform(rt, &asked),
+        Ok(asked) => perform(rt, threads, &asked),
         Err(Unread::Text(error)) => tell(rt, &error),
         Err(Unread::NoCommand) => NOT_UNDERSTOOD,
+        Err(Unread::TooManyPolicies) => too_many_policies(rt),
         Err(Unread::OutOfMemory) => out_of_memory(rt),
     }
 }

@@ -1,8 +1,8 @@
 //! What the words of a command line ask for.
 
 use crate::syntax::{
-    ASSEMBLE, AUDIT, CHECK, EXPLAIN, FILE, KERNEL, MOST_NEXT, NEXT, PICTURE, POLICY, RUN, STRICT,
-    WORD, program,
+    ASSEMBLE, AUDIT, CHECK, EXPLAIN, FILE, KERNEL, MOST_NEXT, NEXT, PICTURE, POLICY, PRODUCERS,
+    RUN, STRICT, THREADS, WORD, program,
 };
 use clap::error::ErrorKind;
 use clap::{ArgMatches, Error};
@@ -57,6 +57,13 @@ pub enum Request<'a> {
     Explain {
         word: &'a str,
     },
+    /// `threads POLICY --producers N [--explain]`: to run the load of threads over the policy in this file, with so many
+    /// producers a queue, 1 to 16, and, if it explains, to tell beside a fault or the report why.
+    Threads {
+        policy: &'a str,
+        producers: u64,
+        explains: bool,
+    },
 }
 
 /// What a command line asks for, and the files of the further policies of a run, at most 16, in their order (own).
@@ -75,6 +82,8 @@ pub enum Unread {
     Text(Error),
     /// The words name no command, and there is no text that says so.
     NoCommand,
+    /// They name more further policies than a run may have.
+    TooManyPolicies,
 }
 
 impl From<Error> for Unread {
@@ -138,6 +147,15 @@ fn policy_request<'a>(command: &str, asked: &ArgMatches<'a>) -> Option<Request<'
     }
 }
 
+// The request of `threads` with its arguments.
+fn threads_request<'a>(asked: &ArgMatches<'a>) -> Option<Request<'a>> {
+    Some(Request::Threads {
+        policy: asked.get_str(POLICY)?,
+        producers: asked.get_one(PRODUCERS)?,
+        explains: asked.get_flag(EXPLAIN),
+    })
+}
+
 // The request of a command with its arguments.
 fn request_of<'a>(command: &str, asked: &ArgMatches<'a>) -> Option<Request<'a>> {
     match command {
@@ -147,6 +165,7 @@ fn request_of<'a>(command: &str, asked: &ArgMatches<'a>) -> Option<Request<'a>> 
         EXPLAIN => Some(Request::Explain {
             word: asked.get_str(WORD)?,
         }),
+        THREADS => threads_request(asked),
         _ => policy_request(command, asked),
     }
 }
@@ -165,7 +184,7 @@ fn asked_by<'a>(alloc: Global, command: &str, asked: &ArgMatches<'a>) -> Result<
     let request = request_of(command, asked).ok_or(Unread::NoCommand)?;
     let further = further_of(alloc, asked)?;
     if further.len() > MOST_NEXT {
-        return Err(Unread::NoCommand);
+        return Err(Unread::TooManyPolicies);
     }
     Ok(Asked { request, further })
 }

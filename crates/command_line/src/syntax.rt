@@ -45,8 +45,17 @@ pub const MOST_NEXT: usize = 16;
 /// The option that says how many entries the audit has place for.
 pub const AUDIT: &str = "audit";
 
+/// The name of the command that runs a load of threads.
+pub const THREADS: &str = "threads";
+
+/// The option that says how many producers each queue has.
+pub const PRODUCERS: &str = "producers";
+
 /// How many entries an audit has place for at the most.
 const MOST_PLACES: u64 = 1_048_576;
+
+/// How many producers a queue has at the most.
+const MOST_PRODUCERS: u64 = 16;
 
 fn policy_file<'a>(alloc: Global) -> Arg<'a> {
     Arg::new(alloc, POLICY)
@@ -155,6 +164,25 @@ fn explain_command<'a>(alloc: Global) -> Result<Command<'a>, Error> {
     Ok(explain)
 }
 
+fn producer_count<'a>(alloc: Global) -> Arg<'a> {
+    Arg::new(alloc, PRODUCERS)
+        .long(PRODUCERS)
+        .value_name("N")
+        .required(true)
+        .action(ArgAction::Set)
+        .value_parser(ValueParser::Unsigned(1, MOST_PRODUCERS))
+        .help("How many producers each queue has, 1 to 16")
+}
+
+fn threads_command<'a>(alloc: Global) -> Result<Command<'a>, Error> {
+    let threads = Command::new(alloc, THREADS)
+        .about("Runs producers and lanes on threads over a policy, and reports what came of it")
+        .arg(policy_file(alloc))?
+        .arg(producer_count(alloc))?
+        .arg(explaining(alloc))?;
+    Ok(threads)
+}
+
 // The program with one of its commands.
 fn with_check<'a>(alloc: Global) -> Result<Command<'a>, Error> {
     let check = check_command(alloc)?;
@@ -194,6 +222,9 @@ fn with_authoring<'a>(alloc: Global) -> Result<Command<'a>, Error> {
 /// The program with its commands.
 pub fn program<'a>(alloc: Global) -> Result<Command<'a>, Error> {
     let explain = explain_command(alloc)?;
-    let program = with_authoring(alloc)?.subcommand(explain)?;
+    let threads = threads_command(alloc)?;
+    let program = with_authoring(alloc)?
+        .subcommand(explain)?
+        .subcommand(threads)?;
     Ok(program)
 }

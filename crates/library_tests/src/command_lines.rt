@@ -3,7 +3,9 @@
 use command_line::{Request, obey, read_words};
 use std::alloc::{AllocError, Global};
 use std::process::Abort;
+use std::sync::Wait;
 use std::test::*;
+use std::thread::Threads;
 
 /// The words of a line.
 fn words_of(alloc: Global, line: &str) -> Result<Vec<String>, AllocError> {
@@ -151,9 +153,13 @@ const STATUSES: [(&str, u8); 26] = [
     ("brokerd explain L11", 2),
 ];
 
-fn status_of(rt: &HostRuntime, line: &str) -> Result<u8, AllocError> {
+fn status_of<R: Threads + Wait + Sync>(
+    rt: &HostRuntime,
+    threads: &R,
+    line: &str,
+) -> Result<u8, AllocError> {
     let words = words_of(rt.alloc(), line)?;
-    Ok(obey(rt, words.as_slice()))
+    Ok(obey(rt, threads, words.as_slice()))
 }
 
 fn check_status(rt: &impl Abort, line: &str, status: u8, wanted: u8) {
@@ -163,7 +169,39 @@ fn check_status(rt: &impl Abort, line: &str, status: u8, wanted: u8) {
 #[test]
 fn command_lines_end_with_their_status(rt: HostRuntime) -> Result<(), Fail> {
     for (line, wanted) in STATUSES {
-        check_status(&rt, line, status_of(&rt, line)?, wanted);
+        check_status(&rt, line, status_of(&rt, &rt, line)?, wanted);
+    }
+    Ok(())
+}
+
+/// Command lines for threads, and the exit status of each.
+const THREADS_STATUSES: [(&str, u8); 5] = [
+    ("brokerd threads", 2),
+    ("brokerd threads a.toml", 2),
+    ("brokerd threads a.toml --producers 0", 2),
+    ("brokerd threads a.toml --producers 17", 2),
+    ("brokerd threads nowhere.toml --producers 16", 3),
+];
+
+#[test]
+fn threads_have_one_to_sixteen_producers(rt: HostRuntime) -> Result<(), Fail> {
+    let policy = "a.toml";
+    let producers = 16;
+    let threads = |explains| {
+        Some(Request::Threads {
+            policy,
+            producers,
+            explains,
+        })
+    };
+    check_request(&rt, "brokerd threads a.toml --producers 16", threads(false))?;
+    check_request(
+        &rt,
+        "brokerd threads a.toml --producers 16 --explain",
+        threads(true),
+    )?;
+    for (line, wanted) in THREADS_STATUSES {
+        check_status(&rt, line, status_of(&rt, &rt, line)?, wanted);
     }
     Ok(())
 }

@@ -1,0 +1,85 @@
+//! The measurements of lanes: packets from `publish` to `finish`, over a core under its lock.
+
+ghost use Rattle.threads_load.specs.Stages.{IsStage};
+
+use crate::fault::Fault;
+use client_threads::{Settlement, settle_all};
+use policy::{Policy, ReadPolicyError, read_policy};
+use std::alloc::Global;
+use std::sync::Wait;
+use std::thread::Threads;
+use std::time::{Clock, Duration, Instant};
+use threads_load::{LoadGate, PlannedQueue, Stage, open_broker, open_stage, plan_load, run_stage};
+
+/// How many packets each producer publishes at the most: the audit has places for three entries of each.
+pub const MOST_LANE_PACKETS: u64 = 5_000;
+
+/// How many entries the audit has places for.
+const PLACES: usize = 1_048_576;
+
+/// A client that may send to four agents, and count in a region.
+const POLICY: &str = r#"
+client = [{ name = "counter" }]
+agent = [
+  { name = "north", takes = ["agent"] },
+  { name = "east", takes = ["agent"] },
+  { name = "south", takes = ["agent"] },
+  { name = "west", takes = ["agent"] },
+]
+region = [{ name = "sum", length = 8 }]
+allow = [
+  { client = "counter", kind = "agent", object = "*", rights = ["USE"] },
+  { client = "counter", kind = "region", object = "sum", rights = ["READ", "WRITE"] },
+]
+"#;
+
+// Reads the policy. It has no contract, so that the proofs of its callers carry none.
+fn read(alloc: Global) -> Result<Policy, ReadPolicyError> {
+    read_policy(alloc, POLICY.as_bytes())
+}
+
+// A plan of so many queues.
+fn plan_of(alloc: Global, policy: &Policy, lanes: usize) -> Result<Vec<PlannedQueue>, Fault> {
+    let mut plan = plan_load(alloc, policy)?;
+    plan.truncate(lanes);
+    Ok(plan)
+}
+
+// Whether a broker settles, with all packets of its lanes finished.
+fn is_settled(alloc: Global, stage: Stage, gate: &LoadGate) -> bool
+    requires { IsStage stage }
+{
+    let Stage {
+        broker,
+        ends,
+        lanes,
+    } = stage;
+    match settle_all(alloc, broker, ends, lanes) {
+        Ok(Settlement::Settled { .. }) => !gate.is_unsettled(),
+        _ => false,
+    }
+}
+
+/// Has so many producers of each of so many queues publish so many packets each, at most 5,000, each on a thread of its
+/// own, while a lane a queue serves and advances them, and tells how long it took until all were finished.
+pub fn lanes<R: Threads + Wait + Clock + Sync>(
+    rt: &R,
+    alloc: Global,
+    lanes: usize,
+    producers: u64,
+    packets: u64,
+) -> Result<Duration, Fault> {
+    let policy = read(alloc)?;
+    let plan = plan_of(alloc, &policy, lanes)?;
+    let broker = open_broker(rt, alloc, policy, Vec::new(alloc), PLACES)?;
+    let stage = open_stage(alloc, broker, plan.as_slice(), producers)?;
+    let gate = LoadGate::new(alloc, lanes, packets.saturating_mul(producers))?;
+    let start = Instant::now(rt)?;
+    let stage = run_stage(rt, alloc, stage, plan.as_slice(), packets, &gate);
+    let time = start.elapsed(rt)?;
+    if is_settled(alloc, stage, &gate) {
+        Ok(time)
+    } else {
+        Err(Fault::Unsettled)
+    }
+}

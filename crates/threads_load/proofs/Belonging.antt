@@ -1,0 +1,53 @@
+-- What is of a broker stays so when a queue is opened, and the queue's ends and its lane are of it.
+use Rattle.std.proofs.Common.{ℕ, Bool, true, false, List, ◌∷◌, [], ◌++◌, ◌≡◌, sym, subst, arith, ap, ◌∙◌}
+use lib.ListN.{take}
+use Rattle.std.proofs.Math.Seq.{take-append_seam}
+use Rattle.std.specs.Prelude.{All, cond, ◌<◌, length, slice_index_or}
+use Rattle.std.proofs.lemmas.List.Elements.{All-append, All-push}
+use Rattle.aql_packet.specs.declared.ids.QueueId.{QueueId}
+use Rattle.client_threads.specs.declared.client_end.ClientEnd.{ClientEnd}
+use Rattle.client_threads.specs.Lanes.{LaneSeen}
+use Rattle.client_threads.specs.Opening.{IsOpened}
+use Rattle.client_threads.specs.Rings.{QueueRing}
+use Rattle.client_threads.specs.Running.{IsEndOf, IsLaneOf}
+use Rattle.client_threads.proofs.Belonging.{ends_are_of, kept, lane_is_of}
+use Rattle.threads_load.specs.Stages.{EachStaysOf}
+
+pub new_ends : (old new : List QueueRing) (size producers : ℕ) (queue : QueueId) (ends : List ClientEnd) (lane : LaneSeen)
+    → IsOpened old size producers queue ends lane new → All (λ end. IsEndOf new end) ends
+new_ends old new size producers queue ends lane h = ends_are_of old new size producers queue ends lane h
+
+pub new_lane : (old new : List QueueRing) (size producers : ℕ) (queue : QueueId) (ends : List ClientEnd) (lane : LaneSeen)
+    → IsOpened old size producers queue ends lane new → IsLaneOf new lane
+new_lane old new size producers queue ends lane h = lane_is_of old new size producers queue ends lane h
+
+pub kept_ends : (old new : List QueueRing) (size producers : ℕ) (queue : QueueId) (ends : List ClientEnd) (lane : LaneSeen) (before : List ClientEnd)
+    → IsOpened old size producers queue ends lane new → All (λ end. IsEndOf old end) before → All (λ end. IsEndOf new end) before
+kept_ends old new size producers queue ends lane before h all k d lt = record { is = kept old new size producers queue ends lane h _ _ (all k d lt).is }
+
+pub kept_lanes : (old new : List QueueRing) (size producers : ℕ) (queue : QueueId) (ends : List ClientEnd) (lane : LaneSeen) (before : List LaneSeen)
+    → IsOpened old size producers queue ends lane new → All (λ lane. IsLaneOf old lane) before → All (λ lane. IsLaneOf new lane) before
+kept_lanes old new size producers queue ends lane before h all k d lt = record { is = kept old new size producers queue ends lane h _ _ (all k d lt).is }
+
+-- ends behind others, or the others alone, where there was no memory
+pub more_ends : (rings : List QueueRing) (made : Bool) (others more ends : List ClientEnd) → All (λ end. IsEndOf rings end) others → All (λ end. IsEndOf rings end) more
+    → ends ≡ cond made (others ++ more) others → All (λ end. IsEndOf rings end) ends
+more_ends rings true others more ends h k is = subst (λ xs. All (λ end. IsEndOf rings end) xs) (sym is) (All-append (λ end. IsEndOf rings end) others more h k)
+more_ends rings false others more ends h k is = subst (λ xs. All (λ end. IsEndOf rings end) xs) (sym is) h
+
+-- a lane behind others, or these alone
+pub one_lane_more : (rings : List QueueRing) (made : Bool) (others lanes : List LaneSeen) (lane : LaneSeen) → All (λ l. IsLaneOf rings l) others → IsLaneOf rings lane
+    → lanes ≡ cond made (others ++ lane ∷ []) others → All (λ l. IsLaneOf rings l) lanes
+one_lane_more rings true others lanes lane h k is = subst (λ xs. All (λ l. IsLaneOf rings l) xs) (sym is) (All-push (λ l. IsLaneOf rings l) others lane h k)
+one_lane_more rings false others lanes lane h k is = subst (λ xs. All (λ l. IsLaneOf rings l) xs) (sym is) h
+
+-- the end at a place is, and ends are where each at its place is
+pub end_at : (rings : List QueueRing) (ends : List ClientEnd) (i : ℕ) (end : ClientEnd) → All (λ e. IsEndOf rings e) ends → i < length ends → end ≡ slice_index_or ends i end → IsEndOf rings end
+end_at rings ends i end all lt is = subst (λ (e : ClientEnd). IsEndOf rings e) (sym is) (all i end lt)
+
+pub ends_still : (rings : List QueueRing) (old new : List ClientEnd) → length new ≡ length old → EachStaysOf rings old new → All (λ e. IsEndOf rings e) new
+ends_still rings old new same each = λ k d lt. (each k d (omega (arith, lt, same))).is
+
+-- what is written back of ends are these, where none came or went
+pub put_back : (rings : List QueueRing) (len : ℕ) (old new rest : List ClientEnd) → len ≡ length new → EachStaysOf rings old new → EachStaysOf rings old (take len (new ++ rest))
+put_back rings len old new rest is each = subst (λ xs. EachStaysOf rings old xs) (sym (ap (λ n. take n (new ++ rest)) is ∙ take-append_seam new rest)) each

@@ -1,0 +1,52 @@
+-- What a load comes to (own).
+use Rattle.std.specs.Prelude.{◌≡◌, List, string_bytes, ⊤}
+use Rattle.policy.specs.Policy.{Declared}
+use Rattle.core_model.specs.History.{History, beginning}
+use Rattle.core_model.specs.Legal.{IsLegal}
+use Rattle.core_model.specs.declared.entry.Entry.{Entry}
+use Rattle.client_threads.specs.declared.client_end.ClientEnd.{ClientEnd}
+use Rattle.client_threads.specs.declared.settling.Settlement.{Settlement}
+use Rattle.client_threads.specs.Lanes.{LaneSeen}
+use Rattle.client_threads.specs.Rings.{QueueRing}
+use Rattle.client_threads.specs.Settling.{IsSettlement}
+use Rattle.client_threads.specs.Takes.{AllAgree, IsLeastMismatch}
+use Rattle.threads_load.specs.declared.load.Ended.{Ended}
+use Rattle.threads_load.specs.declared.load.Load.{Load}
+use Rattle.threads_load.specs.declared.plan.PlannedQueue.{PlannedQueue}
+use Rattle.threads_load.specs.declared.report.Ending.{Ending}
+use Rattle.threads_load.specs.declared.report.Ending.TheVariants as ending
+use Rattle.threads_load.specs.Plans.{planned}
+use Rattle.threads_load.specs.Reports.{text_of_report}
+
+-- an ending that tells of no mismatch (own)
+abbrev pub IsAgreed : Ending → Type 0
+IsAgreed ending.Settled = ⊤
+IsAgreed ending.Unsettled = ⊤
+IsAgreed (ending.Mismatch queue packet) = ⊥
+
+-- what an ending tells of what was taken and what lanes served (own)
+abbrev pub EndsAs : List Entry → List LaneSeen → Ending → Type 0
+EndsAs entries lanes ending.Settled = AllAgree entries lanes
+EndsAs entries lanes ending.Unsettled = AllAgree entries lanes
+EndsAs entries lanes (ending.Mismatch queue packet) = IsLeastMismatch entries lanes queue.0 packet.0
+
+-- what a broker came to with some rings, ends and lanes (own)
+abbrev pub IsSomeSettlement : Settlement → Type 0
+IsSomeSettlement settlement = (rings : List QueueRing) × (ends : List ClientEnd) × (lanes : List LaneSeen) × IsSettlement rings ends lanes settlement
+
+-- a history is legal, and a load that left it ended so with some lanes (own)
+abbrev pub EndsWith : History → Ending → Type 0
+EndsWith history ended = IsLegal (beginning history) history.entries × ((lanes : List LaneSeen) × EndsAs history.entries lanes ended)
+
+-- a load ended, with the core that it left (own)
+abbrev pub EndsLoad : Ended → Type 0
+EndsLoad ended = EndsWith ended.core.history ended.ending
+
+-- the report of a load with this plan is that of a legal history, which the load left (own)
+abbrev pub TellsPlan : List PlannedQueue → Load → Type 0
+TellsPlan plan load =
+    (history : History) × EndsWith history load.ending × (string_bytes load.report ≡ text_of_report (beginning history) history.entries plan load.ending)
+
+-- the report of a load over a policy (own)
+abbrev pub TellsLoad : Declared → Load → Type 0
+TellsLoad policy load = TellsPlan (planned policy) load

@@ -1,0 +1,48 @@
+//! Why a load isn't run.
+
+use access_core::OpenFault;
+use core_model::Refusal;
+use std::alloc::{AllocError, AllocFailed};
+
+/// Why a load isn't run to its report (own).
+#[derive(Clone, Copy, Debug, PartialEq, Eq)]
+pub enum LoadFault {
+    /// Memory was wanted and not to be had.
+    OutOfMemory,
+    /// No core is opened over the policy and its kernels.
+    Opening(OpenFault),
+    /// The core refused a call: a grant, an opening, or the read of a region.
+    Refused(Refusal),
+    /// A pass didn't come back from its thread.
+    MissingPass,
+}
+
+impl From<AllocError> for LoadFault {
+    fn from(_want: AllocError) -> LoadFault {
+        LoadFault::OutOfMemory
+    }
+}
+
+impl<T: Drop> From<AllocFailed<T>> for LoadFault {
+    fn from(_want: AllocFailed<T>) -> LoadFault {
+        LoadFault::OutOfMemory
+    }
+}
+
+impl From<Refusal> for LoadFault {
+    fn from(why: Refusal) -> LoadFault {
+        match why {
+            Refusal::OutOfMemory => LoadFault::OutOfMemory,
+            why => LoadFault::Refused(why),
+        }
+    }
+}
+
+impl From<OpenFault> for LoadFault {
+    fn from(why: OpenFault) -> LoadFault {
+        match why {
+            OpenFault::OutOfMemory => LoadFault::OutOfMemory,
+            why => LoadFault::Opening(why),
+        }
+    }
+}

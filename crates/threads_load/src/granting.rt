@@ -1,0 +1,40 @@
+//! All that a policy allows is granted.
+
+use access_core::AccessCore;
+use aql_packet::ClientId;
+use bitflags::Flags;
+use core_model::Refusal;
+use policy::{Kind, Object};
+
+// Grants a client all rights on an object that the core's policy allows, if it allows any.
+fn grant_on(core: &mut AccessCore, client: ClientId, object: Object) -> Result<(), Refusal> {
+    let rights = core.policy().rows().allowed(client, object);
+    if rights.is_empty() {
+        return Ok(());
+    }
+    core.grant(client, object, rights)
+}
+
+// Grants a client all that is allowed on the objects of a kind.
+fn grant_kind(core: &mut AccessCore, client: ClientId, kind: Kind) -> Result<(), Refusal> {
+    for before in 0..core.policy().object_count(kind) {
+        grant_on(core, client, Object::of(kind, before as u64 + 1))?;
+    }
+    Ok(())
+}
+
+// Grants a client all that is allowed.
+fn grant_client(core: &mut AccessCore, client: ClientId) -> Result<(), Refusal> {
+    for kind in Kind::ALL {
+        grant_kind(core, client, kind)?;
+    }
+    Ok(())
+}
+
+/// Grants each client all rights that the core's policy allows it, with one grant an object.
+pub fn grant_all(core: &mut AccessCore) -> Result<(), Refusal> {
+    for before in 0..core.policy().client_count() {
+        grant_client(core, ClientId(before as u32 + 1))?;
+    }
+    Ok(())
+}

@@ -1,0 +1,27 @@
+//! A load for threads over a policy: queues of clients that may count in a region of theirs, producers that publish
+//! additions from threads of their own, lanes that serve them, and a report of what came of it.
+
+// The check tries its tactics on what is left of each proof.
+#![tactic(auto)]
+
+mod counting;
+mod fault;
+mod gate;
+mod granting;
+mod load;
+mod opening;
+mod plan;
+mod producing;
+mod report;
+mod running;
+
+pub use counting::{PacketCounts, count_packets};
+pub use fault::LoadFault;
+pub use gate::LoadGate;
+pub use granting::grant_all;
+pub use load::{Load, open_broker, run_load};
+pub use opening::{Stage, open_stage};
+pub use plan::{PlannedQueue, plan_load};
+pub use producing::addition;
+pub use report::{Ending, report_load};
+pub use running::run_stage;

@@ -1,0 +1,189 @@
+//! The load, from a policy to its report.
+
+ghost use Rattle.std.specs.Prelude.{◌≡◌, IfOk, Ok};
+ghost use Rattle.threads_load.specs.Loads.{EndsLoad, IsAgreed, IsSomeSettlement, TellsLoad, TellsPlan};
+ghost use Rattle.threads_load.specs.Stages.{IsStage};
+
+use crate::fault::LoadFault;
+use crate::gate::LoadGate;
+use crate::granting::grant_all;
+use crate::opening::{Stage, open_stage};
+use crate::plan::{PlannedQueue, plan_load};
+use crate::producing::PACKETS;
+use crate::report::{Ending, report_load};
+use crate::running::run_stage;
+use access_core::{AccessCore, Kernel};
+use client_threads::{Broker, SettleAllFault, Settlement, UnsettledBroker, settle_all};
+use core_model::Refusal;
+use policy::Policy;
+use std::alloc::Global;
+use std::sync::Wait;
+use std::thread::Threads;
+
+/// How many entries the audit of the load has place for.
+const PLACES: usize = 131_072;
+
+/// What a load came to: its report, and how it ended.
+#[derive(Drop)]
+pub struct Load {
+    pub report: String,
+    pub ending: Ending,
+}
+
+// What a broker came to: its core, and how the load ended.
+#[derive(Drop)]
+pub(crate) struct Ended {
+    pub core: AccessCore,
+    pub ending: Ending,
+}
+
+// How a load ended whose lanes' packets are those that the core took.
+fn ending_by(gate: &LoadGate) -> Ending
+    ensures { IsAgreed result }
+{
+    if gate.is_unsettled() {
+        Ending::Unsettled
+    } else {
+        Ending::Settled
+    }
+}
+
+// How a load ended, by what its broker came to.
+#[tactic(auto, using(crate::proofs::Endings::settled_ends, crate::proofs::Endings::mismatch_ends))]
+fn ended_by(settlement: Settlement, gate: &LoadGate) -> Ended
+    requires { IsSomeSettlement settlement }
+    ensures { EndsLoad result }
+{
+    match settlement {
+        Settlement::Settled { core, .. } => Ended {
+            core,
+            ending: ending_by(gate),
+        },
+        Settlement::Mismatch { core, queue, id } => Ended {
+            core,
+            ending: Ending::Mismatch { queue, packet: id },
+        },
+    }
+}
+
+// Why a broker was not settled.
+fn fault_of(back: UnsettledBroker) -> LoadFault {
+    match back.fault {
+        SettleAllFault::OutOfMemory => LoadFault::OutOfMemory,
+        SettleAllFault::MissingPass => LoadFault::MissingPass,
+    }
+}
+
+// Settles a broker whose threads have ended.
+fn settle(alloc: Global, stage: Stage) -> Result<Settlement, UnsettledBroker>
+    requires { IsStage stage }
+    ensures { IfOk result IsSomeSettlement }
+{
+    let Stage {
+        broker,
+        ends,
+        lanes,
+    } = stage;
+    settle_all(alloc, broker, ends, lanes)
+}
+
+// Settles it, and tells how the load ended.
+fn finish(alloc: Global, stage: Stage, gate: &LoadGate) -> Result<Ended, LoadFault>
+    requires { IsStage stage }
+    ensures { IfOk result EndsLoad }
+{
+    match settle(alloc, stage) {
+        Ok(settlement) => Ok(ended_by(settlement, gate)),
+        Err(back) => Err(fault_of(back)),
+    }
+}
+
+/// Opens a broker over a policy and its kernels, with places for so many entries in its audit, and grants all that the policy allows.
+pub fn open_broker<R: Wait>(
+    rt: &R,
+    alloc: Global,
+    policy: Policy,
+    kernels: Vec<Kernel>,
+    places: usize,
+) -> Result<Broker, LoadFault> {
+    let broker = Broker::open(alloc, policy, kernels, places)?;
+    match broker.with_core(rt, |core| grant_all(core)) {
+        Ok(()) => Ok(broker),
+        Err(why) => Err(LoadFault::from(why)),
+    }
+}
+
+// Runs the load of a plan over a broker.
+fn run_over<R: Threads + Wait + Sync>(
+    rt: &R,
+    alloc: Global,
+    broker: Broker,
+    plan: &[PlannedQueue],
+    gate: &LoadGate,
+    producers: u64,
+) -> Result<Ended, LoadFault>
+    ensures { IfOk result EndsLoad }
+{
+    match open_stage(alloc, broker, plan, producers) {
+        Ok(stage) => finish(
+            alloc,
+            run_stage(rt, alloc, stage, plan, PACKETS, gate),
+            gate,
+        ),
+        Err(why) => Err(why),
+    }
+}
+
+// A load with its report, if there is one.
+fn load_of(report: Result<String, Refusal>, ending: Ending) -> Result<Load, LoadFault>
+    ensures { IfOk result (λ load. (report ≡ Ok load.report) × (load.ending ≡ ending)) }
+{
+    match report {
+        Ok(report) => Ok(Load { report, ending }),
+        Err(why) => Err(LoadFault::from(why)),
+    }
+}
+
+// The report of a load that ended.
+fn tell(alloc: Global, ended: Ended, plan: &[PlannedQueue]) -> Result<Load, LoadFault>
+    requires { EndsLoad ended }
+    ensures { IfOk result (TellsPlan plan.now) }
+{
+    let report = report_load(alloc, &ended.core, plan, ended.ending);
+    load_of(report, ended.ending)
+}
+
+// Runs the load of a plan over a policy.
+fn run_plan<R: Threads + Wait + Sync>(
+    rt: &R,
+    alloc: Global,
+    policy: Policy,
+    kernels: Vec<Kernel>,
+    plan: &[PlannedQueue],
+    producers: u64,
+) -> Result<Ended, LoadFault>
+    ensures { IfOk result EndsLoad }
+{
+    let gate = LoadGate::new(alloc, plan.len(), PACKETS.saturating_mul(producers))?;
+    match open_broker(rt, alloc, policy, kernels, PLACES) {
+        Ok(broker) => run_over(rt, alloc, broker, plan, &gate, producers),
+        Err(why) => Err(why),
+    }
+}
+
+/// Runs the load over a policy and its kernels with so many producers a queue, 1 to 16: grants all that the policy
+/// allows, opens the queues of the plan, has the producers publish and the lanes serve, each on a thread of its own,
+/// and reports what came of it. That the load settles is not promised.
+pub fn run_load<R: Threads + Wait + Sync>(
+    rt: &R,
+    alloc: Global,
+    policy: Policy,
+    kernels: Vec<Kernel>,
+    producers: u64,
+) -> Result<Load, LoadFault>
+    ensures { IfOk result (TellsLoad policy) }
+{
+    let plan = plan_load(alloc, &policy)?;
+    let ended = run_plan(rt, alloc, policy, kernels, plan.as_slice(), producers)?;
+    tell(alloc, ended, plan.as_slice())
+}

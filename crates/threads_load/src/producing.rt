@@ -1,0 +1,113 @@
+//! What a producer publishes, and how.
+
+ghost use Rattle.std.specs.Prelude.{◌≡◌, Some};
+ghost use Rattle.aql_packet.specs.Layout.{PacketOf};
+ghost use Rattle.aql_packet.specs.Reading.{decoded};
+ghost use Rattle.ring.specs.Publishing.{IsOpen};
+ghost use Rattle.client_threads.specs.Running.{IsEndOf};
+ghost use Rattle.threads_load.specs.Additions.{addition};
+ghost use Rattle.threads_load.specs.Stages.{StaysOf};
+
+use crate::plan::PlannedQueue;
+use aql_packet::{
+    Address, AgentDispatch, Header, Packet, QueueId, REGION_SPAN, RegionHandle, Scope,
+    SignalHandle, encode,
+};
+use client_threads::{Broker, ClientEnd};
+use core_model::ADD64;
+use ring::{Publication, Ticket};
+use std::thread;
+
+/// How many packets a producer of the load publishes.
+pub const PACKETS: u64 = 8;
+
+/// How often a producer tries again at the most, over all of its packets.
+const MOST_TRIES: u64 = 10_000_000;
+
+/// The bytes of a packet of the load: it adds 1 to the number at a region's start, its result goes nowhere, and it
+/// has no completion signal.
+pub fn addition(region: RegionHandle) -> [u8; 64]
+    ensures layout { PacketOf result (addition region) }
+    ensures back { decoded result ≡ Some (addition region) }
+{
+    encode(&Packet::Agent(AgentDispatch {
+        header: Header {
+            barrier: false,
+            acquire: Scope::System,
+            release: Scope::System,
+        },
+        function: ADD64,
+        return_address: Address(0),
+        arguments: [region.0 as u64 * REGION_SPAN, 1, 0, 0],
+        completion_signal: SignalHandle(0),
+    }))
+}
+
+// Publishes a packet under a ticket, trying again while its slot is busy and tries are left. Answers whether it was
+// published.
+fn publish_under(
+    broker: &Broker,
+    end: &mut ClientEnd,
+    ticket: Ticket,
+    bytes: &[u8; 64],
+    tries_left: &mut u64,
+) -> bool
+    requires end { IsEndOf broker.now end.old }
+    requires opened { IsOpen ticket.id.0 end.old.pass }
+    ensures { IsEndOf broker.now end.new }
+{
+    let mut ticket = ticket;
+    for _again in 0..MOST_TRIES + 1 {
+        match end.publish(broker, ticket, bytes) {
+            Publication::Published(_) => return true,
+            Publication::NotPublishable(_) => return false,
+            Publication::SlotBusy(back, _) => ticket = back,
+        }
+        if *tries_left == 0 {
+            return false;
+        }
+        *tries_left -= 1;
+        thread::yield_now();
+    }
+    false
+}
+
+// Reserves an id and publishes a packet under it. Answers whether it was published.
+fn publish_one(broker: &Broker, end: &mut ClientEnd, bytes: &[u8; 64], tries_left: &mut u64) -> bool
+    requires { IsEndOf broker.now end.old }
+    ensures { IsEndOf broker.now end.new }
+{
+    match end.reserve(broker) {
+        Ok(ticket) => publish_under(broker, end, ticket, bytes, tries_left),
+        Err(_) => false,
+    }
+}
+
+// Publishes so many packets of a producer, until it gives up.
+fn publish_all(broker: &Broker, end: &mut ClientEnd, bytes: &[u8; 64], packets: u64)
+    requires { IsEndOf broker.now end.old }
+    ensures { IsEndOf broker.now end.new }
+{
+    let mut tries_left = MOST_TRIES;
+    for _packet in 0..packets {
+        if !publish_one(broker, end, bytes, &mut tries_left) {
+            return;
+        }
+    }
+}
+
+// What is planned of the queue of a number, if it is one of the plan.
+fn planned_of(plan: &[PlannedQueue], queue: QueueId) -> Option<PlannedQueue> {
+    let before = (queue.0 as usize).checked_sub(1)?;
+    plan.get(before).copied()
+}
+
+/// Publishes so many packets of a producer, on the queue of its end.
+pub fn produce(broker: &Broker, plan: &[PlannedQueue], packets: u64, end: &mut ClientEnd)
+    requires { IsEndOf broker.now end.old }
+    ensures { StaysOf broker.now end.old end.new }
+{
+    if let Some(planned) = planned_of(plan, end.queue()) {
+        publish_all(broker, end, &addition(planned.region), packets);
+    }
+}

@@ -1,0 +1,247 @@
+//! What is told of a load.
+
+ghost use Rattle.std.specs.Prelude.{◌≡◌, ◌++◌, ◌<◌, ◌+◌, ◌∷◌, [], IfOk, OnOk, string_bytes, length};
+ghost use Rattle.core_model.specs.History.{beginning};
+ghost use Rattle.std.specs.Option.{option_copied};
+ghost use Rattle.threads_load.specs.Reports.{client_name, counted_bytes, hex_digit, object_name, text_of_byte, text_of_bytes, text_of_counts, text_of_ending, text_of_names, text_of_queue, text_of_queues, text_of_region, text_of_regions, text_of_report, text_of_used, user_of};
+
+use crate::counting::{PacketCounts, count_packets};
+use crate::plan::{COUNTED_BYTES, PlannedQueue};
+use access_core::AccessCore;
+use aql_packet::{Address, ClientId, PacketId, QueueId, REGION_SPAN, RegionHandle};
+use core_model::Refusal;
+use policy::{Kind, Object, Policy};
+use sequences::Sequence;
+use std::alloc::{AllocError, Global};
+
+/// How a load ended.
+#[derive(Clone, Copy, Debug, PartialEq, Eq)]
+pub enum Ending {
+    /// Of each queue the core took what its lane served, and each lane finished its packets.
+    Settled,
+    /// Of each queue the core took what its lane served, and a lane met its turns.
+    Unsettled,
+    /// They differ: this is the least queue and the least id at which.
+    Mismatch { queue: QueueId, packet: PacketId },
+}
+
+// The name of a client, empty where there is none.
+fn client_name(policy: &Policy, client: ClientId) -> &str
+    ensures { result.now ≡ client_name policy.now client }
+{
+    policy.client_name(client).unwrap_or("")
+}
+
+// The name of an object, empty where there is none.
+fn object_name(policy: &Policy, object: Object) -> &str
+    ensures { result.now ≡ object_name policy.now object }
+{
+    policy.object_name(object).unwrap_or("")
+}
+
+// Writes whose a queue is.
+fn write_names(
+    policy: &Policy,
+    queue: QueueId,
+    planned: PlannedQueue,
+    out: &mut String,
+) -> Result<(), AllocError>
+    ensures { OnOk result (string_bytes out.new ≡ string_bytes out.old ++ text_of_names policy.now queue.0 planned) }
+{
+    let number = queue.0;
+    let client = client_name(policy, planned.client);
+    let agent = object_name(policy, Object::Agent(planned.agent));
+    write!(out, "queue {number} client {client} agent {agent}")
+}
+
+// Writes what was counted of a queue's packets.
+fn write_counts(counts: PacketCounts, out: &mut String) -> Result<(), AllocError>
+    ensures { OnOk result (string_bytes out.new ≡ string_bytes out.old ++ text_of_counts counts) }
+{
+    let launched = counts.launched;
+    let finished = counts.finished;
+    let denied = counts.denied;
+    writeln!(
+        out,
+        " launched {launched} finished {finished} denied {denied}"
+    )
+}
+
+// Writes a queue's line.
+fn write_queue(
+    core: &AccessCore,
+    queue: QueueId,
+    planned: PlannedQueue,
+    out: &mut String,
+) -> Result<(), AllocError>
+    ensures { OnOk result (string_bytes out.new ≡ string_bytes out.old ++ text_of_queue (beginning core.now.history) core.now.history.entries queue.0 planned) }
+{
+    write_names(core.policy(), queue, planned, out)?;
+    write_counts(count_packets(core.audit(), queue), out)
+}
+
+// Writes the lines of all queues, which are numbered from 1 in the order of the plan.
+fn write_queues(
+    core: &AccessCore,
+    plan: &[PlannedQueue],
+    out: &mut String,
+) -> Result<(), AllocError>
+    ensures { OnOk result (string_bytes out.new ≡ string_bytes out.old ++ text_of_queues (beginning core.now.history) core.now.history.entries 1 plan.now) }
+{
+    let mut number = 1;
+    for planned in plan {
+        write_queue(core, QueueId(number), *planned, out)?;
+        number += 1;
+    }
+    Ok(())
+}
+
+// Writes a hexadecimal digit, in lower case.
+fn write_digit(out: &mut String, value: u8) -> Result<(), AllocError>
+    requires { value < 16 }
+    ensures { OnOk result (string_bytes out.new ≡ string_bytes out.old ++ hex_digit value ∷ []) }
+{
+    let digit = if value < 10 {
+        b'0' + value
+    } else {
+        b'a' + (value - 10)
+    };
+    out.push(char::from(digit))
+}
+
+// Writes a byte.
+fn write_byte(out: &mut String, byte: u8) -> Result<(), AllocError>
+    ensures { OnOk result (string_bytes out.new ≡ string_bytes out.old ++ text_of_byte byte) }
+{
+    write_digit(out, byte / 16)?;
+    write_digit(out, byte % 16)
+}
+
+// Writes bytes in order.
+fn write_bytes(out: &mut String, bytes: &[u8]) -> Result<(), AllocError>
+    ensures { OnOk result (string_bytes out.new ≡ string_bytes out.old ++ text_of_bytes bytes.now) }
+{
+    for byte in bytes {
+        write_byte(out, *byte)?;
+    }
+    Ok(())
+}
+
+// The bytes of a region that the load counts in, as one of its clients reads them.
+#[tactic(auto, unfolding(core_model::specs::Queries::query_answer))]
+fn counted_bytes(
+    alloc: Global,
+    core: &AccessCore,
+    client: ClientId,
+    region: RegionHandle,
+) -> Result<Sequence<u8>, Refusal>
+    ensures { IfOk result (λ bytes. bytes ≡ counted_bytes (beginning core.now.history) core.now.history.entries region.0) }
+{
+    let start = Address(region.0 as u64 * REGION_SPAN);
+    core.host_read(alloc, client, start, COUNTED_BYTES as u64)
+}
+
+// Writes a region's line, with these bytes of it.
+fn write_region(
+    policy: &Policy,
+    region: RegionHandle,
+    bytes: &[u8],
+    out: &mut String,
+) -> Result<(), AllocError>
+    ensures { OnOk result (string_bytes out.new ≡ string_bytes out.old ++ text_of_region policy.now region.0 bytes.now) }
+{
+    let number = region.0;
+    let name = object_name(policy, Object::Region(region));
+    write!(out, "region {number} {name} ")?;
+    write_bytes(out, bytes)?;
+    out.push_str("\n")
+}
+
+// The first planned queue whose packets count in a region, if there is one.
+fn user_of(plan: &[PlannedQueue], region: RegionHandle) -> Option<&PlannedQueue>
+    ensures { option_copied result ≡ user_of region.0 plan.now }
+{
+    plan.iter().find(|planned| planned.region.0 == region.0)
+}
+
+// Writes the line of a region, if the load counts in it.
+fn write_used(
+    alloc: Global,
+    core: &AccessCore,
+    plan: &[PlannedQueue],
+    region: RegionHandle,
+    out: &mut String,
+) -> Result<(), Refusal>
+    ensures { OnOk result (string_bytes out.new ≡ string_bytes out.old ++ text_of_used (beginning core.now.history) core.now.history.entries plan.now region.0) }
+{
+    match user_of(plan, region) {
+        None => Ok(()),
+        Some(planned) => {
+            let bytes = counted_bytes(alloc, core, planned.client, region)?;
+            write_region(core.policy(), region, bytes.as_slice(), out)?;
+            Ok(())
+        }
+    }
+}
+
+// Writes the lines of all regions that the load counts in, in order.
+fn write_regions(
+    alloc: Global,
+    core: &AccessCore,
+    plan: &[PlannedQueue],
+    out: &mut String,
+) -> Result<(), Refusal>
+    ensures { OnOk result (string_bytes out.new ≡ string_bytes out.old ++ text_of_regions (beginning core.now.history) core.now.history.entries plan.now) }
+{
+    for before in 0..core.policy().object_count(Kind::Region) {
+        write_used(alloc, core, plan, RegionHandle(before as u32 + 1), out)?;
+    }
+    Ok(())
+}
+
+// Writes how the load ended.
+fn write_ending(ending: Ending, out: &mut String) -> Result<(), AllocError>
+    ensures { OnOk result (string_bytes out.new ≡ string_bytes out.old ++ text_of_ending ending) }
+{
+    match ending {
+        Ending::Settled => out.push_str("settled\n"),
+        Ending::Unsettled => out.push_str("unsettled\n"),
+        Ending::Mismatch { queue, packet } => {
+            let number = queue.0;
+            let id = packet.0;
+            writeln!(out, "mismatch {number} {id}")
+        }
+    }
+}
+
+// Writes all lines.
+fn write_lines(
+    alloc: Global,
+    core: &AccessCore,
+    plan: &[PlannedQueue],
+    ending: Ending,
+    out: &mut String,
+) -> Result<(), Refusal>
+    ensures { OnOk result (string_bytes out.new ≡ string_bytes out.old ++ text_of_report (beginning core.now.history) core.now.history.entries plan.now ending) }
+{
+    write_queues(core, plan, out)?;
+    write_regions(alloc, core, plan, out)?;
+    write_ending(ending, out)?;
+    Ok(())
+}
+
+/// The report of a load, from the core that it left: a line for each queue of the plan, with how many of its packets
+/// were launched, finished and denied; a line for each region that is counted in, with its first eight bytes; and how
+/// the load ended.
+pub fn report_load(
+    alloc: Global,
+    core: &AccessCore,
+    plan: &[PlannedQueue],
+    ending: Ending,
+) -> Result<String, Refusal>
+    ensures { IfOk result (λ text. string_bytes text ≡ text_of_report (beginning core.now.history) core.now.history.entries plan.now ending) }
+{
+    let mut text = String::new(alloc);
+    write_lines(alloc, core, plan, ending, &mut text)?;
+    Ok(text)
+}

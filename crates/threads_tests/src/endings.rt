@@ -1,0 +1,147 @@
+//! How brokers settle.
+
+ghost use Rattle.std.specs.Prelude.{◌≡◌, ◌++◌, ◌∷◌, [], IfSome};
+ghost use Rattle.threads_load.specs.Stages.{IsStage};
+
+use crate::stages::{packet, publish_alone, run_with, stage};
+use access_core::AccessCore;
+use aql_packet::{PacketId, QueueId};
+use client_threads::{
+    ClientEnd, Gate, LaneAnswer, SettleAllFault, SettledQueue, Settlement, settle_all,
+};
+use std::alloc::Global;
+use std::sync::Wait;
+use std::thread::Threads;
+use threads_load::Stage;
+
+/// Ends each lane behind so many turns.
+#[derive(Drop)]
+struct FewTurns(u64);
+
+impl Gate for FewTurns {
+    fn enter(&self, _lane: u32, turn: u64) -> bool {
+        turn <= self.0
+    }
+
+    fn leave(&self, _lane: u32, _turn: u64, _done: LaneAnswer) {}
+}
+
+// The indices of a queue's settled ring.
+fn indices(rings: &[SettledQueue]) -> Option<(u64, u64)> {
+    let first = rings.first()?;
+    Some((first.ring.write_index, first.ring.read_index))
+}
+
+// The indices of the first queue, if the broker settles.
+fn settled_indices(alloc: Global, stage: Stage) -> Option<(u64, u64)>
+    requires { IsStage stage }
+{
+    let Stage {
+        broker,
+        ends,
+        lanes,
+    } = stage;
+    match settle_all(alloc, broker, ends, lanes) {
+        Ok(Settlement::Settled { rings, .. }) => indices(rings.as_slice()),
+        _ => None,
+    }
+}
+
+// Where the core took something else than lanes served, if it did.
+fn mismatch(alloc: Global, stage: Stage) -> Option<(QueueId, PacketId)>
+    requires { IsStage stage }
+{
+    let Stage {
+        broker,
+        ends,
+        lanes,
+    } = stage;
+    match settle_all(alloc, broker, ends, lanes) {
+        Ok(Settlement::Mismatch { queue, id, .. }) => Some((queue, id)),
+        _ => None,
+    }
+}
+
+// How many packets of the first lane are in flight.
+fn in_flight(stage: &Stage) -> usize {
+    match stage.lanes.first() {
+        Some(lane) => lane.pending().len(),
+        None => 0,
+    }
+}
+
+// A lane of eight published packets ends behind its third turn: three are served, one of them is finished.
+fn ended_early<R: Threads + Wait + Sync>(rt: &R, alloc: Global) -> Option<(usize, (u64, u64))> {
+    let stage = publish_alone(alloc, stage(rt, alloc, 1, 1)?, 8)?;
+    let stage = run_with(rt, alloc, stage, &FewTurns(3));
+    let flying = in_flight(&stage);
+    Some((flying, settled_indices(alloc, stage)?))
+}
+
+// Hands a packet over that no lane served.
+fn take_alone(alloc: Global, core: &mut AccessCore) -> bool {
+    core.take(alloc, QueueId(2), PacketId(0), &packet(0, 0))
+        .is_ok()
+}
+
+// Where a broker differs whose core took a packet that no lane served.
+fn taken_alone<R: Wait>(rt: &R, alloc: Global) -> Option<(QueueId, PacketId)> {
+    let stage = stage(rt, alloc, 3, 1)?;
+    if !stage.broker.with_core(rt, |core| take_alone(alloc, core)) {
+        return None;
+    }
+    mismatch(alloc, stage)
+}
+
+// Ends with one more behind them, if there is memory.
+fn with_last(ends: Vec<ClientEnd>, last: ClientEnd) -> Option<Vec<ClientEnd>>
+    ensures { IfSome result (λ all. all.items ≡ ends.items ++ last ∷ []) }
+{
+    let mut ends = ends;
+    match ends.push(last) {
+        Ok(()) => Some(ends),
+        Err(_) => None,
+    }
+}
+
+// Whether all comes back where an end of a stage is missing, and it settles once that is there.
+fn settles_with_its_last(alloc: Global, stage: Stage) -> Option<bool>
+    requires { IsStage stage }
+{
+    let Stage {
+        broker,
+        ends,
+        lanes,
+    } = stage;
+    let mut ends = ends;
+    let last = ends.pop()?;
+    let Err(back) = settle_all(alloc, broker, ends, lanes) else {
+        return None;
+    };
+    let is_told = back.fault == SettleAllFault::MissingPass;
+    let ends = with_last(back.ends, last)?;
+    match settle_all(alloc, back.broker, ends, back.lanes) {
+        Ok(Settlement::Settled { .. }) => Some(is_told),
+        _ => None,
+    }
+}
+
+// Whether it does on a queue of two producers.
+fn settles_at_last<R: Wait>(rt: &R, alloc: Global) -> Option<bool> {
+    settles_with_its_last(alloc, stage(rt, alloc, 1, 2)?)
+}
+
+#[test]
+fn a_lane_ends_while_packets_are_in_flight(rt: HostRuntime) {
+    assert!(rt; ended_early(&rt, rt.alloc()) == Some((2, (8, 3))));
+}
+
+#[test]
+fn the_least_place_is_told_at_which_core_and_lanes_differ(rt: HostRuntime) {
+    assert!(rt; taken_alone(&rt, rt.alloc()) == Some((QueueId(2), PacketId(0))));
+}
+
+#[test]
+fn a_missing_pass_is_told_and_all_comes_back(rt: HostRuntime) {
+    assert!(rt; settles_at_last(&rt, rt.alloc()) == Some(true));
+}

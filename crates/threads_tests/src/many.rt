@@ -1,0 +1,202 @@
+//! Sixteen producers on four queues, and 100,000 packets.
+
+ghost use Rattle.std.specs.Prelude.{◌≡◌, ◌<◌, All, length};
+ghost use Rattle.std.specs.Thread.{IsSync};
+ghost use Rattle.client_threads.specs.Running.{IsEndOf, IsLaneOf};
+ghost use Rattle.threads_load.specs.Stages.{EachStaysOf, IsStage};
+
+use crate::stages::{packet, stage};
+use crate::waking::{EACH, PRODUCERS, WakingGate, publish_turns};
+use access_core::AccessCore;
+use aql_packet::PacketId;
+use client_threads::{Broker, ClientEnd, Lane, Served, Settlement, run_lanes, settle_all};
+use std::alloc::Global;
+use std::sync::Wait;
+use std::thread;
+use std::thread::Threads;
+use threads_load::Stage;
+
+// Each producer publishes its packets, on a thread of its own.
+fn publish_from_threads<R: Threads + Wait + Sync>(
+    rt: &R,
+    broker: &Broker,
+    gate: &WakingGate,
+    ends: &mut [ClientEnd],
+)
+    requires { All (λ end. IsEndOf broker.now end) ends.old }
+    ensures { EachStaysOf broker.now ends.old ends.new }
+{
+    thread::for_each_mut(
+        rt,
+        ends,
+        16,
+        &|producer, end| publish_turns(rt, broker, gate, producer, end),
+    );
+}
+
+// Any number of producers publish.
+fn publish_from_any<R: Threads + Wait + Sync>(
+    rt: &R,
+    broker: &Broker,
+    gate: &WakingGate,
+    ends: Vec<ClientEnd>,
+) -> Vec<ClientEnd>
+    requires { All (λ end. IsEndOf broker.now end) ends.items }
+    ensures count { length result.items ≡ length ends.items }
+    ensures each { EachStaysOf broker.now ends.items result.items }
+{
+    let mut ends = ends;
+    publish_from_threads(rt, broker, gate, ends.as_mut_slice());
+    ends
+}
+
+// All producers publish.
+fn publish_from_all<R: Threads + Wait + Sync>(
+    rt: &R,
+    broker: &Broker,
+    gate: &WakingGate,
+    ends: Vec<ClientEnd>,
+) -> Vec<ClientEnd>
+    requires { All (λ end. IsEndOf broker.now end) ends.items }
+    ensures { All (λ end. IsEndOf broker.now end) result.items }
+{
+    publish_from_any(rt, broker, gate, ends)
+}
+
+// Lanes run.
+fn run_all<R: Threads + Wait + Sync>(
+    rt: &R,
+    alloc: Global,
+    broker: &Broker,
+    gate: &WakingGate,
+    lanes: Vec<Lane>,
+) -> Vec<Lane>
+    requires { All (λ lane. IsLaneOf broker.now lane) lanes.items }
+    ensures { All (λ lane. IsLaneOf broker.now lane) result.items }
+{
+    run_lanes(rt, alloc, broker, lanes, gate)
+}
+
+// Producers and lanes run at once.
+fn run_both<R: Threads + Wait + Sync>(
+    rt: &R,
+    alloc: Global,
+    broker: &Broker,
+    gate: &WakingGate,
+    ends: Vec<ClientEnd>,
+    lanes: Vec<Lane>,
+) -> (Vec<ClientEnd>, Vec<Lane>)
+    requires ends { All (λ end. IsEndOf broker.now end) ends.items }
+    requires lanes { All (λ lane. IsLaneOf broker.now lane) lanes.items }
+    ensures ends { All (λ end. IsEndOf broker.now end) result.0.items }
+    ensures lanes { All (λ lane. IsLaneOf broker.now lane) result.1.items }
+{
+    thread::join(
+        rt,
+        move || -> Vec<ClientEnd>
+            requires { IsSync R.row × All (λ end. IsEndOf broker.now end) ends.items }
+            ensures { All (λ end. IsEndOf broker.entry.now end) result.items }
+        { publish_from_all(rt, broker, gate, ends) },
+        move || -> Vec<Lane>
+            requires { IsSync R.row × All (λ lane. IsLaneOf broker.now lane) lanes.items }
+            ensures { All (λ lane. IsLaneOf broker.entry.now lane) result.items }
+        { run_all(rt, alloc, broker, gate, lanes) },
+    )
+}
+
+// Runs the producers and the lanes of a stage.
+fn run_many<R: Threads + Wait + Sync>(
+    rt: &R,
+    alloc: Global,
+    stage: Stage,
+    gate: &WakingGate,
+) -> Stage
+    requires { IsStage stage }
+    ensures { IsStage result }
+{
+    let Stage {
+        broker,
+        ends,
+        lanes,
+    } = stage;
+    let (ends, lanes) = run_both(rt, alloc, &broker, gate, ends, lanes);
+    Stage {
+        broker,
+        ends,
+        lanes,
+    }
+}
+
+/// How many packets of each producer have come.
+#[derive(Drop)]
+struct Turns {
+    next: [u64; 16],
+}
+
+impl Turns {
+    // Whether a packet is whole and the next of its producer. It has come then.
+    fn accepts(&mut self, bytes: &[u8; 64]) -> bool {
+        let producer = usize::from(bytes[32] % 16);
+        let turn = self.next[producer];
+        self.next[producer] = turn.wrapping_add(1);
+        *bytes == packet(producer as u64, turn)
+    }
+
+    // Whether all packets of all producers have come.
+    fn is_whole(&self) -> bool {
+        self.next == [EACH; 16]
+    }
+}
+
+// Whether a lane's packets stand under their ids, each whole and the next of its producer.
+fn is_in_order(served: &[Served], turns: &mut Turns) -> bool {
+    for (index, one) in served.iter().enumerate() {
+        if one.id != PacketId(index as u64) || !turns.accepts(&one.bytes) {
+            return false;
+        }
+    }
+    true
+}
+
+// Whether the packets of all lanes do, and are all.
+fn are_whole(lanes: &[Lane]) -> bool {
+    let mut turns = Turns { next: [0; 16] };
+    for lane in lanes {
+        if !is_in_order(lane.served(), &mut turns) {
+            return false;
+        }
+    }
+    turns.is_whole()
+}
+
+// The core, if the broker settles.
+fn settled_core(alloc: Global, stage: Stage) -> Option<AccessCore>
+    requires { IsStage stage }
+{
+    let Stage {
+        broker,
+        ends,
+        lanes,
+    } = stage;
+    match settle_all(alloc, broker, ends, lanes) {
+        Ok(Settlement::Settled { core, .. }) => Some(core),
+        _ => None,
+    }
+}
+
+// What 100,000 packets come to: whether each came once, whole and in its producer's order, and how many entries the
+// audit has.
+fn run_packets<R: Threads + Wait + Sync>(rt: &R, alloc: Global) -> Option<(bool, usize)> {
+    let stage = stage(rt, alloc, 4, PRODUCERS as u64)?;
+    let gate = WakingGate::new(alloc, 4).ok()?;
+    let stage = run_many(rt, alloc, stage, &gate);
+    let is_whole = are_whole(stage.lanes.as_slice());
+    let core = settled_core(alloc, stage)?;
+    Some((is_whole, core.audit().len()))
+}
+
+// Six grants, four openings, and of each packet a launch, a run and a completion.
+#[test]
+fn a_hundred_thousand_packets_come_once_and_whole(rt: HostRuntime) {
+    assert!(rt; run_packets(&rt, rt.alloc()) == Some((true, 300_010)));
+}

@@ -1,0 +1,215 @@
+//! Brokers with queues of the load, and what producers and lanes do on them.
+
+ghost use Rattle.std.specs.Prelude.{◌≡◌, IfSome, [], ◌∷◌};
+ghost use Rattle.ring.specs.Publishing.{IsOpen};
+ghost use Rattle.client_threads.specs.Running.{IsEndOf};
+ghost use Rattle.threads_load.specs.Stages.{IsStage};
+
+use aql_packet::{
+    Address, AgentDispatch, Header, Packet, REGION_SPAN, Scope, SignalHandle, encode,
+};
+use client_threads::{Broker, ClientEnd, Gate, run_lanes};
+use core_model::ADD64;
+use policy::{Policy, ReadPolicyError, read_policy};
+use ring::{Publication, Ticket};
+use std::alloc::Global;
+use std::sync::Wait;
+use std::sync::atomic::{AtomicU64, Ordering};
+use std::thread;
+use std::thread::Threads;
+use threads_load::{Stage, open_broker, open_stage, plan_load};
+
+/// How often a thread looks for something before it gives up.
+pub const LOOKS: u64 = 10_000_000;
+
+/// A client that can send to four agents, and count in the second region.
+pub const FOUR_AGENTS: &str = r#"
+client = [{ name = "mira" }]
+agent = [
+  { name = "north", takes = ["agent"] },
+  { name = "east", takes = ["agent"] },
+  { name = "south", takes = ["kernel", "agent"] },
+  { name = "west", takes = ["agent"] },
+]
+region = [{ name = "short", length = 7 }, { name = "sum", length = 24 }]
+allow = [
+  { client = "mira", kind = "agent", object = "*", rights = ["USE"] },
+  { client = "*", kind = "region", object = "*", rights = ["READ", "WRITE"] },
+]
+"#;
+
+/// How many entries an audit has place for.
+const PLACES: usize = 400_000;
+
+/// The region that the client counts in.
+const REGION: u64 = 2;
+
+/// A packet that counts, and tells who sent it and in which turn by arguments that are ignored.
+pub fn packet(producer: u64, turn: u64) -> [u8; 64] {
+    encode(&Packet::Agent(AgentDispatch {
+        header: Header {
+            barrier: false,
+            acquire: Scope::Agent,
+            release: Scope::None,
+        },
+        function: ADD64,
+        return_address: Address(0),
+        arguments: [REGION * REGION_SPAN, 1, producer, turn],
+        completion_signal: SignalHandle(0),
+    }))
+}
+
+// Reads a policy. It has no contract, so that the proofs of its callers carry none.
+fn read(alloc: Global, text: &str) -> Result<Policy, ReadPolicyError> {
+    read_policy(alloc, text.as_bytes())
+}
+
+// Opens a stage over a policy, with so many of the load's queues.
+fn open_over<R: Wait>(
+    rt: &R,
+    alloc: Global,
+    policy: Policy,
+    queues: usize,
+    producers: u64,
+) -> Option<Stage>
+    ensures { IfSome result IsStage }
+{
+    let mut plan = plan_load(alloc, &policy).ok()?;
+    plan.truncate(queues);
+    let broker = open_broker(rt, alloc, policy, Vec::new(alloc), PLACES).ok()?;
+    open_stage(alloc, broker, plan.as_slice(), producers).ok()
+}
+
+/// Opens a stage with so many queues, up to four, each with so many producers.
+pub fn stage<R: Wait>(rt: &R, alloc: Global, queues: usize, producers: u64) -> Option<Stage>
+    ensures { IfSome result IsStage }
+{
+    let policy = read(alloc, FOUR_AGENTS).ok()?;
+    open_over(rt, alloc, policy, queues, producers)
+}
+
+/// Whether a word comes to a number, as far as one looks.
+pub fn reaches(word: &AtomicU64, wanted: u64) -> bool {
+    for _look in 0..LOOKS {
+        if wanted <= word.load(Ordering::SeqCst) {
+            return true;
+        }
+        thread::yield_now();
+    }
+    false
+}
+
+/// Publishes a packet under a ticket, trying again while its slot is busy. Answers whether it was published.
+pub fn publish_under(broker: &Broker, end: &mut ClientEnd, ticket: Ticket, bytes: &[u8; 64]) -> bool
+    requires end { IsEndOf broker.now end.old }
+    requires opened { IsOpen ticket.id.0 end.old.pass }
+    ensures { IsEndOf broker.now end.new }
+{
+    let mut ticket = ticket;
+    for _look in 0..LOOKS {
+        match end.publish(broker, ticket, bytes) {
+            Publication::Published(_) => return true,
+            Publication::NotPublishable(_) => return false,
+            Publication::SlotBusy(back, _) => ticket = back,
+        }
+        thread::yield_now();
+    }
+    false
+}
+
+/// Reserves an id and publishes a packet under it. Answers whether it was published.
+pub fn publish_one(broker: &Broker, end: &mut ClientEnd, bytes: &[u8; 64]) -> bool
+    requires { IsEndOf broker.now end.old }
+    ensures { IsEndOf broker.now end.new }
+{
+    match end.reserve(broker) {
+        Ok(ticket) => publish_under(broker, end, ticket, bytes),
+        Err(_) => false,
+    }
+}
+
+/// Publishes so many packets of a producer, and counts them in a word as they are published.
+pub fn publish_all(
+    broker: &Broker,
+    end: &mut ClientEnd,
+    producer: u64,
+    packets: u64,
+    published: &AtomicU64,
+)
+    requires { IsEndOf broker.now end.old }
+    ensures { IsEndOf broker.now end.new }
+{
+    for turn in 0..packets {
+        if !publish_one(broker, end, &packet(producer, turn)) {
+            return;
+        }
+        published.fetch_add(1, Ordering::SeqCst);
+    }
+}
+
+// Publishes so many packets of an end. Answers how many are published.
+fn publish_some(broker: &Broker, end: &mut ClientEnd, packets: u64) -> u64
+    requires { IsEndOf broker.now end.old }
+    ensures { IsEndOf broker.now end.new }
+{
+    let published = AtomicU64::new(0);
+    publish_all(broker, end, 0, packets, &published);
+    published.load(Ordering::SeqCst)
+}
+
+/// Publishes so many packets of the only end of a stage. The stage comes back if all are published.
+pub fn publish_alone(alloc: Global, stage: Stage, packets: u64) -> Option<Stage>
+    requires { IsStage stage }
+    ensures { IfSome result IsStage }
+{
+    let Stage {
+        broker,
+        ends,
+        lanes,
+    } = stage;
+    let mut ends = ends;
+    let mut end = ends.pop()?;
+    if publish_some(&broker, &mut end, packets) != packets || !ends.is_empty() {
+        return None;
+    }
+    let ends = alone(alloc, end)?;
+    Some(Stage {
+        broker,
+        ends,
+        lanes,
+    })
+}
+
+// An end alone, if there is memory.
+fn alone(alloc: Global, end: ClientEnd) -> Option<Vec<ClientEnd>>
+    ensures { IfSome result (λ ends. ends.items ≡ end ∷ []) }
+{
+    let mut ends = Vec::new(alloc);
+    match ends.push(end) {
+        Ok(()) => Some(ends),
+        Err(_) => None,
+    }
+}
+
+/// Runs the lanes of a stage.
+pub fn run_with<R: Threads + Wait + Sync, G: Gate + Sync>(
+    rt: &R,
+    alloc: Global,
+    stage: Stage,
+    gate: &G,
+) -> Stage
+    requires { IsStage stage }
+    ensures { IsStage result }
+{
+    let Stage {
+        broker,
+        ends,
+        lanes,
+    } = stage;
+    let lanes = run_lanes(rt, alloc, &broker, lanes, gate);
+    Stage {
+        broker,
+        ends,
+        lanes,
+    }
+}
