@@ -1,14 +1,12 @@
 //! How brokers settle.
 
-ghost use Rattle.std.specs.Prelude.{◌≡◌, ◌++◌, ◌∷◌, [], IfSome};
+ghost use Rattle.std.specs.Prelude.{◌≡◌, IfSome};
 ghost use Rattle.threads_load.specs.Stages.{IsStage};
 
-use crate::stages::{packet, publish_alone, run_with, stage};
+use crate::stages::{packet, publish_alone, run_with, split_last_end, stage, with_end};
 use access_core::AccessCore;
 use aql_packet::{PacketId, QueueId};
-use client_threads::{
-    ClientEnd, Gate, LaneAnswer, SettleAllFault, SettledQueue, Settlement, settle_all,
-};
+use client_threads::{Gate, LaneAnswer, SettleAllFault, SettledQueue, Settlement, settle_all};
 use std::alloc::Global;
 use std::sync::Wait;
 use std::thread::Threads;
@@ -72,7 +70,7 @@ fn in_flight(stage: &Stage) -> usize {
 
 // A lane of eight published packets ends behind its third turn: three are served, one of them is finished.
 fn ended_early<R: Threads + Wait + Sync>(rt: &R, alloc: Global) -> Option<(usize, (u64, u64))> {
-    let stage = publish_alone(alloc, stage(rt, alloc, 1, 1)?, 8)?;
+    let stage = publish_alone(stage(rt, alloc, 1, 1)?, 8)?;
     let stage = run_with(rt, alloc, stage, &FewTurns(3));
     let flying = in_flight(&stage);
     Some((flying, settled_indices(alloc, stage)?))
@@ -93,14 +91,27 @@ fn taken_alone<R: Wait>(rt: &R, alloc: Global) -> Option<(QueueId, PacketId)> {
     mismatch(alloc, stage)
 }
 
-// Ends with one more behind them, if there is memory.
-fn with_last(ends: Vec<ClientEnd>, last: ClientEnd) -> Option<Vec<ClientEnd>>
-    ensures { IfSome result (λ all. all.items ≡ ends.items ++ last ∷ []) }
+// Why a stage is not settled, and the stage, which comes back.
+fn unsettled(alloc: Global, stage: Stage) -> Option<(SettleAllFault, Stage)>
+    requires { IsStage stage }
+    ensures stage { IfSome result (λ back. IsStage back.1) }
+    ensures broker { IfSome result (λ back. back.1.broker ≡ stage.broker) }
 {
-    let mut ends = ends;
-    match ends.push(last) {
-        Ok(()) => Some(ends),
-        Err(_) => None,
+    let Stage {
+        broker,
+        ends,
+        lanes,
+    } = stage;
+    match settle_all(alloc, broker, ends, lanes) {
+        Err(back) => Some((
+            back.fault,
+            Stage {
+                broker: back.broker,
+                ends: back.ends,
+                lanes: back.lanes,
+            },
+        )),
+        Ok(_) => None,
     }
 }
 
@@ -108,22 +119,10 @@ fn with_last(ends: Vec<ClientEnd>, last: ClientEnd) -> Option<Vec<ClientEnd>>
 fn settles_with_its_last(alloc: Global, stage: Stage) -> Option<bool>
     requires { IsStage stage }
 {
-    let Stage {
-        broker,
-        ends,
-        lanes,
-    } = stage;
-    let mut ends = ends;
-    let last = ends.pop()?;
-    let Err(back) = settle_all(alloc, broker, ends, lanes) else {
-        return None;
-    };
-    let is_told = back.fault == SettleAllFault::MissingPass;
-    let ends = with_last(back.ends, last)?;
-    match settle_all(alloc, back.broker, ends, back.lanes) {
-        Ok(Settlement::Settled { .. }) => Some(is_told),
-        _ => None,
-    }
+    let (stage, last) = split_last_end(stage)?;
+    let (fault, stage) = unsettled(alloc, stage)?;
+    settled_indices(alloc, with_end(stage, last)?)?;
+    Some(fault == SettleAllFault::MissingPass)
 }
 
 // Whether it does on a queue of two producers.

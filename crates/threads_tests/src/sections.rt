@@ -3,7 +3,7 @@
 ghost use Rattle.client_threads.specs.Running.{IsEndOf};
 ghost use Rattle.threads_load.specs.Stages.{IsStage};
 
-use crate::stages::{publish_all, reaches, stage};
+use crate::stages::{publish_all, reaches, split_last_end, stage};
 use access_core::AccessCore;
 use aql_packet::{Address, ClientId, REGION_SPAN};
 use client_threads::{Broker, ClientEnd};
@@ -66,14 +66,8 @@ fn publishes_beside<R: Threads + Wait + Sync>(rt: &R, broker: &Broker, end: Clie
 fn last_publishes_beside<R: Threads + Wait + Sync>(rt: &R, stage: Stage) -> bool
     requires { IsStage stage }
 {
-    let Stage {
-        broker,
-        ends,
-        lanes: _lanes,
-    } = stage;
-    let mut ends = ends;
-    match ends.pop() {
-        Some(end) => publishes_beside(rt, &broker, end),
+    match split_last_end(stage) {
+        Some((stage, end)) => publishes_beside(rt, &stage.broker, end),
         None => false,
     }
 }

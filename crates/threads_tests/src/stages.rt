@@ -1,6 +1,6 @@
 //! Brokers with queues of the load, and what producers and lanes do on them.
 
-ghost use Rattle.std.specs.Prelude.{◌≡◌, IfSome, [], ◌∷◌};
+ghost use Rattle.std.specs.Prelude.{IfSome};
 ghost use Rattle.ring.specs.Publishing.{IsOpen};
 ghost use Rattle.client_threads.specs.Running.{IsEndOf};
 ghost use Rattle.threads_load.specs.Stages.{IsStage};
@@ -77,7 +77,10 @@ fn open_over<R: Wait>(
     let mut plan = plan_load(alloc, &policy).ok()?;
     plan.truncate(queues);
     let broker = open_broker(rt, alloc, policy, Vec::new(alloc), PLACES).ok()?;
-    open_stage(alloc, broker, plan.as_slice(), producers).ok()
+    match open_stage(alloc, broker, plan.as_slice(), producers) {
+        Ok(stage) => Some(stage),
+        Err(_) => None,
+    }
 }
 
 /// Opens a stage with so many queues, up to four, each with so many producers.
@@ -157,9 +160,34 @@ fn publish_some(broker: &Broker, end: &mut ClientEnd, packets: u64) -> u64
     published.load(Ordering::SeqCst)
 }
 
-/// Publishes so many packets of the only end of a stage. The stage comes back if all are published.
-pub fn publish_alone(alloc: Global, stage: Stage, packets: u64) -> Option<Stage>
+/// Takes the last end of a stage off, if there is one.
+#[tactic(auto, using(crate::proofs::Last::before_last, crate::proofs::Last::last))]
+pub fn split_last_end(stage: Stage) -> Option<(Stage, ClientEnd)>
     requires { IsStage stage }
+    ensures stage { IfSome result (λ split. IsStage split.0) }
+    ensures end { IfSome result (λ split. IsEndOf split.0.broker split.1) }
+{
+    let Stage {
+        broker,
+        ends,
+        lanes,
+    } = stage;
+    let mut ends = ends;
+    let last = ends.pop()?;
+    Some((
+        Stage {
+            broker,
+            ends,
+            lanes,
+        },
+        last,
+    ))
+}
+
+/// Puts an end behind those of a stage, if there is memory.
+pub fn with_end(stage: Stage, end: ClientEnd) -> Option<Stage>
+    requires stage { IsStage stage }
+    requires end { IsEndOf stage.broker end }
     ensures { IfSome result IsStage }
 {
     let Stage {
@@ -168,27 +196,27 @@ pub fn publish_alone(alloc: Global, stage: Stage, packets: u64) -> Option<Stage>
         lanes,
     } = stage;
     let mut ends = ends;
-    let mut end = ends.pop()?;
-    if publish_some(&broker, &mut end, packets) != packets || !ends.is_empty() {
-        return None;
-    }
-    let ends = alone(alloc, end)?;
-    Some(Stage {
-        broker,
-        ends,
-        lanes,
-    })
-}
-
-// An end alone, if there is memory.
-fn alone(alloc: Global, end: ClientEnd) -> Option<Vec<ClientEnd>>
-    ensures { IfSome result (λ ends. ends.items ≡ end ∷ []) }
-{
-    let mut ends = Vec::new(alloc);
     match ends.push(end) {
-        Ok(()) => Some(ends),
+        Ok(()) => Some(Stage {
+            broker,
+            ends,
+            lanes,
+        }),
         Err(_) => None,
     }
+}
+
+/// Publishes so many packets of the only end of a stage. The stage comes back if all are published.
+pub fn publish_alone(stage: Stage, packets: u64) -> Option<Stage>
+    requires { IsStage stage }
+    ensures { IfSome result IsStage }
+{
+    let (stage, end) = split_last_end(stage)?;
+    let mut end = end;
+    if publish_some(&stage.broker, &mut end, packets) != packets || !stage.ends.is_empty() {
+        return None;
+    }
+    with_end(stage, end)
 }
 
 /// Runs the lanes of a stage.
