@@ -1,5 +1,7 @@
 pub mod More
 pub mod States
+mod Sameness
+mod Alike
 pub mod Meeting
 pub mod Legality
 pub mod Lists

@@ -15,6 +15,7 @@ pub mod States
 pub mod Owed
 pub mod Queries
 pub mod Legal
+pub mod Rotation
 pub mod Room
 pub mod Headline
 pub mod inner

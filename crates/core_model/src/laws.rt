@@ -42,7 +42,7 @@ ghost use Rattle.core_model.specs.declared.outcome.Taken.TheVariants as taken;
 ghost use Rattle.core_model.specs.declared.outcome.Worked.TheVariants as worked;
 ghost use Rattle.core_model.specs.declared.refusal.Refusal.{Refusal};
 ghost use Rattle.core_model.specs.declared.refusal.Refusal.TheVariants as refusal;
-ghost use Rattle.core_model.specs.History.{History, Part, Start, begin, beginning, opening_origin, opening_state};
+ghost use Rattle.core_model.specs.History.{History, IsOpeningOrigin, Origin, Part, Start, begin, beginning, opening_state};
 ghost use Rattle.core_model.specs.Policies.{policy_at};
 ghost use Rattle.core_model.specs.States.{state_after};
 ghost use Rattle.kernel_check.specs.Programs.{Program};
@@ -303,7 +303,7 @@ pub fn histories_go_on_from_their_states()
 /// What an opened core begins from is the opening state; a history that begins there is legal just where
 /// it is whole: no entry came before.
 pub fn whole_histories_begin_at_an_opening()
-    ensures opened { (policy : Declared) (kernels : List Program) → begin kernels (opening_origin policy) ≡ opening_state policy kernels }
+    ensures opened { (policy : Declared) (kernels : List Program) (origin : Origin) → IsOpeningOrigin policy origin → begin kernels origin ≡ opening_state policy kernels }
     ensures legal { (start : Start) (entries : List Entry) → IsWhole start entries → IsLegal start entries }
     ensures whole { (start : Start) (entries : List Entry) → start.before ≡ 0 → IsLegal start entries → IsWhole start entries }
 {}

@@ -11,7 +11,9 @@ mod kernel;
 mod laws;
 mod limits;
 mod need;
+mod origin;
 mod outcome;
+mod part;
 mod refusal;
 
 pub use answer::{Answer, Reply};
@@ -34,8 +36,10 @@ pub use laws::{
     whole_histories_begin_at_an_opening,
 };
 pub use limits::{
-    MOST_ENTRIES, MOST_GROUP_ITEMS, MOST_HOST_BYTES, MOST_SEGMENT_BYTES, QUEUES, SLOTS,
+    MOST_BEFORE, MOST_ENTRIES, MOST_GROUP_ITEMS, MOST_HOST_BYTES, MOST_SEGMENT_BYTES, QUEUES, SLOTS,
 };
 pub use need::{ADD64, AgentFunction, COPY, FILL, Need, Range, Subject};
+pub use origin::{Opening, Origin, PacketOrigin, QueueOrigin};
 pub use outcome::{NONE_SATISFIED, Outcome, Polled, Satisfied, Taken, WaitCause, Worked};
+pub use part::{JoinFault, NotJoined, Part, join};
 pub use refusal::Refusal;
