@@ -29,8 +29,9 @@ use Rattle.core_model.specs.Flight.{flight, flight_after}
 use Rattle.core_model.specs.Owed.{Owed, refuses, answers, enters, owed}
 use Rattle.core_model.specs.Queries.{AnswerOrRefusal, query_answer}
 
--- the history of a core that was just opened: it begins from the opening state, and has no entry yet (own)
+-- the history of a core that was just opened: it begins from the opening state, over this policy, and has no entry yet (own)
 pub record IsOpening (history : History) (policy : Declared) (kernels : List Program) (capacity : ℕ) : Type 0 where
+  pub policy_is : history.origin.policy ≡ policy
   pub start_is : beginning history ≡ opening_state policy kernels
   pub kernels_are : history.kernels ≡ kernels
   pub capacity_is : history.capacity ≡ capacity
