@@ -137,6 +137,6 @@ abbrev pub text_of_entries : Declared → ℕ → List Entry → List ℕ
 text_of_entries policy number [] = []
 text_of_entries policy number (entry ∷ entries) = text_of_entry policy number entry ++ text_of_entries policy (number + 1) entries
 
--- the audit: `audit N`, then N lines, numbered from 1
-abbrev pub text_of_audit : Declared → List Entry → List ℕ
-text_of_audit policy entries = codes "audit " ++ decimal (length entries) ++ codes "\n" ++ text_of_entries policy 1 entries
+-- the audit: `audit N`, then N lines, numbered on from those that came before
+abbrev pub text_of_audit : Declared → ℕ → List Entry → List ℕ
+text_of_audit policy before entries = codes "audit " ++ decimal (length entries) ++ codes "\n" ++ text_of_entries policy (before + 1) entries

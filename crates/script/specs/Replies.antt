@@ -130,7 +130,7 @@ text_of_answer policy old (answer.Value value) = codes "value " ++ signed_decima
 text_of_answer policy old (answer.Test held) = if held then codes "true\n" else codes "false\n"
 text_of_answer policy old (answer.Listing all) = text_of_listing policy all
 text_of_answer policy old (answer.Errors all) = text_of_errors all
-text_of_answer policy old (answer.Audit all) = text_of_audit policy all
+text_of_answer policy old (answer.Audit before all) = text_of_audit policy before all
 
 -- ---- what the world answers
 

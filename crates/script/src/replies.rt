@@ -197,7 +197,9 @@ fn write_answer(
         Answer::Test(held) => out.push_str(if *held { "true\n" } else { "false\n" }),
         Answer::Listing(all) => write_listing(out, policy, all.as_slice()),
         Answer::Errors(all) => write_errors(out, all.as_slice()),
-        Answer::Audit(all) => write_audit(out, policy, all.as_slice()),
+        Answer::Audit { before, entries } => {
+            write_audit(out, policy, *before, entries.as_slice())
+        }
     }
 }
 

@@ -34,7 +34,7 @@ pub fn the_headline(policy: &Policy)
 
 // The headline holds of each world in step whose history begins at an opening over a policy.
 pub(crate) fn headline_of(policy: &Policy)
-    ensures { (world : Joined) → (beginning world.core).policy ≡ policy.now → (beginning world.core).before ≡ 0 → IsJoined world → Headline world }
+    ensures { (world : Joined) → world.core.origin.policy ≡ policy.now → (beginning world.core).before ≡ 0 → IsJoined world → Headline world }
 {
     policy.object_count(Kind::Region);
     each_launch_was_granted();

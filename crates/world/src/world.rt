@@ -7,7 +7,6 @@ ghost use Rattle.world.specs.InStep.{IsJoined};
 ghost use Rattle.world.specs.Starting.{Begins};
 ghost use Rattle.std.specs.Option.{option_copied};
 ghost use Rattle.world.specs.States.{ring_of, slots_of};
-ghost use Rattle.core_model.specs.History.{beginning};
 
 use crate::laws::headline_of;
 use crate::queue_ring::QueueRing;
@@ -74,7 +73,7 @@ impl World {
 
     /// The policy that it was opened over.
     pub fn policy(&self) -> &Policy
-        ensures { result.now ≡ (beginning self.now.core).policy }
+        ensures { result.now ≡ self.now.core.origin.policy }
     {
         self.core.policy()
     }
