@@ -12,7 +12,8 @@ use Rattle.core_model.specs.Memory.{memory_at, signals}
 use Rattle.core_model.specs.Queues.{openings, next_id, errors, is_stopped}
 use Rattle.core_model.specs.Flight.{flight}
 use Rattle.core_model.specs.Holds.{arguments, held}
-use Rattle.core_model.specs.History.{IsOpeningOrigin, Origin, opening_state}
+use Rattle.core_model.specs.History.{IsOpeningOrigin, opening_state}
+use Rattle.core_model.specs.declared.origin.Origin.{Origin}
 use Rattle.core_model.specs.Legal.{IsOpening}
 use Rattle.core_model.proofs.States.{begin-opening, whole-legal}
 use Rattle.grants.specs.Ledger as ledger

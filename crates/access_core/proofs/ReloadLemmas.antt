@@ -9,7 +9,8 @@ use Rattle.policy.specs.declared.rows.PolicyRows.{PolicyRows}
 use Rattle.grants.specs.Cells.{Table, has_right, in_table, item_at, object_count, object_place}
 use Rattle.grants.specs.Ledger.{HoldsDenied, IsBlockedBy}
 use Rattle.grants.specs.Ledger as ledger
-use Rattle.core_model.specs.History.{Origin, policy_in}
+use Rattle.core_model.specs.History.{policy_in}
+use Rattle.core_model.specs.declared.origin.Origin.{Origin}
 use Rattle.core_model.specs.Holds.{holds_denied}
 use Rattle.core_model.specs.Owed.{owed}
 use Rattle.core_model.specs.declared.event.Event.TheVariants.{Reload}

@@ -6,7 +6,10 @@ use Rattle.std.specs.Option.{unwrap_or}
 use Rattle.std.proofs.lemmas.Bool.{and_from, and_parts, eq-eqb, eqb-true}
 use Rattle.std.proofs.lemmas.List.Elements.{All-cons, All-head, All-nil, All-tail, All-weaker}
 use Rattle.aql_packet.specs.Ids.{same_packet}
-use Rattle.core_model.specs.History.{Origin, PacketOrigin, QueueOrigin, begin, no_queue, packet_in, queue_in}
+use Rattle.core_model.specs.History.{begin, no_queue, packet_in, queue_in}
+use Rattle.core_model.specs.declared.origin.Origin.{Origin}
+use Rattle.core_model.specs.declared.origin.PacketOrigin.{PacketOrigin}
+use Rattle.core_model.specs.declared.origin.QueueOrigin.{QueueOrigin}
 use Rattle.core_model.specs.States.{state_after}
 use Rattle.core_model.proofs.Absent.{launch-absent, zero-outside}
 use Rattle.core_model.proofs.Apart.{AreApart, apart-legal, found-legal}

@@ -1,12 +1,13 @@
 -- What is kept beside an audit that is rotated: the fields stay, and tell the same of the state behind it.
-use Rattle.std.proofs.Common.{◌≡◌, ℕ, ◌+◌, ◌≤◌, List, [], length, map, sym, ◌∙◌, ap, subst, true, Some, arith}
+use Rattle.std.proofs.Common.{◌≡◌, ℕ, ◌+◌, ◌≤◌, List, [], length, map, sym, ◌∙◌, ap, subst, true, false, Some, arith}
 use Rattle.std.specs.Prelude.{All}
 use Rattle.std.specs.List.{filter_map}
 use Rattle.sequences.specs.Room.{Roomy}
 use Rattle.core_model.specs.declared.entry.Entry.{Entry}
 use Rattle.core_model.specs.declared.flight.InFlight.{InFlight}
 use Rattle.core_model.specs.declared.limits.TheConstants.{MOST_BEFORE}
-use Rattle.core_model.specs.History.{Origin, begin, effects_of}
+use Rattle.core_model.specs.History.{begin, effects_of}
+use Rattle.core_model.specs.declared.origin.Origin.{Origin}
 use Rattle.core_model.specs.Grants.{in_force}
 use Rattle.core_model.specs.Policies.{policy_at, rows_at}
 use Rattle.core_model.specs.Memory.{memory_at, signals}
@@ -14,13 +15,14 @@ use Rattle.core_model.specs.Queues.{openings, next_id, errors, is_stopped}
 use Rattle.core_model.specs.Flight.{flight, progress}
 use Rattle.core_model.specs.Holds.{arguments, held}
 use Rattle.core_model.specs.Legal.{IsLegal}
+use Rattle.core_model.specs.Rotation.{lies_too_far}
 use Rattle.core_model.specs.States.{state_after}
 use Rattle.core_model.proofs.States.{rotate-legal, same-begin}
 use Rattle.grants.specs.Ledger as ledger
 use Rattle.grants.specs.Ledger.{IsCopy, Ledger}
 use Rattle.access_core.specs.inner.Origins.{origin_behind, packet_origin, queue_origin}
 use Rattle.access_core.proofs.Rotated.{rotated}
-use Rattle.access_core.proofs.Terms.{AreBlocksOf, IsCached, Inside, Start, are_region_lengths, block_of, byte_at, cached_opening, cached_view, lies_in_region, lies_in_regions, numbered, program_of, queue_at}
+use Rattle.access_core.proofs.Terms.{AreBlocksOf, IsCached, Inside, Start, are_region_lengths, block_of, byte_at, cached_opening, cached_view, history_of, lies_in_region, lies_in_regions, ltb-false, numbered, program_of, queue_at}
 use Rattle.access_core.proofs.Terms.{region_lengths, rules_in, rules_of, start_of}
 
 module _ (a : Inside) (kept : IsCached a) where
@@ -40,6 +42,12 @@ module _ (a : Inside) (kept : IsCached a) where
         before = before;
       })
       ∙ rotated a kept fit
+
+  -- and it has no more entries before it than may be
+  pub few-behind : (o : Origin) → lies_too_far (history_of a) ≡ false → begin (map program_of a.kernels.items) o ≡ state_after (start_of a) a.audit.items → o.before ≤ MOST_BEFORE
+  few-behind o near is =
+      let count : o.before ≡ a.start.before + length a.audit.items = ap (λ (now : Start). now.before) is in
+      omega (arith, count, ltb-false MOST_BEFORE (a.start.before + length a.audit.items) near)
 
   -- with an origin that gives those answers, and an empty audit, the fields are again what the history says
   pub IsCached-rotated : (next : Origin) (audit : Roomy Entry) → begin (map program_of a.kernels.items) next ≡ state_after (start_of a) a.audit.items → audit.items ≡ []

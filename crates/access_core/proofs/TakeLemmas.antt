@@ -166,8 +166,21 @@ pub record IsOpen (a : Inside) (queue : QueueId) : Type 0 where
   pub small : q.next < 2 ^ 63
 
 pub is-open : (a : Inside) (kept : IsCached a) (queue : QueueId) (opening : Opening) → owner (start_of a) a.audit.items queue ≡ Some opening → IsOpen a queue
-is-open a kept queue opening owned =
-    grind (arith, owner-kept a queue kept, next_id-le (start_of a) a.audit.items queue, next-before (start_of a) a.audit.items kept.legal queue, sound-at a.queues.items queue.0)
+is-open a kept queue opening owned = by_queue (numbered a.queues.items queue.0) refl
+  where
+    by_queue : (o : Option Queue) → numbered a.queues.items queue.0 ≡ o → IsOpen a queue
+    by_queue None none =
+        let lost : Some opening ≡ None = sym owned ∙ owner-kept a queue kept ∙ ap (option_map cached_opening) none in
+        absurd cc
+    by_queue (Some q) found =
+        let view : cached_view (Some q) ≡ queue_at (start_of a) a.audit.items queue = ap cached_view (sym found) ∙ kept.queues queue in
+        let next : q.next ≡ next_id (start_of a) a.audit.items queue = ap (λ (v : QueueView). v.next) view in
+        let handed = next_id-le (start_of a) a.audit.items queue in
+        let begun = next-before (start_of a) a.audit.items kept.legal queue in
+        let before = kept.before in
+        let room = kept.room in
+        let few = kept.few in
+        record { q = q; found = found; view = view; sound = sound-at a.queues.items queue.0 q kept.sound found; small = omega (arith, next, handed, begun, before, room, few) }
 
 -- the queue of a packet in its place is open
 pub open-of : (a : Inside) (kept : IsCached a) (old : History) → history_of a ≡ old → (queue : QueueId) (id : PacketId) (place : Place)

@@ -11,7 +11,8 @@ use Rattle.regions.specs.Memory.{byte_at, lengths_of, lies_in_region}
 use Rattle.sequences.specs.Room.{Roomy}
 use Rattle.core_model.specs.declared.entry.Entry.{Entry}
 use Rattle.core_model.specs.declared.limits.TheConstants.{MOST_BEFORE, MOST_ENTRIES, QUEUES}
-use Rattle.core_model.specs.History.{History, Origin, Start, begin, beginning}
+use Rattle.core_model.specs.History.{History, Start, begin, beginning}
+use Rattle.core_model.specs.declared.origin.Origin.{Origin}
 use Rattle.core_model.specs.Grants.{in_force}
 use Rattle.core_model.specs.Policies.{policy_at}
 use Rattle.core_model.specs.Memory.{memory_at, signals}

@@ -4,7 +4,9 @@ use Rattle.std.specs.List.{filter_map}
 use Rattle.aql_packet.specs.declared.ids.PacketId.{PacketId}
 use Rattle.aql_packet.specs.declared.ids.QueueId.{QueueId}
 use Rattle.policy.specs.Policy.{numbered}
-use Rattle.core_model.specs.History.{Origin, PacketOrigin, QueueOrigin}
+use Rattle.core_model.specs.declared.origin.Origin.{Origin}
+use Rattle.core_model.specs.declared.origin.PacketOrigin.{PacketOrigin}
+use Rattle.core_model.specs.declared.origin.QueueOrigin.{QueueOrigin}
 use Rattle.packet_processor.specs.Queueing.{is_place_of}
 use Rattle.packet_processor.specs.declared.places.Place.{Place}
 use Rattle.access_core.specs.declared.access.AccessCore.TheInside.{Inside}

@@ -18,7 +18,8 @@ use Rattle.executor.specs.declared.fault.RunFault.TheVariants.{Fault, OutOfMemor
 use Rattle.packet_processor.specs.declared.places.Place.{Place}
 use Rattle.regions.specs.Memory.{region_length}
 pub use Rattle.core_model.specs.Owed.{fault_owed}
-use Rattle.core_model.specs.Queues.{Opening, owner}
+use Rattle.core_model.specs.Queues.{owner}
+use Rattle.core_model.specs.declared.origin.Opening.{Opening}
 
 -- a packet in flight, of a queue of this client
 pub record IsHolder (history : History) (queue : QueueId) (id : PacketId) (client : ClientId) : Type 0 where
