@@ -1,12 +1,12 @@
 //! The audit as text.
 
 ghost use Rattle.std.specs.Prelude.{◌≡◌, ◌++◌, ◌+◌, ◌<◌, OnOk, flat_map, decimal, string_bytes};
-ghost use Rattle.script.specs.Entries.{name_of_operation, text_of_packet, text_of_rights_on, opened, text_of_opening, seen_at, text_of_take, text_of_work, text_of_poll, text_of_event, text_of_seen, text_of_broken, text_of_result, text_of_effect, text_of_entry, text_of_entries, text_of_audit};
+ghost use Rattle.script.specs.Entries.{name_of_operation, text_of_packet, text_of_rights_on, opened, text_of_opening, seen_at, text_of_take, text_of_work, text_of_poll, text_of_event, text_of_seen, text_of_broken, text_of_result, text_of_effect, text_of_entry, text_of_entries, text_of_audit, text_of_rotated};
 ghost use Rattle.script.specs.Texts.{comma_if};
 
 use crate::texts::{write_address, write_bytes, write_client, write_item, write_rights};
 use aql_packet::{ClientId, PacketId, QueueId};
-use core_model::{Effect, Entry, Event, Outcome, Polled, Satisfied, Taken, Worked};
+use core_model::{Effect, Entry, Event, Outcome, Part, Polled, Satisfied, Taken, Worked};
 use policy::{Object, Policy, Rights};
 use queue_error::QueueError;
 use signals::SignalOp;
@@ -283,6 +283,15 @@ pub fn write_audit(
 {
     writeln!(out, "audit {}", entries.len())?;
     write_entries(out, policy, before, entries)
+}
+
+/// Writes a part that was handed out, its entries as those of the audit.
+pub fn write_rotated(out: &mut String, policy: &Policy, part: &Part) -> Result<(), AllocError>
+    ensures { OnOk result (string_bytes out.new ≡ string_bytes out.old ++ text_of_rotated policy.now part.now) }
+{
+    let entries = part.entries();
+    writeln!(out, "rotated {}", entries.len())?;
+    write_entries(out, policy, part.start().before, entries)
 }
 
 /// Writes entries that come behind so many others, each with its number.
