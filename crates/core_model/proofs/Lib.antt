@@ -16,6 +16,7 @@ pub mod Changes
 pub mod Absent
 pub mod Apart
 pub mod Turns
+pub mod Taken
 pub mod Seeing
 pub mod Served
 pub mod FlightLaw
