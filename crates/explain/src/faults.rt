@@ -197,14 +197,22 @@ fn put_about(
     out.push_str(behind)
 }
 
-// The first right that an access wants and that the client didn't have on a region at the launch.
+// Whether the packet holds a right on the region in which an access begins: the client had it at the launch, and an
+// argument points into the region; or it is READ where the argument block lies.
+fn is_held(launch: &Launch<'_>, region: Object, right: Right) -> bool {
+    if launch.is_pointed && is_in_force(launch.before, launch.opening.client, region, right) {
+        return true;
+    }
+    launch.has_block && right == Right::Read
+}
+
+// The first right that an access wants and that the packet doesn't hold on the region in which it begins.
 fn missing(launch: &Launch<'_>, region: Object) -> Option<Right> {
-    let client = launch.opening.client;
     let (reads, writes) = wanted(launch.reach);
-    if reads && !is_in_force(launch.before, client, region, Right::Read) {
+    if reads && !is_held(launch, region, Right::Read) {
         return Some(Right::Read);
     }
-    if writes && !is_in_force(launch.before, client, region, Right::Write) {
+    if writes && !is_held(launch, region, Right::Write) {
         return Some(Right::Write);
     }
     None
@@ -379,6 +387,10 @@ struct Launch<'a> {
     rule: Rule,
     reach: Reach,
     region: Option<Object>,
+    /// Whether an argument of 64 bits points into that region.
+    is_pointed: bool,
+    /// Whether the argument block lies in it.
+    has_block: bool,
 }
 
 // A right that an access wants and that the client lacks on a region.
@@ -455,54 +467,97 @@ fn tell_unpointed(
     let Some(region) = launch.region else {
         return Ok(());
     };
+    if launch.is_pointed || launch.rule == Rule::A3 {
+        return Ok(());
+    }
     begin(out, scene)?;
     put_about(
         out,
         scene,
         "no argument of 64 bits points into ",
         region,
-        ", so the packet doesn't hold it\n",
+        ": a packet holds rights on regions into which one does, and READ where its argument block lies\n",
     )
+}
+
+// Whether an argument of 64 bits points into a region.
+fn is_pointed(scene: &Scene<'_>, shape: &Shape, block: &[u8], region: Option<Object>) -> bool {
+    for offset in shape.wide.as_slice() {
+        if region.is_some() && region_at(scene, argument(block, *offset)) == region {
+            return true;
+        }
+    }
+    false
 }
 
 // Where the packet's arguments point.
 fn tell_pointers(
-    alloc: Global,
     out: &mut String,
     scene: &Scene<'_>,
     launch: &Launch<'_>,
-    dispatch: &KernelDispatch,
     shape: &Shape,
+    block: &[u8],
 ) -> Result<(), AllocError> {
     if shape.wide.is_empty() {
         return say(
             out,
             scene,
-            "the kernel has no argument of 64 bits, so its packet holds no region",
+            "the kernel has no argument of 64 bits: its packet holds no right on a region, but READ where its argument block lies",
         );
     }
+    for offset in shape.wide.as_slice() {
+        tell_pointer(out, scene, launch, *offset, argument(block, *offset))?;
+    }
+    tell_unpointed(out, scene, launch)
+}
+
+// Whether a rule is of regions.
+fn is_of_regions(rule: Rule) -> bool {
+    rule == Rule::A1 || rule == Rule::A2 || rule == Rule::A3
+}
+
+// Why a kernel dispatch failed, by its argument block at its launch.
+fn tell_block(
+    out: &mut String,
+    scene: &Scene<'_>,
+    dispatch: &KernelDispatch,
+    place: FaultPlace,
+    launch: &Launch<'_>,
+    shape: &Shape,
+    block: &[u8],
+) -> Result<(), AllocError> {
+    let region = region_at(scene, dispatch.kernarg_address.0);
+    let launch = Launch {
+        is_pointed: is_pointed(scene, shape, block, launch.region),
+        has_block: shape.arguments > 0 && region.is_some() && region == launch.region,
+        ..*launch
+    };
+    tell_place(out, scene, dispatch, launch.rule, place)?;
+    tell_rule(out, scene, dispatch, &launch, place.address)?;
+    if is_of_regions(launch.rule) {
+        tell_pointers(out, scene, &launch, shape, block)
+    } else {
+        Ok(())
+    }
+}
+
+// Why a kernel dispatch failed, by its kernel's arguments.
+fn tell_shape(
+    alloc: Global,
+    out: &mut String,
+    scene: &Scene<'_>,
+    dispatch: &KernelDispatch,
+    place: FaultPlace,
+    launch: &Launch<'_>,
+    shape: &Shape,
+) -> Result<(), AllocError> {
     let block = memory(
         alloc,
         launch.before,
         dispatch.kernarg_address,
         shape.arguments,
     )?;
-    let mut points = false;
-    for offset in shape.wide.as_slice() {
-        let address = argument(block.as_slice(), *offset);
-        points = points | (region_at(scene, address) == launch.region);
-        tell_pointer(out, scene, launch, *offset, address)?;
-    }
-    if points {
-        Ok(())
-    } else {
-        tell_unpointed(out, scene, launch)
-    }
-}
-
-// Whether a rule is of regions.
-fn is_of_regions(rule: Rule) -> bool {
-    rule == Rule::A1 || rule == Rule::A2 || rule == Rule::A3
+    tell_block(out, scene, dispatch, place, launch, shape, block.as_slice())
 }
 
 // Why a kernel dispatch failed.
@@ -530,14 +585,11 @@ fn tell_dispatch(
         rule: error.rule,
         reach: reach_at(alloc, scene, dispatch, place),
         region: region_of(scene, place.address),
+        is_pointed: false,
+        has_block: false,
     };
-    tell_place(out, scene, dispatch, error.rule, place)?;
-    tell_rule(out, scene, dispatch, &launch, place.address)?;
-    if !is_of_regions(error.rule) {
-        return Ok(());
-    }
     match shape_of(alloc, scene.policy, dispatch.kernel_object)? {
-        Some(shape) => tell_pointers(alloc, out, scene, &launch, dispatch, &shape),
+        Some(shape) => tell_shape(alloc, out, scene, dispatch, place, &launch, &shape),
         None => Ok(()),
     }
 }
