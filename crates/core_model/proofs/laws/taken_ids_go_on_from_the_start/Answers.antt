@@ -1,5 +1,5 @@
 use Rattle.std.proofs.Common.{[]}
-use Rattle.core_model.proofs.Taken.{count, ids}
+use Rattle.core_model.proofs.TakenIds.{count, ids}
 use Rattle.core_model.proofs.laws.taken_ids_go_on_from_the_start.Goals as goal
 
 pub returns-clause-ids : goal.returns-clause-ids
