@@ -24,6 +24,8 @@ use Rattle.aql_packet.specs.declared.packet.Packet.TheVariants as packet
 use Rattle.queue_error.specs.declared.rule.Rule.{Rule}
 use Rattle.queue_error.specs.declared.error.FaultPlace.{FaultPlace}
 use Rattle.queue_error.specs.declared.error.QueueError.{QueueError}
+use Rattle.queue_error.specs.declared.error.SegmentAddress.{SegmentAddress}
+use Rattle.queue_error.specs.declared.error.SegmentAddress.TheVariants as segment
 use Rattle.policy.specs.declared.object.Kind.{Kind}
 use Rattle.policy.specs.declared.object.Object.{Object}
 use Rattle.policy.specs.declared.object.Object.TheVariants as object
@@ -49,6 +51,7 @@ use Rattle.aql_packet.specs.contracts.packet.PacketPartialEq.TheImpl as packet_t
 use Rattle.queue_error.specs.contracts.rule.RulePartialEq.TheImpl as rule_test
 use Rattle.queue_error.specs.contracts.error.FaultPlacePartialEq.TheImpl as place_test
 use Rattle.queue_error.specs.contracts.error.QueueErrorPartialEq.TheImpl as error_test
+use Rattle.queue_error.specs.contracts.error.SegmentAddressPartialEq.TheImpl as segment_test
 use Rattle.policy.specs.contracts.object.KindPartialEq.TheImpl as kind_test
 use Rattle.policy.specs.contracts.object.ObjectPartialEq.TheImpl as object_test
 use Rattle.policy.specs.contracts.row.GranteePartialEq.TheImpl as grantee_test
@@ -192,8 +195,27 @@ packet_origin_decides a b = Decides-like _ whole parts
 rule_decides : (a b : Rule) → Decides (rule_test.eq-value.it a b) (a ≡ b)
 rule_decides a b = search rules
 
+segment_decides : (a b : SegmentAddress) → Decides (segment_test.eq-value.it a b) (a ≡ b)
+segment_decides (segment.Global x) (segment.Global y) = Decides-like _ (λ h. ap segment.Global h) (λ e. let inner : x ≡ y = cc in inner) (Decides-eqb x y)
+segment_decides (segment.Global x) (segment.Group y) = (λ h. absurd (true≢false (sym h)), λ e. absurd cc)
+segment_decides (segment.Group x) (segment.Global y) = (λ h. absurd (true≢false (sym h)), λ e. absurd cc)
+segment_decides (segment.Group x) (segment.Group y) = Decides-like _ (λ h. ap segment.Group h) (λ e. let inner : x ≡ y = cc in inner) (Decides-eqb x y)
+
+segment_if_decides : (a b : Option SegmentAddress) → Decides (option_eq segment_test.eq-value.it a b) (a ≡ b)
+segment_if_decides None None = (λ h. refl, λ e. refl)
+segment_if_decides None (Some y) = (λ h. absurd (true≢false (sym h)), λ e. absurd cc)
+segment_if_decides (Some x) None = (λ h. absurd (true≢false (sym h)), λ e. absurd cc)
+segment_if_decides (Some x) (Some y) = Decides-like _ (λ h. ap Some h) (λ e. let inner : x ≡ y = cc in inner) (segment_decides x y)
+
 place_decides : (a b : FaultPlace) → Decides (place_test.eq-value.it a b) (a ≡ b)
-place_decides a b = grind arith
+place_decides a b = Decides-like _ whole parts
+    (Decides-and _ _ (Decides-eqb a.group b.group) (Decides-and _ _ (Decides-eqb a.item b.item) (Decides-and _ _ (Decides-eqb a.line b.line) (segment_if_decides a.address b.address))))
+  where
+    whole : ((a.group ≡ b.group) × ((a.item ≡ b.item) × ((a.line ≡ b.line) × (a.address ≡ b.address)))) → a ≡ b
+    whole h = λ i. record { group = h.0 i; item = h.1.0 i; line = h.1.1.0 i; address = h.1.1.1 i }
+
+    parts : a ≡ b → ((a.group ≡ b.group) × ((a.item ≡ b.item) × ((a.line ≡ b.line) × (a.address ≡ b.address))))
+    parts e = (ap (λ (x : FaultPlace). x.group) e, (ap (λ (x : FaultPlace). x.item) e, (ap (λ (x : FaultPlace). x.line) e, ap (λ (x : FaultPlace). x.address) e)))
 
 place_if_decides : (a b : Option FaultPlace) → Decides (option_eq place_test.eq-value.it a b) (a ≡ b)
 place_if_decides None None = (λ h. refl, λ e. refl)

@@ -16,8 +16,9 @@ pub mod Changes
 pub mod Absent
 pub mod Apart
 pub mod Turns
+pub mod TakenIds
 pub mod Seeing
-pub mod Served
+pub mod ServedLaw
 pub mod FlightLaw
 pub mod Room
 mod Allowed

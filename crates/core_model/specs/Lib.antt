@@ -16,6 +16,7 @@ pub mod Owed
 pub mod Queries
 pub mod Legal
 pub mod Rotation
+pub mod Takes
 pub mod Room
 pub mod Headline
 pub mod inner
