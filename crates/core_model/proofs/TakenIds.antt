@@ -49,7 +49,10 @@ is_next s before queue (Reload _) told effects t owing is = absurd cc
 hands : (queue : QueueId) (event : Event) → hands_over_packet_of queue event ≡ is_some (taken_by queue event)
 hands queue (Take q id bytes) = by_test (q.0 == queue.0)
   where
-    by_test : (b : Bool) → b ≡ is_some {X = Served} (if b then Some (record { id = id; bytes = bytes }) else None)
+    taken_if : Bool → Option Served
+    taken_if b = if b then Some (record { id = id; bytes = bytes }) else None
+
+    by_test : (b : Bool) → b ≡ is_some (taken_if b)
     by_test true = refl
     by_test false = refl
 hands queue (Grant _ _ _) = refl
@@ -83,28 +86,33 @@ count s before (e ∷ es) queue =
     omega (arith, all, rest, one, whole)
   where
     longer : (o : Option Served) (rest : List Served) → length (cons_option o rest) ≡ length (option_to_list o) + length rest
-    longer None rest = refl
+    longer None rest = omega arith
     longer (Some t) rest = omega arith
 
--- the ids go on from the next one
+-- the ids go on from the next one, by whether the first entry takes one, where those behind it do
+ids-by : (s : Start) (before : List Entry) (e : Entry) (es : List Entry) (queue : QueueId) (t : Served) → owed s before e.event ≡ enters e.outcome e.effects
+    → ((place : ℕ) → slice_get (takes es queue) place ≡ Some t → t.id.0 ≡ next_id s (before ++ e ∷ []) queue + place)
+    → (o : Option Served) → taken_by queue e.event ≡ o → (place : ℕ) → slice_get (cons_option o (takes es queue)) place ≡ Some t → t.id.0 ≡ next_id s before queue + place
+ids-by s before e es queue t owing rest None none place there =
+    let here = rest place there in
+    let none_taken : Option Served = None in
+    let same : next_id s (before ++ e ∷ []) queue ≡ next_id s before queue + length (option_to_list none_taken) =
+    next-taken s before e queue ∙ ap (λ (o : Option Served). next_id s before queue + length (option_to_list o)) none in
+    omega (arith, here, same)
+ids-by s before e es queue t owing rest (Some one) some zero there =
+    let here : t.id.0 ≡ next_id s before queue = is_next s before queue e.event e.outcome e.effects t owing (some ∙ there) in
+    omega (arith, here)
+ids-by s before e es queue t owing rest (Some one) some (suc place) there =
+    let here = rest place there in
+    let more : next_id s (before ++ e ∷ []) queue ≡ next_id s before queue + length (option_to_list (Some one)) =
+    next-taken s before e queue ∙ ap (λ (o : Option Served). next_id s before queue + length (option_to_list o)) some in
+    omega (arith, here, more)
+
 ids-after : (s : Start) (before es : List Entry) (queue : QueueId) → IsLegalAfter s before es → (place : ℕ) (t : Served) → slice_get (takes es queue) place ≡ Some t
     → t.id.0 ≡ next_id s before queue + place
 ids-after s before [] queue legal place t found = absurd cc
-ids-after s before (e ∷ es) queue legal place t found = by_taken (taken_by queue e.event) refl place found
-  where
-    rest : (place : ℕ) → slice_get (takes es queue) place ≡ Some t → t.id.0 ≡ next_id s (before ++ e ∷ []) queue + place
-    rest place there = ids-after s (before ++ e ∷ []) es queue legal.1 place t there
-
-    by_taken : (o : Option Served) → taken_by queue e.event ≡ o → (place : ℕ) → slice_get (cons_option o (takes es queue)) place ≡ Some t → t.id.0 ≡ next_id s before queue + place
-    by_taken None none place there =
-        let here = rest place there in
-        let same : next_id s (before ++ e ∷ []) queue ≡ next_id s before queue + length (option_to_list {X = Served} None) = next-taken s before e queue ∙ ap (λ (o : Option Served). next_id s before queue + length (option_to_list o)) none in
-        omega (arith, here, same)
-    by_taken (Some one) some zero there = let here : t.id.0 ≡ next_id s before queue = is_next s before queue e.event e.outcome e.effects t legal.0 (some ∙ there) in omega (arith, here)
-    by_taken (Some one) some (suc place) there =
-        let here = rest place there in
-        let more : next_id s (before ++ e ∷ []) queue ≡ next_id s before queue + length (option_to_list (Some one)) = next-taken s before e queue ∙ ap (λ (o : Option Served). next_id s before queue + length (option_to_list o)) some in
-        omega (arith, here, more)
+ids-after s before (e ∷ es) queue legal place t found =
+    ids-by s before e es queue t legal.0 (λ later there. ids-after s (before ++ e ∷ []) es queue legal.1 later t there) (taken_by queue e.event) refl place found
 
 pub ids : (s : Start) (es : List Entry) (queue : QueueId) (place : ℕ) (t : Served) → IsLegal s es → slice_get (takes es queue) place ≡ Some t → t.id.0 ≡ next_id s [] queue + place
 ids s es queue place t legal found = ids-after s [] es queue (legal-own s es legal) place t found
