@@ -1,5 +1,5 @@
 -- The kernels of a policy, one by one.
-use Rattle.std.proofs.Common.{◌≡◌, ℕ, zero, suc, ◌+◌, ◌≤◌, List, [], ◌∷◌, ◌++◌, refl, sym, ap, ◌∙◌, subst, Bool, true, false, nat_le, Option, Some, None, Err, add-one, arith, map, take, slice_get}
+use Rattle.std.proofs.Common.{◌≡◌, ℕ, zero, suc, ◌+◌, ◌<◌, ◌≤◌, List, [], ◌∷◌, ◌++◌, length, refl, sym, ap, ◌∙◌, subst, Bool, true, false, nat_le, Option, Some, None, Err, add-one, arith, map, take, slice_get}
 use Rattle.std.proofs.lemmas.Bool.Decides.{nat_tests}
 use Rattle.std.specs.Borrow.{Bor}
 use Rattle.std.specs.Option.{IsSome, option_copied}
@@ -27,9 +27,9 @@ copied-some None p e there = absurd (there (sym e))
 copied-some (Some b) p e there = refl
 
 -- the next kernel is the first that is refused, where those before pass
-pub refused-next : (rows : List (Name × Source)) (before : ℕ) (why : KernelError) → ((number : ℕ) → number ≤ before → Passes rows number) → JudgesKernel rows (before + 1) (Err why) → AreRefused rows why
-refused-next rows before error.OutOfMemory passed judged = tt
-refused-next rows before (error.Fault fault) passed judged = record {
+pub refused-next : (rows : List (Name × Source)) (before : ℕ) (why : KernelError) → before < length rows → ((number : ℕ) → number ≤ before → Passes rows number) → JudgesKernel rows (before + 1) (Err why) → AreRefused rows why
+refused-next rows before error.OutOfMemory below passed judged = (before, below, passed)
+refused-next rows before (error.Fault fault) there passed judged = record {
   refused = judged.1;
   earlier = λ number below. let is = judged.0 in passed number (omega (arith, below, is));
 }

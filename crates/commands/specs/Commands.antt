@@ -1,13 +1,14 @@
 -- What the commands come to (own).
-use Rattle.std.specs.Prelude.{ℕ, ◌≡◌, true, false, List, [], ◌∷◌, ◌++◌, codes, length, Option, Result, Ok, Err, IfErr, OnOk, ⊤}
+use Rattle.std.specs.Prelude.{ℕ, ◌≡◌, ◌⊎◌, true, false, List, [], ◌∷◌, ◌++◌, codes, length, Option, Result, Ok, Err, IfErr, OnOk, ⊤}
 use Rattle.std.specs.Fmt.{decimal}
 use Rattle.std.specs.Io.KnownBytes.{Appends}
-use Rattle.policy.specs.Format.{Declares, HasFault}
+use Rattle.policy.specs.Format.{Declares, HasFault, IsRefused}
 use Rattle.policy.specs.Policy.{Declared}
 use Rattle.policy.specs.declared.row.RightsRow.{RightsRow}
 use Rattle.policy.specs.declared.version.Version.{Version}
 use Rattle.policy.specs.declared.version.Version.TheVariants.{First, Second}
 use Rattle.policy.specs.declared.fault.ReadPolicyError.{ReadPolicyError}
+use Rattle.policy.specs.declared.fault.ReadPolicyError.TheVariants as reading
 use Rattle.access_core.specs.declared.access.OpenFault.{OpenFault}
 use Rattle.access_core.specs.declared.kernel.Kernel as cores
 use Rattle.script.specs.declared.answers.Answers.{Answers}
@@ -26,13 +27,14 @@ use Rattle.commands.specs.declared.status.Status.{Status}
 use Rattle.commands.specs.declared.status.Status.TheVariants.{Done}
 use Rattle.commands.specs.Failures.{NamesFailure, failure_of_opening, failure_of_reading, failure_of_script}
 use Rattle.commands.specs.Further.{ReadsEach}
-use Rattle.commands.specs.Kernels.{AreLaunchable, IsFirstRefused}
+use Rattle.commands.specs.Kernels.{AreLaunchable, IsFirstRefused, IsWantedAt}
 
 -- what the reading of a policy and the check of its kernels come to: the policy, all of whose kernels pass, with what packets may
--- launch by them; its first fault; or that of its first kernel with one. A kernel without its entry has no fault here
+-- launch by them; its first fault; or that of its first kernel with one. A kernel without its entry has no fault here. Memory may be
+-- wanted for the reading, or for a kernel of the policy that was read
 abbrev pub JudgesPolicy : List ℕ → Result Setup Failure → Type 0
 JudgesPolicy text (Ok setup) = Declares text setup.policy × AreLaunchable setup.policy.kernels setup.kernels.items
-JudgesPolicy text (Err OutOfMemory) = ⊤
+JudgesPolicy text (Err OutOfMemory) = IsRefused text reading.OutOfMemory ⊎ ((policy : Declared) × Declares text policy × IsWantedAt policy.kernels)
 JudgesPolicy text (Err (Policy fault)) = HasFault text fault
 JudgesPolicy text (Err (Kernel fault)) = (policy : Declared) × Declares text policy × IsFirstRefused policy.kernels fault
 JudgesPolicy text (Err KernelCount) = ⊥
@@ -45,7 +47,7 @@ JudgesPolicy text (Err Write) = ⊥
 -- the policy itself, where its kernels are let pass, and else the failure
 abbrev pub PassesPolicy : Declared → Result Setup Failure → Type 0
 PassesPolicy policy (Ok setup) = (setup.policy ≡ policy) × AreLaunchable policy.kernels setup.kernels.items
-PassesPolicy policy (Err OutOfMemory) = ⊤
+PassesPolicy policy (Err OutOfMemory) = IsWantedAt policy.kernels
 PassesPolicy policy (Err (Kernel fault)) = IsFirstRefused policy.kernels fault
 PassesPolicy policy (Err (Policy fault)) = ⊥
 PassesPolicy policy (Err KernelCount) = ⊥

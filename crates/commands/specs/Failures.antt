@@ -1,5 +1,5 @@
 -- Why a command fails: its text on standard error, and the status that it ends with (own).
-use Rattle.std.specs.Prelude.{ℕ, ◌≡◌, ◌⊎◌, true, false, List, [], ◌∷◌, ◌++◌, codes, Option}
+use Rattle.std.specs.Prelude.{ℕ, ◌≡◌, ◌⊎◌, Bool, true, false, List, [], ◌∷◌, ◌++◌, codes, Option}
 use Rattle.std.specs.Fmt.{decimal}
 use Rattle.std.specs.Io.KnownBytes.{Appends}
 use Rattle.policy.specs.declared.fault.ReadPolicyError.{ReadPolicyError}
@@ -43,6 +43,18 @@ status_of (Line number) = Refused
 status_of Read = Failed
 status_of Write = Failed
 
+-- whether a failure's text has a number in it, so that memory is wanted for its line
+abbrev pub has_number : Failure → Bool
+has_number OutOfMemory = false
+has_number (Policy fault) = true
+has_number (Kernel fault) = true
+has_number KernelCount = false
+has_number (NoEntry kernel) = true
+has_number Capacity = false
+has_number (Line number) = true
+has_number Read = false
+has_number Write = false
+
 -- a failure's line
 abbrev pub line_of_failure : Failure → List ℕ
 line_of_failure failure = text_of_failure failure ++ 10 ∷ []
@@ -54,11 +66,11 @@ TellsLine line ending answers told tells status =
     (Appends told tells line × (answers.write_failed ≡ false) × (status ≡ ending))
     ⊎ (AppendsBeginning told tells line × (answers.write_failed ≡ true) × (status ≡ Failed))
 
--- a failure is named in a line, and its status answered; or memory was wanted for the line, and that is named
+-- a failure is named in a line, and its status answered; or memory was wanted for a line with a number, and that is named
 abbrev pub NamesFailure : Failure → Answers → Option (List ℕ) → Option (List ℕ) → Status → Type 0
 NamesFailure failure answers told tells status =
     TellsLine (line_of_failure failure) (status_of failure) answers told tells status
-    ⊎ TellsLine (line_of_failure OutOfMemory) (status_of OutOfMemory) answers told tells status
+    ⊎ ((has_number failure ≡ true) × TellsLine (line_of_failure OutOfMemory) (status_of OutOfMemory) answers told tells status)
 
 -- the failure of the reading of a policy
 abbrev pub failure_of_reading : ReadPolicyError → Failure

@@ -23,9 +23,18 @@ pub record IsFirstFault (texts : List (List ℕ)) (fault : PolicyFault) : Type 0
   pub declare : DeclareEach before policies
   pub refused : HasFault text fault
 
--- why texts aren't read: the first fault, or no memory
+-- memory was wanted for a text: each before it declares a policy
+pub record IsWantedFor (texts : List (List ℕ)) : Type 0 where
+  pub before : List (List ℕ)
+  pub text : List ℕ
+  pub after : List (List ℕ)
+  pub policies : List Declared
+  pub split : texts ≡ before ++ text ∷ after
+  pub declare : DeclareEach before policies
+
+-- why texts aren't read: the first fault, or memory was wanted for one
 abbrev pub AreUnread : List (List ℕ) → ReadPolicyError → Type 0
-AreUnread texts OutOfMemory = ⊤
+AreUnread texts OutOfMemory = IsWantedFor texts
 AreUnread texts (Fault fault) = IsFirstFault texts fault
 
 -- what the reading of texts comes to: what each declares, or why they aren't read

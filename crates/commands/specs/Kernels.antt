@@ -98,7 +98,11 @@ JudgesKernel kernels number (Err (error.Fault fault)) = (fault.kernel ≡ number
 abbrev pub AreLaunchable : List (Name × Source) → List Kernel → Type 0
 AreLaunchable kernels launchable = ArePassed kernels × (launchable ≡ map (λ row. kernel_of row.1) kernels)
 
--- why they aren't: memory was wanted, or one is refused, and this is the first
+-- memory was wanted for a kernel, behind so many others that are let pass
+abbrev pub IsWantedAt : List (Name × Source) → Type 0
+IsWantedAt kernels = (before : ℕ) × (before < length kernels) × ((number : ℕ) → number ≤ before → Passes kernels number)
+
+-- why they aren't: memory was wanted for one, or one is refused, and this is the first
 abbrev pub AreRefused : List (Name × Source) → KernelError → Type 0
-AreRefused kernels error.OutOfMemory = ⊤
+AreRefused kernels error.OutOfMemory = IsWantedAt kernels
 AreRefused kernels (error.Fault fault) = IsFirstRefused kernels fault

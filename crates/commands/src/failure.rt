@@ -1,8 +1,8 @@
 //! Why a command doesn't do what was asked, and how that is told.
 
-ghost use Rattle.std.specs.Prelude.{◌≡◌, IfOk, string_bytes, false};
+ghost use Rattle.std.specs.Prelude.{◌≡◌, IfOk, IfSome, None, string_bytes, true, false};
 ghost use Rattle.commands.specs.Commands.{TellsEnd};
-ghost use Rattle.commands.specs.Failures.{status_of, line_of_failure, NamesFailure, TellsLine, failure_of_reading, failure_of_kernels, failure_of_opening, failure_of_script};
+ghost use Rattle.commands.specs.Failures.{status_of, has_number, line_of_failure, NamesFailure, TellsLine, failure_of_reading, failure_of_kernels, failure_of_opening, failure_of_script};
 
 use crate::kernels::{KernelError, KernelFault};
 use crate::status::Status;
@@ -49,6 +49,22 @@ impl Failure {
             | Failure::Capacity
             | Failure::Line(_) => Status::Refused,
             Failure::OutOfMemory | Failure::Read | Failure::Write => Status::Failed,
+        }
+    }
+
+    // The line that names a failure, if no number stands in it.
+    fn fixed_line(self) -> Option<&'static str>
+        ensures line { IfSome result (λ line. line.now ≡ line_of_failure self) }
+        ensures numbered { result ≡ None → has_number self ≡ true }
+    {
+        match self {
+            Failure::OutOfMemory => Some("no memory\n"),
+            Failure::KernelCount => Some("kernels: one for each kernel of the policy\n"),
+            Failure::Capacity => Some("audit: 1 to 1048576 entries\n"),
+            Failure::Read => Some("read fault\n"),
+            Failure::Write => Some("write fault\n"),
+            Failure::Policy(_) | Failure::Kernel(_) | Failure::NoEntry(_) | Failure::Line(_) =>
+                None,
         }
     }
 
@@ -143,7 +159,8 @@ fn tell_line<E: io::Write>(line: &str, ending: Status, err: &mut E, answers: &mu
     }
 }
 
-/// Names a failure in a line, and tells how the command ends. Where there is no memory for the line, that is named.
+/// Names a failure in a line, and tells how the command ends. Where there is no memory for a line with a number in it,
+/// that is named.
 pub(crate) fn name_failure<E: io::Write>(
     alloc: Global,
     failure: Failure,
@@ -153,6 +170,9 @@ pub(crate) fn name_failure<E: io::Write>(
     requires { answers.old.write_failed ≡ false }
     ensures { NamesFailure failure answers.new (E.contents err.old) (E.contents err.new) result }
 {
+    if let Some(line) = failure.fixed_line() {
+        return tell_line(line, failure.status(), err, answers);
+    }
     match line_of(alloc, failure) {
         Ok(line) => tell_line(line.as_str(), failure.status(), err, answers),
         Err(_) => tell_line("no memory\n", Status::Failed, err, answers),

@@ -169,6 +169,14 @@ impl Rows {
         self.step(0, Access::RaiseReadIndex, Wanted::Read(0))?;
         self.step(0, Access::LoadHeader, Wanted::Header(1, BARRIER))
     }
+
+    /// The first producer reserves the tickets from one id up to another.
+    fn reserve(&mut self, first: u64, end: u64) -> Result<(), AllocError> {
+        for id in first..end {
+            self.step(1, Access::Reserve, Wanted::Read(id))?;
+        }
+        Ok(())
+    }
 }
 
 fn open(alloc: Global, policy: Policy, kernels: Vec<Kernel>) -> Result<World, OpenFault> {
@@ -197,6 +205,8 @@ fn gap_rows(alloc: Global) -> Result<Rows, AllocError> {
     rows.open()?;
     rows.gap()?;
     rows.hand_over()?;
+    // the run has more than 200 requests
+    rows.reserve(2, 202)?;
     Ok(rows)
 }
 

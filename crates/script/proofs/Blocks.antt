@@ -1,5 +1,5 @@
 -- A run over blocks: what holds between reads, and what it comes to.
-use Rattle.std.proofs.Common.{◌≡◌, ℕ, ◌+◌, List, [], ◌∷◌, ◌++◌, length, take, Option, Some, None, Result, Ok, Err, inl, refl, sym, ap, ◌∙◌, subst, append_assoc, append-nil, length-append, arith}
+use Rattle.std.proofs.Common.{◌≡◌, ℕ, ◌+◌, List, [], ◌∷◌, ◌++◌, length, take, Option, Some, None, Result, Ok, Err, inl, inr, refl, sym, ap, ◌∙◌, subst, append_assoc, append-nil, length-append, arith}
 use Rattle.std.specs.Prelude.{⊤, MatchResult, IfErr}
 use Rattle.std.specs.Io.KnownBytes.{Appends, Consumes, Keeps, IsAtEnd}
 use Rattle.script.specs.declared.answers.Answers.{Answers}
@@ -8,7 +8,7 @@ use Rattle.script.specs.declared.fault.ScriptFault.TheVariants.{OutOfMemory, Bad
 use Rattle.script.specs.declared.session.Session.{Session}
 use Rattle.script.specs.Words.{nonempty_before}
 use Rattle.script.specs.Answers.{AppendsBeginning, IsCaused, NoneFailed, ReadsBlock, read_more}
-use Rattle.script.specs.Runs.{Law, Runs, ServedAtMostOne, lines_from, lines_of}
+use Rattle.script.specs.Runs.{Law, Runs, StopsNear, lines_from, lines_of}
 use Rattle.script.specs.Sessions.{Took, Failed, Ended, Why, begun, pending, with_further, at_end}
 use Rattle.script.specs.Scripts.{Outcome, Replies, RunsScript, Tells}
 use Rattle.script.proofs.Appending.{appends_more, appends_none}
@@ -119,11 +119,11 @@ going_block law old mid new held holds handed had left further before between af
       number = omega (arith, number, took.number, so.number, length-append so.done took.done);
     }
 
--- why lines could not all be served leaves some of them, and the broker with one more served at most
+-- why lines could not all be served leaves some of them, and the broker with the next served at most
 served_before : {S : Type 0} (law : Law S) (mid new : S) (number : ℕ) (done lines : List (List ℕ)) (fault : ScriptFault) → Why law mid new number done lines fault →
-    (further : List (List ℕ)) × (lines ≡ done ++ further) × ServedAtMostOne law mid new
+    (further : List (List ℕ)) × (lines ≡ done ++ further) × StopsNear law mid new further
 served_before law mid new number done lines (BadLine bad) why = (why.2.0 ∷ why.2.1, why.2.2, inl why.1)
-served_before law mid new number done lines OutOfMemory why = (why.1.0, why.1.1, why.0)
+served_before law mid new number done lines OutOfMemory why = (why.0, why.1, inr why.2)
 served_before law mid new number done lines Read why = absurd why
 served_before law mid new number done lines Write why = absurd why
 
@@ -140,7 +140,7 @@ outcome_why law old mid new held holds left script number before done lines (Bad
   subst (λ broker. Replies law old broker held holds (before ++ done)) (sym why.1) so,
 )
 outcome_why law old mid new held holds left script number before done lines OutOfMemory e n so why =
-    (before ++ done, why.1.0, mid, e ∙ ap (λ lines. before ++ lines) why.1.1 ∙ sym (append_assoc before done why.1.0), so, why.0)
+    (before ++ done, why.0, mid, e ∙ ap (λ lines. before ++ lines) why.1 ∙ sym (append_assoc before done why.0), so, why.2)
 outcome_why law old mid new held holds left script number before done lines Read e n so why = absurd why
 outcome_why law old mid new held holds left script number before done lines Write e n so why = absurd why
 
@@ -174,7 +174,7 @@ module _ {S : Type 0} (law : Law S) (old mid new : S) (held holds handed had lef
 
   -- some of the lines were served, and the writer failed
   written : (done : List (List ℕ)) (text : List ℕ) (last : S) → Runs law mid done text last → pending after ≡ pending before ++ text →
-      (others : List (List ℕ)) × (lines (rest_of further) ≡ done ++ others) × ServedAtMostOne law last new → AppendsBeginning holds handed (pending after) → RunsScript law old new held handed had further (Err Write)
+      (others : List (List ℕ)) × (lines (rest_of further) ≡ done ++ others) × StopsNear law last new others → AppendsBeginning holds handed (pending after) → RunsScript law old new held handed had further (Err Write)
   written done text last runs waits others given =
       let out : pending after ≡ text = waits ∙ ap (λ front. front ++ text) empty in (
         (so.read ++ bytes) ++ rest_of further,

@@ -1,17 +1,20 @@
 -- Runs over lines and bytes, one more at a time.
-use Rattle.std.proofs.Common.{◌≡◌, ℕ, ◌+◌, ◌<◌, ◌≤◌, true, false, List, [], ◌∷◌, ◌++◌, length, get_or, take, drop, None, refl, sym, ap, ◌∙◌, subst, inl, inr, ◌⊎◌, eqb, append_assoc, append-nil, length-append, arith}
+use Rattle.std.proofs.Common.{◌≡◌, ℕ, ◌+◌, ◌<◌, ◌≤◌, true, false, List, [], ◌∷◌, ◌++◌, length, get_or, take, drop, Some, None, refl, sym, ap, ◌∙◌, subst, inl, inr, ◌⊎◌, eqb, append_assoc, append-nil, length-append, arith}
 use Rattle.std.specs.Prelude.{◌==◌, nat_lt}
 use Rattle.std.proofs.lemmas.List.{take_more, take_all, take-append-drop}
 use Rattle.std.proofs.lemmas.Bool.Decides.{nat_tests, eqb_tells}
 use Rattle.script.specs.declared.fault.ScriptFault.{ScriptFault}
 use Rattle.script.specs.declared.fault.ScriptFault.TheVariants.{OutOfMemory, BadLine, Read, Write}
+use Rattle.script.specs.declared.command.Command.{Command}
+use Rattle.script.specs.declared.lines.Line.TheVariants as lines
 use Rattle.script.specs.declared.session.Session.{Session}
 use Rattle.policy.specs.Policy.{Declared}
 use Rattle.script.specs.Words.{nonempty_before}
 use Rattle.script.specs.Lines.{line_of}
-use Rattle.script.specs.Runs.{Law, Runs, Replied, lines_from}
-use Rattle.script.specs.Sessions.{Took, Failed, EndedLine, FailedLine, WhyLine, Why, begun, pending, with_further}
-use Rattle.script.proofs.Splitting.{left_at}
+use Rattle.script.specs.Replies.{text_of_line}
+use Rattle.script.specs.Runs.{Law, Told, Runs, Replied, RepliedAs, Wanted, lines_from}
+use Rattle.script.specs.Sessions.{Took, Failed, Ended, EndedLine, FailedLine, WhyLine, Why, at_end, begun, pending, with_further}
+use Rattle.script.proofs.Splitting.{kept_begun, left_at}
 
 pub lines_end : (line : List ℕ) → lines_from line [] ≡ nonempty_before line []
 unfolding lines_from
@@ -42,6 +45,17 @@ first_line (first ∷ line) (byte ∷ bytes) h = first_at (first ∷ line) byte 
 pub no_form : (policy : Declared) (later : ℕ) (line : List ℕ) → 16384 < length line → line_of policy later line ≡ None
 no_form policy later line h = let long : nat_lt 16384 (length line) ≡ true = grind (arith, nat_tests) in rw long refl
 
+-- memory is wanted for the reply to a line that was served
+pub wanted_reply : {S : Type 0} (law : Law S) (old new : S) (line : List ℕ) (command : Command) (told : Told) (before after : List ℕ) →
+    line_of (law.names old) law.later line ≡ Some (lines.Asks command) → law.serves old command told new → after ≡ before → Wanted law old new line before after
+wanted_reply law old new line command told before after is serves same = (
+  same,
+  inr (
+    text_of_line (law.names new) told,
+    subst (λ found. RepliedAs law old found (text_of_line (law.names new) told) new) (sym is) (told, serves, refl),
+  ),
+)
+
 pub runs_one : {S : Type 0} (law : Law S) (old new : S) (line reply : List ℕ) → Replied law old line reply new → Runs law old (line ∷ []) reply new
 runs_one law old new line reply r = (new, reply, [], r, (refl, refl), sym (append-nil reply))
 
@@ -70,7 +84,7 @@ pub why_line : {S : Type 0} (law : Law S) (old new : S) (before : Session) (line
     lines ≡ begun before ∷ further → WhyLine law old new before fault → Why law old new before.number [] lines fault
 why_line law old new before lines further (BadLine bad) e why =
     (why.0 ∙ omega arith, why.1, (begun before, further, e, subst (λ broker. line_of (law.names broker) law.later (begun before) ≡ None) (sym why.1) why.2))
-why_line law old new before lines further OutOfMemory e why = (why, (lines, refl))
+why_line law old new before lines further OutOfMemory e why = (begun before ∷ further, e, why)
 why_line law old new before lines further Read e why = why
 why_line law old new before lines further Write e why = why
 
@@ -83,6 +97,27 @@ failed_line law old new before after byte fault e failed = record {
   runs = (refl, refl);
   out = failed.0 ∙ sym (append-nil (pending before));
   why = λ more. why_line law old new before (lines_from (begun before) (byte ∷ more)) (lines_from [] more) fault (lines_feed (begun before) byte more e) failed.1;
+}
+
+-- the end ends a line that has a byte
+pub ended_last : {S : Type 0} (law : Law S) (old new : S) (before after : Session) → 0 < length (begun before) →
+    EndedLine law old new before after → Ended law old new before after
+ended_last law old new before after some ended = record {
+  text = ended.reply;
+  runs = subst (λ lines. Runs law old lines ended.reply new) (sym (kept_begun (begun before) [] some))
+      (runs_one law old new (begun before) ended.reply ended.replied);
+  out = ended.out;
+}
+
+pub failed_last : {S : Type 0} (law : Law S) (old new : S) (before after : Session) (fault : ScriptFault) → 0 < length (begun before) →
+    FailedLine law old new before after fault → Failed law old new before after (at_end before) fault
+failed_last law old new before after fault some failed = record {
+  done = [];
+  text = [];
+  mid = old;
+  runs = (refl, refl);
+  out = failed.0 ∙ sym (append-nil (pending before));
+  why = λ more. why_line law old new before (at_end before more) [] fault (kept_begun (begun before) [] some) failed.1;
 }
 
 -- a byte more makes the line too long
@@ -98,6 +133,20 @@ failed_long law broker before after byte e long out = record {
       let longer : 16384 < length (begun before ++ byte ∷ []) = omega (arith, length-append (begun before) (byte ∷ [])) in
       let first = first_line (begun before ++ byte ∷ []) more (omega arith) in
       (omega arith, refl, (first.0, first.1, lines_byte (begun before) byte more e ∙ first.2, no_form (law.names broker) law.later first.0 (omega (arith, first.3))));
+}
+
+-- a byte more finds no room
+pub failed_wanted : {S : Type 0} (law : Law S) (broker : S) (before after : Session) (byte : ℕ) → (byte ≡ 10 → ⊥) → pending after ≡ pending before →
+    Failed law broker broker before after (with_further before (byte ∷ [])) OutOfMemory
+failed_wanted law broker before after byte e out = record {
+  done = [];
+  text = [];
+  mid = broker;
+  runs = (refl, refl);
+  out = out ∙ sym (append-nil (pending before));
+  why = λ more.
+      let first = first_line (begun before ++ byte ∷ []) more (omega (arith, length-append (begun before) (byte ∷ []))) in
+      (first.0 ∷ first.1, lines_byte (begun before) byte more e ∙ first.2, inl refl);
 }
 
 -- a byte more belongs to the line that is begun
@@ -152,7 +201,7 @@ why_behind law mid new first number before done lines all (BadLine bad) n e why 
   (why.2.0, why.2.1, e ∙ ap (λ further. before ++ further) why.2.2 ∙ sym (append_assoc before done (why.2.0 ∷ why.2.1)), why.2.3),
 )
 why_behind law mid new first number before done lines all OutOfMemory n e why =
-    (why.0, (why.1.0, e ∙ ap (λ further. before ++ further) why.1.1 ∙ sym (append_assoc before done why.1.0)))
+    (why.0, e ∙ ap (λ further. before ++ further) why.1 ∙ sym (append_assoc before done why.0), why.2)
 why_behind law mid new first number before done lines all Read n e why = why
 why_behind law mid new first number before done lines all Write n e why = why
 

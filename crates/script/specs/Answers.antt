@@ -2,6 +2,10 @@
 use Rattle.std.specs.Prelude.{ℕ, ◌≡◌, ◌+◌, ◌≤◌, ◌^◌, ◌⊎◌, true, false, List, [], ◌++◌, length, take, Option, Some, None, Result, Ok, Err, ⊤}
 use Rattle.std.specs.Io.KnownBytes.{Appends, Consumes, Keeps, IsAtEnd}
 use Rattle.script.specs.declared.answers.Answers.{Answers}
+use Rattle.script.specs.declared.answers.ReadAnswer.{ReadAnswer}
+use Rattle.script.specs.declared.answers.ReadAnswer.TheVariants as read
+use Rattle.script.specs.declared.answers.WriteAnswer.{WriteAnswer}
+use Rattle.script.specs.declared.answers.WriteAnswer.TheVariants as write
 use Rattle.script.specs.declared.fault.ScriptFault.{ScriptFault}
 use Rattle.script.specs.declared.fault.ScriptFault.TheVariants.{OutOfMemory, BadLine, Read, Write}
 
@@ -21,6 +25,23 @@ read_failing answers = record { reads = answers.reads; read_failed = true; write
 abbrev pub write_failing : Answers → Answers
 write_failing answers = record { reads = answers.reads; read_failed = answers.read_failed; write_failed = true }
 
+-- what is noted behind an answer of the reader: one read more, and that it failed just where it did
+abbrev pub after_read : ReadAnswer → Answers → Answers
+after_read (read.Gave count) answers = read_more answers
+after_read read.Interrupted answers = read_more answers
+after_read read.Failed answers = read_failing (read_more answers)
+
+-- and behind one of the writer: that it failed just where it did
+abbrev pub after_write : WriteAnswer → Answers → Answers
+after_write (write.Took count) answers = answers
+after_write write.Interrupted answers = answers
+after_write write.Failed answers = write_failing answers
+
+-- the same behind a write that took so many bytes, or none
+abbrev pub after_taking : Option ℕ → Answers → Answers
+after_taking (Some count) answers = answers
+after_taking None answers = write_failing answers
+
 -- neither failed
 abbrev pub NoneFailed : Answers → Type 0
 NoneFailed answers = (answers.read_failed ≡ false) × (answers.write_failed ≡ false)
@@ -31,6 +52,18 @@ IsCaused answers Read = (answers.read_failed ≡ true) ⊎ (answers.reads ≡ 2 
 IsCaused answers Write = answers.write_failed ≡ true
 IsCaused answers OutOfMemory = ⊤
 IsCaused answers (BadLine number) = ⊤
+
+-- what a read left: it gave bytes, of which there are none only at the end; or it gave nothing
+abbrev pub HasRead : Option (List ℕ) → Option (List ℕ) → ReadAnswer → List ℕ → Type 0
+HasRead old new (read.Gave count) block = (count ≤ length block) × Consumes old new (take count block) × (count ≡ 0 → IsAtEnd new)
+HasRead old new read.Interrupted block = Keeps old new
+HasRead old new read.Failed block = Keeps old new
+
+-- what a write left: the writer took so many bytes, or nothing
+abbrev pub HasTaken : Option (List ℕ) → Option (List ℕ) → WriteAnswer → List ℕ → Type 0
+HasTaken old new (write.Took count) bytes = (count ≤ length bytes) × Appends old new (take count bytes)
+HasTaken old new write.Interrupted bytes = Appends old new []
+HasTaken old new write.Failed bytes = Appends old new []
 
 -- a read gave bytes, of which there are none only at the end; or it gave nothing
 abbrev pub ReadsBlock : Option (List ℕ) → Option (List ℕ) → Result (Option ℕ) ScriptFault → List ℕ → Type 0

@@ -51,9 +51,14 @@ Runs law old [] text new = (text ≡ []) × (new ≡ old)
 Runs law old (line ∷ lines) text new =
     (mid : _) × (first : List ℕ) × (rest : List ℕ) × Replied law old line first mid × Runs law mid lines rest new × (text ≡ first ++ rest)
 
--- all is as before, or one command more was served
-abbrev pub ServedAtMostOne : {S : Type 0} → Law S → S → S → Type 0
-ServedAtMostOne law old new = (new ≡ old) ⊎ ((command : Command) × (told : Told) × law.serves old command told new)
+-- a run stops at the first of some lines, and there is one: all is as before, or it was served, whatever became of its reply
+abbrev pub StopsAt : {S : Type 0} → Law S → S → S → List (List ℕ) → Type 0
+StopsAt law old new [] = ⊥
+StopsAt law old new (line ∷ lines) = (new ≡ old) ⊎ ((reply : List ℕ) × Replied law old line reply new)
+
+-- a run stops before some lines, or at the first of them
+abbrev pub StopsNear : {S : Type 0} → Law S → S → S → List (List ℕ) → Type 0
+StopsNear law old new lines = (new ≡ old) ⊎ StopsAt law old new lines
 
 -- a world, and the further policies that lines may hand in: each line does what its row says, and names are those of the policy that
 -- the world was opened over
@@ -69,9 +74,9 @@ abbrev pub Served : {S : Type 0} → Law S → S → S → List ℕ → List ℕ
 Served law old new line before after true = (reply : List ℕ) × Replied law old line reply new × (after ≡ before ++ reply)
 Served law old new line before after false = (line_of (law.names old) law.later line ≡ None) × (new ≡ old) × (after ≡ before)
 
--- a service that wants memory: nothing is written, and a command was served at most
-abbrev pub Wanted : {S : Type 0} → Law S → S → S → List ℕ → List ℕ → Type 0
-Wanted law old new before after = (after ≡ before) × ServedAtMostOne law old new
+-- a service that wants memory: nothing is written, and the line is served or it isn't
+abbrev pub Wanted : {S : Type 0} → Law S → S → S → List ℕ → List ℕ → List ℕ → Type 0
+Wanted law old new line before after = (after ≡ before) × StopsAt law old new (line ∷ [])
 
 -- some requests, served in turn, lead from one world to the other
 abbrev pub Reaches : Joined → Joined → Type 0

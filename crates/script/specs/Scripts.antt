@@ -5,7 +5,7 @@ use Rattle.script.specs.declared.fault.ScriptFault.{ScriptFault}
 use Rattle.script.specs.declared.fault.ScriptFault.TheVariants.{OutOfMemory, BadLine, Read, Write}
 use Rattle.script.specs.Answers.{AppendsBeginning}
 use Rattle.script.specs.Lines.{line_of}
-use Rattle.script.specs.Runs.{Law, Runs, ServedAtMostOne, lines_from, lines_of}
+use Rattle.script.specs.Runs.{Law, Runs, StopsAt, StopsNear, lines_from, lines_of}
 
 -- the bytes that a reader has left are these, where it tells them
 abbrev pub Tells : Option (List ℕ) → List ℕ → Type 0
@@ -32,14 +32,14 @@ Outcome law old new held holds left script (Err (BadLine number)) =
 Outcome law old new held holds left script (Err Read) =
     (before : List (List ℕ)) × (begun : List ℕ) × (rest : List ℕ) × Tells left rest × (lines_of script ≡ before ++ lines_from begun rest)
     × Replies law old new held holds before
--- some lines are replied to, and one more was served at most
+-- memory was wanted for a line: those before it are replied to, and it was served at most
 Outcome law old new held holds left script (Err OutOfMemory) =
     (before : List (List ℕ)) × (after : List (List ℕ)) × (mid : _) × (lines_of script ≡ before ++ after)
-    × Replies law old mid held holds before × ServedAtMostOne law mid new
--- some lines were served, their replies handed over in part, and one more was served at most
+    × Replies law old mid held holds before × StopsAt law mid new after
+-- some lines were served, their replies handed over in part, and the next was served at most
 Outcome law old new held holds left script (Err Write) =
     (before : List (List ℕ)) × (after : List (List ℕ)) × (mid : _) × (lines_of script ≡ before ++ after)
-    × RepliesInPart law old mid held holds before × ServedAtMostOne law mid new
+    × RepliesInPart law old mid held holds before × StopsNear law mid new after
 
 -- what a run comes to, whatever the reader and the writer are: the script is what the reader gives, and just that
 -- where it tells its bytes; `had` and `left` are the reader's bytes before and after

@@ -5,7 +5,7 @@ use Rattle.script.specs.declared.fault.ScriptFault.TheVariants.{OutOfMemory, Bad
 use Rattle.script.specs.declared.session.Session.{Session}
 use Rattle.script.specs.Words.{nonempty_before}
 use Rattle.script.specs.Lines.{line_of}
-use Rattle.script.specs.Runs.{Law, Runs, Replied, ServedAtMostOne, lines_from}
+use Rattle.script.specs.Runs.{Law, Runs, Replied, StopsAt, lines_from}
 
 -- the bytes of the line that is begun
 abbrev pub begun : Session → List ℕ
@@ -29,14 +29,14 @@ pub record Took {S : Type 0} (law : Law S) (old new : S) (before after : Session
 abbrev pub HasBadLine : {S : Type 0} → Law S → S → List (List ℕ) → List (List ℕ) → Type 0
 HasBadLine law broker done lines = (line : List ℕ) × (further : List (List ℕ)) × (lines ≡ done ++ line ∷ further) × (line_of (law.names broker) law.later line ≡ None)
 
--- some lines begin with others
-abbrev pub BeginsWith : List (List ℕ) → List (List ℕ) → Type 0
-BeginsWith done lines = (further : List (List ℕ)) × (lines ≡ done ++ further)
+-- some lines begin with those done, and there is a further one, at which the run stops
+abbrev pub StopsBehind : {S : Type 0} → Law S → S → S → List (List ℕ) → List (List ℕ) → Type 0
+StopsBehind law mid new done lines = (further : List (List ℕ)) × (lines ≡ done ++ further) × StopsAt law mid new further
 
 -- why some lines could not all be served, after those done; `number` is the first one's
 abbrev pub Why : {S : Type 0} → Law S → S → S → ℕ → List (List ℕ) → List (List ℕ) → ScriptFault → Type 0
 Why law mid new number done lines (BadLine bad) = (bad ≡ number + length done) × (new ≡ mid) × HasBadLine law new done lines
-Why law mid new number done lines OutOfMemory = ServedAtMostOne law mid new × BeginsWith done lines
+Why law mid new number done lines OutOfMemory = StopsBehind law mid new done lines
 Why law mid new number done lines Read = ⊥
 Why law mid new number done lines Write = ⊥
 
@@ -73,7 +73,7 @@ pub record EndedLine {S : Type 0} (law : Law S) (old new : S) (before after : Se
 -- the line that was begun could not be served
 abbrev pub WhyLine : {S : Type 0} → Law S → S → S → Session → ScriptFault → Type 0
 WhyLine law old new before (BadLine bad) = (bad ≡ before.number) × (new ≡ old) × (line_of (law.names old) law.later (begun before) ≡ None)
-WhyLine law old new before OutOfMemory = ServedAtMostOne law old new
+WhyLine law old new before OutOfMemory = StopsAt law old new (begun before ∷ [])
 WhyLine law old new before Read = ⊥
 WhyLine law old new before Write = ⊥
 

@@ -1,18 +1,15 @@
-//! The calls that a run makes to its reader and its writer, and what these answered: no other function of the
-//! engine calls them.
+//! What the reader and the writer of a run answered. Each call here asks one of them once and notes what it answered:
+//! no other function asks them, and none changes the notes.
 
-ghost use Rattle.std.specs.Prelude.{◌≡◌, ◌+◌, ◌<◌, ◌^◌, length, IfErr, OnErr, OnOk, true};
-ghost use Rattle.std.specs.Io.KnownBytes.{Appends, Keeps};
-ghost use Rattle.script.specs.Answers.{none_yet, read_more, read_failing, write_failing, ReadsBlock, Takes, AppendsBeginning};
-ghost use Rattle.script.specs.declared.fault.ScriptFault.TheVariants.{Read, Write};
+ghost use Rattle.std.specs.Prelude.{◌≡◌, ◌<◌, ◌^◌, length, IfErr, OnErr, OnOk};
+ghost use Rattle.std.specs.Io.KnownBytes.{Keeps};
+ghost use Rattle.script.specs.Answers.{none_yet, after_read, after_write, write_failing, HasRead, HasTaken};
+ghost use Rattle.script.specs.declared.fault.ScriptFault.TheVariants.{Write};
 
 use crate::fault::ScriptFault;
 use std::io;
 
-// The most writes for one text, of those that are interrupted too (own).
-const MOST_WRITES: u64 = 1 << 40;
-
-/// What the reader and the writer of a run answered so far. Only the calls of this module change it.
+/// What the reader and the writer of a run answered so far.
 #[derive(Drop)]
 pub struct Answers {
     // How many reads were made.
@@ -21,6 +18,28 @@ pub struct Answers {
     read_failed: bool,
     // Whether the writer failed: it gave an error, took none of some bytes, or was asked 2^40 times.
     write_failed: bool,
+}
+
+/// What a reader answers to a read.
+#[derive(Clone, Copy)]
+pub(crate) enum ReadAnswer {
+    /// It gave so many bytes, none only at the end.
+    Gave(usize),
+    /// The read was interrupted, and is to be made again.
+    Interrupted,
+    /// It failed.
+    Failed,
+}
+
+/// What a writer answers to a write of some bytes.
+#[derive(Clone, Copy)]
+pub(crate) enum WriteAnswer {
+    /// It took so many of them.
+    Took(usize),
+    /// The write was interrupted, and is to be made again.
+    Interrupted,
+    /// It failed, or took none.
+    Failed,
 }
 
 impl Answers {
@@ -35,83 +54,49 @@ impl Answers {
         }
     }
 
-    // Notes that the reader failed.
-    fn reader_failed(&mut self) -> ScriptFault
-        ensures fault { result ≡ Read }
-        ensures noted { self.new ≡ read_failing self.old }
+    /// Asks a reader for bytes.
+    pub(crate) fn of_read<R: io::Read>(&mut self, reader: &mut R, block: &mut [u8]) -> ReadAnswer
+        requires room { 0 < length block.old }
+        requires few { self.old.reads < 2 ^ 40 }
+        ensures block { HasRead (R.remaining reader.old) (R.remaining reader.new) result block.new }
+        ensures noted { self.new ≡ after_read result self.old }
     {
-        self.read_failed = true;
-        ScriptFault::Read
+        self.reads += 1;
+        match reader.read(block) {
+            Ok(count) => ReadAnswer::Gave(count),
+            Err(error) if error.kind() == io::ErrorKind::Interrupted => ReadAnswer::Interrupted,
+            Err(_) => {
+                self.read_failed = true;
+                ReadAnswer::Failed
+            }
+        }
     }
 
-    // Notes that the writer failed.
-    fn writer_failed(&mut self) -> ScriptFault
+    /// Asks a writer to take bytes.
+    pub(crate) fn of_write<W: io::Write>(&mut self, writer: &mut W, bytes: &[u8]) -> WriteAnswer
+        ensures held { HasTaken (W.contents writer.old) (W.contents writer.new) result bytes.now }
+        ensures noted { self.new ≡ after_write result self.old }
+    {
+        match writer.write(bytes) {
+            Ok(0) => {}
+            Ok(count) => return WriteAnswer::Took(count),
+            Err(error) if error.kind() == io::ErrorKind::Interrupted => {
+                return WriteAnswer::Interrupted;
+            }
+            Err(_) => {}
+        }
+        self.write_failed = true;
+        WriteAnswer::Failed
+    }
+
+    /// Notes that a writer was asked 2^40 times for one text, which counts as its failure.
+    pub(crate) fn gave_up(&mut self) -> ScriptFault
         ensures fault { result ≡ Write }
         ensures noted { self.new ≡ write_failing self.old }
     {
         self.write_failed = true;
         ScriptFault::Write
     }
-}
-
-/// Reads once: the count of bytes, or none where the read was interrupted and is to be made again.
-pub fn read_once<R: io::Read>(
-    reader: &mut R,
-    block: &mut [u8],
-    answers: &mut Answers,
-) -> Result<Option<usize>, ScriptFault>
-    requires room { 0 < length block.old }
-    requires few { answers.old.reads < 2 ^ 40 }
-    ensures block { ReadsBlock (R.remaining reader.old) (R.remaining reader.new) result block.new }
-    ensures fault { IfErr result (λ fault. fault ≡ Read) }
-    ensures read { OnOk result (answers.new ≡ read_more answers.old) }
-    ensures failed { OnErr result (answers.new ≡ read_failing (read_more answers.old)) }
-{
-    answers.reads += 1;
-    match reader.read(block) {
-        Ok(count) => Ok(Some(count)),
-        Err(error) if error.kind() == io::ErrorKind::Interrupted => Ok(None),
-        Err(_) => Err(answers.reader_failed()),
-    }
-}
-
-// Writes once: how many bytes the writer took, 0 where the write was interrupted and is to be made again, and none
-// where it failed or took no byte.
-fn write_once<W: io::Write>(writer: &mut W, bytes: &[u8]) -> Option<usize>
-    ensures { Takes (W.contents writer.old) (W.contents writer.new) result bytes.now }
-{
-    match writer.write(bytes) {
-        Ok(0) => None,
-        Ok(count) => Some(count),
-        Err(error) if error.kind() == io::ErrorKind::Interrupted => Some(0),
-        Err(_) => None,
-    }
-}
-
-/// Writes bytes, in as many writes as the writer takes for them. Where it fails it holds a beginning of them.
-pub fn write_through<W: io::Write>(
-    writer: &mut W,
-    bytes: &[u8],
-    answers: &mut Answers,
-) -> Result<(), ScriptFault>
-    ensures handed { OnOk result (Appends (W.contents writer.old) (W.contents writer.new) bytes.now) }
-    ensures begun { OnErr result (AppendsBeginning (W.contents writer.old) (W.contents writer.new) bytes.now) }
-    ensures fault { IfErr result (λ fault. fault ≡ Write) }
-    ensures written { OnOk result (answers.new ≡ answers.old) }
-    ensures failed { OnErr result (answers.new ≡ write_failing answers.old) }
-{
-    let mut taken = 0;
-    for _ in 0..MOST_WRITES {
-        if taken >= bytes.len() {
-            return Ok(());
-        }
-        let (_taken, rest) = bytes.split_at(taken);
-        match write_once(writer, rest) {
-            Some(count) => taken += count,
-            None => return Err(answers.writer_failed()),
-        }
-    }
-    Err(answers.writer_failed())
 }
 
 /// Has the writer pass on what it holds.
@@ -123,6 +108,9 @@ pub fn flush_once<W: io::Write>(writer: &mut W, answers: &mut Answers) -> Result
 {
     match writer.flush() {
         Ok(()) => Ok(()),
-        Err(_) => Err(answers.writer_failed()),
+        Err(_) => {
+            answers.write_failed = true;
+            Err(ScriptFault::Write)
+        }
     }
 }

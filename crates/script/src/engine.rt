@@ -33,7 +33,8 @@ fn serve(
     out.push_str(reply.as_str())
 }
 
-/// Does what a line asks, and puts its reply behind the others; false where the line has no form.
+/// Does what a line asks, and puts its reply behind the others; false where the line has no form. Where it wants memory
+/// nothing is written, and what the line asks is done or nothing is.
 #[tactic(auto, unfolding(crate::specs::Runs::worlds))]
 pub fn answer(
     alloc: Global,
@@ -44,7 +45,7 @@ pub fn answer(
 ) -> Result<bool, AllocError>
     ensures { MatchResult result
         (Served (worlds later.now) world.old world.new line.now (string_bytes out.old) (string_bytes out.new))
-        (λ _. Wanted (worlds later.now) world.old world.new (string_bytes out.old) (string_bytes out.new)) }
+        (λ _. Wanted (worlds later.now) world.old world.new line.now (string_bytes out.old) (string_bytes out.new)) }
 {
     match read_line(alloc, world.policy(), later.len(), line)? {
         None => Ok(false),

@@ -15,11 +15,12 @@ mod numbers;
 mod replies;
 mod run;
 mod session;
+mod streams;
 mod texts;
 mod verbs;
 mod words;
 
-pub use answers::{Answers, flush_once, write_through};
+pub use answers::{Answers, flush_once};
 pub use command::{Command, Form, LineAnswer, LineReply, Shown};
 pub use expansions::perform;
 pub use fault::ScriptFault;
@@ -29,3 +30,4 @@ pub use laws::{
 pub use lines::{LONGEST_LINE, Line, read_line};
 pub use replies::write_line;
 pub use run::{run_noting, run_script};
+pub use streams::write_through;

@@ -7,9 +7,10 @@ ghost use Rattle.script.specs.Runs.{worlds};
 ghost use Rattle.script.specs.Scripts.{RunsScript};
 ghost use Rattle.script.specs.declared.fault.ScriptFault.TheVariants.{Write};
 
-use crate::answers::{Answers, flush_once, read_once, write_through};
+use crate::answers::{Answers, flush_once};
 use crate::fault::ScriptFault;
 use crate::session::{Session, take_bytes, take_end};
+use crate::streams::{read_once, write_through};
 use policy::Policy;
 use std::alloc::Global;
 use std::io;
@@ -85,6 +86,7 @@ pub fn run_noting<R: io::Read, W: io::Write>(
 /// writer are, the world is one that doing some lines in turn leads to, and the writer gained just the replies
 /// that are owed to them; where the reader tells its bytes, those are the lines of its bytes. After
 /// `Write` the writer gained a beginning of the replies; after another fault, all replies of the lines before it.
+/// After `OutOfMemory` and `Write` the next line may have been served too, and nothing else.
 /// A run makes at most 2^40 reads. The line `reload N` hands in a copy of the N-th of the later policies.
 pub fn run_script<R: io::Read, W: io::Write>(
     alloc: Global,

@@ -161,7 +161,6 @@ fn publish_some(broker: &Broker, end: &mut ClientEnd, packets: u64) -> u64
 }
 
 /// Takes the last end of a stage off, if there is one.
-#[tactic(auto, using(crate::proofs::Last::before_last, crate::proofs::Last::last))]
 pub fn split_last_end(stage: Stage) -> Option<(Stage, ClientEnd)>
     requires { IsStage stage }
     ensures stage { IfSome result (λ split. IsStage split.0) }

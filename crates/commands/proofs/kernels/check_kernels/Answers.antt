@@ -1,5 +1,5 @@
 -- What the next kernel comes to is put behind what those before come to.
-use Rattle.std.proofs.Common.{◌∙◌, ◌++◌, ◌∷◌, [], ap}
+use Rattle.std.proofs.Common.{◌∙◌, ◌++◌, ◌∷◌, [], ap, arith}
 use Rattle.std.proofs.lemmas.Result.{err_from_is_err_and}
 use Rattle.commands.specs.Kernels.{kernel_of}
 use Rattle.commands.proofs.Rows.{passes-next, refused-next, rows-next}
@@ -15,4 +15,9 @@ kernels-preserved c = (
 pub returns-in_err-kernel-clause-refused : goal.returns-in_err-kernel-clause-refused
 returns-in_err-kernel-clause-refused c =
     let p = err_from_is_err_and c.from_residual.result c.from_residual.ensures.1 in
-    rw (p.1, p.2) (refused-next c.args.policy.now.kernels c.kernels.before c.in_err-kernel.field-0.0 c.kernels.invariant.0 c.in_err-kernel.ensures)
+    rw (p.1, p.2) (refused-next c.args.policy.now.kernels c.kernels.before c.in_err-kernel.field-0.0 (omega arith) c.kernels.invariant.0 c.in_err-kernel.ensures)
+
+pub returns-in_err-put_kernel-clause-refused : goal.returns-in_err-put_kernel-clause-refused
+returns-in_err-put_kernel-clause-refused c =
+    let p = err_from_is_err_and c.from_residual-in_err-put_kernel.result c.from_residual-in_err-put_kernel.ensures.1 in
+    rw (p.1, p.2) (c.kernels.before, omega arith, c.kernels.invariant.0)

@@ -1,7 +1,7 @@
 -- So many bytes are taken, and the writer holds them.
 use Rattle.std.proofs.Common.{◌≡◌, ◌≤◌, length, take}
 use Rattle.std.specs.Io.KnownBytes.{Appends}
-use Rattle.script.proofs.answers.write_through.Given as goal
+use Rattle.script.proofs.streams.write_through.Given as goal
 
 abbrev pub invariant-loop : goal.invariant-loop
 invariant-loop g l =
