@@ -5,7 +5,7 @@ use Rattle.std.specs.List.{cons_option}
 use Rattle.std.proofs.lemmas.List.{length_push}
 use Rattle.std.proofs.Math.Numerals.{add-one}
 use Rattle.core_model.specs.declared.entry.Entry.{Entry}
-use Rattle.client_threads.specs.declared.served.Served.{Served}
+use Rattle.core_model.specs.declared.served.Served.{Served}
 use Rattle.client_threads.specs.Takes.{DiffersAt, taken_by, takes}
 
 differs_behind : (before us vs : List Served) → slice_get us 0 ≢ slice_get vs 0 → DiffersAt (before ++ us) (before ++ vs) (length before)

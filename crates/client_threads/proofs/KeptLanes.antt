@@ -15,7 +15,7 @@ use Rattle.core_model.specs.History.{History}
 use Rattle.core_model.specs.Legal.{MeetsOrLacks}
 use Rattle.core_model.specs.declared.outcome.Outcome.TheVariants as outcome
 use Rattle.core_model.specs.declared.outcome.Taken.{Taken}
-use Rattle.client_threads.specs.declared.served.Served.{Served}
+use Rattle.core_model.specs.declared.served.Served.{Served}
 use Rattle.client_threads.specs.Serving.{IsServed, take_of, served_of}
 use Rattle.client_threads.proofs.Calls.{answered_meets}
 use Rattle.client_threads.specs.Lanes.{LaneSeen, IsLane, AreNumbered, words_served}

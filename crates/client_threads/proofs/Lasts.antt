@@ -4,7 +4,7 @@ use Rattle.std.proofs.lemmas.Bool.Decides.{nat_tests}
 use Rattle.std.specs.Prelude.{Option, Some, None, cond, ◌==◌, Bool}
 use Rattle.std.specs.List.{AllWithin, cons_option, find}
 use Rattle.core_model.specs.declared.entry.Entry.{Entry}
-use Rattle.client_threads.specs.declared.served.Served.{Served}
+use Rattle.core_model.specs.declared.served.Served.{Served}
 use Rattle.client_threads.specs.Lanes.{LaneSeen}
 use Rattle.client_threads.specs.Takes.{taken_by, takes, served_by, served_in}
 

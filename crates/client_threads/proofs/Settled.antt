@@ -11,7 +11,7 @@ use Rattle.ring_core.specs.Rule.{IsRule, processor_of, ticket_of}
 use Rattle.ring.specs.Passes.{RingSeen, ProducerSeen}
 use Rattle.ring.specs.Bytes.{words_of}
 use Rattle.ring.specs.Settling.{IsSettled}
-use Rattle.client_threads.specs.declared.served.Served.{Served}
+use Rattle.core_model.specs.declared.served.Served.{Served}
 use Rattle.client_threads.specs.Lanes.{LaneSeen, IsLane, words_served}
 use Rattle.client_threads.specs.Settling.{AreServed}
 use Rattle.client_threads.proofs.KeptLanes.{map_length}

@@ -10,7 +10,7 @@ use Rattle.ring.specs.Bytes.{words_of}
 use Rattle.ring.specs.Passes.{RingSeen, ProducerSeen}
 use Rattle.ring.specs.declared.closing.Settled.{Settled}
 use Rattle.ring.specs.Settling.{IsSettled, has_passes}
-use Rattle.client_threads.specs.declared.served.Served.{Served}
+use Rattle.core_model.specs.declared.served.Served.{Served}
 use Rattle.client_threads.specs.declared.client_end.ClientEnd.{ClientEnd}
 use Rattle.client_threads.specs.declared.settling.SettledQueue.{SettledQueue}
 use Rattle.client_threads.specs.declared.settling.Settlement.{Settlement}

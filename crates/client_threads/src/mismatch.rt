@@ -5,9 +5,8 @@ ghost use Rattle.std.specs.Option.{IfSome, IfNone, option_copied};
 ghost use Rattle.client_threads.specs.Takes.{AllAgree, DiffersAt, IsLeastMismatch, lane_at, served_by, taken_by, takes};
 
 use crate::lane::Lane;
-use crate::served::Served;
 use aql_packet::{PacketId, QueueId};
-use core_model::{Entry, Event};
+use core_model::{Entry, Event, Served};
 
 // The packet of a queue that an entry says was handed over, if it does.
 fn taken(entry: &Entry, queue: QueueId) -> Option<Served>

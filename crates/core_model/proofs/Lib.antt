@@ -1,5 +1,7 @@
 pub mod More
 pub mod States
+mod Sameness
+mod Alike
 pub mod Meeting
 pub mod Legality
 pub mod Lists
@@ -14,8 +16,9 @@ pub mod Changes
 pub mod Absent
 pub mod Apart
 pub mod Turns
+pub mod TakenIds
 pub mod Seeing
-pub mod Served
+pub mod ServedLaw
 pub mod FlightLaw
 pub mod Room
 mod Allowed
