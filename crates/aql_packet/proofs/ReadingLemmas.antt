@@ -94,7 +94,7 @@ and_holds false second holds = absurd cc
 pub are_64 : (bytes : List ℕ) → Are64Bytes bytes → are_64_bytes bytes ≡ true
 are_64 bytes are =
     let all : list_all (λ byte. nat_lt byte 256) bytes ≡ true = list_all-from_AllPass (λ byte. nat_lt byte 256) bytes
-        (λ k d lt. lt-ltb (get_or bytes k d) 256 (subst (λ n. n < 256) (sym (get_or_default_zero bytes k d lt)) (are.below k))) in
+    (λ k d lt. lt-ltb (get_or bytes k d) 256 (subst (λ n. n < 256) (sym (get_or_default_zero bytes k d lt)) (are.below k))) in
     rw (are.count, all) refl
 
 pub are_64_back : (bytes : List ℕ) → are_64_bytes bytes ≡ true → Are64Bytes bytes
@@ -116,10 +116,10 @@ first_asks bytes count below = rw (are_64 bytes (record { count = count; below =
 
 -- What is laid out breaks no rule, and is the packet that is read.
 pub laid_is_read : (bytes : List ℕ) (packet : Packet) → PacketOf bytes packet → (refusal bytes ≡ None) × (packet_at (packet_type bytes) bytes ≡ packet)
+unfolding refusal passes packet_at
 laid_is_read bytes packet laid = by_kind packet laid.layout
   where
     by_kind : (packet : Packet) → Lays bytes packet → (refusal bytes ≡ None) × (packet_at (packet_type bytes) bytes ≡ packet)
-    unfolding refusal passes packet_at
     by_kind (Kernel packet) lays =
         (rw (are_64 bytes laid.are_bytes, lays.header.packet_type, header_is_plain bytes 2 packet.header lays.header, kernel_passes bytes packet lays) refl, rw (lays.header.packet_type, kernel_read bytes packet lays) refl)
     by_kind (Agent packet) lays =
