@@ -1,5 +1,5 @@
 -- The reading of bytes as functions agrees with the layout.
-use Rattle.std.proofs.Common.{◌≡◌, ℕ, zero, suc, ◌/◌, ◌^◌, ◌<◌, ◌≤◌, List, Bool, true, false, cond, not, ◌&&◌, ◌||◌, ◌==◌, ◌⊎◌, inl, inr, Option, Some, None, is_none, IsTrue, refl, arith, subst, sym}
+use Rattle.std.proofs.Common.{◌≡◌, ℕ, zero, suc, ◌/◌, ◌^◌, if◌then◌else◌, ◌<◌, ◌≤◌, List, Bool, true, false, cond, not, ◌&&◌, ◌||◌, ◌==◌, ◌⊎◌, inl, inr, Option, Some, None, is_none, IsTrue, refl, arith, subst, sym}
 use Rattle.std.proofs.Math.Nat.{mod-lt}
 use Rattle.std.proofs.lemmas.Bool.{cases_lt, eqb-true, le-leb, lt-ltb, ltb-true}
 use Rattle.std.proofs.lemmas.Grind.{get_or_default_zero}
@@ -109,10 +109,11 @@ are_64_back bytes is =
     by_place place (inl lt) = ltb-true _ 256 (AllPass-from_list_all (λ byte. nat_lt byte 256) bytes (and_holds (length bytes == 64) (list_all (λ byte. nat_lt byte 256) bytes) is).1 place 0 lt)
     by_place place (inr past) = subst (λ n. n < 256) (sym (get_or-eq_default bytes 0 past)) (omega arith)
 
--- What the rules ask of 64 bytes.
-pub first_asks : (bytes : List ℕ) → length bytes ≡ 64 → ((place : ℕ) → slice_index bytes place < 256) → passes L1 bytes ≡ is_known (packet_type bytes)
-unfolding passes
-first_asks bytes count below = rw (are_64 bytes (record { count = count; below = below })) refl
+-- Which rule 64 bytes break first.
+pub refused_by : (bytes : List ℕ) → length bytes ≡ 64 → ((place : ℕ) → slice_index bytes place < 256)
+    → refusal bytes ≡ (if not (is_known (packet_type bytes)) then Some L1 else if not (is_plain_header bytes) then Some L2 else if not (reserved_is_zero (packet_type bytes) bytes) then Some L3 else None)
+unfolding refusal passes
+refused_by bytes count below = rw (are_64 bytes (record { count = count; below = below })) refl
 
 -- What is laid out breaks no rule, and is the packet that is read.
 pub laid_is_read : (bytes : List ℕ) (packet : Packet) → PacketOf bytes packet → (refusal bytes ≡ None) × (packet_at (packet_type bytes) bytes ≡ packet)
