@@ -1,5 +1,5 @@
 -- `==` of packets, errors, queues and rows tells whether they are the same.
-use Rattle.std.proofs.Common.{◌≡◌, Bool, List, Option, Some, None, arith, refl, sym, ap, subst, rules, true≢false}
+use Rattle.std.proofs.Common.{◌≡◌, Bool, Option, Some, None, refl, sym, ap, subst, rules, true≢false}
 use Rattle.std.specs.Prelude.{nat_eq}
 use Rattle.std.specs.Bool.{Decides}
 use Rattle.std.specs.Cmp.{booleans_Decides}

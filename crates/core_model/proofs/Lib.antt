@@ -8,6 +8,7 @@ pub mod Lists
 pub mod Launches
 pub mod Entered
 pub mod Flying
+pub mod Handed
 pub mod Launching
 pub mod Holding
 pub mod Behind

@@ -1,5 +1,5 @@
 -- When two are the same to begin from, by tests of their parts.
-use Rattle.std.proofs.Common.{◌≡◌, ℕ, Bool, ◌&&◌, List, true, refl, sym, ap, subst}
+use Rattle.std.proofs.Common.{◌≡◌, Bool, ◌&&◌, List, sym, subst}
 use Rattle.std.specs.Prelude.{nat_eq}
 use Rattle.std.specs.Bool.{Decides}
 use Rattle.std.proofs.lemmas.Bool.Decides.{Decides-and, Decides-eqb, Decides-like}

@@ -1,7 +1,7 @@
 -- A history that goes on from the state behind another is owed what the two in one are owed.
 use Rattle.std.proofs.Common.{◌≡◌, ℕ, ◌+◌, ◌≤◌, List, [], ◌∷◌, ◌++◌, length, refl, sym, ◌∙◌, ap, subst, Bool, Option, append_assoc, arith}
-use Rattle.std.specs.Prelude.{Some, None, map, ◌&&◌, ◌||◌, ◌⊎◌, fold, not, if◌then◌else◌}
-use Rattle.std.proofs.Common.{true, false, inl, inr}
+use Rattle.std.specs.Prelude.{Some, None, map, ◌&&◌, ◌||◌, fold, not, if◌then◌else◌}
+use Rattle.std.proofs.Common.{true, false}
 use Rattle.std.specs.List.{list_any}
 use Rattle.std.proofs.lemmas.List.{append-nil, length-append}
 use Rattle.std.proofs.lemmas.List.Sums.{fold-append}
@@ -22,7 +22,7 @@ use Rattle.core_model.specs.declared.event.Query.TheVariants as query
 use Rattle.std.specs.Option.{unwrap_or}
 use Rattle.core_model.specs.declared.flight.TheConstants.{LAUNCH_PROGRESS}
 use Rattle.kernel_check.specs.Programs.{Program}
-use Rattle.core_model.specs.Grants.{in_force, in_force_after}
+use Rattle.core_model.specs.Grants.{in_force}
 use Rattle.core_model.specs.Policies.{rows_at}
 use Rattle.core_model.specs.Memory.{byte_after, memory_at, signals, signals_after}
 use Rattle.core_model.specs.Queues.{hands_over_packet_of, openings, owner, next_id, errors, is_stopped}

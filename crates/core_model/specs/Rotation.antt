@@ -1,12 +1,14 @@
 -- How a history is parted, by a rotation, and how parts are joined.
-use Rattle.std.specs.Prelude.{◌≡◌, ◌+◌, ◌&&◌, ℕ, Bool, true, false, nat_lt, [], length, Result, Ok, Err}
+use Rattle.std.specs.Prelude.{◌≡◌, ◌+◌, ℕ, Bool, true, false, nat_lt, List, [], ◌∷◌, length, Result, Ok, Err}
+use Rattle.std.specs.List.{flat_map}
 use Rattle.core_model.specs.declared.limits.TheConstants.{MOST_BEFORE}
+use Rattle.core_model.specs.declared.entry.Entry.{Entry}
 use Rattle.core_model.specs.declared.part.JoinFault.{JoinFault}
 use Rattle.core_model.specs.declared.part.JoinFault.TheVariants as fault
 use Rattle.core_model.specs.declared.part.NotJoined.{NotJoined}
 use Rattle.core_model.specs.declared.refusal.Refusal.{Refusal}
 use Rattle.core_model.specs.declared.refusal.Refusal.TheVariants as refusal
-use Rattle.core_model.specs.History.{History, Part, begin, beginning}
+use Rattle.core_model.specs.History.{History, Origin, Part, begin, beginning}
 use Rattle.core_model.specs.States.{state_after}
 use Rattle.core_model.specs.Legal.{IsFollowedBy, SameOrigin, joined}
 
@@ -51,3 +53,25 @@ Explains fault.NotNext first second = IsFollowedBy first second → ⊥
 abbrev pub Joins : Part → Part → Result Part NotJoined → Type 0
 Joins first second (Ok both) = IsFollowedBy first second × (both ≡ joined first second)
 Joins first second (Err refused) = Explains refused.why first second × (refused.first ≡ first) × (refused.second ≡ second)
+
+-- ---- all parts that were handed out
+
+-- their entries, in order (own)
+abbrev pub entries_in : List Part → List Entry
+entries_in parts = flat_map (λ part. part.entries) parts
+
+-- what the first of them begins from; without parts, what a history does (own)
+abbrev pub first_start : List Part → Origin → Origin
+first_start [] start = start
+first_start (part ∷ parts) start = part.start
+
+-- from where something ends go on the parts, each from where the one before it ends, and then what a history begins from (own)
+abbrev pub GoOn : Origin → List Part → Origin → Type 0
+GoOn end [] start = SameOrigin start end
+GoOn end (part ∷ parts) start = SameOrigin part.start end × GoOn part.end parts start
+
+-- parts lead to where a history begins: no entry came before the first of them, and from there they go on; without parts, no entry
+-- came before the history (own)
+abbrev pub LeadTo : List Part → Origin → Type 0
+LeadTo [] start = start.before ≡ 0
+LeadTo (part ∷ parts) start = (part.start.before ≡ 0) × GoOn part.end parts start

@@ -45,6 +45,7 @@ ghost use Rattle.core_model.specs.declared.refusal.Refusal.TheVariants as refusa
 ghost use Rattle.core_model.specs.declared.served.Served.{Served};
 ghost use Rattle.core_model.specs.History.{History, IsOpeningOrigin, Origin, Part, Start, begin, beginning, opening_state};
 ghost use Rattle.core_model.specs.Policies.{policy_at};
+ghost use Rattle.core_model.specs.Rotation.{LeadTo, entries_in, first_start};
 ghost use Rattle.core_model.specs.States.{state_after};
 ghost use Rattle.core_model.specs.Takes.{takes};
 ghost use Rattle.kernel_check.specs.Programs.{Program};
@@ -292,6 +293,14 @@ pub fn law_of_flight()
 /// kernels, are joined to one part that is legal for them.
 pub fn joined_parts_are_legal()
     ensures { (kernels : List Program) (first second : Part) → IsLegalPart kernels first → IsLegalPart kernels second → IsFollowedBy first second → IsLegalPart kernels (joined first second) }
+{}
+
+/// Parts that are legal for some kernels, and lead to where a history begins that is legal for them, are with
+/// that history one whole legal history: no entry came before.
+pub fn parts_lead_to_whole_histories()
+    ensures { (kernels : List Program) (parts : List Part) (origin : Origin) (entries : List Entry) →
+        All (IsLegalPart kernels) parts → LeadTo parts origin → IsLegal (begin kernels origin) entries →
+        IsWhole (begin kernels (first_start parts origin)) (entries_in parts ++ entries) }
 {}
 
 /// A history goes on from the state behind its entries: that state begins a legal one, where they are

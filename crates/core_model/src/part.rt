@@ -2,7 +2,7 @@
 
 ghost use Rattle.std.specs.Prelude.{◌≡◌, ◌↔◌, ◌+◌, ◌≤◌, ◌++◌, IfOk, OnOk, true, length};
 ghost use Rattle.core_model.specs.Legal.{IsFollowedBy, joined};
-ghost use Rattle.core_model.specs.Rotation.{Joins};
+ghost use Rattle.core_model.specs.Rotation.{GoOn, Joins, LeadTo};
 
 use crate::entry::Entry;
 use crate::origin::Origin;
@@ -97,6 +97,34 @@ impl Part {
     {
         next.start().is_same(self.end())
     }
+}
+
+/// Whether parts lead to where a history begins: no entry came before the first of them, each later one begins
+/// from what the one before it ends in, and the history from what the last ends in. Without parts: whether no
+/// entry came before the history. It takes no memory.
+#[tactic(auto, using(crate::proofs::Handed::leads_first))]
+pub fn lead_to(parts: &[Part], start: &Origin) -> bool
+    ensures { result ≡ true ↔ LeadTo parts.now start.now }
+{
+    match parts.split_first() {
+        None => start.before == 0,
+        Some((first, more)) => (first.start().before == 0) & go_on(first.end(), more, start),
+    }
+}
+
+// Whether parts go on from where something ends, and then what a history begins from.
+#[tactic(auto, using(crate::proofs::Handed::next_leads, crate::proofs::Handed::other_breaks, crate::proofs::Handed::last_leads))]
+fn go_on(end: &Origin, parts: &[Part], start: &Origin) -> bool
+    ensures { result ≡ true ↔ GoOn end.now parts.now start.now }
+{
+    let mut reached = end;
+    for part in parts {
+        if !part.start().is_same(reached) {
+            return false;
+        }
+        reached = part.end();
+    }
+    start.is_same(reached)
 }
 
 /// Joins two parts to one: the first's start, the entries of both, and the second's end. Refused in this order:

@@ -13,7 +13,7 @@ ghost use Rattle.core_model.specs.Room.{HasRoom};
 use crate::access::AccessCore;
 use crate::tables::TableSizes;
 use aql_packet::{Address, ClientId, QueueId, SignalHandle};
-use core_model::{Entry, MOST_HOST_BYTES, Query, Range, Refusal};
+use core_model::{Entry, MOST_HOST_BYTES, Origin, Query, Range, Refusal};
 use policy::{Object, Policy, PolicyRows, Right, Rights};
 use queue_error::QueueError;
 use regions::region_of;
@@ -28,6 +28,13 @@ impl AccessCore {
         ensures { result.now ≡ self.now.history.origin.policy }
     {
         &self.start.policy
+    }
+
+    /// What its history began from: the opening, or where the last rotation left off.
+    pub fn start(&self) -> &Origin
+        ensures { result.now ≡ self.now.history.origin }
+    {
+        &self.start
     }
 
     /// The rows on rights in force: those of the policy that was put in force last.
