@@ -1,6 +1,6 @@
 -- Where two lists differ that begin alike.
 use Rattle.std.proofs.Common.{◌≡◌, ℕ, suc, zero, ◌+◌, ◌-◌, ◌<◌, List, [], ◌∷◌, ◌++◌, length, drop, get_or, refl, ap, sym, ◌∙◌, subst, arith, append_assoc}
-use Rattle.std.specs.Prelude.{◌≢◌, Option, Some, None, slice_get}
+use Rattle.std.specs.Prelude.{◌≢◌, Some, None, IfOk, Result, Ok, Err, slice_get}
 use Rattle.std.specs.List.{cons_option}
 use Rattle.std.proofs.lemmas.List.{append-nil, length-append}
 use Rattle.std.proofs.lemmas.List.Elements.{filter_map-append}
@@ -73,6 +73,11 @@ takes-append xs ys queue = filter_map-append (λ entry. taken_by queue entry.eve
 pub same_behind : (xs ys : List Entry) (queue : ℕ) (served mid left : List Served) → served ≡ takes xs queue ++ mid → mid ≡ takes ys queue ++ left → served ≡ takes (xs ++ ys) queue ++ left
 same_behind xs ys queue served mid left first second =
     first ∙ ap (λ ss. takes xs queue ++ ss) second ∙ sym (append_assoc (takes xs queue) (takes ys queue) left) ∙ ap (λ ts. ts ++ left) (sym (takes-append xs ys queue))
+
+pub ok_behind : {X E : Type 0} (now : X → List Served) (result : Result X E) (xs ys : List Entry) (queue : ℕ) (served mid : List Served) → served ≡ takes xs queue ++ mid
+      → IfOk result (λ left. mid ≡ takes ys queue ++ now left) → IfOk result (λ left. served ≡ takes (xs ++ ys) queue ++ now left)
+ok_behind now (Ok left) xs ys queue served mid first second = same_behind xs ys queue served mid (now left) first second
+ok_behind now (Err why) xs ys queue served mid first second = tt
 
 pub parts_early : (xs ys : List Entry) (queue : ℕ) (served left : List Served) → PartsBefore (takes xs queue) served left → PartsBefore (takes (xs ++ ys) queue) served left
 parts_early xs ys queue served left h =

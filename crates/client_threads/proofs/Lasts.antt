@@ -1,7 +1,7 @@
 -- Queues behind the last.
-use Rattle.std.proofs.Common.{◌≡◌, ℕ, suc, zero, ◌+◌, ◌<◌, true, false, List, [], ◌∷◌, ◌++◌, length, get_or, refl, ap, sym, ◌∙◌, arith}
+use Rattle.std.proofs.Common.{◌≡◌, ℕ, suc, zero, ◌<◌, false, List, [], ◌∷◌, ◌++◌, length, refl, ap, sym, ◌∙◌, arith}
 use Rattle.std.proofs.lemmas.Bool.Decides.{nat_tests}
-use Rattle.std.specs.Prelude.{Option, Some, None, cond, ◌==◌, Bool}
+use Rattle.std.specs.Prelude.{Some, None, cond, ◌==◌, Bool}
 use Rattle.std.specs.List.{AllWithin, cons_option, find}
 use Rattle.std.proofs.lemmas.List.Elements.{filter_map-append}
 use Rattle.core_model.specs.History.{Part}
