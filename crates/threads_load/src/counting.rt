@@ -100,7 +100,7 @@ pub fn count_packets(audit: &[Entry], queue: QueueId) -> PacketCounts
 }
 
 /// Counts what became of the packets of a queue in the entries that were handed out of an audit, and in those since.
-#[tactic(auto, using(crate::proofs::Counting::in_both, crate::proofs::Counting::no_more))]
+#[tactic(auto, using(crate::proofs::Sums::in_both))]
 pub fn count_all(handed_out: &[Entry], audit: &[Entry], queue: QueueId) -> PacketCounts
     ensures { result ≡ packet_counts (handed_out.now ++ audit.now) queue.0 }
 {
