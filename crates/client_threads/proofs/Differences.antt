@@ -75,7 +75,7 @@ same_behind xs ys queue served mid left first second =
     first ∙ ap (λ ss. takes xs queue ++ ss) second ∙ sym (append_assoc (takes xs queue) (takes ys queue) left) ∙ ap (λ ts. ts ++ left) (sym (takes-append xs ys queue))
 
 pub ok_behind : {X E : Type 0} (now : X → List Served) (result : Result X E) (xs ys : List Entry) (queue : ℕ) (served mid : List Served) → served ≡ takes xs queue ++ mid
-      → IfOk result (λ left. mid ≡ takes ys queue ++ now left) → IfOk result (λ left. served ≡ takes (xs ++ ys) queue ++ now left)
+    → IfOk result (λ left. mid ≡ takes ys queue ++ now left) → IfOk result (λ left. served ≡ takes (xs ++ ys) queue ++ now left)
 ok_behind now (Ok left) xs ys queue served mid first second = same_behind xs ys queue served mid (now left) first second
 ok_behind now (Err why) xs ys queue served mid first second = tt
 

@@ -8,8 +8,8 @@ use Rattle.client_threads.proofs.settling.settle_in_rooms.Goals as goal
 
 pub returns : goal.returns
 returns c = (
-      c.requires.led,
-      λ queue. ap (λ (es : List Entry). takes (entries_in c.args.parts.now ++ es) queue) (sym c.audit.ensures.entries) ∙ c.in_default.ensures.same queue
+  c.requires.led,
+  λ queue. ap (λ (es : List Entry). takes (entries_in c.args.parts.now ++ es) queue) (sym c.audit.ensures.entries) ∙ c.in_default.ensures.same queue
       ∙ ap (λ (ls : List LaneSeen). served_by ls queue) c.as_slice.ensures.value,
-      c.settle_rings-rings.ensures,
-    )
+  c.settle_rings-rings.ensures,
+)
