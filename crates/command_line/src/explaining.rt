@@ -188,6 +188,25 @@ fn is_not_done(reply: &LineReply) -> bool {
     }
 }
 
+// The part that an answer hands out, if it does.
+fn part_in(answer: LineAnswer) -> Option<Part> {
+    match answer {
+        LineAnswer::Answered { answer, .. } => match answer {
+            world::Answer::Rotated(part) => Some(part),
+            _other => None,
+        },
+        _other => None,
+    }
+}
+
+// The part that a reply hands out, if it does.
+fn part_of(reply: LineReply) -> Option<Part> {
+    match reply {
+        Ok(answer) => part_in(answer),
+        Err(_why) => None,
+    }
+}
+
 /// A run that tells: what it keeps between bytes.
 #[derive(Drop)]
 struct Telling {
@@ -263,13 +282,7 @@ impl Telling {
 
     // Keeps the part that a reply hands out, if it does.
     fn keep(&mut self, reply: LineReply) -> Result<(), End> {
-        if let Ok(
-            LineAnswer::Answered {
-                answer: world::Answer::Rotated(part),
-                ..
-            },
-        ) = reply
-        {
+        if let Some(part) = part_of(reply) {
             self.handed_out.push(part)?;
         }
         Ok(())
